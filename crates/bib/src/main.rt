@@ -1,0 +1,4 @@
+//! The program `bib`.
+#![tactic(auto)]
+
+fn main() {}

@@ -1,0 +1,2 @@
+//! The grammar of bibliography files.
+#![tactic(auto)]

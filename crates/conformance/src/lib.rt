@@ -1,0 +1,2 @@
+//! Tests of the libraries: worked examples, and what no contract says.
+#![tactic(auto)]
