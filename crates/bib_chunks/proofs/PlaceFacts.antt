@@ -1,12 +1,12 @@
 -- Facts on places and the characters between them.
 use Rattle.std.proofs.Common.{◌≡◌, ℕ, ◌+◌, ◌-◌, ◌<◌, ◌≤◌, Bool, true, false, List, ◌++◌, length, drop, get_or, refl, sym, ap, ◌∙◌, subst, arith, length-append, length-drop, inl, inr, nat_eq, MatchBool, MatchOption, Option, None, Some}
-use Rattle.std.specs.Prelude.{encode_utf8}
+use Rattle.std.specs.Prelude.{encode_utf8, ◌==◌}
 use Rattle.std.specs.Char.{len_utf8}
 use Rattle.std.specs.Str.{IsUtf8, IsCharBoundary}
 use Rattle.std.proofs.lemmas.Str.{encode_same, drop_past_char, length-encode, len_utf8_bounds, len_utf8_ascii, encode_ascii, IsUtf8-drop, IsCharBoundary-past_char}
 use Rattle.std.proofs.lemmas.List.{drop_more}
-use Rattle.std.proofs.lemmas.Bool.{cases_eq, eq-eqb, ne_eqb}
-use Rattle.bib_chunks.specs.Places.{Place, place, CharAt, Run, Stops, AtEnd}
+use Rattle.std.proofs.lemmas.Bool.{cases_eq, eq-eqb, ne_eqb, eqb-false}
+use Rattle.bib_chunks.specs.Places.{Place, place, CharAt, Run, Stops, Longest, AtEnd, between}
 use Rattle.bib_chunks.specs.Places.Run.{stop, step}
 
 -- two places of one text are one where they are as far from its start
@@ -111,3 +111,83 @@ char_at_front B text at within None now behind rest none =
     let left : length text - at ≡ 0 = sym (length-drop at text) ∙ ap length (sym rest) ∙ none.0 in
     omega arith
 char_at_front B text at within (Some c) now behind rest some = (_, char_here text behind at c (sym rest ∙ some))
+
+-- the same character passes or fails, and not both
+pub test_clash : (b : Bool) → b ≡ true → b ≡ false → ⊥
+test_clash b passes fails = cc
+
+-- two runs from one place that both end where the test fails end at one place
+pub runs_same : {test : ℕ → Bool} {u v w : Place} → Run test u v → Stops test v → Run test u w → Stops test w → v ≡ w
+runs_same stop ends stop ends' = refl
+runs_same stop ends (step char passes rest) ends' = absurd (test_clash _ passes (ends _ _ char))
+runs_same (step char passes rest) ends stop ends' = absurd (test_clash _ passes (ends' _ _ char))
+runs_same {test} {u} {v} {w} (step char passes rest) ends (step char' passes' rest') ends' =
+    runs_same rest ends (subst (λ p. Run test p w) (sym (same_char char char').1) rest') ends'
+
+-- what is left of a run behind its first character
+pub run_rest : {test : ℕ → Bool} {u v w : Place} {c : ℕ} → Run test u w → Stops test w → CharAt u c v → test c ≡ true → Run test v w
+run_rest stop ends char passes = absurd (test_clash _ passes (ends _ _ char))
+run_rest {test} {u} {v} {w} (step char' passes' rest) ends char passes = subst (λ p. Run test p w) (same_char char' char).1 rest
+
+-- a later place of the same text
+pub record Ahead (u v : Place) : Type 0 where
+  pub text : v.text ≡ u.text
+  pub at : u.at ≤ v.at
+
+pub ahead_here : (u : Place) → Ahead u u
+ahead_here u = record { text = refl; at = omega arith }
+
+pub ahead_then : {u v w : Place} → Ahead u v → Ahead v w → Ahead u w
+ahead_then first second = record { text = second.text ∙ first.text; at = omega (arith, first.at, second.at) }
+
+pub ahead_char : {u v : Place} {c : ℕ} → CharAt u c v → Ahead u v
+ahead_char {u} {v} {c} char = record { text = char.same; at = omega (arith, char.next) }
+
+pub ahead_run : {test : ℕ → Bool} {u v : Place} → Run test u v → Ahead u v
+ahead_run stop = ahead_here _
+ahead_run (step char passes rest) = ahead_then (ahead_char char) (ahead_run rest)
+
+-- where a text may be cut, it may be cut from later places too
+pub boundary_ahead : {u v : Place} (at : ℕ) → Ahead u v → IsCharBoundary u.text at → IsCharBoundary v.text at
+boundary_ahead {u} {v} at ahead boundary = subst (λ t. IsCharBoundary t at) (sym ahead.text) boundary
+
+-- a longest run ends at one place
+pub longest_same : {test : ℕ → Bool} {u v w : Place} → Longest test u v → Longest test u w → v ≡ w
+longest_same first second = runs_same first.run first.stops second.run second.stops
+
+-- a longest run goes on behind its first character
+pub longest_rest : {test : ℕ → Bool} {u v w : Place} {c : ℕ} → Longest test u w → CharAt u c v → test c ≡ true → Longest test v w
+longest_rest longest char passes = record { run = run_rest longest.run longest.stops char passes; stops = longest.stops }
+
+-- two characters that differ do not stand at one place
+pub char_clash : {u v w : Place} {c d : ℕ} → CharAt u c v → CharAt u d w → nat_eq c d ≡ false → ⊥
+char_clash {u} {v} {w} {c} {d} first second differ = eqb-false c d differ (same_char first second).0
+
+-- a character that passes and one that fails do not stand at one place
+pub pass_clash : (test : ℕ → Bool) {u v w : Place} {c d : ℕ} → CharAt u c v → test c ≡ true → CharAt u d w → test d ≡ false → ⊥
+pass_clash test {u} {v} {w} {c} {d} first passes second fails = test_clash (test d) (subst (λ x. test x ≡ true) (same_char first second).0 passes) fails
+
+-- where one character doesn't stand, only others do
+pub stops_without : (k : ℕ) {u : Place} → ((v : Place) → CharAt u k v → ⊥) → Stops (λ c. c == k) u
+stops_without k {u} absent c v char = ne_eqb c k (λ same. absent v (subst (λ x. CharAt u x v) same char))
+
+-- what is left behind a character and more is less
+pub left_smaller : {u v w x : Place} {c : ℕ} → Ahead u v → CharAt v c w → Ahead w x → length x.text - x.at < length u.text - u.at
+left_smaller {u} {v} {w} {x} {c} before char behind =
+    let left : v.at + len_utf8 c ≤ length v.text = char_left char in
+    let width : 1 ≤ len_utf8 c = (len_utf8_bounds c).0 in
+    let text : length v.text ≡ length u.text = ap length before.text in
+    let text' : length w.text ≡ length v.text = ap length char.same in
+    let text'' : length x.text ≡ length w.text = ap length behind.text in
+    let start : u.at ≤ v.at = before.at in
+    let next : w.at ≡ v.at + len_utf8 c = char.next in
+    let end : w.at ≤ x.at = behind.at in
+    omega arith
+
+-- over a character, if one stands there
+pub ahead_taken : {u v : Place} (taken : Option ℕ) → MatchOption taken (AtEnd u × (v ≡ u)) (λ c. CharAt u c v) → Ahead u v
+ahead_taken {u} {v} None ended = subst (λ p. Ahead u p) (sym ended.1) (ahead_here u)
+ahead_taken (Some c) char = ahead_char char
+
+pub ahead_same : {u v : Place} → v ≡ u → Ahead u v
+ahead_same {u} {v} same = subst (λ p. Ahead u p) (sym same) (ahead_here u)

@@ -1,6 +1,6 @@
 //! A cursor over a text.
 
-ghost use Rattle.std.specs.Prelude.{◌≡◌, ℕ, ◌+◌, ◌-◌, ◌≤◌, ◌<◌, Bool, not, length, take, drop, MatchOption, MatchBool, IsTrue, ◌↔◌};
+ghost use Rattle.std.specs.Prelude.{◌≡◌, ℕ, ◌+◌, ◌-◌, ◌≤◌, ◌<◌, ◌^◌, Bool, not, length, take, drop, MatchOption, MatchBool, IsTrue, ◌↔◌};
 ghost use Rattle.std.specs.Char.{is_whitespace};
 ghost use Rattle.std.specs.Str.{IsCharBoundary, IsUtf8};
 ghost use Rattle.bib_chunks.specs.Places.{Place, place, CharAt, Longest, AtEnd, Answers, between};
@@ -43,7 +43,9 @@ impl<'s> Scanner<'s> {
 
     /// The place, in bytes from the start of the text.
     pub fn cursor(&self) -> usize
-        ensures { result ≡ self.now.at }
+        ensures place { result ≡ self.now.at }
+        ensures boundary { IsCharBoundary self.now.text result }
+        ensures fits { length self.now.text < 2 ^ 63 }
     {
         self.at
     }
@@ -78,8 +80,8 @@ impl<'s> Scanner<'s> {
         char_at(self.text, self.at)
     }
 
-    // Whether this character stands here.
-    fn stands(&self, c: char) -> bool
+    /// Whether this character stands here.
+    pub fn at(&self, c: char) -> bool
         ensures { MatchBool result ((v : Place) × CharAt self.now c v) ((v : Place) → CharAt self.now c v → ⊥) }
     {
         match self.peek() {
@@ -109,7 +111,7 @@ impl<'s> Scanner<'s> {
     pub fn eat_if(&mut self, c: char) -> bool
         ensures { MatchBool result (CharAt self.old c self.new) ((self.new ≡ self.old) × ((v : Place) → CharAt self.old c v → ⊥)) }
     {
-        if !self.stands(c) {
+        if !self.at(c) {
             return false;
         }
         self.pass(c);

@@ -1,0 +1,6 @@
+pub mod BraceFacts
+pub mod FieldFacts
+pub mod LawFacts
+pub mod QuoteFacts
+pub mod ReadingFacts
+pub mod WordFacts

@@ -1,2 +1,4 @@
 //! The grammar of bibliography files.
 #![tactic(auto)]
+
+pub mod raw;

@@ -1,5 +1,5 @@
 use Rattle.bib_chunks.proofs.PlaceFacts.{stands_cases, no_char_at_end}
-use Rattle.bib_chunks.proofs.scanner.Scanner.stands.Goals as goal
+use Rattle.bib_chunks.proofs.scanner.Scanner.at.Goals as goal
 
 pub returns-in-Some : goal.returns-in-Some
 returns-in-Some c = stands_cases _ _ c.in-Some.ensures.1

@@ -1,0 +1,52 @@
+-- Facts on parts of a text and on faults in it.
+use Rattle.std.specs.Prelude.{OnErr, OnOk, IfOk, IfErr}
+use Rattle.std.proofs.Common.{Result, Ok, Err, Bool, true, false, MatchBool, ◌≡◌, ℕ, ◌-◌, ◌≤◌, List, length, take, drop, refl, sym, ap, ◌∙◌, subst, arith}
+use Rattle.bib_chunks.specs.Places.{Place, CharAt, place, between}
+use Rattle.bib_chunks.proofs.PlaceFacts.{Ahead}
+use Rattle.bib_syntax.specs.Reading.{Part, part}
+use Rattle.bib_syntax.specs.Faults.{IsSyntaxFault}
+use Rattle.bib_syntax.specs.declared.raw.ParseError.{ParseError}
+
+-- a fault in the text is one in the text of an earlier place
+pub fault_back : {u v : Place} {e : ParseError} → Ahead u v → IsSyntaxFault v.text e → IsSyntaxFault u.text e
+fault_back {u} {v} {e} ahead fault = subst (λ t. IsSyntaxFault t e) ahead.text fault
+
+-- the bytes from a place up to a later one, with their ends, are the part between the two
+pub part_from : {u v : Place} (start end : ℕ) (bytes : List ℕ) → Ahead u v → start ≡ u.at → end ≡ v.at → bytes ≡ between (place v.text start) v
+    → (let p : Part = record { text = bytes; start = start; end = end } in p) ≡ part u v
+part_from {u} {v} start end bytes ahead starts ends is =
+    let text : bytes ≡ between u v = is ∙ ap (λ s. take (v.at - s) (drop s v.text)) starts ∙ ap (λ t. take (v.at - u.at) (drop u.at t)) ahead.text in
+    ap (λ t. let p : Part = record { text = t; start = start; end = end } in p) text
+    ∙ ap (λ s. let p : Part = record { text = between u v; start = s; end = end } in p) starts
+    ∙ ap (λ e. let p : Part = record { text = between u v; start = u.at; end = e } in p) ends
+
+-- a place that a scanner told is not behind a later one
+pub not_behind : {u v : Place} (start : ℕ) → Ahead u v → start ≡ u.at → start ≤ v.at
+not_behind start ahead starts = omega (arith, ahead.at, starts)
+
+-- a character that stands here is taken
+pub taken_if : {u v : Place} (c : ℕ) (b : Bool) → MatchBool b (CharAt u c v) ((v ≡ u) × ((w : Place) → CharAt u c w → ⊥)) → ((w : Place) × CharAt u c w) → CharAt u c v
+taken_if c true char here = char
+taken_if c false absent here = absurd (absent.1 here.0 here.1)
+
+-- a fact that holds anyhow holds of a result that is an error
+pub on_err : {T E P : Type 0} (r : Result T E) → P → OnErr r P
+on_err (Ok x) holds = tt
+on_err (Err e) holds = holds
+
+-- the bytes that a scanner took, with their ends, are a part of the text
+pub part_eaten : (u v : Place) (start end : ℕ) (bytes : List ℕ) → start ≡ u.at → end ≡ v.at → bytes ≡ between u v
+    → (let p : Part = record { text = bytes; start = start; end = end } in p) ≡ part u v
+part_eaten u v start end bytes starts ends is =
+    ap (λ t. let p : Part = record { text = t; start = start; end = end } in p) is
+    ∙ ap (λ s. let p : Part = record { text = between u v; start = s; end = end } in p) starts
+    ∙ ap (λ e. let p : Part = record { text = between u v; start = u.at; end = e } in p) ends
+
+-- what two clauses on one result say together
+pub ok_both : {T E : Type 0} (r : Result T E) (P : T → Type 0) (Q : Type 0) (R : T → Type 0) → IfOk r P → OnOk r Q → ((x : T) → P x → Q → R x) → IfOk r R
+ok_both (Ok x) P Q R p q both = both x p q
+ok_both (Err e) P Q R p q both = tt
+
+pub err_both : {T E : Type 0} (r : Result T E) (P : Type 0) (Q R : E → Type 0) → OnErr r P → IfErr r Q → ((e : E) → P → Q e → R e) → IfErr r R
+err_both (Ok x) P Q R p q both = tt
+err_both (Err e) P Q R p q both = both e p q

@@ -1,0 +1,115 @@
+-- Facts on names and numbers.
+use Rattle.std.proofs.Common.{List, ◌≡◌, ℕ, Bool, true, false, refl, sym, ap, ◌∙◌, subst, MatchBool, MatchOption, nat_eq}
+use Rattle.std.specs.Prelude.{not, ◌&&◌, ◌||◌, ◌==◌}
+use Rattle.std.proofs.lemmas.Bool.{and_parts}
+use Rattle.std.specs.Char.{is_ascii_digit}
+use Rattle.bib_chunks.specs.Places.{Place, CharAt, Run, Stops, Longest}
+use Rattle.bib_chunks.proofs.PlaceFacts.{same_char, char_clash, pass_clash, longest_rest, longest_same, stops_without, test_clash, Ahead, ahead_then, ahead_char, ahead_run}
+use Rattle.std.specs.Borrow.{Bor}
+use Rattle.bib_chunks.specs.declared.chunk.Spanned.{Spanned}
+use Rattle.bib_syntax.specs.declared.raw.RawChunk.{RawChunk}
+use Rattle.bib_syntax.specs.declared.raw.RawChunk.TheVariants.{Normal, Abbreviation}
+use Rattle.bib_syntax.specs.Views.{part_of, piece_of}
+use Rattle.bib_syntax.specs.Characters.{is_id_start, is_id_continue}
+use Rattle.bib_syntax.specs.Reading.{Part, part, Piece}
+use Rattle.bib_syntax.specs.Reading.Piece.{literal}
+use Rattle.bib_syntax.specs.Grammar.{Identifier, Number, Braced, Quoted, Element, NoDigit, longest}
+use Rattle.bib_syntax.specs.Grammar.Element.{number, named, braced, quoted}
+use Rattle.bib_syntax.specs.Grammar.Number.{whole, broken}
+
+-- whether the character that stands here passes
+pub passes_cases : (test : ℕ → Bool) {u v : Place} {c : ℕ} (b : Bool) → CharAt u c v → b ≡ test c
+    → MatchBool b ((d : ℕ) × (w : Place) × CharAt u d w × (test d ≡ true)) ((d : ℕ) (w : Place) → CharAt u d w → test d ≡ false)
+passes_cases test {u} {v} {c} true char same = (_, _, char, sym same)
+passes_cases test {u} {v} {c} false char same = λ d w other. subst (λ x. test x ≡ false) (same_char char other).0 (sym same)
+
+id_start_continues : (c : ℕ) → is_id_start c ≡ true → is_id_continue c ≡ true
+id_start_continues c starts = (and_parts (not (c == 58 || c == 60 || c == 45 || c == 62)) (is_id_continue c) starts).1
+
+-- an identifier, from its first character and the longest run that begins with it
+pub identifier_from : {u v w : Place} {c : ℕ} {p : Part} → CharAt u c v → is_id_start c ≡ true → Longest is_id_continue u w → p ≡ part u w → Identifier longest u p w
+identifier_from {u} {v} {w} {c} char starts run reading = record {
+  second = v; first = c; here = char; starts = starts;
+  rest = longest_rest run char (id_start_continues c starts);
+  reading = reading
+}
+
+pub number_whole : {u v w : Place} {c : ℕ} → CharAt u c v → is_ascii_digit c ≡ true → Longest is_ascii_digit u w → ((x : Place) → CharAt w 46 x → ⊥) → Number longest u w
+number_whole char digit run no_point = whole char digit (longest_rest run char digit) (stops_without 46 no_point)
+
+pub number_broken : {u v w x y : Place} {c : ℕ} → CharAt u c v → is_ascii_digit c ≡ true → Longest is_ascii_digit u w → CharAt w 46 x → Longest is_ascii_digit x y
+    → ((z : Place) → CharAt y 46 z → ⊥) → Number longest u y
+number_broken char digit run point run' no_point = broken char digit (longest_rest run char digit) point run' (stops_without 46 no_point)
+
+-- no number goes on over a second point
+pub number_points : {u w x y z : Place} → Longest is_ascii_digit u w → CharAt w 46 x → Longest is_ascii_digit x y → CharAt y 46 z → (v : Place) → Number longest u v → ⊥
+number_points {u} {w} {x} {y} {z} run point more again v (whole char digit rest ends) =
+    let moved = subst (λ p. CharAt p 46 x) (longest_same (longest_rest run char digit) rest) point in
+    test_clash true refl (ends 46 x moved)
+number_points {u} {w} {x} {y} {z} run point more again v (broken char digit rest dot rest2 ends) =
+    let there = subst (λ p. CharAt p 46 x) (longest_same (longest_rest run char digit) rest) point in
+    let inside = subst (λ p. Longest is_ascii_digit p y) (same_char there dot).1 more in
+    let moved = subst (λ p. CharAt p 46 z) (longest_same inside rest2) again in
+    test_clash true refl (ends 46 z moved)
+
+-- an identifier that the test for its beginning found
+pub identifier_found : {u w : Place} {p : Part} → ((c : ℕ) × (v : Place) × CharAt u c v × (is_id_start c ≡ true)) → Longest is_id_continue u w → p ≡ part u w → Identifier longest u p w
+identifier_found (c, v, char, starts) run reading = identifier_from char starts run reading
+
+-- no element stands where none of its four forms does
+pub no_element : {u : Place} → ((v : Place) → Number longest u v → ⊥) → ((p : Part) (v : Place) → NoDigit u → Identifier longest u p v → ⊥) → ((p : Part) (v : Place) → Braced u p v → ⊥)
+    → ((p : Part) (v : Place) → Quoted u p v → ⊥) → (e : Piece) (v : Place) → Element longest u e v → ⊥
+no_element no_number no_name no_braced no_quoted e v (number n) = no_number _ n
+no_element no_number no_name no_braced no_quoted e v (named no_digit i) = no_name _ _ no_digit i
+no_element no_number no_name no_braced no_quoted e v (braced b) = no_braced _ _ b
+no_element no_number no_name no_braced no_quoted e v (quoted q) = no_quoted _ _ q
+
+pub not_number : {u x : Place} {c : ℕ} → CharAt u c x → is_ascii_digit c ≡ false → (v : Place) → Number longest u v → ⊥
+not_number char differs v (whole first digit rest ends) = pass_clash is_ascii_digit first digit char differs
+not_number char differs v (broken first digit rest dot rest2 ends) = pass_clash is_ascii_digit first digit char differs
+
+pub not_name : {u x : Place} {c : ℕ} → CharAt u c x → is_id_start c ≡ false → (p : Part) (v : Place) → Identifier longest u p v → ⊥
+not_name char differs p v name = pass_clash is_id_start name.here name.starts char differs
+
+pub not_braced : {u x : Place} {c : ℕ} → CharAt u c x → nat_eq c 123 ≡ false → (p : Part) (v : Place) → Braced u p v → ⊥
+not_braced char differs p v b = char_clash char b.opens differs
+
+pub not_quoted : {u x : Place} {c : ℕ} → CharAt u c x → nat_eq c 34 ≡ false → (p : Part) (v : Place) → Quoted u p v → ⊥
+not_quoted char differs p v q = char_clash char q.opens differs
+
+pub no_number_without : {u : Place} → ((c : ℕ) (v : Place) → CharAt u c v → is_ascii_digit c ≡ false) → (v : Place) → Number longest u v → ⊥
+no_number_without none v (whole first digit rest ends) = test_clash _ digit (none _ _ first)
+no_number_without none v (broken first digit rest dot rest2 ends) = test_clash _ digit (none _ _ first)
+
+pub no_name_without : {u : Place} → ((c : ℕ) (v : Place) → CharAt u c v → is_id_start c ≡ false) → (p : Part) (v : Place) → Identifier longest u p v → ⊥
+no_name_without none p v name = test_clash _ name.starts (none _ _ name.here)
+
+pub no_braced_without : {u : Place} → ((v : Place) → CharAt u 123 v → ⊥) → (p : Part) (v : Place) → Braced u p v → ⊥
+no_braced_without none p v b = none _ b.opens
+
+pub no_quoted_without : {u : Place} → ((v : Place) → CharAt u 34 v → ⊥) → (p : Part) (v : Place) → Quoted u p v → ⊥
+no_quoted_without none p v q = none _ q.opens
+
+-- a number's part is an element
+pub number_element : {u v : Place} (p : Part) → Number longest u v → p ≡ part u v → Element longest u (literal p) v
+number_element {u} {v} p n same = subst (λ q. Element longest u (literal q) v) (sym same) (number n)
+
+pub ahead_number : {u v : Place} → Number longest u v → Ahead u v
+ahead_number (whole first digit rest ends) = ahead_then (ahead_char first) (ahead_run rest.run)
+ahead_number (broken first digit rest dot rest2 ends) = ahead_then (ahead_char first) (ahead_then (ahead_run rest.run) (ahead_then (ahead_char dot) (ahead_run rest2.run)))
+
+-- the pieces that a value's element makes
+pub braced_element : {u v : Place} (s : Spanned RawChunk) (t : Spanned (Bor (List ℕ))) → s.v ≡ Normal t.v → s.span ≡ t.span → Braced u (part_of t) v → Element longest u (piece_of s) v
+braced_element {u} {v} s t same spans b = rw (same, spans) (braced b)
+
+pub quoted_element : {u v : Place} (s : Spanned RawChunk) (t : Spanned (Bor (List ℕ))) → s.v ≡ Normal t.v → s.span ≡ t.span → Quoted u (part_of t) v → Element longest u (piece_of s) v
+quoted_element {u} {v} s t same spans q = rw (same, spans) (quoted q)
+
+pub number_piece : {u v : Place} (s : Spanned RawChunk) (t : Spanned (Bor (List ℕ))) → s.v ≡ Normal t.v → s.span ≡ t.span → Number longest u v → part_of t ≡ part u v → Element longest u (piece_of s) v
+number_piece {u} {v} s t same spans n reading = rw (same, spans) (number_element _ n reading)
+
+pub named_piece : {u v : Place} (s : Spanned RawChunk) (t : Spanned (Bor (List ℕ))) → s.v ≡ Abbreviation t.v → s.span ≡ t.span → NoDigit u → Identifier longest u (part_of t) v → Element longest u (piece_of s) v
+named_piece {u} {v} s t same spans no_digit i = rw (same, spans) (named no_digit i)
+
+pub no_digit_without : {u : Place} → ((c : ℕ) (v : Place) → CharAt u c v → is_ascii_digit c ≡ false) → NoDigit u
+no_digit_without none c v char digit = test_clash _ digit (none c v char)

@@ -1,0 +1,10 @@
+use Rattle.std.proofs.Common.{length, ◌-◌, ◌≤◌, zero}
+use Rattle.bib_chunks.proofs.PlaceFacts.{Ahead}
+use Rattle.bib_syntax.proofs.BraceFacts.{SameBraced}
+use Rattle.bib_syntax.proofs.raw.words.braced_parts.Given as goal
+
+abbrev pub invariant-parts : goal.invariant-parts
+invariant-parts l = Ahead l.fn.s l.s × SameBraced zero l.fn.s l.depth l.s × (l.depth ≤ l.s.at)
+
+abbrev pub decreases-parts : goal.decreases-parts
+decreases-parts l = length l.s.text - l.s.at

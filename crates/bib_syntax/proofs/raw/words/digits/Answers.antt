@@ -1,0 +1,34 @@
+use Rattle.std.specs.Char.{is_ascii_digit}
+use Rattle.bib_chunks.specs.Places.{Longest}
+use Rattle.bib_chunks.proofs.PlaceFacts.{Ahead, ahead_then, ahead_char, ahead_run, ahead_same}
+use Rattle.bib_syntax.proofs.WordFacts.{number_whole, number_broken, number_points}
+use Rattle.bib_syntax.proofs.ReadingFacts.{fault_back}
+use Rattle.bib_syntax.proofs.raw.words.digits.Goals as goal
+use Rattle.bib_syntax.proofs.raw.words.digits.Goals.{After-eat_while}
+
+run : (c : After-eat_while) → Longest is_ascii_digit c.args.s.now c.eat_while.new.self
+run c = c.eat_while.ensures.longest is_ascii_digit (λ x r post. post)
+
+pub returns-then-not-eat_if-clause-found : goal.returns-then-not-eat_if-clause-found
+returns-then-not-eat_if-clause-found c =
+    let at = (goal.at.returns-then-not-eat_if-clause-found c).After-eat_while in
+    let first = c.requires in
+    rw c.if-not-eat_if.ensures.0 (number_whole first.2 first.3 (run at) c.if-not-eat_if.ensures.1)
+
+pub returns-then-at-clause-none : goal.returns-then-at-clause-none
+returns-then-at-clause-none c =
+    let at = (goal.at.returns-then-at-clause-none c).After-eat_while in
+    number_points (run at) c.if-not-eat_if.ensures (c.eat_while-2.ensures.longest is_ascii_digit (λ x r post. post)) c.if-at.ensures.1
+
+pub returns-then-at-clause-fault : goal.returns-then-at-clause-fault
+returns-then-at-clause-fault c =
+    let at = (goal.at.returns-then-at-clause-fault c).After-eat_while in
+    let more : Longest is_ascii_digit c.eat_if.new.self c.eat_while-2.new.self = c.eat_while-2.ensures.longest is_ascii_digit (λ x r post. post) in
+    fault_back (ahead_then (ahead_run (run at).run) (ahead_then (ahead_char c.if-not-eat_if.ensures) (ahead_run more.run))) c.fault.ensures
+
+pub returns-clause-found : goal.returns-clause-found
+returns-clause-found c =
+    let at = (goal.at.returns-clause-found c).After-eat_while in
+    let more : Longest is_ascii_digit c.eat_if.new.self c.eat_while-2.new.self = c.eat_while-2.ensures.longest is_ascii_digit (λ x r post. post) in
+    let first = c.requires in
+    number_broken first.2 first.3 (run at) c.if-not-eat_if.ensures more c.if-at.ensures

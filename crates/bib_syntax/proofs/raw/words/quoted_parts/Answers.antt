@@ -1,0 +1,52 @@
+use Rattle.std.proofs.Common.{rules, ◌≡◌}
+use Rattle.bib_chunks.specs.Places.{Longest}
+use Rattle.bib_chunks.proofs.PlaceFacts.{Ahead, ahead_here, ahead_then, ahead_char, ahead_run, ahead_same, ahead_taken, boundary_ahead, left_smaller}
+use Rattle.bib_syntax.specs.Grammar.QuotedParts.{none}
+use Rattle.bib_syntax.proofs.QuoteFacts.{is_quotable, same_quoted, quoted_then, quoted_run, quoted_hidden, quoted_stuck}
+use Rattle.bib_syntax.proofs.ReadingFacts.{fault_back, part_from, not_behind}
+use Rattle.bib_syntax.proofs.raw.words.quoted_parts.Goals as goal
+use Rattle.bib_syntax.proofs.raw.words.quoted_parts.Goals.{After-eat_while}
+
+-- the run of plain characters at the start of a turn
+run : (c : After-eat_while) → Longest is_quotable c.parts.s c.eat_while.new.self
+run c = c.eat_while.ensures.longest is_quotable (λ x r post. post)
+
+passed : (c : After-eat_while) → Ahead c.args.s.now c.eat_while.new.self
+passed c = ahead_then c.parts.invariant.0 (ahead_run (run c).run)
+
+pub from-requires-clause-boundary : goal.from-requires-clause-boundary
+from-requires-clause-boundary c = boundary_ahead _ (passed (goal.at.from-requires-clause-boundary c).After-eat_while) c.cursor-start.ensures.boundary
+
+pub from-requires-clause-behind : goal.from-requires-clause-behind
+from-requires-clause-behind c = not_behind _ (passed (goal.at.from-requires-clause-behind c).After-eat_while) c.cursor-start.ensures.place
+
+pub returns-then-at-clause-found : goal.returns-then-at-clause-found
+returns-then-at-clause-found c =
+    let r = run (goal.at.returns-then-at-clause-found c).After-eat_while in
+    let all = quoted_then c.parts.invariant.1 (quoted_run r.run) in
+    let char = c.if-at.ensures in
+    (all.there _ _ none char.1, char)
+
+pub returns-then-at-clause-reading : goal.returns-then-at-clause-reading
+returns-then-at-clause-reading c =
+    rw c.new.ensures (part_from _ _ _ (passed (goal.at.returns-then-at-clause-reading c).After-eat_while) c.cursor-start.ensures.place c.cursor.ensures.place c.from.ensures)
+
+pub returns-then-not-eat_if-clause-none : goal.returns-then-not-eat_if-clause-none
+returns-then-not-eat_if-clause-none c v w parts quote =
+    let r = run (goal.at.returns-then-not-eat_if-clause-none c).After-eat_while in
+    let all = quoted_then c.parts.invariant.1 (quoted_run r.run) in
+    quoted_stuck r.stops c.if-at.ensures c.if-not-eat_if.ensures.1 (all.back v w parts quote) quote
+
+pub returns-then-not-eat_if-clause-fault : goal.returns-then-not-eat_if-clause-fault
+returns-then-not-eat_if-clause-fault c = 
+    fault_back (ahead_then (passed (goal.at.returns-then-not-eat_if-clause-fault c).After-eat_while) (ahead_same c.if-not-eat_if.ensures.0)) c.fault.ensures
+
+pub parts-smaller : goal.parts-smaller
+parts-smaller c = left_smaller (ahead_run (run (goal.at.parts-smaller c).After-eat_while).run) c.if-not-eat_if.ensures (ahead_taken _ c.eat.ensures)
+
+pub parts-preserved : goal.parts-preserved
+parts-preserved c =
+    let at = (goal.at.parts-preserved c).After-eat_while in
+    let slash = c.if-not-eat_if.ensures in
+    (ahead_then (passed at) (ahead_then (ahead_char slash) (ahead_taken _ c.eat.ensures)),
+      quoted_then c.parts.invariant.1 (quoted_then (quoted_run (run at).run) (quoted_hidden _ slash c.eat.ensures)))

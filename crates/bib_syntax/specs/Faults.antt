@@ -1,0 +1,50 @@
+-- Faults of a text, and how they are printed, as the Rust crate `biblatex` prints them.
+use Rattle.std.specs.Prelude.{◌≡◌, ℕ, ◌≤◌, Bool, true, false, List, ◌++◌, length, codes, IsTrue, ◌⊎◌}
+use Rattle.std.specs.Fmt.{decimal}
+use Rattle.bib_syntax.specs.declared.raw.Token.{Token}
+use Rattle.bib_syntax.specs.declared.raw.Token.TheVariants as token
+use Rattle.bib_syntax.specs.declared.raw.ParseErrorKind.{ParseErrorKind}
+use Rattle.bib_syntax.specs.declared.raw.ParseErrorKind.TheVariants.{UnexpectedEof, Unexpected, Expected, MalformedCommand, OutOfMemory}
+use Rattle.bib_syntax.specs.declared.raw.ParseError.{ParseError}
+
+abbrev pub token_text : Token → List ℕ
+token_text token.Identifier = codes "identifier"
+token_text token.OpeningBrace = codes "opening brace"
+token_text token.ClosingBrace = codes "closing brace"
+token_text token.Comma = codes "comma"
+token_text token.QuotationMark = codes "double quote"
+token_text token.Equals = codes "equals"
+token_text token.DecimalPoint = codes "decimal point"
+
+abbrev pub kind_text : ParseErrorKind → List ℕ
+kind_text UnexpectedEof = codes "unexpected end of file"
+kind_text (Unexpected t) = codes "unexpected " ++ token_text t
+kind_text (Expected t) = codes "expected " ++ token_text t
+kind_text MalformedCommand = codes "malformed command"
+kind_text OutOfMemory = codes "out of memory"
+
+-- the kind, and the bytes at fault
+abbrev pub error_text : ParseError → List ℕ
+error_text e = kind_text e.kind ++ codes ": " ++ decimal e.span.start ++ codes "-" ++ decimal e.span.end
+
+-- the fault that is no fault of the text
+abbrev pub out_of_memory : ParseError
+out_of_memory = record { span = record { start = 0; end = 0 }; kind = OutOfMemory }
+
+-- a fault of the grammar: something stands where it may not, or doesn't stand where it should
+abbrev pub is_syntax : ParseErrorKind → Bool
+is_syntax UnexpectedEof = true
+is_syntax (Unexpected t) = true
+is_syntax (Expected t) = true
+is_syntax MalformedCommand = false
+is_syntax OutOfMemory = false
+
+-- a fault of the grammar, in the text
+pub record IsSyntaxFault (text : List ℕ) (e : ParseError) : Type 0 where
+  pub kind : IsTrue (is_syntax e.kind)
+  pub ordered : e.span.start ≤ e.span.end
+  pub within : e.span.end ≤ length text
+
+-- refused for want of memory, or with a fault of the grammar where what was asked for doesn't stand
+abbrev pub Refuses : List ℕ → ParseError → Type 0 → Type 0
+Refuses text e Absent = (e ≡ out_of_memory) ⊎ (IsSyntaxFault text e × Absent)

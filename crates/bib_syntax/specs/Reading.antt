@@ -1,0 +1,59 @@
+-- What a bibliography file says: its entries, abbreviations and preamble, each part with the bytes where it stands.
+use Rattle.std.specs.Prelude.{ℕ, List, [], ◌∷◌, ◌++◌, codes}
+use Rattle.bib_chunks.specs.Places.{Place, between}
+
+-- a part of the text: its bytes, and where they begin and end
+pub record Part : Type 0 where
+  pub text : List ℕ
+  pub start : ℕ
+  pub end : ℕ
+
+-- what stands from one place to the other
+abbrev pub part : Place → Place → Part
+part u v = record { text = between u v; start = u.at; end = v.at }
+
+-- an element of a value: text, or the name of an abbreviation
+pub data Piece : Type 0 where
+  literal : Part → Piece
+  abbreviation : Part → Piece
+
+-- the elements of a value, and where it begins and ends
+pub record Value : Type 0 where
+  pub pieces : List Piece
+  pub start : ℕ
+  pub end : ℕ
+
+pub record FieldReading : Type 0 where
+  pub name : Part
+  pub value : Value
+
+-- an entry, from its @ up to its closing brace
+pub record EntryReading : Type 0 where
+  pub key : Part
+  pub kind : Part
+  pub fields : List FieldReading
+  pub start : ℕ
+  pub end : ℕ
+
+pub record FileReading : Type 0 where
+  pub preamble : List ℕ
+  pub entries : List EntryReading
+  pub abbreviations : List FieldReading
+
+-- what a file says in which nothing stands
+abbrev pub nothing : FileReading
+nothing = record { preamble = []; entries = []; abbreviations = [] }
+
+-- two preambles, joined as BibTeX joins texts
+abbrev pub joined : List ℕ → List ℕ → List ℕ
+joined [] rest = rest
+joined (b ∷ bs) [] = b ∷ bs
+joined (b ∷ bs) (c ∷ cs) = (b ∷ bs) ++ codes " # " ++ (c ∷ cs)
+
+-- what two files say, the second behind the first
+abbrev pub then : FileReading → FileReading → FileReading
+then first rest = record {
+  preamble = joined first.preamble rest.preamble;
+  entries = first.entries ++ rest.entries;
+  abbreviations = first.abbreviations ++ rest.abbreviations
+}

@@ -1,0 +1,46 @@
+-- What the values of the program that hold what a file says, say: their texts and spans, wherever these are kept.
+use Rattle.std.specs.Prelude.{ℕ, List, [], ◌∷◌, map}
+use Rattle.std.specs.String.{string_bytes}
+use Rattle.std.specs.Borrow.{Bor}
+use Rattle.bib_chunks.specs.declared.chunk.Spanned.{Spanned}
+use Rattle.bib_syntax.specs.declared.raw.RawChunk.{RawChunk}
+use Rattle.bib_syntax.specs.declared.raw.RawChunk.TheVariants.{Normal, Abbreviation}
+use Rattle.bib_syntax.specs.declared.raw.Pair.{Pair}
+use Rattle.bib_syntax.specs.declared.raw.RawEntry.{RawEntry}
+use Rattle.bib_syntax.specs.declared.raw.RawBibliography.{RawBibliography}
+use Rattle.bib_syntax.specs.declared.raw.file.Item.{Item}
+use Rattle.bib_syntax.specs.declared.raw.file.Item.TheVariants.{Nothing, Preamble, Strings, Entry}
+use Rattle.bib_syntax.specs.Reading.{Part, Piece, FieldReading, EntryReading, FileReading, nothing}
+use Rattle.bib_syntax.specs.Reading.Piece.{literal, abbreviation}
+
+-- a text at its span
+abbrev pub part_of : Spanned (Bor (List ℕ)) → Part
+part_of s = record { text = s.v.now; start = s.span.start; end = s.span.end }
+
+-- an element with these ends
+abbrev pub piece_at : ℕ → ℕ → RawChunk → Piece
+piece_at start end (Normal s) = literal (record { text = s.now; start = start; end = end })
+piece_at start end (Abbreviation s) = abbreviation (record { text = s.now; start = start; end = end })
+
+abbrev pub piece_of : Spanned RawChunk → Piece
+piece_of s = piece_at s.span.start s.span.end s.v
+
+abbrev pub field_of : Pair → FieldReading
+field_of p = record { name = part_of p.key; value = record { pieces = map piece_of p.value.v.items; start = p.value.span.start; end = p.value.span.end } }
+
+abbrev pub entry_of : Spanned RawEntry → EntryReading
+entry_of e = record { key = part_of e.v.key; kind = part_of e.v.kind; fields = map field_of e.v.fields.items; start = e.span.start; end = e.span.end }
+
+abbrev pub file_of : RawBibliography → FileReading
+file_of raw = record {
+  preamble = string_bytes raw.preamble;
+  entries = map entry_of raw.entries.items;
+  abbreviations = map field_of raw.abbreviations.items
+}
+
+-- what a block says
+abbrev pub item_of : Item → FileReading
+item_of Nothing = nothing
+item_of (Preamble s) = record { preamble = s.now; entries = []; abbreviations = [] }
+item_of (Strings pairs) = record { preamble = []; entries = []; abbreviations = map field_of pairs.items }
+item_of (Entry e) = record { preamble = []; entries = entry_of e ∷ []; abbreviations = [] }

@@ -1,0 +1,197 @@
+//! The low-level representation of a bibliography file, with abbreviations not yet resolved.
+
+ghost use Rattle.std.specs.Prelude.{◌≡◌, [], ◌∷◌, ◌++◌, codes, Some};
+ghost use Rattle.bib_syntax.specs.Characters as characters;
+ghost use Rattle.bib_syntax.specs.Faults.{token_text, kind_text, error_text, out_of_memory};
+
+mod fields;
+mod file;
+mod words;
+
+use bib_chunks::chunk::{Span, Spanned};
+use std::alloc::{AllocError, AllocFailed};
+use std::error::Error;
+use std::fmt;
+
+/// The elements of a field's value, joined in the file by `#`.
+pub type Field<'s> = Vec<Spanned<RawChunk<'s>>>;
+
+/// What a bibliography file says, with abbreviations not yet resolved. All texts but the preamble are parts of the file.
+#[derive(Debug, Clone, Drop)]
+pub struct RawBibliography<'s> {
+    /// The preambles with their quotes, joined by ` # `.
+    pub preamble: String,
+    /// The entries, in the order of the file.
+    pub entries: Vec<Spanned<RawEntry<'s>>>,
+    /// The abbreviations that the file defines, in its order.
+    pub abbreviations: Vec<Pair<'s>>,
+}
+
+/// An entry as it stands in the file.
+#[derive(Debug, Clone, Drop)]
+pub struct RawEntry<'s> {
+    /// The citation key, possibly empty.
+    pub key: Spanned<&'s str>,
+    /// The kind of entry, such as `article`.
+    pub kind: Spanned<&'s str>,
+    /// The fields with their values, in the order of the file.
+    pub fields: Vec<Pair<'s>>,
+}
+
+/// An element of a value.
+#[derive(Debug, Clone, PartialEq, Eq, Drop)]
+pub enum RawChunk<'s> {
+    /// A number, or the text between braces or quotes.
+    Normal(&'s str),
+    /// The name of an abbreviation.
+    Abbreviation(&'s str),
+}
+
+/// A name and its value: a field, or an abbreviation's definition.
+#[derive(Debug, Clone, Drop)]
+pub struct Pair<'s> {
+    /// The name.
+    pub key: Spanned<&'s str>,
+    /// The value, which goes on over the white space behind it.
+    pub value: Spanned<Field<'s>>,
+}
+
+impl<'s> Pair<'s> {
+    /// A name and its value.
+    pub fn new(key: Spanned<&'s str>, value: Spanned<Field<'s>>) -> Self
+        ensures { result ≡ record { key = key.entry; value = value.entry } }
+    {
+        Pair { key, value }
+    }
+}
+
+/// Why a text was refused, and where.
+#[derive(Debug, Clone, PartialEq, Eq, Drop)]
+pub struct ParseError {
+    /// The bytes of the text at fault. At the kind `OutOfMemory` it is `0..0`.
+    pub span: Span,
+    /// What is wrong.
+    pub kind: ParseErrorKind,
+}
+
+/// Why a text was refused.
+#[derive(Debug, Clone, PartialEq, Eq, Drop)]
+#[non_exhaustive]
+pub enum ParseErrorKind {
+    /// The text ended too soon.
+    UnexpectedEof,
+    /// A token stands where it may not.
+    Unexpected(Token),
+    /// A token was expected and doesn't stand there.
+    Expected(Token),
+    /// A command was malformed. Kept for its name: nothing gives it.
+    MalformedCommand,
+    /// There was no memory.
+    OutOfMemory,
+}
+
+/// A token of a bibliography file.
+#[derive(Debug, Clone, Copy, PartialEq, Eq)]
+pub enum Token {
+    /// A field's name, an entry's kind, an abbreviation's name or an entry's key.
+    Identifier,
+    /// `{`
+    OpeningBrace,
+    /// `}`
+    ClosingBrace,
+    /// `,`
+    Comma,
+    /// `"`
+    QuotationMark,
+    /// `=`
+    Equals,
+    /// `.`
+    DecimalPoint,
+}
+
+impl fmt::Display for Token {
+    ghost output = { λ token. Some (token_text token) };
+
+    fn fmt<W: fmt::Write>(&self, f: &mut fmt::Formatter<W>) -> fmt::Result {
+        f.write_str(match self {
+            Token::Identifier => "identifier",
+            Token::OpeningBrace => "opening brace",
+            Token::ClosingBrace => "closing brace",
+            Token::Comma => "comma",
+            Token::QuotationMark => "double quote",
+            Token::Equals => "equals",
+            Token::DecimalPoint => "decimal point",
+        })
+    }
+}
+
+impl fmt::Display for ParseErrorKind {
+    ghost output = { λ kind. Some (kind_text kind) };
+
+    fn fmt<W: fmt::Write>(&self, f: &mut fmt::Formatter<W>) -> fmt::Result {
+        match self {
+            ParseErrorKind::UnexpectedEof => f.write_str("unexpected end of file"),
+            ParseErrorKind::Unexpected(token) => write!(f, "unexpected {token}"),
+            ParseErrorKind::Expected(token) => write!(f, "expected {token}"),
+            ParseErrorKind::MalformedCommand => f.write_str("malformed command"),
+            ParseErrorKind::OutOfMemory => f.write_str("out of memory"),
+        }
+    }
+}
+
+impl fmt::Display for ParseError {
+    ghost output = { λ error. Some (error_text error) };
+
+    fn fmt<W: fmt::Write>(&self, f: &mut fmt::Formatter<W>) -> fmt::Result {
+        write!(f, "{}: {}-{}", self.kind, self.span.start, self.span.end)
+    }
+}
+
+impl Error for ParseError {}
+
+impl From<AllocError> for ParseError {
+    ghost from_gives = { λ _ error. error ≡ out_of_memory };
+
+    fn from(_error: AllocError) -> ParseError {
+        ParseError {
+            span: 0..0,
+            kind: ParseErrorKind::OutOfMemory,
+        }
+    }
+}
+
+impl<T: Drop> From<AllocFailed<T>> for ParseError {
+    ghost from_gives = { λ _ error. error ≡ out_of_memory };
+
+    fn from(_error: AllocFailed<T>) -> ParseError {
+        ParseError {
+            span: 0..0,
+            kind: ParseErrorKind::OutOfMemory,
+        }
+    }
+}
+
+/// Whether a character is allowed in an entry's key.
+pub fn is_key(c: char) -> bool
+    ensures { result ≡ characters.is_key c }
+{
+    !matches!(c, ',' | '}') && !c.is_control() && !c.is_whitespace()
+}
+
+/// Whether a character can begin an identifier.
+pub fn is_id_start(c: char) -> bool
+    ensures { result ≡ characters.is_id_start c }
+{
+    !matches!(c, ':' | '<' | '-' | '>') && is_id_continue(c)
+}
+
+/// Whether a character can go on in an identifier.
+pub fn is_id_continue(c: char) -> bool
+    ensures { result ≡ characters.is_id_continue c }
+{
+    !matches!(
+        c,
+        '@' | '{' | '}' | '"' | '#' | '\'' | '(' | ')' | ',' | '=' | '%' | '\\' | '~'
+    ) && !c.is_control()
+        && !c.is_whitespace()
+}

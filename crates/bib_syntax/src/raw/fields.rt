@@ -1,0 +1,103 @@
+//! Fields: names with values, parted by commas.
+
+ghost use Rattle.std.specs.Prelude.{◌≡◌, List, map, IfOk, IfErr, OnOk, OnErr};
+ghost use Rattle.std.specs.Char.{is_whitespace};
+ghost use Rattle.bib_chunks.specs.Places.{Place, CharAt, Longest};
+ghost use Rattle.bib_syntax.specs.Faults.{IsSyntaxFault, Refuses};
+ghost use Rattle.bib_syntax.specs.Grammar.{Elements, Field, Fields, Gap, Remark, longest};
+ghost use Rattle.bib_syntax.specs.Reading.{Piece, FieldReading};
+ghost use Rattle.bib_syntax.specs.Views.{piece_of, field_of};
+
+use crate::raw::words::{begins_identifier, element, expect, fault, identifier};
+use crate::raw::{Field, Pair, ParseError, ParseErrorKind, Token};
+use bib_chunks::chunk::Spanned;
+use bib_chunks::scanner::Scanner;
+use std::alloc::Global;
+
+// A percent sign and the rest of its line.
+pub(crate) fn remark(s: &mut Scanner<'_>)
+    requires { (v : Place) × CharAt s.old 37 v }
+    ensures { Remark s.old s.new }
+{
+    s.eat_if('%');
+    s.eat_until(|c| c == '\n');
+}
+
+// White space, in which one remark may stand.
+pub(crate) fn gap(s: &mut Scanner<'_>)
+    ensures { Gap longest s.old s.new }
+{
+    s.eat_whitespace();
+    if s.at('%') {
+        remark(s);
+        s.eat_whitespace();
+    }
+}
+
+// The elements of a value, joined by `#`.
+fn elements<'s>(s: &mut Scanner<'s>, alloc: Global) -> Result<Field<'s>, ParseError>
+    ensures found { IfOk result (λ pieces. Elements longest s.old (map piece_of pieces.items) s.new) }
+    ensures refused { IfErr result (λ e. Refuses s.old.text e ((es : List Piece) (v : Place) → Elements longest s.old es v → ⊥)) }
+{
+    let mut pieces = Vec::with_capacity(alloc, 1)?;
+    'elements: loop {
+        let piece = element(s)?;
+        pieces.push(piece)?;
+        s.eat_whitespace();
+        if !s.eat_if('#') {
+            return Ok(pieces);
+        }
+        s.eat_whitespace();
+    }
+}
+
+// A field: a name, an equals sign and a value.
+fn field<'s>(s: &mut Scanner<'s>, alloc: Global) -> Result<Pair<'s>, ParseError>
+    ensures found { IfOk result (λ pair. Field longest s.old (field_of pair) s.new) }
+    ensures refused { IfErr result (λ e. Refuses s.old.text e ((f : FieldReading) (v : Place) → Field longest s.old f v → ⊥)) }
+{
+    let name = identifier(s)?;
+    s.eat_whitespace();
+    expect(s, '=', Token::Equals)?;
+    s.eat_whitespace();
+    let start = s.cursor();
+    let pieces = elements(s, alloc)?;
+    Ok(Pair::new(name, Spanned::new(pieces, start..s.cursor())))
+}
+
+// The brace behind fields, with white space before it; `missing` is what is told where it doesn't stand.
+fn closed(s: &mut Scanner<'_>, missing: Token) -> Result<(), ParseError>
+    ensures found { OnOk result (Longest is_whitespace s.old s.new × ((v : Place) × CharAt s.new 125 v)) }
+    ensures none { OnErr result ((v w : Place) → Longest is_whitespace s.old v → CharAt v 125 w → ⊥) }
+    ensures fault { IfErr result (IsSyntaxFault s.old.text) }
+{
+    s.eat_whitespace();
+    if s.at('}') {
+        return Ok(());
+    }
+    if missing == Token::Identifier && s.done() {
+        return Err(fault(s, ParseErrorKind::UnexpectedEof));
+    }
+    Err(fault(s, ParseErrorKind::Expected(missing)))
+}
+
+// Fields up to the brace that closes their block.
+pub(crate) fn fields<'s>(s: &mut Scanner<'s>, alloc: Global) -> Result<Vec<Pair<'s>>, ParseError>
+    ensures found { IfOk result (λ pairs. Fields longest s.old (map field_of pairs.items) s.new) }
+    ensures closed { OnOk result ((v : Place) × CharAt s.new 125 v) }
+    ensures refused { IfErr result (λ e. Refuses s.old.text e ((fs : List FieldReading) (v w : Place) → Fields longest s.old fs v → CharAt v 125 w → ⊥)) }
+{
+    let mut pairs = Vec::new(alloc);
+    'fields: while begins_identifier(s) {
+        let pair = field(s, alloc)?;
+        pairs.push(pair)?;
+        gap(s);
+        if !s.eat_if(',') {
+            closed(s, Token::Comma)?;
+            return Ok(pairs);
+        }
+        gap(s);
+    }
+    closed(s, Token::Identifier)?;
+    Ok(pairs)
+}

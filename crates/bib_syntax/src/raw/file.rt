@@ -1,0 +1,156 @@
+//! Blocks, and the file that they make.
+
+ghost use Rattle.std.specs.Prelude.{◌≡◌, ℕ, List, [], ◌∷◌, ◌==◌, ◌||◌, true, IfOk, IfErr, OnOk, OnErr};
+ghost use Rattle.bib_chunks.specs.Places.{Place, CharAt, place};
+ghost use Rattle.bib_syntax.specs.Grammar as grammar;
+ghost use Rattle.bib_syntax.specs.Grammar.{Head, Body, Block, Remark, File, Quoted, longest};
+ghost use Rattle.bib_syntax.specs.Reading.{Part, FileReading, nothing, then};
+ghost use Rattle.bib_syntax.specs.Faults.{IsSyntaxFault, Refuses, out_of_memory};
+ghost use Rattle.bib_syntax.specs.Views.{part_of, file_of, item_of};
+
+use crate::raw::fields::{fields, gap};
+use crate::raw::words::{brace, expect, identifier, key, quoted};
+use crate::raw::{Pair, ParseError, RawBibliography, RawEntry, Token};
+use bib_chunks::chunk::Spanned;
+use bib_chunks::scanner::Scanner;
+use std::alloc::{AllocError, Global};
+
+// What a block of a file is, by its name.
+enum BlockKind {
+    Comment,
+    Preamble,
+    Strings,
+    Entry,
+}
+
+// Whether a name is this word in some ASCII case.
+fn is_named(name: &str, word: &str) -> bool
+    ensures { result ≡ grammar.is_named word.now name.now }
+{
+    name.eq_ignore_ascii_case(word)
+}
+
+fn block_kind(name: &str) -> BlockKind
+    ensures { result ≡ grammar.block_kind name.now }
+{
+    if is_named(name, "comment") {
+        BlockKind::Comment
+    } else if is_named(name, "preamble") {
+        BlockKind::Preamble
+    } else if is_named(name, "string") {
+        BlockKind::Strings
+    } else {
+        BlockKind::Entry
+    }
+}
+
+// What a block says.
+#[derive(Drop)]
+enum Item<'s> {
+    Nothing,
+    Preamble(&'s str),
+    Strings(Vec<Pair<'s>>),
+    Entry(Spanned<RawEntry<'s>>),
+}
+
+// The head of a block behind its at sign: its name and a brace.
+fn head<'s>(s: &mut Scanner<'s>) -> Result<Spanned<&'s str>, ParseError>
+    requires { (v : Place) × CharAt s.old 64 v }
+    ensures found { IfOk result (λ kind. Head longest s.old (part_of kind) s.new) }
+    ensures none { OnErr result ((p : Part) (v : Place) → Head longest s.old p v → ⊥) }
+    ensures fault { IfErr result (IsSyntaxFault s.old.text) }
+{
+    s.eat_if('@');
+    let kind = identifier(s)?;
+    s.eat_whitespace();
+    brace(s, '{', Token::OpeningBrace)?;
+    s.eat_whitespace();
+    Ok(kind)
+}
+
+// A comment, up to its first closing brace.
+fn comment(s: &mut Scanner<'_>) -> Result<(), ParseError>
+    ensures found { OnOk result ((u : Place) (p : Part) → Body longest u p BlockKind.Comment s.old nothing s.new) }
+    ensures none { OnErr result ((u : Place) (p : Part) (r : FileReading) (v : Place) → Body longest u p BlockKind.Comment s.old r v → ⊥) }
+    ensures fault { IfErr result (IsSyntaxFault s.old.text) }
+{
+    s.eat_until(|c| c == '}');
+    expect(s, '}', Token::ClosingBrace)?;
+    Ok(())
+}
+
+// A preamble: one quoted text, of which the quotes are a part.
+fn preamble<'s>(s: &mut Scanner<'s>) -> Result<&'s str, ParseError>
+    ensures found { IfOk result (λ text. (u : Place) (p : Part) → Body longest u p BlockKind.Preamble s.old (item_of (Item.Preamble text)) s.new) }
+    ensures none { OnErr result ((u : Place) (p : Part) (r : FileReading) (v : Place) → Body longest u p BlockKind.Preamble s.old r v → ⊥) }
+    ensures fault { IfErr result (IsSyntaxFault s.old.text) }
+{
+    let start = s.cursor();
+    quoted(s)?;
+    let text = s.from(start);
+    s.eat_whitespace();
+    brace(s, '}', Token::ClosingBrace)?;
+    Ok(text)
+}
+
+// Definitions of abbreviations.
+fn strings<'s>(s: &mut Scanner<'s>, alloc: Global) -> Result<Vec<Pair<'s>>, ParseError>
+    ensures found { IfOk result (λ pairs. (u : Place) (p : Part) → Body longest u p BlockKind.Strings s.old (item_of (Item.Strings pairs)) s.new) }
+    ensures refused { IfErr result (λ e. Refuses s.old.text e ((u : Place) (p : Part) (r : FileReading) (v : Place) → Body longest u p BlockKind.Strings s.old r v → ⊥)) }
+{
+    let pairs = fields(s, alloc)?;
+    s.eat_if('}');
+    Ok(pairs)
+}
+
+// The key of an entry and the comma behind it, and its fields. The entry began at `start`.
+fn entry<'s>(s: &mut Scanner<'s>, alloc: Global, kind: Spanned<&'s str>, start: usize) -> Result<Spanned<RawEntry<'s>>, ParseError>
+    ensures found { IfOk result (λ e. (u : Place) → u.at ≡ start → Body longest u (part_of kind.entry) BlockKind.Entry s.old (item_of (Item.Entry e)) s.new) }
+    ensures refused { IfErr result (λ e. Refuses s.old.text e ((u : Place) (p : Part) (r : FileReading) (v : Place) → Body longest u p BlockKind.Entry s.old r v → ⊥)) }
+{
+    let key = key(s);
+    s.eat_whitespace();
+    expect(s, ',', Token::Comma)?;
+    gap(s);
+    let fields = fields(s, alloc)?;
+    let span = start..s.cursor();
+    s.eat_if('}');
+    Ok(Spanned::new(RawEntry { key, kind, fields }, span))
+}
+
+// A block: a comment, a preamble, a list of abbreviations or an entry.
+fn block<'s>(s: &mut Scanner<'s>, alloc: Global) -> Result<Item<'s>, ParseError>
+    requires { (v : Place) × CharAt s.old 64 v }
+    ensures found { IfOk result (λ item. Block longest s.old (item_of item) s.new) }
+    ensures refused { IfErr result (λ e. Refuses s.old.text e ((r : FileReading) (v : Place) → Block longest s.old r v → ⊥)) }
+{
+    let start = s.cursor();
+    let kind = head(s)?;
+    match block_kind(kind.v) {
+        BlockKind::Comment => {
+            comment(s)?;
+            Ok(Item::Nothing)
+        }
+        BlockKind::Preamble => Ok(Item::Preamble(preamble(s)?)),
+        BlockKind::Strings => Ok(Item::Strings(strings(s, alloc)?)),
+        BlockKind::Entry => Ok(Item::Entry(entry(s, alloc, kind, start)?)),
+    }
+}
+
+// Adds what a block says to what the blocks before it say.
+fn add<'s>(raw: &mut RawBibliography<'s>, item: Item<'s>) -> Result<(), AllocError>
+    ensures { OnOk result (file_of raw.new ≡ then (file_of raw.old) (item_of item.entry)) }
+{
+    match item {
+        Item::Nothing => {}
+        Item::Preamble(text) => {
+            if !raw.preamble.is_empty() && !text.is_empty() {
+                raw.preamble.push_str(" # ")?;
+            }
+            raw.preamble.push_str(text)?;
+        }
+        Item::Strings(pairs) => raw.abbreviations.extend(pairs)?,
+        Item::Entry(entry) => raw.entries.push(entry)?,
+    }
+    Ok(())
+}

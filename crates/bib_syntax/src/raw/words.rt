@@ -1,0 +1,238 @@
+//! The words of a bibliography file: names, keys, numbers, braced and quoted texts.
+
+ghost use Rattle.std.specs.Prelude.{◌≡◌, ℕ, ◌≤◌, ◌+◌, ◌||◌, ◌&&◌, ◌==◌, not, true, false, length, IfOk, IfErr, OnOk, OnErr, IsTrue, MatchBool};
+ghost use Rattle.std.specs.Char.{is_ascii_digit};
+ghost use Rattle.bib_chunks.specs.Places.{Place, CharAt, Longest};
+ghost use Rattle.bib_chunks.specs.Braces.{Parts, is_plain};
+ghost use Rattle.bib_syntax.specs.Characters as characters;
+ghost use Rattle.bib_syntax.specs.Faults.{IsSyntaxFault, is_syntax};
+ghost use Rattle.bib_syntax.specs.Grammar.{Identifier, Number, Quoted, QuotedParts, Braced, Element, longest};
+ghost use Rattle.bib_syntax.specs.Reading.{Part, Piece, part};
+ghost use Rattle.bib_syntax.specs.Views.{part_of, piece_of};
+
+use crate::raw::{ParseError, ParseErrorKind, RawChunk, Token, is_id_continue, is_id_start, is_key};
+use bib_chunks::chunk::Spanned;
+use bib_chunks::scanner::Scanner;
+
+// A fault of the grammar at this place.
+pub(crate) fn fault(s: &Scanner<'_>, kind: ParseErrorKind) -> ParseError
+    requires { IsTrue (is_syntax kind) }
+    ensures { IsSyntaxFault s.now.text result }
+{
+    let here = s.cursor();
+    ParseError {
+        span: here..here,
+        kind,
+    }
+}
+
+// A character that has to stand here.
+pub(crate) fn expect(s: &mut Scanner<'_>, c: char, token: Token) -> Result<(), ParseError>
+    ensures found { OnOk result (CharAt s.old c s.new) }
+    ensures none { OnErr result ((v : Place) → CharAt s.old c v → ⊥) }
+    ensures fault { IfErr result (IsSyntaxFault s.old.text) }
+{
+    if !s.eat_if(c) {
+        return Err(fault(s, ParseErrorKind::Expected(token)));
+    }
+    Ok(())
+}
+
+// A brace, for which a quote may stand.
+pub(crate) fn brace(s: &mut Scanner<'_>, c: char, token: Token) -> Result<(), ParseError>
+    ensures found { OnOk result ((d : ℕ) × CharAt s.old d s.new × (d == c || d == 34 ≡ true)) }
+    ensures none { OnErr result ((d : ℕ) (v : Place) → CharAt s.old d v → d == c || d == 34 ≡ true → ⊥) }
+    ensures fault { IfErr result (IsSyntaxFault s.old.text) }
+{
+    if s.eat_if(c) || s.eat_if('"') {
+        return Ok(());
+    }
+    Err(fault(s, ParseErrorKind::Expected(token)))
+}
+
+// Whether an identifier begins here.
+pub(crate) fn begins_identifier(s: &Scanner<'_>) -> bool
+    ensures { MatchBool result ((c : ℕ) × (v : Place) × CharAt s.now c v × (characters.is_id_start c ≡ true)) ((c : ℕ) (v : Place) → CharAt s.now c v → characters.is_id_start c ≡ false) }
+{
+    match s.peek() {
+        Some(c) => is_id_start(c),
+        None => false,
+    }
+}
+
+// An identifier: a field's name, an entry's kind or the name of an abbreviation.
+pub(crate) fn identifier<'s>(s: &mut Scanner<'s>) -> Result<Spanned<&'s str>, ParseError>
+    ensures found { IfOk result (λ name. Identifier longest s.old (part_of name) s.new) }
+    ensures none { OnErr result ((p : Part) (v : Place) → Identifier longest s.old p v → ⊥) }
+    ensures fault { IfErr result (IsSyntaxFault s.old.text) }
+{
+    if !begins_identifier(s) {
+        return Err(fault(s, ParseErrorKind::Expected(Token::Identifier)));
+    }
+    let start = s.cursor();
+    let text = s.eat_while(is_id_continue);
+    Ok(Spanned::new(text, start..s.cursor()))
+}
+
+// The key of an entry, possibly empty.
+pub(crate) fn key<'s>(s: &mut Scanner<'s>) -> Spanned<&'s str>
+    ensures longest { Longest characters.is_key s.old s.new }
+    ensures reading { part_of result ≡ part s.old s.new }
+{
+    let start = s.cursor();
+    let text = s.eat_while(is_key);
+    Spanned::new(text, start..s.cursor())
+}
+
+fn is_digit(c: char) -> bool
+    ensures { result ≡ is_ascii_digit c }
+{
+    c.is_ascii_digit()
+}
+
+// The digits of a number, with at most one point among them.
+fn digits(s: &mut Scanner<'_>) -> Result<(), ParseError>
+    requires { (c : ℕ) × (v : Place) × CharAt s.old c v × (is_ascii_digit c ≡ true) }
+    ensures found { OnOk result (Number longest s.old s.new) }
+    ensures none { OnErr result ((v : Place) → Number longest s.old v → ⊥) }
+    ensures fault { IfErr result (IsSyntaxFault s.old.text) }
+{
+    s.eat_while(is_digit);
+    if !s.eat_if('.') {
+        return Ok(());
+    }
+    s.eat_while(is_digit);
+    if s.at('.') {
+        return Err(fault(s, ParseErrorKind::Unexpected(Token::DecimalPoint)));
+    }
+    Ok(())
+}
+
+// A number.
+fn number<'s>(s: &mut Scanner<'s>) -> Result<Spanned<&'s str>, ParseError>
+    requires { (c : ℕ) × (v : Place) × CharAt s.old c v × (is_ascii_digit c ≡ true) }
+    ensures found { OnOk result (Number longest s.old s.new) }
+    ensures reading { IfOk result (λ text. part_of text ≡ part s.old s.new) }
+    ensures none { OnErr result ((v : Place) → Number longest s.old v → ⊥) }
+    ensures fault { IfErr result (IsSyntaxFault s.old.text) }
+{
+    let start = s.cursor();
+    digits(s)?;
+    Ok(Spanned::new(s.from(start), start..s.cursor()))
+}
+
+// Whether a character in quotes is neither a quote nor a backslash.
+fn is_quotable(c: char) -> bool
+    ensures { result ≡ (not (c == 34) && not (c == 92)) }
+{
+    c != '"' && c != '\\'
+}
+
+// The parts of a quoted text, up to the quote that closes it.
+fn quoted_parts<'s>(s: &mut Scanner<'s>) -> Result<Spanned<&'s str>, ParseError>
+    ensures found { OnOk result (QuotedParts s.old s.new × ((v : Place) × CharAt s.new 34 v)) }
+    ensures reading { IfOk result (λ text. part_of text ≡ part s.old s.new) }
+    ensures none { OnErr result ((v w : Place) → QuotedParts s.old v → CharAt v 34 w → ⊥) }
+    ensures fault { IfErr result (IsSyntaxFault s.old.text) }
+{
+    let start = s.cursor();
+    'parts: loop {
+        s.eat_while(is_quotable);
+        if s.at('"') {
+            return Ok(Spanned::new(s.from(start), start..s.cursor()));
+        }
+        if !s.eat_if('\\') {
+            return Err(fault(s, ParseErrorKind::UnexpectedEof));
+        }
+        s.eat();
+    }
+}
+
+// A quoted text.
+pub(crate) fn quoted<'s>(s: &mut Scanner<'s>) -> Result<Spanned<&'s str>, ParseError>
+    ensures found { IfOk result (λ text. Quoted s.old (part_of text) s.new) }
+    ensures none { OnErr result ((p : Part) (v : Place) → Quoted s.old p v → ⊥) }
+    ensures fault { IfErr result (IsSyntaxFault s.old.text) }
+{
+    expect(s, '"', Token::QuotationMark)?;
+    let text = quoted_parts(s)?;
+    expect(s, '"', Token::QuotationMark)?;
+    Ok(text)
+}
+
+// Whether a character in braces is neither a brace nor a backslash.
+fn is_plain_char(c: char) -> bool
+    ensures { result ≡ is_plain c }
+{
+    c != '{' && c != '}' && c != '\\'
+}
+
+// The parts of a braced text, up to the brace that closes it.
+fn braced_parts<'s>(s: &mut Scanner<'s>) -> Result<Spanned<&'s str>, ParseError>
+    ensures found { OnOk result (Parts s.old s.new × ((v : Place) × CharAt s.new 125 v)) }
+    ensures reading { IfOk result (λ text. part_of text ≡ part s.old s.new) }
+    ensures none { OnErr result ((v w : Place) → Parts s.old v → CharAt v 125 w → ⊥) }
+    ensures fault { IfErr result (IsSyntaxFault s.old.text) }
+{
+    let start = s.cursor();
+    let mut depth = 0usize;
+    'parts: loop {
+        s.eat_while(is_plain_char);
+        if s.eat_if('{') {
+            depth += 1;
+        } else if s.at('}') {
+            if depth == 0 {
+                return Ok(Spanned::new(s.from(start), start..s.cursor()));
+            }
+            s.eat_if('}');
+            depth -= 1;
+        } else if s.eat_if('\\') {
+            s.eat();
+        } else {
+            return Err(fault(s, ParseErrorKind::UnexpectedEof));
+        }
+    }
+}
+
+// A braced text.
+fn braced<'s>(s: &mut Scanner<'s>) -> Result<Spanned<&'s str>, ParseError>
+    ensures found { IfOk result (λ text. Braced s.old (part_of text) s.new) }
+    ensures none { OnErr result ((p : Part) (v : Place) → Braced s.old p v → ⊥) }
+    ensures fault { IfErr result (IsSyntaxFault s.old.text) }
+{
+    expect(s, '{', Token::OpeningBrace)?;
+    let text = braced_parts(s)?;
+    expect(s, '}', Token::ClosingBrace)?;
+    Ok(text)
+}
+
+// Whether a number begins here.
+fn begins_number(s: &Scanner<'_>) -> bool
+    ensures { MatchBool result ((c : ℕ) × (v : Place) × CharAt s.now c v × (is_ascii_digit c ≡ true)) ((c : ℕ) (v : Place) → CharAt s.now c v → is_ascii_digit c ≡ false) }
+{
+    match s.peek() {
+        Some(c) => is_digit(c),
+        None => false,
+    }
+}
+
+// An element of a value: a number, the name of an abbreviation, a braced or a quoted text.
+pub(crate) fn element<'s>(s: &mut Scanner<'s>) -> Result<Spanned<RawChunk<'s>>, ParseError>
+    ensures found { IfOk result (λ chunk. Element longest s.old (piece_of chunk) s.new) }
+    ensures none { OnErr result ((e : Piece) (v : Place) → Element longest s.old e v → ⊥) }
+    ensures fault { IfErr result (IsSyntaxFault s.old.text) }
+{
+    if s.at('{') {
+        return Ok(braced(s)?.map(RawChunk::Normal));
+    }
+    if s.at('"') {
+        return Ok(quoted(s)?.map(RawChunk::Normal));
+    }
+    if begins_number(s) {
+        return Ok(number(s)?.map(RawChunk::Normal));
+    }
+    if begins_identifier(s) {
+        return Ok(identifier(s)?.map(RawChunk::Abbreviation));
+    }
+    Err(fault(s, ParseErrorKind::UnexpectedEof))
+}
