@@ -145,7 +145,7 @@ field_same {u} {v} {w} {f} {g} a b =
     let rest = elements_same (subst (λ x. Elements longest x f.value.pieces v) start a.elements) b.elements in
     (field_equal f g name.0 rest.0 (a.starts ∙ ap (λ p. p.at) start ∙ sym b.starts) (a.ends ∙ ap (λ p. p.at) rest.1 ∙ sym b.ends), rest.1)
 
-remark_same : {u v w : Place} → Remark u v → Remark u w → v ≡ w
+pub remark_same : {u v w : Place} → Remark u v → Remark u w → v ≡ w
 remark_same a b = longest_same (moved (Longest (λ c. not (c == 10))) (same_char a.sign b.sign).1 a.line) b.line
 
 pub gap_same : {u v w : Place} → Gap longest u v → Gap longest u w → v ≡ w

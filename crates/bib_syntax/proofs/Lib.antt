@@ -1,5 +1,6 @@
 pub mod BraceFacts
 pub mod FieldFacts
+pub mod FileFacts
 pub mod LawFacts
 pub mod QuoteFacts
 pub mod ReadingFacts

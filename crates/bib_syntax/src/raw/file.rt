@@ -1,6 +1,6 @@
 //! Blocks, and the file that they make.
 
-ghost use Rattle.std.specs.Prelude.{◌≡◌, ℕ, List, [], ◌∷◌, ◌==◌, ◌||◌, true, IfOk, IfErr, OnOk, OnErr};
+ghost use Rattle.std.specs.Prelude.{◌≡◌, ℕ, List, [], ◌∷◌, ◌==◌, ◌&&◌, ◌||◌, not, true, IfOk, IfErr, OnOk, OnErr};
 ghost use Rattle.bib_chunks.specs.Places.{Place, CharAt, place};
 ghost use Rattle.bib_syntax.specs.Grammar as grammar;
 ghost use Rattle.bib_syntax.specs.Grammar.{Head, Body, Block, Remark, File, Quoted, longest};
@@ -8,7 +8,7 @@ ghost use Rattle.bib_syntax.specs.Reading.{Part, FileReading, nothing, then};
 ghost use Rattle.bib_syntax.specs.Faults.{IsSyntaxFault, Refuses, out_of_memory};
 ghost use Rattle.bib_syntax.specs.Views.{part_of, file_of, item_of};
 
-use crate::raw::fields::{fields, gap};
+use crate::raw::fields::{fields, gap, remark};
 use crate::raw::words::{brace, expect, identifier, key, quoted};
 use crate::raw::{Pair, ParseError, RawBibliography, RawEntry, Token};
 use bib_chunks::chunk::Spanned;
@@ -149,8 +149,38 @@ fn add<'s>(raw: &mut RawBibliography<'s>, item: Item<'s>) -> Result<(), AllocErr
             }
             raw.preamble.push_str(text)?;
         }
-        Item::Strings(pairs) => raw.abbreviations.extend(pairs)?,
+        Item::Strings(mut pairs) => raw.abbreviations.append(&mut pairs)?,
         Item::Entry(entry) => raw.entries.push(entry)?,
     }
     Ok(())
+}
+
+// Whether a character between blocks is skipped.
+fn is_skipped(c: char) -> bool
+    ensures { result ≡ (not (c == 64) && not (c == 37)) }
+{
+    c != '@' && c != '%'
+}
+
+// The blocks of a file, up to its end.
+pub(crate) fn file<'s>(s: &mut Scanner<'s>, alloc: Global) -> Result<RawBibliography<'s>, ParseError>
+    ensures found { IfOk result (λ raw. File longest s.old (file_of raw)) }
+    ensures refused { IfErr result (λ e. Refuses s.old.text e ((r : FileReading) → File longest s.old r → ⊥)) }
+{
+    let mut raw = RawBibliography {
+        preamble: String::new(alloc),
+        entries: Vec::new(alloc),
+        abbreviations: Vec::new(alloc),
+    };
+    'file: while let Some(c) = s.peek() {
+        if c == '@' {
+            let item = block(s, alloc)?;
+            add(&mut raw, item)?;
+        } else if c == '%' {
+            remark(s);
+        } else {
+            s.eat_while(is_skipped);
+        }
+    }
+    Ok(raw)
 }

@@ -1,0 +1,272 @@
+-- How blocks are read one after another.
+use Rattle.std.proofs.Common.{◌≡◌, ℕ, ◌-◌, ◌<◌, length, Bool, true, false, List, [], ◌∷◌, ◌++◌, refl, sym, ap, ◌∙◌, subst, append_assoc, append-nil, codes}
+use Rattle.std.proofs.lemmas.Bool.{ne_eqb}
+use Rattle.std.specs.Prelude.{not, ◌==◌, ◌&&◌, ◌||◌}
+use Rattle.std.specs.Char.{is_whitespace}
+use Rattle.bib_chunks.specs.Places.{Place, CharAt, Run, Stops, Longest, AtEnd, between}
+use Rattle.bib_chunks.specs.Places.Run.{stop, step}
+use Rattle.bib_chunks.proofs.PlaceFacts.{same_char, char_clash, pass_clash, longest_same, longest_rest, left_smaller, Ahead, ahead_here, ahead_then, ahead_char, ahead_run, no_char_at_end}
+use Rattle.bib_syntax.specs.Characters.{is_key}
+use Rattle.bib_syntax.specs.Reading.{Part, part, FieldReading, EntryReading, FileReading, nothing, then, joined}
+use Rattle.bib_syntax.specs.Grammar.{Identifier, Quoted, Remark, Gap, Fields, Head, Body, Block, File, block_kind, longest}
+use Rattle.bib_syntax.specs.Grammar.{Body as body}
+use Rattle.bib_syntax.specs.Grammar.{File as file}
+use Rattle.bib_syntax.specs.declared.raw.file.BlockKind.{BlockKind}
+use Rattle.bib_syntax.specs.declared.raw.file.BlockKind.TheVariants.{Comment, Preamble, Strings, Entry}
+use Rattle.bib_syntax.proofs.LawFacts.{moved, identifier_same, quoted_same, gap_same, fields_same, remark_same}
+use Rattle.bib_syntax.proofs.FieldFacts.{ahead_identifier, ahead_quoted, ahead_gap, ahead_fields}
+
+pub head_same : {u v w : Place} {p q : Part} → Head longest u p v → Head longest u q w → (p ≡ q) × (v ≡ w)
+head_same a b =
+    let name = identifier_same (subst (λ x. Identifier longest x _ _) (same_char a.sign b.sign).1 a.name) b.name in
+    let white = longest_same (moved (Longest is_whitespace) name.1 a.white) b.white in
+    let brace = (same_char (subst (λ x. CharAt x a.brace a.behind_brace) white a.opens) b.opens).1 in
+    (name.0, longest_same (moved (Longest is_whitespace) brace a.white') b.white')
+
+-- a head whose name doesn't stand there, or whose brace is missing
+pub no_head_name : {u x : Place} → CharAt u 64 x → ((p : Part) (v : Place) → Identifier longest x p v → ⊥) → (p : Part) (v : Place) → Head longest u p v → ⊥
+no_head_name sign none p v head = none p _ (subst (λ y. Identifier longest y p head.name_end) (same_char head.sign sign).1 head.name)
+
+pub no_head_brace : {u x a b : Place} {q : Part} → CharAt u 64 x → Identifier longest x q a → Longest is_whitespace a b → ((d : ℕ) (v : Place) → CharAt b d v → d == 123 || d == 34 ≡ true → ⊥)
+    → (p : Part) (v : Place) → Head longest u p v → ⊥
+no_head_brace {q = q} sign name white none p v head =
+    let names = identifier_same name (subst (λ y. Identifier longest y p head.name_end) (same_char head.sign sign).1 head.name) in
+    let there = longest_same (moved (Longest is_whitespace) names.1 white) head.white in
+    none head.brace head.behind_brace (subst (λ y. CharAt y head.brace head.behind_brace) (sym there) head.opens) head.is_brace
+
+pub ahead_head : {u v : Place} {p : Part} → Head longest u p v → Ahead u v
+ahead_head h = ahead_then (ahead_char h.sign) (ahead_then (ahead_identifier h.name) (ahead_then (ahead_run h.white.run) (ahead_then (ahead_char h.opens) (ahead_run h.white'.run))))
+
+abbrev pub not_close : ℕ → Bool
+not_close c = not (c == 125)
+
+pub no_comment : {u a : Place} → Longest not_close u a → ((v : Place) → CharAt a 125 v → ⊥) → (start : Place) (p : Part) (r : FileReading) (v : Place) → Body longest start p Comment u r v → ⊥
+no_comment run none start p r v (body.comment a inside close) = none v (moved (λ x y. CharAt x 125 y) (longest_same inside run) close)
+
+pub no_preamble : {u : Place} → ((p : Part) (v : Place) → Quoted u p v → ⊥) → (start : Place) (p : Part) (r : FileReading) (v : Place) → Body longest start p Preamble u r v → ⊥
+no_preamble none start p r v (body.preamble quoted white close is_close) = none _ _ quoted
+
+pub no_preamble_close : {u a b : Place} {q : Part} → Quoted u q a → Longest is_whitespace a b → ((d : ℕ) (v : Place) → CharAt b d v → d == 125 || d == 34 ≡ true → ⊥)
+    → (start : Place) (p : Part) (r : FileReading) (v : Place) → Body longest start p Preamble u r v → ⊥
+no_preamble_close quoted white none start p r v (body.preamble {c = c} quoted' white' close is_close) =
+    let there = longest_same (moved (Longest is_whitespace) (quoted_same quoted quoted').1 white) white' in
+    none c v (subst (λ y. CharAt y c v) (sym there) close) is_close
+
+pub no_strings : {u : Place} → ((fs : List FieldReading) (v w : Place) → Fields longest u fs v → CharAt v 125 w → ⊥) → (start : Place) (p : Part) (r : FileReading) (v : Place) → Body longest start p Strings u r v → ⊥
+no_strings none start p r v (body.strings fields close) = none _ _ _ fields close
+
+pub no_entry_comma : {u a b : Place} → Longest is_key u a → Longest is_whitespace a b → ((v : Place) → CharAt b 44 v → ⊥) → (start : Place) (p : Part) (r : FileReading) (v : Place) → Body longest start p Entry u r v → ⊥
+no_entry_comma key white none start p r v (body.entry a key' white' comma gap fields close) =
+    let there = longest_same (moved (Longest is_whitespace) (longest_same key key') white) white' in
+    none _ (moved (λ x y. CharAt x 44 y) (sym there) comma)
+
+pub no_entry_fields : {u a b c d : Place} → Longest is_key u a → Longest is_whitespace a b → CharAt b 44 c → Gap longest c d
+    → ((fs : List FieldReading) (v w : Place) → Fields longest d fs v → CharAt v 125 w → ⊥) → (start : Place) (p : Part) (r : FileReading) (v : Place) → Body longest start p Entry u r v → ⊥
+no_entry_fields key white comma gap none start p r v (body.entry {z = z} {fs = fs} a key' white' comma' gap' fields close) =
+    let there = longest_same (moved (Longest is_whitespace) (longest_same key key') white) white' in
+    let behind = (same_char (moved (λ x y. CharAt x 44 y) there comma) comma').1 in
+    let start' = gap_same (moved (Gap longest) behind gap) gap' in
+    none fs z v (subst (λ x. Fields longest x fs z) (sym start') fields) close
+
+
+pub body_same : {start u v w : Place} {p : Part} {k : BlockKind} {r s : FileReading} → Body longest start p k u r v → Body longest start p k u s w → (r ≡ s) × (v ≡ w)
+body_same (body.comment a inside close) (body.comment b inside' close') =
+    (refl, (same_char (moved (λ x y. CharAt x 125 y) (longest_same inside inside') close) close').1)
+body_same {u = u} {v = v} (body.preamble {c = c} quoted white close is_close) (body.preamble quoted' white' close' is_close') =
+    let end = (quoted_same quoted quoted').1 in
+    let there = longest_same (moved (Longest is_whitespace) end white) white' in
+    (ap (λ x. let r : FileReading = record { preamble = between u x; entries = []; abbreviations = [] } in r) end,
+      (same_char (subst (λ x. CharAt x c v) there close) close').1)
+body_same (body.strings fields close) (body.strings fields' close') =
+    let same = fields_same fields close fields' close' in
+    (ap (λ fs. let r : FileReading = record { preamble = []; entries = []; abbreviations = fs } in r) same.0,
+      (same_char (moved (λ x y. CharAt x 125 y) same.1 close) close').1)
+body_same {start} {u} {p = p} (body.entry {z = z} {fs = fs} a key white comma gap fields close) (body.entry {z = z'} {fs = fs'} b key' white' comma' gap' fields' close') =
+    let end = longest_same key key' in
+    let there = longest_same (moved (Longest is_whitespace) end white) white' in
+    let behind = (same_char (moved (λ x y. CharAt x 44 y) there comma) comma').1 in
+    let begin = gap_same (moved (Gap longest) behind gap) gap' in
+    let same = fields_same (subst (λ x. Fields longest x fs z) begin fields) close fields' close' in
+    let says : Place → List FieldReading → Place → FileReading = λ x gs y. record { preamble = []; entries = record { key = part u x; kind = p; fields = gs; start = start.at; end = y.at } ∷ []; abbreviations = [] } in
+    (ap (λ x. says x fs z) end ∙ ap (λ gs. says b gs z) same.0 ∙ ap (says b fs') same.1,
+      (same_char (moved (λ x y. CharAt x 125 y) same.1 close) close').1)
+
+pub ahead_body : {start u v : Place} {p : Part} {k : BlockKind} {r : FileReading} → Body longest start p k u r v → Ahead u v
+ahead_body (body.comment a inside close) = ahead_then (ahead_run inside.run) (ahead_char close)
+ahead_body (body.preamble quoted white close is_close) = ahead_then (ahead_quoted quoted) (ahead_then (ahead_run white.run) (ahead_char close))
+ahead_body (body.strings fields close) = ahead_then (ahead_fields fields) (ahead_char close)
+ahead_body (body.entry a key white comma gap fields close) =
+    ahead_then (ahead_run key.run) (ahead_then (ahead_run white.run) (ahead_then (ahead_char comma) (ahead_then (ahead_gap gap) (ahead_then (ahead_fields fields) (ahead_char close)))))
+
+pub ahead_block : {u v : Place} {r : FileReading} → Block longest u r v → Ahead u v
+ahead_block b = ahead_then (ahead_head b.head) (ahead_body b.body)
+
+-- the body of a block whose head was read
+body_at : {u a v : Place} {p : Part} {r : FileReading} → Head longest u p a → (b : Block longest u r v) → Body longest u p (block_kind p.text) a r v
+body_at {u} {a} {v} {p} {r} head b =
+    let same = head_same b.head head in
+    subst (λ x. Body longest u p (block_kind p.text) x r v) same.1 (subst (λ q. Body longest u q (block_kind q.text) b.inside r v) same.0 b.body)
+
+pub block_same : {u v w : Place} {r s : FileReading} → Block longest u r v → Block longest u s w → (r ≡ s) × (v ≡ w)
+block_same a b = body_same a.body (body_at a.head b)
+
+-- a block is missing where its head is, or its body
+pub no_block_head : {u : Place} → ((p : Part) (v : Place) → Head longest u p v → ⊥) → (r : FileReading) (v : Place) → Block longest u r v → ⊥
+no_block_head none r v b = none _ _ b.head
+
+pub no_block_body : {u a : Place} {p : Part} (k : BlockKind) → Head longest u p a → k ≡ block_kind p.text → ((start : Place) (q : Part) (r : FileReading) (v : Place) → Body longest start q k a r v → ⊥)
+    → (r : FileReading) (v : Place) → Block longest u r v → ⊥
+no_block_body {u} {a} {p} k head kind none r v b = none u p r v (subst (λ x. Body longest u p x a r v) (sym kind) (body_at head b))
+
+-- what blocks say is joined in any order of joining
+joined-nil : (p : List ℕ) → joined p [] ≡ p
+joined-nil [] = refl
+joined-nil (b ∷ bs) = refl
+
+texts-joined : (p sign q r : List ℕ) → p ++ sign ++ q ++ sign ++ r ≡ p ++ sign ++ (q ++ sign ++ r)
+texts-joined p sign q r = simp append_assoc
+
+pub joined-joined : (p q r : List ℕ) → joined (joined p q) r ≡ joined p (joined q r)
+joined-joined [] q r = refl
+joined-joined (b ∷ bs) [] r = refl
+joined-joined (b ∷ bs) (c ∷ cs) [] = refl
+joined-joined (b ∷ bs) (c ∷ cs) (d ∷ ds) = texts-joined (b ∷ bs) (codes " # ") (c ∷ cs) (d ∷ ds)
+
+pub then-then : (a b c : FileReading) → then (then a b) c ≡ then a (then b c)
+then-then a b c =
+    let entries : (a.entries ++ b.entries) ++ c.entries ≡ a.entries ++ (b.entries ++ c.entries) = simp append_assoc in
+    let abbreviations : (a.abbreviations ++ b.abbreviations) ++ c.abbreviations ≡ a.abbreviations ++ (b.abbreviations ++ c.abbreviations) = simp append_assoc in
+    let build : List ℕ → List EntryReading → List FieldReading → FileReading = λ p es fs. record { preamble = p; entries = es; abbreviations = fs } in
+    ap (λ p. build p ((a.entries ++ b.entries) ++ c.entries) ((a.abbreviations ++ b.abbreviations) ++ c.abbreviations)) (joined-joined a.preamble b.preamble c.preamble)
+    ∙ ap (λ es. build (joined a.preamble (joined b.preamble c.preamble)) es ((a.abbreviations ++ b.abbreviations) ++ c.abbreviations)) entries
+    ∙ ap (build (joined a.preamble (joined b.preamble c.preamble)) (a.entries ++ (b.entries ++ c.entries))) abbreviations
+
+pub then-nothing : (a : FileReading) → then a nothing ≡ a
+then-nothing a =
+    let build : List ℕ → List EntryReading → List FieldReading → FileReading = λ p es fs. record { preamble = p; entries = es; abbreviations = fs } in
+    ap (λ p. build p (a.entries ++ []) (a.abbreviations ++ [])) (joined-nil a.preamble) ∙ ap (λ es. build a.preamble es (a.abbreviations ++ [])) (append-nil a.entries) ∙ ap (build a.preamble a.entries) (append-nil a.abbreviations)
+
+pub nothing-then : (a : FileReading) → then nothing a ≡ a
+nothing-then a = refl
+
+-- what was read of a file from `start`, up to `here`
+pub record FileRead (start : Place) (says : FileReading) (here : Place) : Type 0 where
+  pub there : (r : FileReading) → File longest here r → File longest start (then says r)
+  pub back : (r : FileReading) → File longest start r → (s : FileReading) × File longest here s
+
+abbrev pub is_skipped : ℕ → Bool
+is_skipped c = not (c == 64) && not (c == 37)
+
+pub no_file_read : (start : Place) → FileRead start nothing start
+no_file_read start = record { there = λ r x. x; back = λ r x. (r, x) }
+
+skip_there : {u v : Place} {r : FileReading} → Run is_skipped u v → File longest v r → File longest u r
+skip_there stop x = x
+skip_there (step char passes rest) x = file.skipped char passes (skip_there rest x)
+
+-- what is left of a file behind a character that is skipped, a remark and a block
+skipped_rest : {u v : Place} {c : ℕ} {r : FileReading} → CharAt u c v → is_skipped c ≡ true → File longest u r → File longest v r
+skipped_rest char passes (file.end end) = absurd (no_char_at_end end char)
+skipped_rest {r = r} char passes (file.skipped char' passes' x) = subst (λ y. File longest y r) (same_char char' char).1 x
+skipped_rest char passes (file.remark m x) = absurd (pass_clash is_skipped char passes m.sign refl)
+skipped_rest char passes (file.block b x) = absurd (pass_clash is_skipped char passes b.head.sign refl)
+
+skip_back : {u v : Place} {r : FileReading} → Run is_skipped u v → File longest u r → File longest v r
+skip_back stop x = x
+skip_back (step char passes rest) x = skip_back rest (skipped_rest char passes x)
+
+remark_rest : {u v : Place} {r : FileReading} → Remark u v → File longest u r → File longest v r
+remark_rest m (file.end end) = absurd (no_char_at_end end m.sign)
+remark_rest m (file.skipped char passes x) = absurd (pass_clash is_skipped char passes m.sign refl)
+remark_rest {r = r} m (file.remark m' x) = subst (λ y. File longest y r) (remark_same m' m) x
+remark_rest m (file.block b x) = absurd (char_clash m.sign b.head.sign refl)
+
+-- a block at its at sign, and what is left behind it
+record FirstBlock (u : Place) (r : FileReading) : Type 0 where
+  behind : Place
+  first : FileReading
+  rest : FileReading
+  block : Block longest u first behind
+  left : File longest behind rest
+  whole : r ≡ then first rest
+
+first_block : {u x : Place} {r : FileReading} → CharAt u 64 x → File longest u r → FirstBlock u r
+first_block sign (file.end end) = absurd (no_char_at_end end sign)
+first_block sign (file.skipped char passes x) = absurd (pass_clash is_skipped char passes sign refl)
+first_block sign (file.remark m x) = absurd (char_clash sign m.sign refl)
+first_block sign (file.block b x) = record { behind = _; first = _; rest = _; block = b; left = x; whole = refl }
+
+pub skip_read : {start u v : Place} {says : FileReading} → FileRead start says u → Longest is_skipped u v → FileRead start says v
+skip_read read run = record {
+  there = λ r x. read.there r (skip_there run.run x);
+  back = λ r x. let y = read.back r x in (y.0, skip_back run.run y.1)
+}
+
+pub remark_read : {start u v : Place} {says : FileReading} → FileRead start says u → Remark u v → FileRead start says v
+remark_read read m = record {
+  there = λ r x. read.there r (file.remark m x);
+  back = λ r x. let y = read.back r x in (y.0, remark_rest m y.1)
+}
+
+pub block_read : {start u v : Place} {says first : FileReading} → FileRead start says u → Block longest u first v → FileRead start (then says first) v
+block_read {start} {u} {v} {says} {first} read b = record {
+  there = λ r x. subst (λ s. File longest start s) (sym (then-then says first r)) (read.there (then first r) (file.block b x));
+  back = λ r x.
+      let y = read.back r x in
+      let f = first_block b.head.sign y.1 in
+      (f.rest, subst (λ z. File longest z f.rest) (block_same f.block b).1 f.left)
+}
+
+-- the whole file
+pub file_found : {start u : Place} {says : FileReading} → FileRead start says u → AtEnd u → File longest start says
+file_found {start} {u} {says} read end = subst (λ r. File longest start r) (then-nothing says) (read.there nothing (file.end end))
+
+-- a block is missing
+pub no_file_block : {start u x : Place} {says : FileReading} → FileRead start says u → CharAt u 64 x → ((r : FileReading) (v : Place) → Block longest u r v → ⊥) → (r : FileReading) → File longest start r → ⊥
+no_file_block read sign none r x = let f = first_block sign (read.back r x).1 in none f.first f.behind f.block
+
+-- a text has one raw reading
+pub file_same : {u : Place} {r s : FileReading} → File longest u r → File longest u s → r ≡ s
+file_same (file.end end) (file.end end') = refl
+file_same (file.end end) (file.skipped char passes x) = absurd (no_char_at_end end char)
+file_same (file.end end) (file.remark m x) = absurd (no_char_at_end end m.sign)
+file_same (file.end end) (file.block b x) = absurd (no_char_at_end end b.head.sign)
+file_same (file.skipped char passes x) second = file_same x (skipped_rest char passes second)
+file_same (file.remark m x) second = file_same x (remark_rest m second)
+file_same {u} {r} {s} (file.block {first = first} {rest = rest} b x) second =
+    let f = first_block b.head.sign second in
+    let same = block_same f.block b in
+    let left = file_same x (subst (λ z. File longest z f.rest) same.1 f.left) in
+    ap (λ q. then q rest) (sym same.0) ∙ ap (then f.first) left ∙ sym f.whole
+
+-- what an entry says, from its parts
+abbrev pub says_entry : Part → Part → List FieldReading → ℕ → ℕ → FileReading
+says_entry key kind fs start end = record { preamble = []; entries = record { key = key; kind = kind; fields = fs; start = start; end = end } ∷ []; abbreviations = [] }
+
+-- an entry, from what was read of it
+pub entry_found : {u s a b c d z w : Place} {fs : List FieldReading} (kind key : Part) (start end : ℕ) → u.at ≡ start → end ≡ z.at → key ≡ part s a → Longest is_key s a → Longest is_whitespace a b → CharAt b 44 c → Gap longest c d
+    → Fields longest d fs z → CharAt z 125 w → Body longest u kind Entry s (says_entry key kind fs start end) w
+entry_found {u} {s} {a} {b} {c} {d} {z} {w} {fs} kind key start end starts ends reading run white comma gap fields close =
+    let same : says_entry (part s a) kind fs u.at z.at ≡ says_entry key kind fs start end =
+        ap (λ k. says_entry k kind fs u.at z.at) (sym reading) ∙ ap (λ n. says_entry key kind fs n z.at) starts ∙ ap (says_entry key kind fs start) (sym ends) in
+    subst (λ r. Body longest u kind Entry s r w) same (body.entry a run white comma gap fields close)
+
+-- less is left behind a block, a remark, and a run of characters that are skipped
+pub block_smaller : {u v : Place} {r : FileReading} → Block longest u r v → length v.text - v.at < length u.text - u.at
+block_smaller {u} b =
+    let h = b.head in
+    left_smaller (ahead_here u) h.sign
+      (ahead_then (ahead_identifier h.name) (ahead_then (ahead_run h.white.run) (ahead_then (ahead_char h.opens) (ahead_then (ahead_run h.white'.run) (ahead_body b.body)))))
+
+pub ahead_remark : {u v : Place} → Remark u v → Ahead u v
+ahead_remark m = ahead_then (ahead_char m.sign) (ahead_run m.line.run)
+
+pub remark_smaller : {u v : Place} → Remark u v → length v.text - v.at < length u.text - u.at
+remark_smaller {u} m = left_smaller (ahead_here u) m.sign (ahead_run m.line.run)
+
+-- a character that is neither an at sign nor a percent sign is skipped
+pub is_skipped_from : (c : ℕ) → (c ≡ 64 → ⊥) → (c ≡ 37 → ⊥) → is_skipped c ≡ true
+is_skipped_from c no_at no_percent = rw (ne_eqb c 64 no_at, ne_eqb c 37 no_percent)
+
+pub skip_smaller : {u x v : Place} {c : ℕ} → CharAt u c x → is_skipped c ≡ true → Longest is_skipped u v → length v.text - v.at < length u.text - u.at
+skip_smaller {u} char passes run = left_smaller (ahead_here u) char (ahead_run (longest_rest run char passes).run)

@@ -1,0 +1,24 @@
+use Rattle.std.proofs.Common.{rules}
+use Rattle.std.specs.Prelude.{◌==◌, not}
+use Rattle.std.proofs.lemmas.Result.{err_from_is_err_and}
+use Rattle.bib_chunks.specs.Places.{Longest}
+use Rattle.bib_chunks.proofs.PlaceFacts.{ahead_run}
+use Rattle.bib_syntax.specs.Grammar.{Body as body}
+use Rattle.bib_syntax.proofs.FileFacts.{no_comment, not_close}
+use Rattle.bib_syntax.proofs.ReadingFacts.{fault_back, on_err}
+use Rattle.bib_syntax.proofs.raw.file.comment.Goals as goal
+use Rattle.bib_syntax.proofs.raw.file.comment.Goals.{After-eat_until}
+
+inside : (c : After-eat_until) → Longest not_close c.args.s.now c.eat_until.new.self
+inside c = c.eat_until.ensures.longest (λ d. d == 125) (λ x r post. search rules)
+
+pub returns-in_err-expect-clause-none : goal.returns-in_err-expect-clause-none
+returns-in_err-expect-clause-none c = on_err _ (no_comment (inside (goal.at.returns-in_err-expect-clause-none c).After-eat_until) c.in_err-expect.ensures.none)
+
+pub returns-in_err-expect-clause-fault : goal.returns-in_err-expect-clause-fault
+returns-in_err-expect-clause-fault c =
+    let p = err_from_is_err_and c.from_residual.result c.from_residual.ensures.1 in
+    rw (p.1, p.2) (fault_back (ahead_run (inside (goal.at.returns-in_err-expect-clause-fault c).After-eat_until).run) c.in_err-expect.ensures.fault)
+
+pub returns-clause-found : goal.returns-clause-found
+returns-clause-found c u p = body.comment _ (inside (goal.at.returns-clause-found c).After-eat_until) c.in_ok-expect.ensures.found

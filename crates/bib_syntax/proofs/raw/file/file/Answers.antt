@@ -1,0 +1,38 @@
+use Rattle.std.proofs.Common.{◌≡◌, true, sym}
+use Rattle.std.proofs.lemmas.Result.{err_from_is_err_and}
+use Rattle.bib_chunks.specs.Places.{Longest}
+use Rattle.bib_chunks.proofs.PlaceFacts.{ahead_then, ahead_run}
+use Rattle.bib_syntax.proofs.FieldFacts.{refuses_from}
+use Rattle.bib_syntax.proofs.FileFacts.{file_found, no_file_block, block_read, remark_read, skip_read, no_file_read, ahead_block, ahead_remark, block_smaller, remark_smaller, skip_smaller, is_skipped, is_skipped_from}
+use Rattle.bib_syntax.proofs.raw.file.file.Goals as goal
+
+pub returns-in_err-item-clause-refused : goal.returns-in_err-item-clause-refused
+returns-in_err-item-clause-refused c =
+    let p = err_from_is_err_and c.from_residual.result c.from_residual.ensures.1 in
+    rw (p.1, p.2) (refuses_from _ _ c.file.invariant.0 (no_file_block c.file.invariant.1 (rw c.if-c-eq64.true at c.in-Some.ensures.1)) c.in_err-item.ensures.refused)
+
+pub file-smaller-in-Continue-branch-2 : goal.file-smaller-in-Continue-branch-2
+file-smaller-in-Continue-branch-2 c = block_smaller c.in_ok-item.ensures.found
+
+pub file-preserved-in-Continue-branch-2 : goal.file-preserved-in-Continue-branch-2
+file-preserved-in-Continue-branch-2 c =
+    (ahead_then c.file.invariant.0 (ahead_block c.in_ok-item.ensures.found), rw c.in_ok-add.ensures (block_read c.file.invariant.1 c.in_ok-item.ensures.found))
+
+pub file-smaller-then-c-eq37 : goal.file-smaller-then-c-eq37
+file-smaller-then-c-eq37 c = remark_smaller c.remark.ensures
+
+pub file-preserved-then-c-eq37 : goal.file-preserved-then-c-eq37
+file-preserved-then-c-eq37 c = (ahead_then c.file.invariant.0 (ahead_remark c.remark.ensures), remark_read c.file.invariant.1 c.remark.ensures)
+
+pub file-smaller : goal.file-smaller
+file-smaller c =
+    let run : Longest is_skipped c.file.s c.eat_while.new.self = c.eat_while.ensures.longest is_skipped (λ x r post. post) in
+    skip_smaller c.in-Some.ensures.1 (is_skipped_from _ c.if-c-eq64.false c.if-c-eq37.false) run
+
+pub file-preserved : goal.file-preserved
+file-preserved c =
+    let run : Longest is_skipped c.file.s c.eat_while.new.self = c.eat_while.ensures.longest is_skipped (λ x r post. post) in
+    (ahead_then c.file.invariant.0 (ahead_run run.run), skip_read c.file.invariant.1 run)
+
+pub returns-clause-found : goal.returns-clause-found
+returns-clause-found c = file_found c.file.invariant.1 c.in_default.ensures

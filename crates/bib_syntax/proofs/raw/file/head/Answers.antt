@@ -1,0 +1,41 @@
+use Rattle.std.proofs.Common.{inr}
+use Rattle.std.proofs.lemmas.Result.{err_from_is_err_and}
+use Rattle.bib_chunks.proofs.PlaceFacts.{ahead_then, ahead_run, ahead_char, ahead_here}
+use Rattle.bib_syntax.proofs.FieldFacts.{ahead_identifier}
+use Rattle.bib_syntax.proofs.FileFacts.{no_head_name, no_head_brace}
+use Rattle.bib_syntax.proofs.ReadingFacts.{fault_back, on_err, taken_if}
+use Rattle.bib_syntax.proofs.raw.file.head.Goals as goal
+use Rattle.bib_syntax.proofs.raw.file.head.Goals.{After-eat_if}
+use Rattle.bib_chunks.specs.Places.{CharAt}
+
+sign : (c : After-eat_if) → CharAt c.args.s.now 64 c.eat_if.new.self
+sign c = taken_if 64 _ c.eat_if.ensures c.requires
+
+pub returns-in_err-kind-clause-none : goal.returns-in_err-kind-clause-none
+returns-in_err-kind-clause-none c = on_err _ (no_head_name (sign (goal.at.returns-in_err-kind-clause-none c).After-eat_if) c.in_err-kind.ensures.none)
+
+pub returns-in_err-brace-clause-none : goal.returns-in_err-brace-clause-none
+returns-in_err-brace-clause-none c =
+    on_err _ (no_head_brace (sign (goal.at.returns-in_err-brace-clause-none c).After-eat_if) c.in_ok-kind.ensures.found c.eat_whitespace.ensures.longest c.in_err-brace.ensures.none)
+
+pub returns-in_err-kind-clause-fault : goal.returns-in_err-kind-clause-fault
+returns-in_err-kind-clause-fault c =
+    let p = err_from_is_err_and c.from_residual.result c.from_residual.ensures.1 in
+    rw (p.1, p.2) (fault_back (ahead_char (sign (goal.at.returns-in_err-kind-clause-fault c).After-eat_if)) c.in_err-kind.ensures.fault)
+
+pub returns-in_err-brace-clause-fault : goal.returns-in_err-brace-clause-fault
+returns-in_err-brace-clause-fault c =
+    let p = err_from_is_err_and c.from_residual-in_err-brace.result c.from_residual-in_err-brace.ensures.1 in
+    let passed = ahead_then (ahead_char (sign (goal.at.returns-in_err-brace-clause-fault c).After-eat_if)) (ahead_then (ahead_identifier c.in_ok-kind.ensures.found) (ahead_run c.eat_whitespace.ensures.longest.run)) in
+    rw (p.1, p.2) (fault_back passed c.in_err-brace.ensures.fault)
+
+pub returns-clause-found : goal.returns-clause-found
+returns-clause-found c = record {
+  name_start = _; name_end = _; before_brace = _; behind_brace = _; brace = c.in_ok-brace.ensures.found.0;
+  sign = sign (goal.at.returns-clause-found c).After-eat_if;
+  name = c.in_ok-kind.ensures.found;
+  white = c.eat_whitespace.ensures.longest;
+  opens = c.in_ok-brace.ensures.found.1;
+  is_brace = c.in_ok-brace.ensures.found.2;
+  white' = c.eat_whitespace-2.ensures.longest;
+}
