@@ -1,17 +1,23 @@
 //! The low-level representation of a bibliography file, with abbreviations not yet resolved.
 
-ghost use Rattle.std.specs.Prelude.{◌≡◌, [], ◌∷◌, ◌++◌, codes, Some};
+ghost use Rattle.std.specs.Prelude.{◌≡◌, [], ◌∷◌, ◌++◌, codes, Some, IfOk, IfErr, OnOk};
 ghost use Rattle.bib_syntax.specs.Characters as characters;
-ghost use Rattle.bib_syntax.specs.Faults.{token_text, kind_text, error_text, out_of_memory};
+ghost use Rattle.bib_syntax.specs.Faults.{token_text, kind_text, error_text, out_of_memory, Refuses};
+ghost use Rattle.bib_syntax.specs.Grammar.{IsFile, IsRawReading};
+ghost use Rattle.bib_syntax.specs.Views.{file_of};
 
 mod fields;
 mod file;
 mod words;
 
 use bib_chunks::chunk::{Span, Spanned};
-use std::alloc::{AllocError, AllocFailed};
+use bib_chunks::scanner::Scanner;
+use std::alloc::{AllocError, AllocFailed, Global};
 use std::error::Error;
 use std::fmt;
+use std::marker::Model;
+
+use file::blocks;
 
 /// The elements of a field's value, joined in the file by `#`.
 pub type Field<'s> = Vec<Spanned<RawChunk<'s>>>;
@@ -25,6 +31,56 @@ pub struct RawBibliography<'s> {
     pub entries: Vec<Spanned<RawEntry<'s>>>,
     /// The abbreviations that the file defines, in its order.
     pub abbreviations: Vec<Pair<'s>>,
+}
+
+impl<'s> RawBibliography<'s> {
+    /// Reads a bibliography file.
+    ///
+    /// A text that the file grammar doesn't read is refused with a fault of kind `UnexpectedEof`, `Unexpected` or
+    /// `Expected`, whose span is in bytes of the text.
+    pub fn parse(alloc: Global, src: &'s str) -> Result<Self, ParseError>
+        ensures read { IfOk result (λ raw. IsRawReading src.now (file_of raw)) }
+        ensures accepted { OnOk result (IsFile src.now) }
+        ensures refused { IfErr result (λ e. Refuses src.now e (IsFile src.now → ⊥)) }
+    {
+        BiblatexParser::new(src).parse(alloc)
+    }
+}
+
+/// A parser of a bibliography file, at the start of its text.
+#[derive(Drop)]
+pub struct BiblatexParser<'s> {
+    scanner: Scanner<'s>,
+}
+
+impl<'s> Model for BiblatexParser<'s> {
+    ghost use Rattle.std.specs.Prelude.{◌≡◌, List, ℕ};
+
+    ghost Value = { List ℕ };
+
+    ghost view = { λ p. p.scanner.text };
+
+    ghost invariant = { λ p. p.scanner.at ≡ 0 };
+}
+
+impl<'s> BiblatexParser<'s> {
+    /// A parser of this text.
+    pub fn new(src: &'s str) -> Self
+        ensures { result ≡ src.now }
+    {
+        BiblatexParser {
+            scanner: Scanner::new(src),
+        }
+    }
+
+    /// Reads the text, as `RawBibliography::parse` does.
+    pub fn parse(mut self, alloc: Global) -> Result<RawBibliography<'s>, ParseError>
+        ensures read { IfOk result (λ raw. IsRawReading self.entry (file_of raw)) }
+        ensures accepted { OnOk result (IsFile self.entry) }
+        ensures refused { IfErr result (λ e. Refuses self.entry e (IsFile self.entry → ⊥)) }
+    {
+        Ok(blocks(&mut self.scanner, alloc)?)
+    }
 }
 
 /// An entry as it stands in the file.

@@ -163,7 +163,7 @@ fn is_skipped(c: char) -> bool
 }
 
 // The blocks of a file, up to its end.
-pub(crate) fn file<'s>(s: &mut Scanner<'s>, alloc: Global) -> Result<RawBibliography<'s>, ParseError>
+pub(crate) fn blocks<'s>(s: &mut Scanner<'s>, alloc: Global) -> Result<RawBibliography<'s>, ParseError>
     ensures found { IfOk result (λ raw. File longest s.old (file_of raw)) }
     ensures refused { IfErr result (λ e. Refuses s.old.text e ((r : FileReading) → File longest s.old r → ⊥)) }
 {

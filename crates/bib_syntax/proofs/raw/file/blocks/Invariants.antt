@@ -2,7 +2,7 @@ use Rattle.std.proofs.Common.{length, ◌-◌}
 use Rattle.bib_chunks.proofs.PlaceFacts.{Ahead}
 use Rattle.bib_syntax.specs.Views.{file_of}
 use Rattle.bib_syntax.proofs.FileFacts.{FileRead}
-use Rattle.bib_syntax.proofs.raw.file.file.Given as goal
+use Rattle.bib_syntax.proofs.raw.file.blocks.Given as goal
 
 abbrev pub invariant-file : goal.invariant-file
 invariant-file l = Ahead l.fn.s l.s × FileRead l.fn.s (file_of l.raw) l.s

@@ -1,0 +1,28 @@
+use Rattle.std.proofs.Common.{◌≡◌, ℕ, List, subst, sym}
+use Rattle.std.proofs.lemmas.Result.{err_from_is_err_and}
+use Rattle.bib_chunks.specs.Places.{Place, place}
+use Rattle.bib_chunks.proofs.PlaceFacts.{same_place, ahead_same}
+use Rattle.bib_syntax.specs.Grammar.{File, longest}
+use Rattle.bib_syntax.specs.Views.{file_of}
+use Rattle.bib_syntax.proofs.FieldFacts.{refuses_from}
+use Rattle.bib_syntax.proofs.ModeFacts.{file_any, file_longest}
+use Rattle.bib_syntax.proofs.raw.BiblatexParser.parse.Goals as goal
+
+-- a place at the start of a text
+start : (p : Place) (text : List ℕ) → p.text ≡ text → p.at ≡ 0 → p ≡ place text 0
+start p text texts at = same_place {u = p} {v = place text 0} texts at
+
+pub returns-clause-read : goal.returns-clause-read
+returns-clause-read c =
+    subst (λ p. File longest p (file_of c.in_ok-blocks.field-0)) (start _ _ c.self.view_is c.self.invariant) c.in_ok-blocks.ensures.found
+
+pub returns-clause-accepted : goal.returns-clause-accepted
+returns-clause-accepted c =
+    (_, file_any (subst (λ p. File longest p (file_of c.in_ok-blocks.field-0)) (start _ _ c.self.view_is c.self.invariant) c.in_ok-blocks.ensures.found))
+
+pub returns-in_err-blocks-clause-refused : goal.returns-in_err-blocks-clause-refused
+returns-in_err-blocks-clause-refused c =
+    let p = err_from_is_err_and c.from_residual.result c.from_residual.ensures.1 in
+    let at = start _ _ c.self.view_is c.self.invariant in
+    rw (p.1, p.2) (refuses_from {u = place c.args.self 0} _ _ (ahead_same at)
+      (λ none read. let l = file_longest read.1 in none l.0 (subst (λ q. File longest q l.0) (sym at) l.1)) c.in_err-blocks.ensures.refused)
