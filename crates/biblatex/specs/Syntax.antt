@@ -1,0 +1,7 @@
+-- The words of the layers below that contracts of this crate's users cite.
+pub use Rattle.bib_syntax.specs.Faults.{IsSyntaxFault, Refuses, error_text, out_of_memory}
+pub use Rattle.bib_syntax.specs.Grammar.{IsFile, IsRawReading}
+pub use Rattle.bib_syntax.specs.Reading.{EntryReading, FileReading, Part}
+pub use Rattle.bib_syntax.specs.Views.{entry_of, file_of}
+pub use Rattle.bib_syntax.specs.declared.raw.ParseError.{ParseError}
+pub use Rattle.bib_syntax.specs.declared.raw.ParseErrorKind.TheVariants.{OutOfMemory}
