@@ -231,6 +231,9 @@ impl<T: Drop> From<AllocFailed<T>> for ParseError {
 pub fn is_key(c: char) -> bool
     ensures { result ≡ characters.is_key c }
 {
+    if c.is_ascii_lowercase() {
+        return true;
+    }
     !matches!(c, ',' | '}') && !c.is_control() && !c.is_whitespace()
 }
 
@@ -238,6 +241,9 @@ pub fn is_key(c: char) -> bool
 pub fn is_id_start(c: char) -> bool
     ensures { result ≡ characters.is_id_start c }
 {
+    if c.is_ascii_lowercase() {
+        return true;
+    }
     !matches!(c, ':' | '<' | '-' | '>') && is_id_continue(c)
 }
 
@@ -245,6 +251,9 @@ pub fn is_id_start(c: char) -> bool
 pub fn is_id_continue(c: char) -> bool
     ensures { result ≡ characters.is_id_continue c }
 {
+    if c.is_ascii_lowercase() {
+        return true;
+    }
     !matches!(
         c,
         '@' | '{' | '}' | '"' | '#' | '\'' | '(' | ')' | ',' | '=' | '%' | '\\' | '~'

@@ -1,2 +1,7 @@
 //! Tests of the libraries: worked examples, and what no contract says.
 #![tactic(auto)]
+
+#[cfg(test)]
+mod raw;
+#[cfg(test)]
+mod scanner;

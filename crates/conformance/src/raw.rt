@@ -1,0 +1,176 @@
+//! The file grammar: worked examples, which fault is told and where, and texts cut short.
+
+use bib_syntax::raw::{BiblatexParser, ParseError, RawBibliography, RawChunk, is_id_continue, is_id_start, is_key};
+use std::alloc::Global;
+use std::process::Abort;
+use std::test::Fail;
+
+// The keys of a text's entries, each behind a bar, or the fault.
+fn keys(alloc: Global, text: &str) -> Result<String, Fail> {
+    let mut found = String::new(alloc);
+    match RawBibliography::parse(alloc, text) {
+        Ok(raw) => {
+            for entry in &raw.entries {
+                found.push('|')?;
+                found.push_str(entry.v.key.v)?;
+            }
+        }
+        Err(error) => found = format!(in alloc; "{error}")?,
+    }
+    Ok(found)
+}
+
+#[test]
+fn reads_keys(rt: HostRuntime) -> Result<(), Fail> {
+    let rows = [
+        ("", ""),
+        ("@article{,}", "|"),
+        ("@article{test, author={A}}", "|test"),
+        ("@misc\"a,}", "|a"),
+        ("@preamble{\"x\"\" @misc{b,}", "|b"),
+        ("@misc{a, title={x}} junk % @misc{b,}", "|a"),
+        ("@comment{x @misc{b,} y}", ""),
+        ("@misc{a, title={x}}}", "|a"),
+        ("@STRING{b = 1} @misc{a, title = b # {c} # \"d\" # 12.5,}", "|a"),
+        ("@misc{a, % one\n title={x} % two\n, % three\n year=1 % four\n}", "|a"),
+        ("@misc{a, title=\"q\\\"} r\"}", "|a"),
+        ("@misc{a, title={\\}{\\{}}}@misc{b,}", "|a|b"),
+        ("@misc { ü:x , note = \"\" }", "|ü:x"),
+    ];
+    for (text, want) in rows {
+        let found = keys(rt.alloc(), text)?;
+        assert_eq!(rt; found.as_str(), want, "{text}");
+    }
+    Ok(())
+}
+
+#[test]
+fn tells_faults(rt: HostRuntime) -> Result<(), Fail> {
+    let rows = [
+        ("@article{a}", "expected comma: 10-10"),
+        ("@misc{a, title={x}", "expected comma: 18-18"),
+        ("@misc{a, title={x", "unexpected end of file: 17-17"),
+        ("@misc{a, title={x}, %1\n%2\n}", "expected identifier: 23-23"),
+        ("@misc{a, year=12.5.1}", "unexpected decimal point: 18-18"),
+        ("@misc{a, title=}", "unexpected end of file: 15-15"),
+        ("@preamble{x}", "expected double quote: 10-10"),
+        ("@preamble{\"x\" y}", "expected closing brace: 14-14"),
+        ("@comment{x", "expected closing brace: 10-10"),
+    ];
+    for (text, want) in rows {
+        let found = keys(rt.alloc(), text)?;
+        assert_eq!(rt; found.as_str(), want, "{text}");
+    }
+    Ok(())
+}
+
+#[test]
+fn tells_faults_of_texts_cut_short(rt: HostRuntime) -> Result<(), Fail> {
+    let whole = "@misc{a, title={x}}";
+    let wants = [
+        "", "expected identifier: 1-1", "expected opening brace: 2-2", "expected opening brace: 3-3",
+        "expected opening brace: 4-4", "expected opening brace: 5-5", "expected comma: 6-6", "expected comma: 7-7",
+        "unexpected end of file: 8-8", "unexpected end of file: 9-9", "expected equals: 10-10", "expected equals: 11-11",
+        "expected equals: 12-12", "expected equals: 13-13", "expected equals: 14-14", "unexpected end of file: 15-15",
+        "unexpected end of file: 16-16", "unexpected end of file: 17-17", "expected comma: 18-18", "|a",
+    ];
+    for (n, want) in wants.iter().enumerate() {
+        let cut = whole.get(..n).ok_or("a cut")?;
+        let found = keys(rt.alloc(), cut)?;
+        assert_eq!(rt; found.as_str(), *want, "{cut}");
+    }
+    Ok(())
+}
+
+#[test]
+fn keeps_spans_and_slices(rt: HostRuntime) -> Result<(), Fail> {
+    let text = "@string{BT = \"bibtex\"} @book{k, title = BT # {x} # 12 }";
+    let raw = RawBibliography::parse(rt.alloc(), text)?;
+    let pair = raw.abbreviations.first().ok_or("an abbreviation")?;
+    assert_eq!(rt; pair.key.v, "BT");
+    let piece = pair.value.v.first().ok_or("a piece")?;
+    assert_eq!(rt; piece.v, RawChunk::Normal("bibtex"));
+    assert_eq!(rt; piece.span, 14..20);
+    let entry = raw.entries.first().ok_or("an entry")?;
+    assert_eq!(rt; entry.span, 23..54);
+    assert_eq!(rt; entry.v.kind.v, "book");
+    let title = entry.v.fields.first().ok_or("a field")?;
+    assert_eq!(rt; title.value.span, 40..54);
+    assert_eq!(rt; title.value.v.len(), 3);
+    let name = title.value.v.first().ok_or("a name")?;
+    assert_eq!(rt; name.v, RawChunk::Abbreviation("BT"));
+    assert_eq!(rt; name.span, 40..42);
+    Ok(())
+}
+
+#[test]
+fn joins_preambles(rt: HostRuntime) -> Result<(), Fail> {
+    let raw = BiblatexParser::new("@preamble{\"a\"} @preamble{\"b\"}").parse(rt.alloc())?;
+    assert_eq!(rt; raw.preamble.as_str(), "\"a\" # \"b\"");
+    Ok(())
+}
+
+// A fault lies in its text.
+fn lies_within(rt: &impl Abort, error: &ParseError, text: &str) {
+    assert!(rt; error.span.start <= error.span.end, "{error}");
+    assert!(rt; error.span.end <= text.len(), "{error}");
+}
+
+#[test]
+fn reads_every_front_of_the_examples(rt: HostRuntime) -> Result<(), Fail> {
+    let texts = [
+        "@article{,}",
+        "@string{BT = \"bibtex\"}",
+        "@misc{a, title={x}, %1\n%2\n}",
+        "@misc{a, title={Foo \\& \\{ {NASA} $x^2$}}",
+        "@string{a = b} @string{b = a} @misc{k, title = a}",
+        "@misc{a, ids={b},} @misc{b,}",
+        "@mvbook{p, title={Works}} @book{c, title={One}, crossref={p}}",
+        "@xdata{x, date={1999}} @xdata{y, year={2001}} @article{a, date={1990-05}, xdata={x, y}}",
+        "@misc{a, title={x}} junk % @misc{b,}",
+        "@comment{x @misc{b,} ÿ}",
+    ];
+    for text in texts {
+        for n in 0..=text.len() {
+            if let Some(front) = text.get(..n) {
+                if let Err(error) = RawBibliography::parse(rt.alloc(), front) {
+                    lies_within(&rt, &error, front);
+                }
+            }
+        }
+    }
+    Ok(())
+}
+
+#[test]
+fn reads_deep_and_long_values(rt: HostRuntime) -> Result<(), Fail> {
+    let mut text = String::from_str(rt.alloc(), "@misc{a, title=")?;
+    for _ in 0..100_000 {
+        text.push('{')?;
+    }
+    for _ in 0..100_000 {
+        text.push('}')?;
+    }
+    text.push('}')?;
+    assert_eq!(rt; keys(rt.alloc(), &text)?.as_str(), "|a");
+    Ok(())
+}
+
+#[test]
+fn tells_characters_apart(rt: HostRuntime) {
+    for c in [',', '}', ' ', '\n', '\u{7f}', '\u{2003}'] {
+        assert!(rt; !is_key(c), "{c:?}");
+    }
+    for c in ['a', '{', '"', '%', 'é', '@'] {
+        assert!(rt; is_key(c), "{c:?}");
+    }
+    for c in ['@', '{', '}', '"', '#', '\'', '(', ')', ',', '=', '%', '\\', '~', ' ', '\u{85}'] {
+        assert!(rt; !is_id_continue(c), "{c:?}");
+    }
+    for c in [':', '<', '-', '>'] {
+        assert!(rt; is_id_continue(c) && !is_id_start(c), "{c:?}");
+    }
+    for c in ['a', '1', '_', '+', '/', '.', '^', '$', 'ß'] {
+        assert!(rt; is_id_start(c), "{c:?}");
+    }
+}

@@ -1,0 +1,50 @@
+//! The cursor over a text, and values that know where they stand: each call once.
+
+use bib_chunks::chunk::Spanned;
+use bib_chunks::scanner::Scanner;
+use std::test::Fail;
+
+#[test]
+fn moves_over_characters(rt: HostRuntime) -> Result<(), Fail> {
+    let mut s = Scanner::new("aé 12x");
+    assert_eq!(rt; s.peek(), Some('a'));
+    assert!(rt; s.at('a'));
+    assert_eq!(rt; s.eat(), Some('a'));
+    assert!(rt; !s.eat_if('e'));
+    assert!(rt; s.eat_if('é'));
+    assert_eq!(rt; s.cursor(), 3);
+    assert_eq!(rt; s.eat_whitespace(), " ");
+    assert_eq!(rt; s.eat_while(|c| c.is_ascii_digit()), "12");
+    assert_eq!(rt; s.before(), "aé 12");
+    assert_eq!(rt; s.eat_until(|c| c == 'y'), "x");
+    assert!(rt; s.done());
+    assert_eq!(rt; s.eat(), None);
+    Ok(())
+}
+
+#[test]
+fn jumps_back(rt: HostRuntime) -> Result<(), Fail> {
+    let mut s = Scanner::new("one two");
+    s.eat_while(|c| c != ' ');
+    let place = s.cursor();
+    s.eat_while(|_| true);
+    assert_eq!(rt; s.from(0), "one two");
+    s.jump(0);
+    assert_eq!(rt; s.cursor(), 0);
+    assert_eq!(rt; place, 3);
+    Ok(())
+}
+
+#[test]
+fn values_know_where_they_stand(rt: HostRuntime) -> Result<(), Fail> {
+    let value = Spanned::new(7u8, 2..4);
+    assert!(rt; !value.is_detached());
+    assert_eq!(rt; *value.as_ref().v, 7);
+    let doubled = value.map(|n| u16::from(n) * 2);
+    assert_eq!(rt; doubled.v, 14);
+    assert_eq!(rt; doubled.span, 2..4);
+    assert_eq!(rt; Spanned::zero('a').span, 0..0);
+    assert!(rt; Spanned::detached('a').is_detached());
+    assert_eq!(rt; doubled.clone()?, doubled);
+    Ok(())
+}
