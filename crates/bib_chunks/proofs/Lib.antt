@@ -1,1 +1,2 @@
+pub mod EnumFacts
 pub mod PlaceFacts

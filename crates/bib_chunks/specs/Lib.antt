@@ -1,2 +1,6 @@
 pub mod Braces
+pub mod EditorType
+pub mod Enums
+pub mod Gender
+pub mod Pagination
 pub mod Places
