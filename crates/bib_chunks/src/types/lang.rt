@@ -230,7 +230,7 @@ impl FromStr for Language {
     }
 }
 
-const NAMES: [(&str, Language); 92] = [
+static NAMES: [(&str, Language); 92] = [
     ("Basque", Language::Basque),
     ("basque", Language::Basque),
     ("Bulgarian", Language::Bulgarian),
