@@ -5,8 +5,11 @@ ghost use Rattle.std.specs.Option.{ok_or};
 ghost use Rattle.bib_chunks.specs.Enums.{named};
 ghost use Rattle.bib_tables.specs.EntryType.{entry_type_name, entry_type_named, bibtex_names, volume_names, other_names, alias_names, named_or_alias, entry_type_of, known_type, biblatex_type, bibtex_type, is_multi_volume, is_collection};
 
+mod requirements;
+
 use bib_chunks::text::Text;
 use bib_chunks::types::NameError;
+pub use requirements::{AuthorMode, PagesChapterMode, Requirements};
 use std::alloc::{AllocError, Global};
 use std::fmt;
 use std::str::FromStr;
