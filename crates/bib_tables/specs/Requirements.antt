@@ -1,7 +1,8 @@
 -- The fields that each type of entry asks for, by the BibLaTeX manual's tables of entry types. The lists are those
 -- by which this crate checks entries and lets them inherit.
-use Rattle.std.specs.Prelude.{ℕ, Bool, true, false, List, [], ◌∷◌, ◌++◌, codes}
+use Rattle.std.specs.Prelude.{ℕ, Bool, true, false, List, [], ◌∷◌, ◌++◌, codes, map}
 use Prim.Native.String.{String}
+use denote.Ref.{Bor}
 use Rattle.bib_chunks.specs.Enums.{words}
 use Rattle.bib_tables.specs.declared.mechanics.EntryType.{EntryType}
 use Rattle.bib_tables.specs.declared.mechanics.EntryType.TheVariants.{Article, Book, Booklet, InBook, InCollection, InProceedings, Manual, MastersThesis, PhdThesis, Misc, Proceedings, TechReport, Unpublished, MvBook, BookInBook, SuppBook, Periodical, SuppPeriodical, Collection, MvCollection, SuppCollection, Reference, MvReference, InReference, MvProceedings, Report, Patent, Thesis, Online, Software, Dataset, Set, XData, Unknown}
@@ -12,6 +13,10 @@ use Rattle.bib_tables.specs.declared.mechanics.requirements.PagesChapterMode.The
 
 abbrev pub Names : Type 0
 Names = List (List ℕ)
+
+-- the names that a list refers to
+abbrev pub texts : List (Bor (List ℕ)) → Names
+texts = map (λ name. name.now)
 
 -- names of fields
 abbrev pub fields : String → Names

@@ -1,9 +1,8 @@
 //! The fields that each type of entry asks for.
 
-ghost use Rattle.std.specs.Prelude.{◌≡◌, ◌++◌, [], map, IfOk, Bool, false};
-ghost use Rattle.std.specs.List.{flat_map};
-ghost use Rattle.bib_tables.specs.Requirements.{rules_of, forbidden_of, author_names, page_names};
-ghost use Rattle.bib_tables.specs.Row.{group_names, optional_of_row, rules_of_row};
+ghost use Rattle.std.specs.Prelude.{◌≡◌, [], IfOk, false};
+ghost use Rattle.bib_tables.specs.Requirements.{texts, rules_of, forbidden_of, author_names, page_names};
+ghost use Rattle.bib_tables.specs.Row.{optional_of_row, rules_of_row};
 
 mod rows;
 
@@ -31,7 +30,7 @@ pub enum AuthorMode {
 impl AuthorMode {
     /// The fields of the two that an entry may take over.
     pub fn possible(self) -> &'static [&'static str]
-        ensures { map (λ name. name.now) result.now ≡ author_names self }
+        ensures { texts result.now ≡ author_names self }
     {
         match self {
             Self::NoneRequired => &[],
@@ -65,7 +64,7 @@ pub enum PagesChapterMode {
 impl PagesChapterMode {
     /// The fields of the two that an entry may take over.
     pub fn possible(self) -> &'static [&'static str]
-        ensures { map (λ name. name.now) result.now ≡ page_names self }
+        ensures { texts result.now ≡ page_names self }
     {
         match self {
             Self::None | Self::BothForbidden => &[],
@@ -116,9 +115,9 @@ impl Requirements {
 impl EntryType {
     /// The fields that an entry of this type has to have, may have and must not have.
     pub fn requirements(&self, alloc: Global) -> Result<Requirements, AllocError>
-        ensures required { IfOk result (λ asked. map (λ name. name.now) asked.required.items ≡ (rules_of self.now).required) }
-        ensures optional { IfOk result (λ asked. map (λ name. name.now) asked.optional.items ≡ (rules_of self.now).optional) }
-        ensures forbidden { IfOk result (λ asked. map (λ name. name.now) asked.forbidden.items ≡ forbidden_of self.now) }
+        ensures required { IfOk result (λ asked. texts asked.required.items ≡ (rules_of self.now).required) }
+        ensures optional { IfOk result (λ asked. texts asked.optional.items ≡ (rules_of self.now).optional) }
+        ensures forbidden { IfOk result (λ asked. texts asked.forbidden.items ≡ forbidden_of self.now) }
         ensures author { IfOk result (λ asked. asked.author_eds_field ≡ (rules_of self.now).author) }
         ensures pages { IfOk result (λ asked. asked.page_chapter_field ≡ (rules_of self.now).pages) }
         ensures date { IfOk result (λ asked. asked.needs_date ≡ (rules_of self.now).needs_date) }
@@ -166,7 +165,7 @@ impl EntryType {
     }
 
     fn forbidden(&self) -> &'static [&'static str]
-        ensures { map (λ name. name.now) result.now ≡ forbidden_of self.now }
+        ensures { texts result.now ≡ forbidden_of self.now }
     {
         match self {
             Self::InBook
@@ -192,86 +191,10 @@ impl EntryType {
     }
 }
 
-/// Fields that many types may have.
-#[derive(Clone, Copy)]
-enum Group {
-    Base,
-    /// The same without `location`.
-    Unplaced,
-    /// The same without `note` too.
-    Core,
-    Annotators,
-    MainTitle,
-    BookTitle,
-}
-
-impl Group {
-    fn names(self) -> &'static [&'static str]
-        ensures { map (λ name. name.now) result.now ≡ group_names self }
-    {
-        match self {
-            Self::Base => &[
-                "note",
-                "location",
-                "titleaddon",
-                "subtitle",
-                "url",
-                "urldate",
-                "doi",
-                "eprint",
-                "eprintclass",
-                "eprinttype",
-                "pubstate",
-                "language",
-                "addendum",
-            ],
-            Self::Unplaced => &[
-                "note",
-                "titleaddon",
-                "subtitle",
-                "url",
-                "urldate",
-                "doi",
-                "eprint",
-                "eprintclass",
-                "eprinttype",
-                "pubstate",
-                "language",
-                "addendum",
-            ],
-            Self::Core => &[
-                "titleaddon",
-                "subtitle",
-                "url",
-                "urldate",
-                "doi",
-                "eprint",
-                "eprintclass",
-                "eprinttype",
-                "pubstate",
-                "language",
-                "addendum",
-            ],
-            Self::Annotators => &[
-                "annotator",
-                "commentator",
-                "translator",
-                "origlanguage",
-                "afterword",
-                "foreword",
-                "introduction",
-            ],
-            Self::MainTitle => &["maintitle", "mainsubtitle", "maintitleaddon"],
-            Self::BookTitle => &["booksubtitle", "booktitleaddon"],
-        }
-    }
-}
-
 /// What a type asks for, but for the fields that it forbids.
 struct Row {
     required: &'static [&'static str],
-    groups: &'static [Group],
-    own: &'static [&'static str],
+    optional: &'static [&'static [&'static str]],
     author: AuthorMode,
     pages: PagesChapterMode,
     needs_date: bool,
@@ -279,13 +202,12 @@ struct Row {
 
 impl Row {
     fn optional(&self, alloc: Global) -> Result<Vec<&'static str>, AllocError>
-        ensures { IfOk result (λ names. map (λ name. name.now) names.items ≡ optional_of_row self.now) }
+        ensures { IfOk result (λ names. texts names.items ≡ optional_of_row self.now) }
     {
         let mut names = Vec::new(alloc);
-        for group in self.groups {
-            names.extend_from_slice(group.names())?;
+        for group in self.optional {
+            names.extend_from_slice(group)?;
         }
-        names.extend_from_slice(self.own)?;
         Ok(names)
     }
 }

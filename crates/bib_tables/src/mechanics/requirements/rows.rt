@@ -1,25 +1,77 @@
 //! The table of requirements, a row for each type that has rules of its own.
 
-use super::{AuthorMode, Group, PagesChapterMode, Row};
+use super::{AuthorMode, PagesChapterMode, Row};
+
+/// The fields that nearly every type may have.
+const BASE: [&str; 13] = [
+    "note",
+    "location",
+    "titleaddon",
+    "subtitle",
+    "url",
+    "urldate",
+    "doi",
+    "eprint",
+    "eprintclass",
+    "eprinttype",
+    "pubstate",
+    "language",
+    "addendum",
+];
+
+/// The same without `note` and `location`.
+const CORE: [&str; 11] = [
+    "titleaddon",
+    "subtitle",
+    "url",
+    "urldate",
+    "doi",
+    "eprint",
+    "eprintclass",
+    "eprinttype",
+    "pubstate",
+    "language",
+    "addendum",
+];
+
+/// People and texts round a work.
+const ANNOTATORS: [&str; 7] = [
+    "annotator",
+    "commentator",
+    "translator",
+    "origlanguage",
+    "afterword",
+    "foreword",
+    "introduction",
+];
+
+/// The title of a work in several volumes.
+const MAIN_TITLE: [&str; 3] = ["maintitle", "mainsubtitle", "maintitleaddon"];
+
+/// The rest of the title of the book that holds a part.
+const BOOK_TITLE: [&str; 2] = ["booksubtitle", "booktitleaddon"];
 
 pub(super) static ARTICLE: Row = Row {
     required: &["title", "journaltitle"],
-    groups: &[Group::Unplaced],
-    own: &[
-        "number",
-        "series",
-        "version",
-        "volume",
-        "annotator",
-        "commentator",
-        "translator",
-        "origlanguage",
-        "journalsubtitle",
-        "issue",
-        "issuetitle",
-        "issuesubtitle",
-        "eid",
-        "issn",
+    optional: &[
+        &["note"],
+        &CORE,
+        &[
+            "number",
+            "series",
+            "version",
+            "volume",
+            "annotator",
+            "commentator",
+            "translator",
+            "origlanguage",
+            "journalsubtitle",
+            "issue",
+            "issuetitle",
+            "issuesubtitle",
+            "eid",
+            "issn",
+        ],
     ],
     author: AuthorMode::AuthorRequiredEditorOptional,
     pages: PagesChapterMode::PagesOptional,
@@ -28,16 +80,20 @@ pub(super) static ARTICLE: Row = Row {
 
 pub(super) static BOOK: Row = Row {
     required: &["title", "publisher"],
-    groups: &[Group::Base, Group::Annotators, Group::MainTitle],
-    own: &[
-        "edition",
-        "number",
-        "series",
-        "part",
-        "volume",
-        "volumes",
-        "isbn",
-        "pagetotal",
+    optional: &[
+        &BASE,
+        &ANNOTATORS,
+        &MAIN_TITLE,
+        &[
+            "edition",
+            "number",
+            "series",
+            "part",
+            "volume",
+            "volumes",
+            "isbn",
+            "pagetotal",
+        ],
     ],
     author: AuthorMode::OneRequired,
     pages: PagesChapterMode::BothOptional,
@@ -46,8 +102,7 @@ pub(super) static BOOK: Row = Row {
 
 pub(super) static BOOKLET: Row = Row {
     required: &["title"],
-    groups: &[Group::Base],
-    own: &["howpublished", "type", "pagetotal"],
+    optional: &[&BASE, &["howpublished", "type", "pagetotal"]],
     author: AuthorMode::OneRequired,
     pages: PagesChapterMode::BothOptional,
     needs_date: false,
@@ -55,22 +110,22 @@ pub(super) static BOOKLET: Row = Row {
 
 pub(super) static IN_BOOK: Row = Row {
     required: &["title", "publisher", "booktitle"],
-    groups: &[
-        Group::Base,
-        Group::Annotators,
-        Group::MainTitle,
-        Group::BookTitle,
-    ],
-    own: &[
-        "bookauthor",
-        "volume",
-        "volumes",
-        "part",
-        "type",
-        "series",
-        "number",
-        "edition",
-        "isbn",
+    optional: &[
+        &BASE,
+        &ANNOTATORS,
+        &MAIN_TITLE,
+        &BOOK_TITLE,
+        &[
+            "bookauthor",
+            "volume",
+            "volumes",
+            "part",
+            "type",
+            "series",
+            "number",
+            "edition",
+            "isbn",
+        ],
     ],
     author: AuthorMode::OneRequired,
     pages: PagesChapterMode::OneRequired,
@@ -79,14 +134,14 @@ pub(super) static IN_BOOK: Row = Row {
 
 pub(super) static IN_COLLECTION: Row = Row {
     required: &["title", "publisher", "booktitle"],
-    groups: &[
-        Group::Base,
-        Group::Annotators,
-        Group::MainTitle,
-        Group::BookTitle,
-    ],
-    own: &[
-        "volume", "volumes", "part", "type", "series", "number", "edition", "isbn",
+    optional: &[
+        &BASE,
+        &ANNOTATORS,
+        &MAIN_TITLE,
+        &BOOK_TITLE,
+        &[
+            "volume", "volumes", "part", "type", "series", "number", "edition", "isbn",
+        ],
     ],
     author: AuthorMode::BothRequired,
     pages: PagesChapterMode::BothOptional,
@@ -95,20 +150,24 @@ pub(super) static IN_COLLECTION: Row = Row {
 
 pub(super) static IN_PROCEEDINGS: Row = Row {
     required: &["title", "booktitle"],
-    groups: &[Group::Base, Group::MainTitle, Group::BookTitle],
-    own: &[
-        "number",
-        "organization",
-        "series",
-        "volume",
-        "volumes",
-        "part",
-        "publisher",
-        "eventtitle",
-        "eventsubtitle",
-        "eventtitleaddon",
-        "venue",
-        "isbn",
+    optional: &[
+        &BASE,
+        &MAIN_TITLE,
+        &BOOK_TITLE,
+        &[
+            "number",
+            "organization",
+            "series",
+            "volume",
+            "volumes",
+            "part",
+            "publisher",
+            "eventtitle",
+            "eventsubtitle",
+            "eventtitleaddon",
+            "venue",
+            "isbn",
+        ],
     ],
     author: AuthorMode::AuthorRequiredEditorOptional,
     pages: PagesChapterMode::BothOptional,
@@ -117,16 +176,18 @@ pub(super) static IN_PROCEEDINGS: Row = Row {
 
 pub(super) static MANUAL: Row = Row {
     required: &["title"],
-    groups: &[Group::Base],
-    own: &[
-        "edition",
-        "organization",
-        "series",
-        "version",
-        "isbn",
-        "publisher",
-        "type",
-        "pagetotal",
+    optional: &[
+        &BASE,
+        &[
+            "edition",
+            "organization",
+            "series",
+            "version",
+            "isbn",
+            "publisher",
+            "type",
+            "pagetotal",
+        ],
     ],
     author: AuthorMode::OneRequired,
     pages: PagesChapterMode::BothOptional,
@@ -135,8 +196,7 @@ pub(super) static MANUAL: Row = Row {
 
 pub(super) static MASTERS_THESIS: Row = Row {
     required: &["title", "school"],
-    groups: &[Group::Base],
-    own: &["type"],
+    optional: &[&BASE, &["type"]],
     author: AuthorMode::AuthorRequired,
     pages: PagesChapterMode::None,
     needs_date: true,
@@ -144,8 +204,7 @@ pub(super) static MASTERS_THESIS: Row = Row {
 
 pub(super) static MISC: Row = Row {
     required: &["title"],
-    groups: &[Group::Unplaced],
-    own: &["howpublished", "organization", "type"],
+    optional: &[&["note"], &CORE, &["howpublished", "organization", "type"]],
     author: AuthorMode::OneRequired,
     pages: PagesChapterMode::None,
     needs_date: false,
@@ -153,17 +212,20 @@ pub(super) static MISC: Row = Row {
 
 pub(super) static PROCEEDINGS: Row = Row {
     required: &["title"],
-    groups: &[Group::Base, Group::MainTitle],
-    own: &[
-        "number",
-        "organization",
-        "series",
-        "volume",
-        "volumes",
-        "part",
-        "publisher",
-        "isbn",
-        "pagetotal",
+    optional: &[
+        &BASE,
+        &MAIN_TITLE,
+        &[
+            "number",
+            "organization",
+            "series",
+            "volume",
+            "volumes",
+            "part",
+            "publisher",
+            "isbn",
+            "pagetotal",
+        ],
     ],
     author: AuthorMode::EditorRequiredAuthorForbidden,
     pages: PagesChapterMode::BothOptional,
@@ -172,8 +234,7 @@ pub(super) static PROCEEDINGS: Row = Row {
 
 pub(super) static TECH_REPORT: Row = Row {
     required: &["title", "institution"],
-    groups: &[Group::Base],
-    own: &["number", "type"],
+    optional: &[&BASE, &["number", "type"]],
     author: AuthorMode::AuthorRequired,
     pages: PagesChapterMode::None,
     needs_date: true,
@@ -181,8 +242,7 @@ pub(super) static TECH_REPORT: Row = Row {
 
 pub(super) static UNPUBLISHED: Row = Row {
     required: &["title", "note"],
-    groups: &[Group::Core],
-    own: &["isbn", "howpublished"],
+    optional: &[&CORE, &["isbn", "howpublished"]],
     author: AuthorMode::AuthorRequired,
     pages: PagesChapterMode::None,
     needs_date: false,
@@ -190,15 +250,18 @@ pub(super) static UNPUBLISHED: Row = Row {
 
 pub(super) static MV_BOOK: Row = Row {
     required: &["title"],
-    groups: &[Group::Base, Group::Annotators],
-    own: &[
-        "edition",
-        "number",
-        "series",
-        "volumes",
-        "isbn",
-        "publisher",
-        "pagetotal",
+    optional: &[
+        &BASE,
+        &ANNOTATORS,
+        &[
+            "edition",
+            "number",
+            "series",
+            "volumes",
+            "isbn",
+            "publisher",
+            "pagetotal",
+        ],
     ],
     author: AuthorMode::AuthorRequiredEditorOptional,
     pages: PagesChapterMode::BothOptional,
@@ -207,15 +270,17 @@ pub(super) static MV_BOOK: Row = Row {
 
 pub(super) static PERIODICAL: Row = Row {
     required: &["title"],
-    groups: &[Group::Base],
-    own: &[
-        "issue",
-        "issuetitle",
-        "issuesubtitle",
-        "number",
-        "series",
-        "volume",
-        "issn",
+    optional: &[
+        &BASE,
+        &[
+            "issue",
+            "issuetitle",
+            "issuesubtitle",
+            "number",
+            "series",
+            "volume",
+            "issn",
+        ],
     ],
     author: AuthorMode::EditorRequiredAuthorForbidden,
     pages: PagesChapterMode::None,
@@ -224,17 +289,21 @@ pub(super) static PERIODICAL: Row = Row {
 
 pub(super) static COLLECTION: Row = Row {
     required: &["title"],
-    groups: &[Group::Base, Group::Annotators, Group::MainTitle],
-    own: &[
-        "edition",
-        "number",
-        "series",
-        "part",
-        "volume",
-        "volumes",
-        "isbn",
-        "publisher",
-        "pagetotal",
+    optional: &[
+        &BASE,
+        &ANNOTATORS,
+        &MAIN_TITLE,
+        &[
+            "edition",
+            "number",
+            "series",
+            "part",
+            "volume",
+            "volumes",
+            "isbn",
+            "publisher",
+            "pagetotal",
+        ],
     ],
     author: AuthorMode::EditorRequiredAuthorForbidden,
     pages: PagesChapterMode::BothOptional,
@@ -243,15 +312,18 @@ pub(super) static COLLECTION: Row = Row {
 
 pub(super) static MV_COLLECTION: Row = Row {
     required: &["title"],
-    groups: &[Group::Base, Group::Annotators],
-    own: &[
-        "edition",
-        "number",
-        "series",
-        "volumes",
-        "isbn",
-        "publisher",
-        "pagetotal",
+    optional: &[
+        &BASE,
+        &ANNOTATORS,
+        &[
+            "edition",
+            "number",
+            "series",
+            "volumes",
+            "isbn",
+            "publisher",
+            "pagetotal",
+        ],
     ],
     author: AuthorMode::EditorRequiredAuthorForbidden,
     pages: PagesChapterMode::BothForbidden,
@@ -260,14 +332,16 @@ pub(super) static MV_COLLECTION: Row = Row {
 
 pub(super) static MV_PROCEEDINGS: Row = Row {
     required: &["title"],
-    groups: &[Group::Base],
-    own: &[
-        "number",
-        "series",
-        "volumes",
-        "publisher",
-        "organization",
-        "pagetotal",
+    optional: &[
+        &BASE,
+        &[
+            "number",
+            "series",
+            "volumes",
+            "publisher",
+            "organization",
+            "pagetotal",
+        ],
     ],
     author: AuthorMode::EditorRequiredAuthorForbidden,
     pages: PagesChapterMode::BothForbidden,
@@ -276,8 +350,7 @@ pub(super) static MV_PROCEEDINGS: Row = Row {
 
 pub(super) static REPORT: Row = Row {
     required: &["title", "institution", "type"],
-    groups: &[Group::Base],
-    own: &["number", "version", "isrn", "pagetotal"],
+    optional: &[&BASE, &["number", "version", "isrn", "pagetotal"]],
     author: AuthorMode::AuthorRequired,
     pages: PagesChapterMode::BothOptional,
     needs_date: true,
@@ -285,8 +358,7 @@ pub(super) static REPORT: Row = Row {
 
 pub(super) static PATENT: Row = Row {
     required: &["title", "number"],
-    groups: &[Group::Base],
-    own: &["holder", "type"],
+    optional: &[&BASE, &["holder", "type"]],
     author: AuthorMode::AuthorRequired,
     pages: PagesChapterMode::None,
     needs_date: true,
@@ -294,8 +366,7 @@ pub(super) static PATENT: Row = Row {
 
 pub(super) static THESIS: Row = Row {
     required: &["title", "institution", "type"],
-    groups: &[Group::Base],
-    own: &["isbn", "pagetotal"],
+    optional: &[&BASE, &["isbn", "pagetotal"]],
     author: AuthorMode::AuthorRequired,
     pages: PagesChapterMode::BothOptional,
     needs_date: true,
@@ -303,8 +374,7 @@ pub(super) static THESIS: Row = Row {
 
 pub(super) static ONLINE: Row = Row {
     required: &["title", "url"],
-    groups: &[],
-    own: &[
+    optional: &[&[
         "note",
         "titleaddon",
         "subtitle",
@@ -313,7 +383,7 @@ pub(super) static ONLINE: Row = Row {
         "language",
         "addendum",
         "organization",
-    ],
+    ]],
     author: AuthorMode::OneRequired,
     pages: PagesChapterMode::None,
     needs_date: true,
@@ -321,15 +391,17 @@ pub(super) static ONLINE: Row = Row {
 
 pub(super) static DATASET: Row = Row {
     required: &["title"],
-    groups: &[Group::Base],
-    own: &[
-        "edition",
-        "type",
-        "series",
-        "number",
-        "version",
-        "organization",
-        "publisher",
+    optional: &[
+        &BASE,
+        &[
+            "edition",
+            "type",
+            "series",
+            "number",
+            "version",
+            "organization",
+            "publisher",
+        ],
     ],
     author: AuthorMode::OneRequired,
     pages: PagesChapterMode::None,
@@ -338,8 +410,7 @@ pub(super) static DATASET: Row = Row {
 
 pub(super) static SET: Row = Row {
     required: &["entryset"],
-    groups: &[],
-    own: &[],
+    optional: &[],
     author: AuthorMode::NoneRequired,
     pages: PagesChapterMode::None,
     needs_date: false,
@@ -347,8 +418,7 @@ pub(super) static SET: Row = Row {
 
 pub(super) static XDATA: Row = Row {
     required: &[],
-    groups: &[],
-    own: &[],
+    optional: &[],
     author: AuthorMode::NoneRequired,
     pages: PagesChapterMode::None,
     needs_date: false,
