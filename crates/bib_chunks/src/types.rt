@@ -134,7 +134,8 @@ pub enum EditorType {
 }
 
 impl EditorType {
-    /// The named type whose name this text is, exactly as it is written, and any other text as it stands.
+    /// The named type whose name this text is, exactly as it is written, and any other text as it stands. The only
+    /// fault is want of memory for that text.
     pub fn from_str(alloc: Global, text: &str) -> Result<Self, NameError>
         ensures ok { IfOk result (λ role. role ≡ editor_type_of text.now) }
         ensures refused { IsOkUnless result NameError.OutOfMemory }

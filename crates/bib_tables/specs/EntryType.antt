@@ -42,17 +42,19 @@ entry_type_name Set = codes "set"
 entry_type_name XData = codes "xdata"
 entry_type_name (Unknown name) = codes "unknown"
 
--- the types of BibTeX, each beside its name
+-- BibTeX's types, each beside its name
 abbrev pub bibtex_names : List (List ℕ × EntryType)
 bibtex_names = by_name entry_type_name
-    (Article ∷ Book ∷ Booklet ∷ InBook ∷ InCollection ∷ InProceedings ∷ Manual ∷ MastersThesis ∷ PhdThesis ∷ Misc ∷ Proceedings ∷ TechReport ∷ Unpublished ∷ [])
+    (Article ∷ Book ∷ Booklet ∷ InBook ∷ InCollection ∷ InProceedings ∷ Manual ∷ MastersThesis ∷ PhdThesis ∷
+    Misc ∷ Proceedings ∷ TechReport ∷ Unpublished ∷ [])
 
--- the types of books, periodicals and collections, their parts and volumes, each beside its name
+-- BibLaTeX's further types of books, periodicals and collections, their parts and volumes, each beside its name
 abbrev pub volume_names : List (List ℕ × EntryType)
 volume_names = by_name entry_type_name
-    (MvBook ∷ BookInBook ∷ SuppBook ∷ Periodical ∷ SuppPeriodical ∷ Collection ∷ MvCollection ∷ SuppCollection ∷ Reference ∷ MvReference ∷ InReference ∷ MvProceedings ∷ [])
+    (MvBook ∷ BookInBook ∷ SuppBook ∷ Periodical ∷ SuppPeriodical ∷ Collection ∷ MvCollection ∷
+    SuppCollection ∷ Reference ∷ MvReference ∷ InReference ∷ MvProceedings ∷ [])
 
--- the types of the rest, each beside its name
+-- BibLaTeX's other types, each beside its name
 abbrev pub other_names : List (List ℕ × EntryType)
 other_names = by_name entry_type_name
     (Report ∷ Patent ∷ Thesis ∷ Online ∷ Software ∷ Dataset ∷ Set ∷ XData ∷ [])

@@ -58,45 +58,93 @@ rules required optional author pages needs_date =
     record { required = required; optional = optional; author = author; pages = pages; needs_date = needs_date }
 
 abbrev pub article_rules : Rules
-article_rules = rules (fields "title journaltitle") (unplaced ++ fields "number series version volume annotator commentator translator origlanguage journalsubtitle issue issuetitle issuesubtitle eid issn") author.AuthorRequiredEditorOptional pages.PagesOptional true
+article_rules =
+    rules (fields "title journaltitle")
+    (unplaced ++ fields "number series version volume annotator commentator translator origlanguage journalsubtitle issue issuetitle issuesubtitle eid issn")
+    author.AuthorRequiredEditorOptional pages.PagesOptional true
 
 abbrev pub in_book_rules : Rules
-in_book_rules = rules (fields "title publisher booktitle") (base ++ annotators ++ main_title ++ book_title ++ fields "bookauthor volume volumes part type series number edition isbn") author.OneRequired pages.OneRequired true
+in_book_rules =
+    rules (fields "title publisher booktitle")
+    (base ++ annotators ++ main_title ++ book_title ++ fields "bookauthor volume volumes part type series number edition isbn")
+    author.OneRequired pages.OneRequired true
 
 abbrev pub in_collection_rules : Rules
-in_collection_rules = rules (fields "title publisher booktitle") (base ++ annotators ++ main_title ++ book_title ++ fields "volume volumes part type series number edition isbn") author.BothRequired pages.BothOptional true
+in_collection_rules =
+    rules (fields "title publisher booktitle")
+    (base ++ annotators ++ main_title ++ book_title ++ fields "volume volumes part type series number edition isbn")
+    author.BothRequired pages.BothOptional true
 
 abbrev pub masters_thesis_rules : Rules
-masters_thesis_rules = rules (fields "title school") (base ++ fields "type") author.AuthorRequired pages.None true
+masters_thesis_rules =
+    rules (fields "title school")
+    (base ++ fields "type")
+    author.AuthorRequired pages.None true
 
 abbrev pub misc_rules : Rules
-misc_rules = rules (fields "title") (unplaced ++ fields "howpublished organization type") author.OneRequired pages.None false
+misc_rules =
+    rules (fields "title")
+    (unplaced ++ fields "howpublished organization type")
+    author.OneRequired pages.None false
 
 abbrev pub collection_rules : Rules
-collection_rules = rules (fields "title") (base ++ annotators ++ main_title ++ fields "edition number series part volume volumes isbn publisher pagetotal") author.EditorRequiredAuthorForbidden pages.BothOptional true
+collection_rules =
+    rules (fields "title")
+    (base ++ annotators ++ main_title ++ fields "edition number series part volume volumes isbn publisher pagetotal")
+    author.EditorRequiredAuthorForbidden pages.BothOptional true
 
 abbrev pub mv_collection_rules : Rules
-mv_collection_rules = rules (fields "title") (base ++ annotators ++ fields "edition number series volumes isbn publisher pagetotal") author.EditorRequiredAuthorForbidden pages.BothForbidden true
+mv_collection_rules =
+    rules (fields "title")
+    (base ++ annotators ++ fields "edition number series volumes isbn publisher pagetotal")
+    author.EditorRequiredAuthorForbidden pages.BothForbidden true
 
 -- the rules of each type; a type that isn't named has those of a collection in several volumes
 abbrev pub rules_of : EntryType → Rules
 rules_of Article = article_rules
-rules_of Book = rules (fields "title publisher") (base ++ annotators ++ main_title ++ fields "edition number series part volume volumes isbn pagetotal") author.OneRequired pages.BothOptional true
-rules_of Booklet = rules (fields "title") (base ++ fields "howpublished type pagetotal") author.OneRequired pages.BothOptional false
+rules_of Book =
+    rules (fields "title publisher")
+    (base ++ annotators ++ main_title ++ fields "edition number series part volume volumes isbn pagetotal")
+    author.OneRequired pages.BothOptional true
+rules_of Booklet =
+    rules (fields "title")
+    (base ++ fields "howpublished type pagetotal")
+    author.OneRequired pages.BothOptional false
 rules_of InBook = in_book_rules
 rules_of InCollection = in_collection_rules
-rules_of InProceedings = rules (fields "title booktitle") (base ++ main_title ++ book_title ++ fields "number organization series volume volumes part publisher eventtitle eventsubtitle eventtitleaddon venue isbn") author.AuthorRequiredEditorOptional pages.BothOptional true
-rules_of Manual = rules (fields "title") (base ++ fields "edition organization series version isbn publisher type pagetotal") author.OneRequired pages.BothOptional false
+rules_of InProceedings =
+    rules (fields "title booktitle")
+    (base ++ main_title ++ book_title ++ fields "number organization series volume volumes part publisher eventtitle eventsubtitle eventtitleaddon venue isbn")
+    author.AuthorRequiredEditorOptional pages.BothOptional true
+rules_of Manual =
+    rules (fields "title")
+    (base ++ fields "edition organization series version isbn publisher type pagetotal")
+    author.OneRequired pages.BothOptional false
 rules_of MastersThesis = masters_thesis_rules
 rules_of PhdThesis = masters_thesis_rules
 rules_of Misc = misc_rules
-rules_of Proceedings = rules (fields "title") (base ++ main_title ++ fields "number organization series volume volumes part publisher isbn pagetotal") author.EditorRequiredAuthorForbidden pages.BothOptional true
-rules_of TechReport = rules (fields "title institution") (base ++ fields "number type") author.AuthorRequired pages.None true
-rules_of Unpublished = rules (fields "title note") (core ++ fields "isbn howpublished") author.AuthorRequired pages.None false
-rules_of MvBook = rules (fields "title") (base ++ annotators ++ fields "edition number series volumes isbn publisher pagetotal") author.AuthorRequiredEditorOptional pages.BothOptional true
+rules_of Proceedings =
+    rules (fields "title")
+    (base ++ main_title ++ fields "number organization series volume volumes part publisher isbn pagetotal")
+    author.EditorRequiredAuthorForbidden pages.BothOptional true
+rules_of TechReport =
+    rules (fields "title institution")
+    (base ++ fields "number type")
+    author.AuthorRequired pages.None true
+rules_of Unpublished =
+    rules (fields "title note")
+    (core ++ fields "isbn howpublished")
+    author.AuthorRequired pages.None false
+rules_of MvBook =
+    rules (fields "title")
+    (base ++ annotators ++ fields "edition number series volumes isbn publisher pagetotal")
+    author.AuthorRequiredEditorOptional pages.BothOptional true
 rules_of BookInBook = in_book_rules
 rules_of SuppBook = in_book_rules
-rules_of Periodical = rules (fields "title") (base ++ fields "issue issuetitle issuesubtitle number series volume issn") author.EditorRequiredAuthorForbidden pages.None true
+rules_of Periodical =
+    rules (fields "title")
+    (base ++ fields "issue issuetitle issuesubtitle number series volume issn")
+    author.EditorRequiredAuthorForbidden pages.None true
 rules_of SuppPeriodical = article_rules
 rules_of Collection = collection_rules
 rules_of MvCollection = mv_collection_rules
@@ -104,13 +152,31 @@ rules_of SuppCollection = in_collection_rules
 rules_of Reference = collection_rules
 rules_of MvReference = mv_collection_rules
 rules_of InReference = in_collection_rules
-rules_of MvProceedings = rules (fields "title") (base ++ fields "number series volumes publisher organization pagetotal") author.EditorRequiredAuthorForbidden pages.BothForbidden true
-rules_of Report = rules (fields "title institution type") (base ++ fields "number version isrn pagetotal") author.AuthorRequired pages.BothOptional true
-rules_of Patent = rules (fields "title number") (base ++ fields "holder type") author.AuthorRequired pages.None true
-rules_of Thesis = rules (fields "title institution type") (base ++ fields "isbn pagetotal") author.AuthorRequired pages.BothOptional true
-rules_of Online = rules (fields "title url") (fields "note titleaddon subtitle urldate pubstate language addendum organization") author.OneRequired pages.None true
+rules_of MvProceedings =
+    rules (fields "title")
+    (base ++ fields "number series volumes publisher organization pagetotal")
+    author.EditorRequiredAuthorForbidden pages.BothForbidden true
+rules_of Report =
+    rules (fields "title institution type")
+    (base ++ fields "number version isrn pagetotal")
+    author.AuthorRequired pages.BothOptional true
+rules_of Patent =
+    rules (fields "title number")
+    (base ++ fields "holder type")
+    author.AuthorRequired pages.None true
+rules_of Thesis =
+    rules (fields "title institution type")
+    (base ++ fields "isbn pagetotal")
+    author.AuthorRequired pages.BothOptional true
+rules_of Online =
+    rules (fields "title url")
+    (fields "note titleaddon subtitle urldate pubstate language addendum organization")
+    author.OneRequired pages.None true
 rules_of Software = misc_rules
-rules_of Dataset = rules (fields "title") (base ++ fields "edition type series number version organization publisher") author.OneRequired pages.None true
+rules_of Dataset =
+    rules (fields "title")
+    (base ++ fields "edition type series number version organization publisher")
+    author.OneRequired pages.None true
 rules_of Set = rules (fields "entryset") [] author.NoneRequired pages.None false
 rules_of XData = rules [] [] author.NoneRequired pages.None false
 rules_of (Unknown name) = mv_collection_rules

@@ -88,7 +88,8 @@ pub enum EntryType {
 }
 
 impl EntryType {
-    /// The type with this name in any ASCII case, where `conference`, `electronic` and `www` are names too.
+    /// The type with this name in any ASCII case, where `conference`, `electronic` and `www` are names too. Any
+    /// other name is kept in small letters. A name that is written as this crate writes it takes no memory.
     pub fn new(alloc: Global, name: &str) -> Result<Self, AllocError>
         ensures ok { IfOk result (λ type. type ≡ entry_type_of name.now) }
         ensures no_memory_needed { IsSome (entry_type_named name.now) → IsOk result }
