@@ -23,7 +23,7 @@ plain name others tag =
 abbrev pub titled : String → String → String → LanguageRow
 titled name others tag = record { name = codes name; others = words (codes others); tag = codes tag }
 
--- the table of languages; `en-UK` for `en-GB` is the crate's
+-- the table of languages; the tag `en-UK` (not `en-GB`) and the spelling `NorwegainNynorsk` are the Rust crate's
 abbrev pub language_row : Language → LanguageRow
 language_row Basque = plain "Basque" "" "eu"
 language_row Bulgarian = plain "Bulgarian" "" "bg"

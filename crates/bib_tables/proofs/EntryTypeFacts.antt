@@ -8,8 +8,8 @@ use Rattle.std.proofs.lemmas.Bool.{and_parts, cases_Bool}
 use Rattle.bib_chunks.specs.Enums.{named}
 use Rattle.bib_chunks.proofs.EnumFacts.{named-append-some}
 use Rattle.bib_tables.specs.declared.mechanics.EntryType.{EntryType}
-use Rattle.bib_tables.specs.declared.mechanics.EntryType.TheVariants.{Unknown}
-use Rattle.bib_tables.specs.EntryType.{entry_type_named, named_or_alias, entry_type_of, bibtex_names, volume_names, other_names, alias_names}
+use Rattle.bib_tables.specs.declared.mechanics.EntryType.TheVariants.{Article, Book, Booklet, InBook, InCollection, InProceedings, Manual, MastersThesis, PhdThesis, Misc, Proceedings, TechReport, Unpublished, MvBook, BookInBook, SuppBook, Periodical, SuppPeriodical, Collection, MvCollection, SuppCollection, Reference, MvReference, InReference, MvProceedings, Report, Patent, Thesis, Online, Software, Dataset, Set, XData, Unknown}
+use Rattle.bib_tables.specs.EntryType.{entry_type_named, named_or_alias, entry_type_of, bibtex_names, volume_names, other_names, alias_names, entry_type_name, biblatex_type}
 
 -- a table's names are all in small letters
 abbrev pub is_lowered : {A : Type 0} → List (List ℕ × A) → Bool
@@ -46,3 +46,41 @@ unfolding entry_type_named named_or_alias
 type_as_written name type found =
     type_as_lowered name name type (sym (named_is_lowered (bibtex_names ++ (volume_names ++ other_names)) name type refl found))
     (named-append-some (bibtex_names ++ (volume_names ++ other_names)) alias_names name type found)
+
+-- a type of BibLaTeX's own is read again from its name
+pub type_reread : (type : EntryType) → entry_type_of (entry_type_name (biblatex_type type)) ≡ biblatex_type type
+unfolding named_or_alias entry_type_of
+type_reread Article = refl
+type_reread Book = refl
+type_reread Booklet = refl
+type_reread InBook = refl
+type_reread InCollection = refl
+type_reread InProceedings = refl
+type_reread Manual = refl
+type_reread MastersThesis = refl
+type_reread PhdThesis = refl
+type_reread Misc = refl
+type_reread Proceedings = refl
+type_reread TechReport = refl
+type_reread Unpublished = refl
+type_reread MvBook = refl
+type_reread BookInBook = refl
+type_reread SuppBook = refl
+type_reread Periodical = refl
+type_reread SuppPeriodical = refl
+type_reread Collection = refl
+type_reread MvCollection = refl
+type_reread SuppCollection = refl
+type_reread Reference = refl
+type_reread MvReference = refl
+type_reread InReference = refl
+type_reread MvProceedings = refl
+type_reread Report = refl
+type_reread Patent = refl
+type_reread Thesis = refl
+type_reread Online = refl
+type_reread Software = refl
+type_reread Dataset = refl
+type_reread Set = refl
+type_reread XData = refl
+type_reread (Unknown name) = refl

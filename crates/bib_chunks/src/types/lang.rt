@@ -217,7 +217,7 @@ impl fmt::Display for Language {
     }
 }
 
-/// Reads the name of a language, exactly as BibLaTeX or this crate writes it.
+/// Reads one of a language's names: the one that is written, or one of those that BibLaTeX knows. Case matters.
 impl FromStr for Language {
     ghost use Rattle.bib_chunks.specs.declared.types.NameError.{NameError};
 
