@@ -1,1 +1,3 @@
+pub mod EnumFacts
+pub mod LanguageFacts
 pub mod PlaceFacts

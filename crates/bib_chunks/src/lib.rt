@@ -3,3 +3,5 @@
 
 pub mod chunk;
 pub mod scanner;
+pub mod text;
+pub mod types;

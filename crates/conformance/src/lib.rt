@@ -2,6 +2,10 @@
 #![tactic(auto)]
 
 #[cfg(test)]
+mod chunks;
+#[cfg(test)]
 mod raw;
 #[cfg(test)]
 mod scanner;
+#[cfg(test)]
+mod tables;

@@ -1,0 +1,3 @@
+pub mod EntryType
+pub mod Requirements
+pub mod Row

@@ -1,0 +1,785 @@
+//! Entry types, what they ask for, languages and the small enumerations: every row of their tables.
+
+use bib_chunks::types::lang::Language;
+use bib_chunks::types::{EditorType, Gender, NameError, Pagination};
+use bib_tables::mechanics::{AuthorMode, EntryType, PagesChapterMode, Requirements};
+use std::alloc::{AllocError, Global};
+use std::process::Abort;
+use std::str::FromStr;
+use std::test::Fail;
+
+fn joined(alloc: Global, names: &[&'static str]) -> Result<String, AllocError> {
+    let mut text = String::new(alloc);
+    for name in names {
+        if !text.is_empty() {
+            text.push(' ')?;
+        }
+        text.push_str(name)?;
+    }
+    Ok(text)
+}
+
+/// The name, the type of BibLaTeX and the type of BibTeX that stand for it, whether it has several volumes, and
+/// whether it holds other works.
+static TYPES: [(&str, &str, &str, bool, bool); 33] = [
+    ("article", "article", "article", false, false),
+    ("book", "book", "book", false, true),
+    ("booklet", "booklet", "booklet", false, false),
+    ("inbook", "inbook", "inbook", false, false),
+    ("incollection", "incollection", "incollection", false, false),
+    (
+        "inproceedings",
+        "inproceedings",
+        "inproceedings",
+        false,
+        false,
+    ),
+    ("manual", "manual", "manual", false, false),
+    ("mastersthesis", "thesis", "mastersthesis", false, false),
+    ("phdthesis", "thesis", "phdthesis", false, false),
+    ("misc", "misc", "misc", false, false),
+    ("proceedings", "proceedings", "proceedings", false, true),
+    ("techreport", "report", "techreport", false, false),
+    ("unpublished", "unpublished", "unpublished", false, false),
+    ("mvbook", "mvbook", "book", true, false),
+    ("bookinbook", "bookinbook", "inbook", false, false),
+    ("suppbook", "suppbook", "inbook", false, false),
+    ("periodical", "periodical", "misc", false, true),
+    ("suppperiodical", "suppperiodical", "article", false, false),
+    ("collection", "collection", "proceedings", false, true),
+    ("mvcollection", "mvcollection", "proceedings", true, false),
+    (
+        "suppcollection",
+        "suppcollection",
+        "incollection",
+        false,
+        false,
+    ),
+    ("reference", "reference", "misc", false, true),
+    ("mvreference", "mvreference", "misc", true, false),
+    ("inreference", "inreference", "incollection", false, false),
+    ("mvproceedings", "mvproceedings", "proceedings", true, false),
+    ("report", "report", "techreport", false, false),
+    ("patent", "patent", "misc", false, false),
+    ("thesis", "thesis", "phdthesis", false, false),
+    ("online", "online", "misc", false, false),
+    ("software", "software", "misc", false, false),
+    ("dataset", "dataset", "misc", false, false),
+    ("set", "set", "misc", false, false),
+    ("xdata", "xdata", "misc", false, false),
+];
+
+fn is_type(rt: &impl Abort, alloc: Global, name: &str, kind: &EntryType) -> Result<(), Fail> {
+    assert_eq!(rt; &EntryType::new(alloc, name)?, kind, "{name}");
+    Ok(())
+}
+
+fn is_written(rt: &impl Abort, alloc: Global, kind: &EntryType, name: &str) -> Result<(), Fail> {
+    assert_eq!(rt; format!(in alloc; "{kind}")?.as_str(), name);
+    Ok(())
+}
+
+#[test]
+fn entry_types(rt: HostRuntime) -> Result<(), Fail> {
+    let alloc = rt.alloc();
+    for (name, biblatex, bibtex, several, holds) in TYPES.iter() {
+        let kind = EntryType::from_str(name)?;
+        is_written(&rt, alloc, &kind, name)?;
+        is_written(&rt, alloc, &kind.to_biblatex(), biblatex)?;
+        is_written(&rt, alloc, &kind.to_bibtex(), bibtex)?;
+        assert_eq!(rt; kind.is_multi_volume(), *several);
+        assert_eq!(rt; kind.is_collection(), *holds);
+        is_type(&rt, alloc, name, &kind)?;
+        is_type(&rt, alloc, name.to_ascii_uppercase(alloc)?.as_str(), &kind)?;
+    }
+    Ok(())
+}
+
+fn is_unknown(rt: &impl Abort, alloc: Global, name: &str, lowered: &str) -> Result<(), Fail> {
+    let kind = EntryType::new(alloc, name)?;
+    let EntryType::Unknown(kept) = &kind else {
+        return Err(Fail::from(NameError::Unknown));
+    };
+    assert_eq!(rt; kept.as_str(), lowered);
+    is_written(rt, alloc, &kind, "unknown")?;
+    assert_eq!(rt; kind.to_biblatex(), EntryType::Misc);
+    assert_eq!(rt; kind.to_bibtex(), EntryType::Misc);
+    assert!(rt; !kind.is_multi_volume());
+    assert!(rt; !kind.is_collection());
+    Ok(())
+}
+
+#[test]
+fn names_of_entry_types(rt: HostRuntime) -> Result<(), Fail> {
+    let alloc = rt.alloc();
+    is_type(&rt, alloc, "Conference", &EntryType::InProceedings)?;
+    is_type(&rt, alloc, "electronic", &EntryType::Online)?;
+    is_type(&rt, alloc, "WWW", &EntryType::Online)?;
+    is_unknown(&rt, alloc, "Foo", "foo")?;
+    is_unknown(&rt, alloc, "unknown", "unknown")?;
+    is_unknown(&rt, alloc, "", "")?;
+    is_unknown(&rt, alloc, "\u{c4}RA", "\u{c4}ra")?;
+    for name in ["conference", "electronic", "www", "unknown", "Article", ""] {
+        assert!(rt; EntryType::from_str(name).is_err(), "{name}");
+    }
+    assert_eq!(rt;
+        EntryType::from_str("conference").err(),
+        Some(NameError::Unknown)
+    );
+    Ok(())
+}
+
+/// The type, the names of its required, optional and forbidden fields, its rules for authors and pages, and whether
+/// it needs a date.
+type Row = (
+    &'static str,
+    &'static str,
+    &'static str,
+    &'static str,
+    AuthorMode,
+    PagesChapterMode,
+    bool,
+);
+
+static REQUIREMENTS: [Row; 34] = [
+    (
+        "article",
+        "title journaltitle",
+        "note titleaddon subtitle url urldate doi eprint eprintclass eprinttype pubstate language addendum number series version volume annotator commentator translator origlanguage journalsubtitle issue issuetitle issuesubtitle eid issn",
+        "",
+        AuthorMode::AuthorRequiredEditorOptional,
+        PagesChapterMode::PagesOptional,
+        true,
+    ),
+    (
+        "book",
+        "title publisher",
+        "note location titleaddon subtitle url urldate doi eprint eprintclass eprinttype pubstate language addendum annotator commentator translator origlanguage afterword foreword introduction maintitle mainsubtitle maintitleaddon edition number series part volume volumes isbn pagetotal",
+        "",
+        AuthorMode::OneRequired,
+        PagesChapterMode::BothOptional,
+        true,
+    ),
+    (
+        "booklet",
+        "title",
+        "note location titleaddon subtitle url urldate doi eprint eprintclass eprinttype pubstate language addendum howpublished type pagetotal",
+        "",
+        AuthorMode::OneRequired,
+        PagesChapterMode::BothOptional,
+        false,
+    ),
+    (
+        "inbook",
+        "title publisher booktitle",
+        "note location titleaddon subtitle url urldate doi eprint eprintclass eprinttype pubstate language addendum annotator commentator translator origlanguage afterword foreword introduction maintitle mainsubtitle maintitleaddon booksubtitle booktitleaddon bookauthor volume volumes part type series number edition isbn",
+        "pagetotal",
+        AuthorMode::OneRequired,
+        PagesChapterMode::OneRequired,
+        true,
+    ),
+    (
+        "incollection",
+        "title publisher booktitle",
+        "note location titleaddon subtitle url urldate doi eprint eprintclass eprinttype pubstate language addendum annotator commentator translator origlanguage afterword foreword introduction maintitle mainsubtitle maintitleaddon booksubtitle booktitleaddon volume volumes part type series number edition isbn",
+        "pagetotal",
+        AuthorMode::BothRequired,
+        PagesChapterMode::BothOptional,
+        true,
+    ),
+    (
+        "inproceedings",
+        "title booktitle",
+        "note location titleaddon subtitle url urldate doi eprint eprintclass eprinttype pubstate language addendum maintitle mainsubtitle maintitleaddon booksubtitle booktitleaddon number organization series volume volumes part publisher eventtitle eventsubtitle eventtitleaddon venue isbn",
+        "pagetotal",
+        AuthorMode::AuthorRequiredEditorOptional,
+        PagesChapterMode::BothOptional,
+        true,
+    ),
+    (
+        "manual",
+        "title",
+        "note location titleaddon subtitle url urldate doi eprint eprintclass eprinttype pubstate language addendum edition organization series version isbn publisher type pagetotal",
+        "",
+        AuthorMode::OneRequired,
+        PagesChapterMode::BothOptional,
+        false,
+    ),
+    (
+        "mastersthesis",
+        "title school",
+        "note location titleaddon subtitle url urldate doi eprint eprintclass eprinttype pubstate language addendum type",
+        "",
+        AuthorMode::AuthorRequired,
+        PagesChapterMode::None,
+        true,
+    ),
+    (
+        "phdthesis",
+        "title school",
+        "note location titleaddon subtitle url urldate doi eprint eprintclass eprinttype pubstate language addendum type",
+        "",
+        AuthorMode::AuthorRequired,
+        PagesChapterMode::None,
+        true,
+    ),
+    (
+        "misc",
+        "title",
+        "note titleaddon subtitle url urldate doi eprint eprintclass eprinttype pubstate language addendum howpublished organization type",
+        "",
+        AuthorMode::OneRequired,
+        PagesChapterMode::None,
+        false,
+    ),
+    (
+        "proceedings",
+        "title",
+        "note location titleaddon subtitle url urldate doi eprint eprintclass eprinttype pubstate language addendum maintitle mainsubtitle maintitleaddon number organization series volume volumes part publisher isbn pagetotal",
+        "",
+        AuthorMode::EditorRequiredAuthorForbidden,
+        PagesChapterMode::BothOptional,
+        true,
+    ),
+    (
+        "techreport",
+        "title institution",
+        "note location titleaddon subtitle url urldate doi eprint eprintclass eprinttype pubstate language addendum number type",
+        "",
+        AuthorMode::AuthorRequired,
+        PagesChapterMode::None,
+        true,
+    ),
+    (
+        "unpublished",
+        "title note",
+        "titleaddon subtitle url urldate doi eprint eprintclass eprinttype pubstate language addendum isbn howpublished",
+        "",
+        AuthorMode::AuthorRequired,
+        PagesChapterMode::None,
+        false,
+    ),
+    (
+        "mvbook",
+        "title",
+        "note location titleaddon subtitle url urldate doi eprint eprintclass eprinttype pubstate language addendum annotator commentator translator origlanguage afterword foreword introduction edition number series volumes isbn publisher pagetotal",
+        "maintitle mainsubtitle maintitleaddon part volume",
+        AuthorMode::AuthorRequiredEditorOptional,
+        PagesChapterMode::BothOptional,
+        true,
+    ),
+    (
+        "bookinbook",
+        "title publisher booktitle",
+        "note location titleaddon subtitle url urldate doi eprint eprintclass eprinttype pubstate language addendum annotator commentator translator origlanguage afterword foreword introduction maintitle mainsubtitle maintitleaddon booksubtitle booktitleaddon bookauthor volume volumes part type series number edition isbn",
+        "pagetotal",
+        AuthorMode::OneRequired,
+        PagesChapterMode::OneRequired,
+        true,
+    ),
+    (
+        "suppbook",
+        "title publisher booktitle",
+        "note location titleaddon subtitle url urldate doi eprint eprintclass eprinttype pubstate language addendum annotator commentator translator origlanguage afterword foreword introduction maintitle mainsubtitle maintitleaddon booksubtitle booktitleaddon bookauthor volume volumes part type series number edition isbn",
+        "pagetotal",
+        AuthorMode::OneRequired,
+        PagesChapterMode::OneRequired,
+        true,
+    ),
+    (
+        "periodical",
+        "title",
+        "note location titleaddon subtitle url urldate doi eprint eprintclass eprinttype pubstate language addendum issue issuetitle issuesubtitle number series volume issn",
+        "",
+        AuthorMode::EditorRequiredAuthorForbidden,
+        PagesChapterMode::None,
+        true,
+    ),
+    (
+        "suppperiodical",
+        "title journaltitle",
+        "note titleaddon subtitle url urldate doi eprint eprintclass eprinttype pubstate language addendum number series version volume annotator commentator translator origlanguage journalsubtitle issue issuetitle issuesubtitle eid issn",
+        "",
+        AuthorMode::AuthorRequiredEditorOptional,
+        PagesChapterMode::PagesOptional,
+        true,
+    ),
+    (
+        "collection",
+        "title",
+        "note location titleaddon subtitle url urldate doi eprint eprintclass eprinttype pubstate language addendum annotator commentator translator origlanguage afterword foreword introduction maintitle mainsubtitle maintitleaddon edition number series part volume volumes isbn publisher pagetotal",
+        "",
+        AuthorMode::EditorRequiredAuthorForbidden,
+        PagesChapterMode::BothOptional,
+        true,
+    ),
+    (
+        "mvcollection",
+        "title",
+        "note location titleaddon subtitle url urldate doi eprint eprintclass eprinttype pubstate language addendum annotator commentator translator origlanguage afterword foreword introduction edition number series volumes isbn publisher pagetotal",
+        "maintitle mainsubtitle maintitleaddon part volume",
+        AuthorMode::EditorRequiredAuthorForbidden,
+        PagesChapterMode::BothForbidden,
+        true,
+    ),
+    (
+        "suppcollection",
+        "title publisher booktitle",
+        "note location titleaddon subtitle url urldate doi eprint eprintclass eprinttype pubstate language addendum annotator commentator translator origlanguage afterword foreword introduction maintitle mainsubtitle maintitleaddon booksubtitle booktitleaddon volume volumes part type series number edition isbn",
+        "pagetotal",
+        AuthorMode::BothRequired,
+        PagesChapterMode::BothOptional,
+        true,
+    ),
+    (
+        "reference",
+        "title",
+        "note location titleaddon subtitle url urldate doi eprint eprintclass eprinttype pubstate language addendum annotator commentator translator origlanguage afterword foreword introduction maintitle mainsubtitle maintitleaddon edition number series part volume volumes isbn publisher pagetotal",
+        "",
+        AuthorMode::EditorRequiredAuthorForbidden,
+        PagesChapterMode::BothOptional,
+        true,
+    ),
+    (
+        "mvreference",
+        "title",
+        "note location titleaddon subtitle url urldate doi eprint eprintclass eprinttype pubstate language addendum annotator commentator translator origlanguage afterword foreword introduction edition number series volumes isbn publisher pagetotal",
+        "maintitle mainsubtitle maintitleaddon part volume",
+        AuthorMode::EditorRequiredAuthorForbidden,
+        PagesChapterMode::BothForbidden,
+        true,
+    ),
+    (
+        "inreference",
+        "title publisher booktitle",
+        "note location titleaddon subtitle url urldate doi eprint eprintclass eprinttype pubstate language addendum annotator commentator translator origlanguage afterword foreword introduction maintitle mainsubtitle maintitleaddon booksubtitle booktitleaddon volume volumes part type series number edition isbn",
+        "pagetotal",
+        AuthorMode::BothRequired,
+        PagesChapterMode::BothOptional,
+        true,
+    ),
+    (
+        "mvproceedings",
+        "title",
+        "note location titleaddon subtitle url urldate doi eprint eprintclass eprinttype pubstate language addendum number series volumes publisher organization pagetotal",
+        "maintitle mainsubtitle maintitleaddon part volume",
+        AuthorMode::EditorRequiredAuthorForbidden,
+        PagesChapterMode::BothForbidden,
+        true,
+    ),
+    (
+        "report",
+        "title institution type",
+        "note location titleaddon subtitle url urldate doi eprint eprintclass eprinttype pubstate language addendum number version isrn pagetotal",
+        "",
+        AuthorMode::AuthorRequired,
+        PagesChapterMode::BothOptional,
+        true,
+    ),
+    (
+        "patent",
+        "title number",
+        "note location titleaddon subtitle url urldate doi eprint eprintclass eprinttype pubstate language addendum holder type",
+        "",
+        AuthorMode::AuthorRequired,
+        PagesChapterMode::None,
+        true,
+    ),
+    (
+        "thesis",
+        "title institution type",
+        "note location titleaddon subtitle url urldate doi eprint eprintclass eprinttype pubstate language addendum isbn pagetotal",
+        "",
+        AuthorMode::AuthorRequired,
+        PagesChapterMode::BothOptional,
+        true,
+    ),
+    (
+        "online",
+        "title url",
+        "note titleaddon subtitle urldate pubstate language addendum organization",
+        "",
+        AuthorMode::OneRequired,
+        PagesChapterMode::None,
+        true,
+    ),
+    (
+        "software",
+        "title",
+        "note titleaddon subtitle url urldate doi eprint eprintclass eprinttype pubstate language addendum howpublished organization type",
+        "",
+        AuthorMode::OneRequired,
+        PagesChapterMode::None,
+        false,
+    ),
+    (
+        "dataset",
+        "title",
+        "note location titleaddon subtitle url urldate doi eprint eprintclass eprinttype pubstate language addendum edition type series number version organization publisher",
+        "",
+        AuthorMode::OneRequired,
+        PagesChapterMode::None,
+        true,
+    ),
+    (
+        "set",
+        "entryset",
+        "",
+        "",
+        AuthorMode::NoneRequired,
+        PagesChapterMode::None,
+        false,
+    ),
+    (
+        "xdata",
+        "",
+        "",
+        "",
+        AuthorMode::NoneRequired,
+        PagesChapterMode::None,
+        false,
+    ),
+    (
+        "other",
+        "title",
+        "note location titleaddon subtitle url urldate doi eprint eprintclass eprinttype pubstate language addendum annotator commentator translator origlanguage afterword foreword introduction edition number series volumes isbn publisher pagetotal",
+        "maintitle mainsubtitle maintitleaddon part volume",
+        AuthorMode::EditorRequiredAuthorForbidden,
+        PagesChapterMode::BothForbidden,
+        true,
+    ),
+];
+
+fn are_names(
+    rt: &impl Abort,
+    alloc: Global,
+    names: &[&'static str],
+    expected: &str,
+) -> Result<(), Fail> {
+    assert_eq!(rt; joined(alloc, names)?.as_str(), expected);
+    Ok(())
+}
+
+fn asks_for(rt: &impl Abort, alloc: Global, row: &Row) -> Result<(), Fail> {
+    let (name, required, optional, forbidden, author, pages, needs_date) = row;
+    let asked = EntryType::new(alloc, name)?.requirements(alloc)?;
+    are_names(rt, alloc, asked.required.as_slice(), required)?;
+    are_names(rt, alloc, asked.optional.as_slice(), optional)?;
+    are_names(rt, alloc, asked.forbidden.as_slice(), forbidden)?;
+    assert_eq!(rt; asked.author_eds_field, *author);
+    assert_eq!(rt; asked.page_chapter_field, *pages);
+    assert_eq!(rt; asked.needs_date, *needs_date);
+    Ok(())
+}
+
+#[test]
+fn requirements(rt: HostRuntime) -> Result<(), Fail> {
+    for row in REQUIREMENTS.iter() {
+        asks_for(&rt, rt.alloc(), row)?;
+    }
+    Ok(())
+}
+
+#[test]
+fn no_requirements(rt: HostRuntime) {
+    let none = Requirements::new(rt.alloc());
+    assert_eq!(rt; none.required.len(), 0);
+    assert_eq!(rt; none.optional.len(), 0);
+    assert_eq!(rt; none.forbidden.len(), 0);
+    assert_eq!(rt; none.author_eds_field, AuthorMode::AuthorRequired);
+    assert_eq!(rt; none.page_chapter_field, PagesChapterMode::None);
+    assert!(rt; !none.needs_date);
+}
+
+#[test]
+fn possible_names(rt: HostRuntime) -> Result<(), Fail> {
+    let alloc = rt.alloc();
+    for (mode, names) in [
+        (AuthorMode::NoneRequired, ""),
+        (AuthorMode::OneRequired, "author editor"),
+        (AuthorMode::BothRequired, "author editor"),
+        (AuthorMode::AuthorRequired, "author"),
+        (AuthorMode::AuthorRequiredEditorOptional, "author editor"),
+        (AuthorMode::EditorRequiredAuthorForbidden, "editor"),
+    ] {
+        are_names(&rt, alloc, mode.possible(), names)?;
+    }
+    for (mode, names) in [
+        (PagesChapterMode::None, ""),
+        (PagesChapterMode::OneRequired, "pages chapter"),
+        (PagesChapterMode::BothOptional, "pages chapter"),
+        (PagesChapterMode::BothForbidden, ""),
+        (PagesChapterMode::PagesOptional, "pages"),
+        (PagesChapterMode::PagesRequired, "pages"),
+    ] {
+        are_names(&rt, alloc, mode.possible(), names)?;
+    }
+    Ok(())
+}
+
+/// The language, its name, the other names by which it is read, and its tag.
+static LANGUAGES: [(Language, &str, &str, &str); 43] = [
+    (Language::Basque, "Basque", "basque", "eu"),
+    (Language::Bulgarian, "Bulgarian", "bulgarian", "bg"),
+    (Language::Catalan, "Catalan", "catalan", "ca"),
+    (Language::Croatian, "Croatian", "croatian", "hr"),
+    (Language::Czech, "Czech", "czech", "cs"),
+    (Language::Danish, "Danish", "danish", "da"),
+    (Language::Dutch, "Dutch", "dutch", "nl"),
+    (
+        Language::EnglishUS,
+        "American English",
+        "american USenglish english",
+        "en-US",
+    ),
+    (
+        Language::EnglishUK,
+        "British English",
+        "british UKenglish",
+        "en-UK",
+    ),
+    (Language::EnglishCA, "Canadian English", "canadian", "en-CA"),
+    (
+        Language::EnglishAUS,
+        "Australian English",
+        "australian",
+        "en-AU",
+    ),
+    (
+        Language::EnglishNZ,
+        "New Zealand English",
+        "newzealand",
+        "en-NZ",
+    ),
+    (Language::Estonian, "Estonian", "estonian", "et"),
+    (Language::Finnish, "Finnish", "finnish", "fi"),
+    (Language::French, "French", "french", "fr"),
+    (Language::German, "German", "german", "de"),
+    (Language::GermanAT, "Austrian", "austrian", "de-AT"),
+    (Language::GermanCH, "Swiss German", "swissgerman", "de-CH"),
+    (Language::GermanNew, "New German", "ngerman", "de"),
+    (Language::GermanATNew, "New Austrian", "naustrian", "de-AT"),
+    (
+        Language::GermanCHNew,
+        "New Swiss German",
+        "nswissgerman",
+        "de-CH",
+    ),
+    (Language::Greek, "Greek", "greek", "el"),
+    (Language::Hungarian, "Hungarian", "hungarian magyar", "hu"),
+    (Language::Icelandic, "Icelandic", "icelandic", "is"),
+    (Language::Italian, "Italian", "italian", "it"),
+    (Language::Latvian, "Latvian", "latvian", "lv"),
+    (Language::Lithuanian, "Lithuanian", "lithuanian", "lt"),
+    (Language::Marathi, "Marathi", "marathi", "mr"),
+    (
+        Language::NorwegianBokmal,
+        "Norwegian (Bokmål)",
+        "norsk",
+        "nb",
+    ),
+    (
+        Language::NorwegainNynorsk,
+        "Norwegian (Nynorsk)",
+        "nynorsk",
+        "nn",
+    ),
+    (Language::Polish, "Polish", "polish", "pl"),
+    (
+        Language::PortugueseBR,
+        "Brazilian Portuguese",
+        "brazil",
+        "pt-BR",
+    ),
+    (
+        Language::Portuguese,
+        "Portuguese",
+        "portuguese portuges",
+        "pt-PT",
+    ),
+    (Language::Romanian, "Romanian", "romanian", "ro"),
+    (Language::Russian, "Russian", "russian", "ru"),
+    (
+        Language::SerbianLatin,
+        "Serbian (Latin)",
+        "serbian",
+        "sr-Latn",
+    ),
+    (
+        Language::SerbianCyrillic,
+        "Serbian (Cyrillic)",
+        "serbianc",
+        "sr-Cyrl",
+    ),
+    (Language::Slovak, "Slovak", "slovak", "sk"),
+    (Language::Slovene, "Slovene", "slovene slovenian", "sl"),
+    (Language::Spanish, "Spanish", "spanish", "es"),
+    (Language::Swedish, "Swedish", "swedish", "sv"),
+    (Language::Turkish, "Turkish", "turkish", "tr"),
+    (Language::Ukrainian, "Ukrainian", "ukrainian", "uk"),
+];
+
+fn is_language(rt: &impl Abort, name: &str, language: Language) -> Result<(), Fail> {
+    assert_eq!(rt; Language::from_str(name)?, language, "{name}");
+    Ok(())
+}
+
+fn has_names(
+    rt: &impl Abort,
+    alloc: Global,
+    language: Language,
+    name: &str,
+    others: &str,
+    tag: &str,
+) -> Result<(), Fail> {
+    assert_eq!(rt; format!(in alloc; "{language}")?.as_str(), name);
+    assert_eq!(rt; language.tag(), tag, "{name}");
+    is_language(rt, name, language)?;
+    for other in others.split(' ') {
+        is_language(rt, other, language)?;
+    }
+    Ok(())
+}
+
+#[test]
+fn languages(rt: HostRuntime) -> Result<(), Fail> {
+    for (language, name, others, tag) in LANGUAGES.iter() {
+        has_names(&rt, rt.alloc(), *language, name, others, tag)?;
+    }
+    for name in [
+        "English",
+        "GREEK",
+        "american english",
+        "Magyar",
+        "norwegian",
+        "",
+        " greek",
+        "en",
+    ] {
+        assert!(rt; Language::from_str(name).is_err(), "{name}");
+    }
+    assert_eq!(rt;
+        Language::from_str("English").err(),
+        Some(NameError::Unknown)
+    );
+    Ok(())
+}
+
+#[test]
+fn paginations(rt: HostRuntime) -> Result<(), Fail> {
+    let alloc = rt.alloc();
+    for (scheme, name) in [
+        (Pagination::Page, "page"),
+        (Pagination::Column, "column"),
+        (Pagination::Line, "line"),
+        (Pagination::Verse, "verse"),
+        (Pagination::Section, "section"),
+        (Pagination::Paragraph, "paragraph"),
+    ] {
+        assert_eq!(rt; scheme.as_ref(), name);
+        assert_eq!(rt; format!(in alloc; "{scheme}")?.as_str(), name);
+        assert_eq!(rt; Pagination::from_str(name)?, scheme);
+    }
+    for name in ["Page", "pages", "", "page "] {
+        assert_eq!(rt;
+            Pagination::from_str(name).err(),
+            Some(NameError::Unknown),
+            "{name}"
+        );
+    }
+    Ok(())
+}
+
+#[test]
+fn editor_types(rt: HostRuntime) -> Result<(), Fail> {
+    let alloc = rt.alloc();
+    for (role, name) in [
+        (EditorType::Editor, "editor"),
+        (EditorType::Compiler, "compiler"),
+        (EditorType::Founder, "founder"),
+        (EditorType::Continuator, "continuator"),
+        (EditorType::Redactor, "redactor"),
+        (EditorType::Reviser, "reviser"),
+        (EditorType::Collaborator, "collaborator"),
+        (EditorType::Organizer, "organizer"),
+        (EditorType::Director, "director"),
+    ] {
+        assert_eq!(rt; role.as_ref(), name);
+        assert_eq!(rt; format!(in alloc; "{role}")?.as_str(), name);
+        assert_eq!(rt; EditorType::from_str(alloc, name)?, role);
+    }
+    for name in ["Editor", "none", ""] {
+        let role = EditorType::from_str(alloc, name)?;
+        let EditorType::Unknown(kept) = &role else {
+            return Err(Fail::from(NameError::Unknown));
+        };
+        assert_eq!(rt; kept.as_str(), name);
+        assert_eq!(rt; role.as_ref(), name);
+        assert_eq!(rt; format!(in alloc; "{role}")?.as_str(), name);
+    }
+    Ok(())
+}
+
+#[test]
+fn genders(rt: HostRuntime) -> Result<(), Fail> {
+    use Gender::*;
+    let alloc = rt.alloc();
+    for (gender, name, plural, singular) in [
+        (
+            SingularFemale,
+            "SingularFemale",
+            PluralFemale,
+            SingularFemale,
+        ),
+        (SingularMale, "SingularMale", PluralMale, SingularMale),
+        (
+            SingularNeuter,
+            "SingularNeuter",
+            PluralNeuter,
+            SingularNeuter,
+        ),
+        (PluralFemale, "PluralFemale", PluralFemale, SingularFemale),
+        (PluralMale, "PluralMale", PluralMale, SingularMale),
+        (PluralNeuter, "PluralNeuter", PluralNeuter, SingularNeuter),
+    ] {
+        assert_eq!(rt; gender.as_ref(), name);
+        assert_eq!(rt; format!(in alloc; "{gender}")?.as_str(), name);
+        assert_eq!(rt; gender.plural(), plural, "{name}");
+        assert_eq!(rt; gender.singular(), singular, "{name}");
+        assert_eq!(rt; Gender::coalesce(&[gender]), Some(gender), "{name}");
+    }
+    assert_eq!(rt; Gender::coalesce(&[]), None);
+    assert_eq!(rt;
+        Gender::coalesce(&[SingularMale, SingularMale]),
+        Some(PluralMale)
+    );
+    assert_eq!(rt;
+        Gender::coalesce(&[SingularFemale, PluralFemale, SingularFemale]),
+        Some(PluralFemale)
+    );
+    assert_eq!(rt;
+        Gender::coalesce(&[SingularFemale, SingularMale]),
+        Some(PluralNeuter)
+    );
+    assert_eq!(rt;
+        Gender::coalesce(&[PluralMale, SingularNeuter]),
+        Some(PluralNeuter)
+    );
+    assert_eq!(rt;
+        Gender::coalesce(&[SingularNeuter, SingularNeuter]),
+        Some(PluralNeuter)
+    );
+    Ok(())
+}
+
+#[test]
+fn texts_of_faults(rt: HostRuntime) -> Result<(), Fail> {
+    let alloc = rt.alloc();
+    for (fault, text) in [
+        (NameError::Unknown, "unknown name"),
+        (NameError::OutOfMemory, "out of memory"),
+    ] {
+        assert_eq!(rt; format!(in alloc; "{fault}")?.as_str(), text);
+    }
+    Ok(())
+}
