@@ -1,7 +1,11 @@
-//! Values that know where they stand.
+//! Values that know where they stand, and text that knows what is normal, verbatim and math.
 
 ghost use Rattle.std.specs.Prelude.{◌≡◌, ◌^◌, ◌-◌, ◌↔◌, IsTrue};
+ghost use Rattle.bib_chunks.specs.Styled.{text_of};
 
+use crate::items::Items;
+use crate::text::Text;
+use std::alloc::AllocError;
 use std::ops::Range;
 
 /// A range of bytes of a text.
@@ -68,6 +72,46 @@ impl<T> Spanned<T> {
         Spanned {
             v: f(self.v),
             span: self.span,
+        }
+    }
+}
+
+/// A part of a field's value.
+#[derive(Debug, PartialEq, Eq, Drop)]
+pub enum Chunk {
+    /// Text that a style may put into another case.
+    Normal(Text),
+    /// Text in braces of its own, which stays as it is.
+    Verbatim(Text),
+    /// Text between dollar signs.
+    Math(Text),
+}
+
+/// The chunks of a value, each with its place.
+pub type Chunks = Items<Spanned<Chunk>>;
+
+/// Borrowed chunks.
+pub type ChunksRef<'a> = &'a [Spanned<Chunk>];
+
+impl Chunk {
+    /// The text of the chunk.
+    pub fn get(&self) -> &str
+        ensures { result.now ≡ text_of self.now }
+    {
+        match self {
+            Chunk::Normal(text) | Chunk::Verbatim(text) | Chunk::Math(text) => text.as_str(),
+        }
+    }
+}
+
+impl Clone for Chunk {
+    ghost is_clone = { λ c copy. copy ≡ c };
+
+    fn clone(&self) -> Result<Self, AllocError> {
+        match self {
+            Chunk::Normal(text) => Ok(Chunk::Normal(text.clone()?)),
+            Chunk::Verbatim(text) => Ok(Chunk::Verbatim(text.clone()?)),
+            Chunk::Math(text) => Ok(Chunk::Math(text.clone()?)),
         }
     }
 }

@@ -2,4 +2,6 @@
 #![tactic(auto)]
 
 pub mod chunk;
+pub mod items;
 pub mod scanner;
+pub mod text;

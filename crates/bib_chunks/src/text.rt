@@ -1,0 +1,113 @@
+//! Text of one's own: a `String` that contracts see as its bytes.
+
+ghost use Rattle.std.specs.Prelude.{◌≡◌, ◌==◌, ◌↔◌, List, [], ◌++◌, length, is_ok, if◌then◌else◌, IfOk, IsTrue, nat_eq, encode_utf8, string_bytes};
+ghost use Rattle.std.specs.Cmp;
+ghost use Rattle.std.specs.Cmp.Lexicographic.{pointwise, nat_list_eq_equiv};
+
+use std::alloc::{AllocError, Global};
+use std::marker::Model;
+
+/// A text. Contracts see it as its bytes, which are UTF-8.
+#[derive(Debug, Drop)]
+pub struct Text {
+    string: String,
+}
+
+impl Model for Text {
+    ghost use Rattle.std.specs.Prelude.{ℕ, List, string_bytes};
+
+    ghost Value = { List ℕ };
+
+    ghost view = { λ t. string_bytes t.string };
+}
+
+impl Text {
+    /// The empty text.
+    pub fn new(alloc: Global) -> Self
+        ensures { result ≡ [] }
+    {
+        Text {
+            string: String::new(alloc),
+        }
+    }
+
+    /// A copy of a text.
+    pub fn from_str(alloc: Global, text: &str) -> Result<Self, AllocError>
+        ensures { IfOk result (λ t. t ≡ text.now) }
+    {
+        let string = String::from_str(alloc, text)?;
+        Ok(Text { string })
+    }
+
+    /// The text of a string. Takes no memory.
+    pub fn from_string(string: String) -> Self
+        ensures { result ≡ string_bytes string }
+    {
+        Text { string }
+    }
+
+    /// The string of a text. Takes no memory.
+    pub fn into_string(self) -> String
+        ensures { string_bytes result ≡ self }
+    {
+        self.string
+    }
+
+    /// The text, borrowed.
+    pub fn as_str(&self) -> &str
+        ensures { result.now ≡ self.now }
+    {
+        self.string.as_str()
+    }
+
+    /// The length in bytes.
+    pub fn len(&self) -> usize
+        ensures { result ≡ length self.now }
+    {
+        self.string.as_str().len()
+    }
+
+    /// Whether the text has no character.
+    pub fn is_empty(&self) -> bool
+        ensures { result ≡ (length self.now == 0) }
+    {
+        self.string.as_str().is_empty()
+    }
+
+    /// Appends a character. A refusal changes nothing.
+    pub fn push(&mut self, c: char) -> Result<(), AllocError>
+        ensures { self.new ≡ (if is_ok result then self.old ++ encode_utf8 c else self.old) }
+    {
+        self.string.push(c)
+    }
+
+    /// Appends a text. A refusal changes nothing.
+    pub fn push_str(&mut self, text: &str) -> Result<(), AllocError>
+        ensures { self.new ≡ (if is_ok result then self.old ++ text.now else self.old) }
+    {
+        self.string.push_str(text)
+    }
+}
+
+impl Clone for Text {
+    ghost is_clone = { λ t copy. copy ≡ t };
+
+    fn clone(&self) -> Result<Self, AllocError> {
+        let string = self.string.clone()?;
+        Ok(Text { string })
+    }
+}
+
+impl PartialEq for Text {
+    ghost eq = { pointwise nat_eq };
+
+    ghost laws = { Cmp.partial_equiv_from_equiv nat_list_eq_equiv };
+
+    fn eq(&self, other: &Self) -> bool {
+        self.string.as_str() == other.string.as_str()
+    }
+}
+
+impl Eq for Text {
+    ghost laws = { nat_list_eq_equiv };
+}
