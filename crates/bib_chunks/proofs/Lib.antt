@@ -1,1 +1,3 @@
 pub mod PlaceFacts
+pub mod TextFacts
+pub mod WrittenFacts

@@ -1,3 +1,7 @@
 pub mod Braces
+pub mod Formatted
+pub mod Lending
 pub mod Places
+pub mod Settled
 pub mod Styled
+pub mod Written

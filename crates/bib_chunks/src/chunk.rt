@@ -1,7 +1,11 @@
 //! Values that know where they stand, and text that knows what is normal, verbatim and math.
 
 ghost use Rattle.std.specs.Prelude.{◌≡◌, ◌^◌, ◌-◌, ◌↔◌, IsTrue};
+ghost use Rattle.std.specs.Borrow.{sem};
 ghost use Rattle.bib_chunks.specs.Styled.{text_of};
+ghost use Rattle.bib_chunks.specs.Lending.{LendsText};
+
+mod writing;
 
 use crate::items::Items;
 use crate::text::Text;
@@ -100,6 +104,18 @@ impl Chunk {
     {
         match self {
             Chunk::Normal(text) | Chunk::Verbatim(text) | Chunk::Math(text) => text.as_str(),
+        }
+    }
+
+    /// The text of the chunk, to be changed.
+    pub fn get_mut(&mut self) -> &mut Text
+        ensures* writes_back { sem 𝓛 (LendsText self.entry result) }
+        ensures value { result.now ≡ text_of self.old }
+    {
+        match self {
+            Chunk::Normal(text) => text,
+            Chunk::Verbatim(text) => text,
+            Chunk::Math(text) => text,
         }
     }
 }

@@ -1,0 +1,66 @@
+-- Chunks as plain text. A formatted text is given by its characters.
+use Rattle.std.specs.Prelude.{ℕ, Bool, true, false, ◌==◌, ◌||◌, if◌then◌else◌, List, [], ◌∷◌, ◌++◌}
+use Rattle.std.specs.Char.{is_whitespace}
+use Rattle.std.specs.List.{flat_map}
+use Rattle.std.specs.Str.{chars}
+use Rattle.std.specs.Char.Unicode.ToLowercase.{to_lowercase}
+use Rattle.std.specs.Char.Unicode.ToUppercase.{to_uppercase}
+use Rattle.bib_chunks.specs.declared.chunk.Chunk.{Chunk}
+use Rattle.bib_chunks.specs.declared.chunk.Chunk.TheVariants.{Normal, Verbatim, Math}
+use Rattle.bib_chunks.specs.declared.chunk.Spanned.{Spanned}
+
+-- the characters that break a line: line feed and carriage return
+abbrev pub is_break : ℕ → Bool
+is_break c = c == 10 || c == 13
+
+-- a normal text on one line: a character that breaks the line becomes a space, or nothing where the character
+-- written before it is white space; the flag says whether white space stands before the text
+abbrev pub flowing : Bool → List ℕ → List ℕ
+flowing space [] = []
+flowing true (c ∷ cs) = if is_break c then flowing true cs else c ∷ flowing (is_whitespace c) cs
+flowing false (c ∷ cs) = if is_break c then 32 ∷ flowing true cs else c ∷ flowing (is_whitespace c) cs
+
+-- whether a text ends in white space, with the answer for an empty one
+abbrev pub ends_in_space : Bool → List ℕ → Bool
+ends_in_space empty [] = empty
+ends_in_space empty (c ∷ cs) = ends_in_space (is_whitespace c) cs
+
+-- whether the character written last before the end of a chunk is white space: math is passed over, and an empty
+-- verbatim chunk counts as none
+abbrev pub space_behind : Bool → Chunk → Bool
+space_behind space (Normal text) = ends_in_space space (flowing space (chars text))
+space_behind space (Verbatim text) = ends_in_space false (chars text)
+space_behind space (Math text) = space
+
+-- one chunk, formatted: normal text on one line and in the case that is wanted, verbatim text as it is, math
+-- between dollar signs
+abbrev pub formatted_chunk : (List ℕ → List ℕ) → Bool → Chunk → List ℕ
+formatted_chunk recased space (Normal text) = recased (flowing space (chars text))
+formatted_chunk recased space (Verbatim text) = chars text
+formatted_chunk recased space (Math text) = 36 ∷ (chars text ++ 36 ∷ [])
+
+-- chunks formatted verbatim, behind white space or not
+abbrev pub formatted_behind : Bool → List (Spanned Chunk) → List ℕ
+formatted_behind space [] = []
+formatted_behind space (c ∷ rest) = formatted_chunk (λ cs. cs) space c.v ++ formatted_behind (space_behind space c.v) rest
+
+-- chunks formatted verbatim
+abbrev pub formatted : List (Spanned Chunk) → List ℕ
+formatted = formatted_behind false
+
+-- a text in lower case, character by character; the first one in upper case where the text begins a sentence
+abbrev pub sentence_case : Bool → List ℕ → List ℕ
+sentence_case begins [] = []
+sentence_case true (c ∷ cs) = to_uppercase c ++ flat_map to_lowercase cs
+sentence_case false (c ∷ cs) = flat_map to_lowercase (c ∷ cs)
+
+-- chunks formatted as a sentence, behind the first one or from it on
+abbrev pub sentence_behind : Bool → Bool → List (Spanned Chunk) → List ℕ
+sentence_behind begins space [] = []
+sentence_behind begins space (c ∷ rest) =
+    formatted_chunk (sentence_case begins) space c.v ++ sentence_behind false (space_behind space c.v) rest
+
+-- chunks formatted as a sentence: as verbatim, with the characters of normal chunks in lower case, and in upper case
+-- where the character is the first of the first chunk
+abbrev pub sentence : List (Spanned Chunk) → List ℕ
+sentence = sentence_behind true false
