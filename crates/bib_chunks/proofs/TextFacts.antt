@@ -127,3 +127,11 @@ less_left {u = u} {v} {w} {c} run char =
     let width : 1 ≤ len_utf8 c = (len_utf8_bounds c).0 in
     let next : w.at ≡ v.at + len_utf8 c = char.next in
     omega arith
+
+-- parts that were written one after another
+pub two_parts : (out one two xs ys : List ℕ) → one ≡ out ++ encode_utf8_all xs → two ≡ one ++ encode_utf8_all ys → two ≡ out ++ encode_utf8_all (xs ++ ys)
+two_parts out one two xs ys first second =
+    second ∙ ap (λ bs. bs ++ encode_utf8_all ys) first ∙ append_assoc out (encode_utf8_all xs) (encode_utf8_all ys) ∙ ap (λ bs. out ++ bs) (sym (encodes-append xs ys))
+
+pub three_parts : (out one two three xs ys zs : List ℕ) → one ≡ out ++ encode_utf8_all xs → two ≡ one ++ encode_utf8_all ys → three ≡ two ++ encode_utf8_all zs → three ≡ out ++ encode_utf8_all (xs ++ ys ++ zs)
+three_parts out one two three xs ys zs first second third = two_parts out two three (xs ++ ys) zs (two_parts out one two xs ys first second) third

@@ -1,5 +1,5 @@
 -- Facts on written texts.
-use Rattle.std.proofs.Common.{◌≡◌, ℕ, ◌+◌, ◌<◌, ◌≤◌, Bool, true, false, cond, ◌||◌, List, [], ◌∷◌, ◌++◌, length, refl, sym, ap, ◌∙◌, arith, not}
+use Rattle.std.proofs.Common.{◌≡◌, ℕ, ◌+◌, ◌<◌, ◌≤◌, Bool, true, false, cond, ◌||◌, List, [], ◌∷◌, ◌++◌, length, get_or, drop, refl, sym, ap, ◌∙◌, arith, not}
 use Rattle.std.specs.Prelude.{encode_utf8_all, codes, nat_eq}
 use Rattle.std.specs.List.{flat_map, list_all}
 use Rattle.std.specs.Str.{chars, IsUtf8}
@@ -7,8 +7,12 @@ use lib.Utf8.{encode}
 use Rattle.std.proofs.lemmas.Bool.{false≢true, eq-eqb, ne_eqb}
 use Rattle.std.proofs.lemmas.List.Concat.{flat_map-append}
 use Rattle.bib_chunks.specs.Places.{Place, place, CharAt, Run, Longest, AtEnd, between}
-use Rattle.bib_chunks.specs.Written.{is_grouping, is_reserved, is_bare, spelled, spelling}
-use Rattle.bib_chunks.proofs.TextFacts.{ahead, Passed, passed_char, passed_run, passed_between, flat_map_same, written_more, written_all, chars_at_end}
+use Rattle.std.proofs.lemmas.List.{drop_more}
+use Rattle.bib_chunks.specs.declared.chunk.Chunk.{Chunk}
+use Rattle.bib_chunks.specs.declared.chunk.Chunk.TheVariants.{Normal, Verbatim, Math}
+use Rattle.bib_chunks.specs.declared.chunk.Spanned.{Spanned}
+use Rattle.bib_chunks.specs.Written.{is_grouping, is_reserved, is_bare, spelled, spelling, lead, trail, is_open_behind, written_chunk, written_chunks}
+use Rattle.bib_chunks.proofs.TextFacts.{ahead, Passed, passed_char, passed_run, passed_between, flat_map_same, written_more, written_all, chars_at_end, three_parts}
 
 pub spelled_grouping : (v : Bool) (c : ℕ) → is_grouping c ≡ true → spelled v c ≡ 92 ∷ c ∷ []
 unfolding spelled
@@ -81,3 +85,38 @@ written_run_end out one total {u} {w} v run utf8 end first before =
     let cut : spelling v (chars (ahead u)) ≡ cs ++ spelling v (chars (ahead w)) = ap (spelling v) passed.spelt ∙ flat_map-append (spelled v) cs _ ∙ ap (λ xs. xs ++ spelling v (chars (ahead w))) run_spelling in
     let after : one ++ encode_utf8_all (spelling v (chars (ahead w))) ≡ total = written_more out one total cs _ _ (first ∙ ap (λ bs. out ++ bs) (passed_between passed)) cut before in
     written_all one total (spelling v (chars (ahead w))) (ap (spelling v) (chars_at_end w end)) after
+
+-- a chunk's text of bytes is the bytes of its characters
+pub written_math : (v : Bool) (chunk : Chunk) (text bytes : List ℕ) → v ≡ false → chunk ≡ Math text → bytes ≡ text → written_chunk v chunk ≡ chars bytes
+written_math v chunk text bytes normal is same = ap (λ b. written_chunk b chunk) normal ∙ ap (written_chunk false) is ∙ ap chars (sym same)
+
+-- what stands before and behind a chunk is ASCII
+pub lead_bytes : (o : Bool) (chunk : Chunk) → lead o chunk ≡ encode_utf8_all (lead o chunk)
+unfolding encode
+lead_bytes true (Normal text) = refl
+lead_bytes false (Normal text) = refl
+lead_bytes true (Verbatim text) = refl
+lead_bytes false (Verbatim text) = refl
+lead_bytes o (Math text) = refl
+
+pub trail_bytes : (chunk : Chunk) → trail chunk ≡ encode_utf8_all (trail chunk)
+unfolding encode
+trail_bytes (Normal text) = refl
+trail_bytes (Verbatim text) = refl
+trail_bytes (Math text) = refl
+
+-- one chunk of a value was written
+pub written_part : (v o behind : Bool) (chunks : List (Spanned Chunk)) (i : ℕ) (x : Spanned Chunk) (out more total : List ℕ) → i < length chunks → x ≡ get_or chunks i x
+    → more ≡ out ++ encode_utf8_all (lead o x.v ++ written_chunk v x.v ++ trail x.v) → behind ≡ is_open_behind o x.v
+    → out ++ encode_utf8_all (written_chunks v o (drop i chunks)) ≡ total
+    → more ++ encode_utf8_all (written_chunks v behind (drop (i + 1) chunks)) ≡ total
+written_part v o behind chunks i x out more total within is written closes before =
+    let split : drop i chunks ≡ x ∷ drop (i + 1) chunks = drop_more chunks i x within ∙ ap (λ y. y ∷ drop (i + 1) chunks) (sym is) in
+    let part = lead o x.v ++ written_chunk v x.v ++ trail x.v in
+    let cut : written_chunks v o (drop i chunks) ≡ part ++ written_chunks v behind (drop (i + 1) chunks) = ap (written_chunks v o) split ∙ ap (λ b. part ++ written_chunks v b (drop (i + 1) chunks)) (sym closes) in
+    written_more out more total part _ _ written cut before
+
+-- a value is its chunks between braces
+pub written_braces : (none one two three parts : List ℕ) → none ≡ [] → one ≡ none ++ encode_utf8_all (123 ∷ []) → two ≡ one ++ encode_utf8_all parts → three ≡ two ++ encode_utf8_all (125 ∷ []) → three ≡ encode_utf8_all (123 ∷ (parts ++ 125 ∷ []))
+written_braces none one two three parts nothing first second third =
+    three_parts none one two three (123 ∷ []) parts (125 ∷ []) first second third ∙ ap (λ bs. bs ++ encode_utf8_all (123 ∷ (parts ++ 125 ∷ []))) nothing

@@ -1,11 +1,12 @@
 //! Values as they are written in a file.
 
-ghost use Rattle.std.specs.Prelude.{◌≡◌, ◌∷◌, [], ◌++◌, OnOk, string_bytes, encode_utf8_all};
+ghost use Rattle.std.specs.Prelude.{◌≡◌, ◌∷◌, [], ◌++◌, false, OnOk, IfOk, string_bytes, encode_utf8_all};
 ghost use Rattle.std.specs.Str.{chars};
-ghost use Rattle.bib_chunks.specs.Written.{is_grouping, is_reserved, is_bare, spelled, spelling};
+ghost use Rattle.bib_chunks.specs.Written.{is_grouping, is_reserved, is_bare, spelled, spelling, lead, trail, is_open_behind, written_chunk, written_chunks, written_value};
 
+use super::{Chunk, ChunksRef};
 use crate::scanner::Scanner;
-use std::alloc::AllocError;
+use std::alloc::{AllocError, Global};
 
 // Whether a backslash takes its meaning from the character in every field.
 #[tactic(auto, unfolding(crate::specs::Written::is_grouping))]
@@ -87,4 +88,108 @@ fn write_text(out: &mut String, text: &str, is_verbatim: bool) -> Result<(), All
         };
         write_char(out, c, is_verbatim)?;
     }
+}
+
+// What stands before a chunk, where the pair of braces round verbatim chunks is or isn't open.
+fn lead(chunk: &Chunk, is_open: bool) -> &'static str
+    ensures { result.now ≡ lead is_open chunk.now }
+{
+    match chunk {
+        Chunk::Normal(_) => {
+            if is_open {
+                return "}";
+            }
+            ""
+        }
+        Chunk::Verbatim(_) => {
+            if is_open {
+                return "";
+            }
+            "{"
+        }
+        Chunk::Math(_) => "$",
+    }
+}
+
+// What stands behind a chunk.
+fn trail(chunk: &Chunk) -> &'static str
+    ensures { result.now ≡ trail chunk.now }
+{
+    match chunk {
+        Chunk::Normal(_) | Chunk::Verbatim(_) => "",
+        Chunk::Math(_) => "$",
+    }
+}
+
+// Whether the pair of braces round verbatim chunks is open behind a chunk.
+fn is_open_behind(chunk: &Chunk, is_open: bool) -> bool
+    ensures { result ≡ is_open_behind is_open chunk.now }
+{
+    match chunk {
+        Chunk::Normal(_) => false,
+        Chunk::Verbatim(_) => true,
+        Chunk::Math(_) => is_open,
+    }
+}
+
+// Writes a chunk by itself.
+fn write_chunk(out: &mut String, chunk: &Chunk, is_verbatim: bool) -> Result<(), AllocError>
+    ensures { OnOk result (string_bytes out.new ≡ string_bytes out.old ++ encode_utf8_all (written_chunk is_verbatim chunk.now)) }
+{
+    match chunk {
+        Chunk::Normal(text) => write_text(out, text.as_str(), is_verbatim),
+        Chunk::Verbatim(text) => write_text(out, text.as_str(), is_verbatim),
+        Chunk::Math(text) => {
+            if is_verbatim {
+                return write_text(out, text.as_str(), true);
+            }
+            out.push_str(text.as_str())?;
+            Ok(())
+        }
+    }
+}
+
+// Writes a chunk of a value.
+fn write_part(out: &mut String, chunk: &Chunk, is_open: bool, is_verbatim: bool) -> Result<(), AllocError>
+    ensures { OnOk result (string_bytes out.new ≡ string_bytes out.old ++ encode_utf8_all (lead is_open chunk.now ++ written_chunk is_verbatim chunk.now ++ trail chunk.now)) }
+{
+    out.push_str(lead(chunk, is_open))?;
+    write_chunk(out, chunk, is_verbatim)?;
+    out.push_str(trail(chunk))?;
+    Ok(())
+}
+
+// Writes the chunks of a value.
+fn write_parts(out: &mut String, chunks: ChunksRef<'_>, is_verbatim: bool) -> Result<(), AllocError>
+    ensures { OnOk result (string_bytes out.new ≡ string_bytes out.old ++ encode_utf8_all (written_chunks is_verbatim false chunks.now)) }
+{
+    let mut is_open = false;
+    'parts: for chunk in chunks {
+        write_part(out, &chunk.v, is_open, is_verbatim)?;
+        is_open = is_open_behind(&chunk.v, is_open);
+    }
+    if is_open {
+        out.push('}')?;
+    }
+    Ok(())
+}
+
+// The text of a chunk by itself.
+pub(super) fn chunk_text(alloc: Global, chunk: &Chunk, is_verbatim: bool) -> Result<String, AllocError>
+    ensures { IfOk result (λ text. string_bytes text ≡ encode_utf8_all (written_chunk is_verbatim chunk.now)) }
+{
+    let mut out = String::new(alloc);
+    write_chunk(&mut out, chunk, is_verbatim)?;
+    Ok(out)
+}
+
+// The text of a value.
+pub(super) fn value_text(alloc: Global, chunks: ChunksRef<'_>, is_verbatim: bool) -> Result<String, AllocError>
+    ensures { IfOk result (λ text. string_bytes text ≡ encode_utf8_all (written_value is_verbatim chunks.now)) }
+{
+    let mut out = String::new(alloc);
+    out.push('{')?;
+    write_parts(&mut out, chunks, is_verbatim)?;
+    out.push('}')?;
+    Ok(out)
 }
