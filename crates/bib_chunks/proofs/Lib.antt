@@ -1,3 +1,5 @@
+pub mod FormattedFacts
 pub mod PlaceFacts
+pub mod SpanFacts
 pub mod TextFacts
 pub mod WrittenFacts

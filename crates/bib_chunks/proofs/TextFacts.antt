@@ -135,3 +135,15 @@ two_parts out one two xs ys first second =
 
 pub three_parts : (out one two three xs ys zs : List ℕ) → one ≡ out ++ encode_utf8_all xs → two ≡ one ++ encode_utf8_all ys → three ≡ two ++ encode_utf8_all zs → three ≡ out ++ encode_utf8_all (xs ++ ys ++ zs)
 three_parts out one two three xs ys zs first second third = two_parts out two three (xs ++ ys) zs (two_parts out one two xs ys first second) third
+
+-- the characters of a text that begins with these, and that the rest is a text
+pub chars_past : (cs bs rest : List ℕ) → IsUtf8 bs → bs ≡ encode_utf8_all cs ++ rest → (chars bs ≡ cs ++ chars rest) × IsUtf8 rest
+chars_past [] bs rest utf8 begins = (ap chars begins, rw begins at utf8)
+chars_past (c ∷ cs) bs rest utf8 begins =
+    let front : bs ≡ encode_utf8 c ++ (encode_utf8_all cs ++ rest) = begins ∙ append_assoc (encode_utf8 c) (encode_utf8_all cs) rest in
+    let more = chars_past cs (encode_utf8_all cs ++ rest) rest (IsUtf8-past_char bs (encode_utf8_all cs ++ rest) c utf8 front) refl in
+    (chars_past_char bs (encode_utf8_all cs ++ rest) c utf8 front ∙ ap (λ xs. c ∷ xs) more.0, more.1)
+
+-- the characters of a text that these spell
+pub chars_whole : (cs bs : List ℕ) → IsUtf8 bs → bs ≡ encode_utf8_all cs → chars bs ≡ cs
+chars_whole cs bs utf8 spells = (chars_past cs bs [] utf8 (spells ∙ sym (append-nil _))).0 ∙ ap (λ xs. cs ++ xs) chars-nil ∙ append-nil cs

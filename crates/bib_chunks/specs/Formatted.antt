@@ -13,17 +13,20 @@ use Rattle.bib_chunks.specs.declared.chunk.Spanned.{Spanned}
 abbrev pub is_break : ℕ → Bool
 is_break c = c == 10 || c == 13
 
--- a normal text on one line: a character that breaks the line becomes a space, or nothing where the character
--- written before it is white space; the flag says whether white space stands before the text
-abbrev pub flowing : Bool → List ℕ → List ℕ
-flowing space [] = []
-flowing true (c ∷ cs) = if is_break c then flowing true cs else c ∷ flowing (is_whitespace c) cs
-flowing false (c ∷ cs) = if is_break c then 32 ∷ flowing true cs else c ∷ flowing (is_whitespace c) cs
-
 -- whether a text ends in white space, with the answer for an empty one
 abbrev pub ends_in_space : Bool → List ℕ → Bool
 ends_in_space empty [] = empty
 ends_in_space empty (c ∷ cs) = ends_in_space (is_whitespace c) cs
+
+-- what a character of a normal text becomes: one that breaks the line a space, or nothing where the character written
+-- before it is white space, which the flag says; any other stays
+abbrev pub unbroken : Bool → ℕ → List ℕ
+unbroken space c = if is_break c then (if space then [] else 32 ∷ []) else c ∷ []
+
+-- a normal text on one line; the flag says whether white space stands before it
+abbrev pub flowing : Bool → List ℕ → List ℕ
+flowing space [] = []
+flowing space (c ∷ cs) = unbroken space c ++ flowing (ends_in_space space (unbroken space c)) cs
 
 -- whether the character written last before the end of a chunk is white space: math is passed over, and an empty
 -- verbatim chunk counts as none

@@ -1,5 +1,6 @@
 -- Styled text: what a list of chunks says once the borders between chunks are forgotten.
 use Rattle.std.specs.Prelude.{ℕ, List, [], ◌∷◌, map}
+use Rattle.std.specs.declared.ops.Range.{Range}
 use Rattle.std.specs.List.{flat_map}
 use Rattle.std.specs.Str.{chars}
 use Rattle.bib_chunks.specs.declared.chunk.Chunk.{Chunk}
@@ -27,3 +28,13 @@ atoms_of (Math text) = Atom.math (chars text) ∷ []
 -- the styled text of chunks: their characters and math texts in order
 abbrev pub styled : List (Spanned Chunk) → List Atom
 styled = flat_map (λ c. atoms_of c.v)
+
+-- the end of the last of some chunks, behind one that ends here
+abbrev pub last_end : ℕ → List (Spanned Chunk) → ℕ
+last_end end [] = end
+last_end end (c ∷ rest) = last_end c.span.end rest
+
+-- the bytes from the start of the first chunk to the end of the last; 0 to 0 where there is none
+abbrev pub whole_span : List (Spanned Chunk) → Range ℕ
+whole_span [] = record { start = 0; end = 0 }
+whole_span (c ∷ rest) = record { start = c.span.start; end = last_end c.span.end rest }

@@ -1,15 +1,20 @@
 //! Values that know where they stand, and text that knows what is normal, verbatim and math.
 
-ghost use Rattle.std.specs.Prelude.{◌≡◌, ◌^◌, ◌-◌, ◌↔◌, IsTrue};
+ghost use Rattle.std.specs.Prelude.{◌≡◌, ◌^◌, ◌-◌, ◌↔◌, IsTrue, IfOk, string_bytes, encode_utf8_all};
 ghost use Rattle.std.specs.Borrow.{sem};
 ghost use Rattle.bib_chunks.specs.Styled.{text_of};
 ghost use Rattle.bib_chunks.specs.Lending.{LendsText};
+ghost use Rattle.bib_chunks.specs.Written.{written_chunk};
 
+mod ext;
+mod formatting;
 mod writing;
+
+pub use ext::ChunksExt;
 
 use crate::items::Items;
 use crate::text::Text;
-use std::alloc::AllocError;
+use std::alloc::{AllocError, Global};
 use std::ops::Range;
 
 /// A range of bytes of a text.
@@ -117,6 +122,13 @@ impl Chunk {
             Chunk::Verbatim(text) => text,
             Chunk::Math(text) => text,
         }
+    }
+
+    /// The text of the chunk as it is written in a field, verbatim or not, without braces and dollar signs round it.
+    pub fn to_biblatex_string(&self, alloc: Global, is_verbatim: bool) -> Result<String, AllocError>
+        ensures { IfOk result (λ text. string_bytes text ≡ encode_utf8_all (written_chunk is_verbatim self.now)) }
+    {
+        writing::chunk_text(alloc, self, is_verbatim)
     }
 }
 

@@ -1,0 +1,98 @@
+//! Chunks as plain text.
+
+ghost use Rattle.std.specs.Prelude.{◌≡◌, ◌∷◌, [], ◌++◌, OnOk, IfOk, if◌then◌else◌, string_bytes, encode_utf8_all};
+ghost use Rattle.std.specs.Str.{chars};
+ghost use Rattle.bib_chunks.specs.Formatted.{is_break, ends_in_space, flowing, formatted, formatted_chunk, space_behind};
+
+use super::{Chunk, ChunksRef};
+use crate::scanner::Scanner;
+use std::alloc::{AllocError, Global};
+
+// Whether the character breaks the line.
+fn is_break(c: char) -> bool
+    ensures { result ≡ is_break c }
+{
+    c == '\n' || c == '\r'
+}
+
+// Whether the text ends in white space, with the answer for an empty one.
+fn ends_in_space(text: &str, empty: bool) -> bool
+    ensures { result ≡ ends_in_space empty (chars text.now) }
+{
+    let mut chars = text.chars();
+    let Some(c) = chars.next_back() else {
+        return empty;
+    };
+    // That what stands before the last character is a text too tells where that character begins.
+    let _before = chars.as_str();
+    c.is_whitespace()
+}
+
+// Writes what a line break becomes.
+fn write_break(out: &mut String, space: bool) -> Result<(), AllocError>
+    ensures { OnOk result (string_bytes out.new ≡ string_bytes out.old ++ encode_utf8_all (if space then [] else 32 ∷ [])) }
+{
+    if !space {
+        out.push(' ')?;
+    }
+    Ok(())
+}
+
+// Writes a normal text on one line, behind white space or not, and answers whether white space stands behind it.
+fn write_flowing(out: &mut String, text: &str, space: bool) -> Result<bool, AllocError>
+    ensures written { OnOk result (string_bytes out.new ≡ string_bytes out.old ++ encode_utf8_all (flowing space (chars text.now))) }
+    ensures behind { IfOk result (λ after. after ≡ ends_in_space space (flowing space (chars text.now))) }
+{
+    let mut scanner = Scanner::new(text);
+    let mut after = space;
+    'text: loop {
+        let run = scanner.eat_while(|c| !is_break(c));
+        out.push_str(run)?;
+        after = ends_in_space(run, after);
+        let Some(_) = scanner.eat() else {
+            return Ok(after);
+        };
+        write_break(out, after)?;
+        after = true;
+    }
+}
+
+// Writes a chunk behind white space or not, and answers whether white space stands behind it.
+fn write_chunk(out: &mut String, chunk: &Chunk, space: bool) -> Result<bool, AllocError>
+    ensures written { OnOk result (string_bytes out.new ≡ string_bytes out.old ++ encode_utf8_all (formatted_chunk (λ cs. cs) space chunk.now)) }
+    ensures behind { IfOk result (λ after. after ≡ space_behind space chunk.now) }
+{
+    match chunk {
+        Chunk::Normal(text) => write_flowing(out, text.as_str(), space),
+        Chunk::Verbatim(text) => {
+            out.push_str(text.as_str())?;
+            Ok(ends_in_space(text.as_str(), false))
+        }
+        Chunk::Math(text) => {
+            write_math(out, text.as_str())?;
+            Ok(space)
+        }
+    }
+}
+
+// Writes a math text between dollar signs.
+fn write_math(out: &mut String, text: &str) -> Result<(), AllocError>
+    ensures { OnOk result (string_bytes out.new ≡ string_bytes out.old ++ encode_utf8_all (36 ∷ (chars text.now ++ 36 ∷ []))) }
+{
+    out.push('$')?;
+    out.push_str(text)?;
+    out.push('$')?;
+    Ok(())
+}
+
+// The text of chunks.
+pub(super) fn format_verbatim(alloc: Global, chunks: ChunksRef<'_>) -> Result<String, AllocError>
+    ensures { IfOk result (λ text. string_bytes text ≡ encode_utf8_all (formatted chunks.now)) }
+{
+    let mut out = String::new(alloc);
+    let mut space = false;
+    'chunks: for chunk in chunks {
+        space = write_chunk(&mut out, &chunk.v, space)?;
+    }
+    Ok(out)
+}
