@@ -1,5 +1,7 @@
+pub mod BraceFacts
 pub mod FormattedFacts
 pub mod PlaceFacts
+pub mod SettledFacts
 pub mod SpanFacts
 pub mod TextFacts
 pub mod WrittenFacts

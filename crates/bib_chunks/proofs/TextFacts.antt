@@ -147,3 +147,7 @@ chars_past (c ∷ cs) bs rest utf8 begins =
 -- the characters of a text that these spell
 pub chars_whole : (cs bs : List ℕ) → IsUtf8 bs → bs ≡ encode_utf8_all cs → chars bs ≡ cs
 chars_whole cs bs utf8 spells = (chars_past cs bs [] utf8 (spells ∙ sym (append-nil _))).0 ∙ ap (λ xs. cs ++ xs) chars-nil ∙ append-nil cs
+
+-- less is left behind a character
+pub less_behind : {u v : Place} {c : ℕ} → CharAt u c v → length v.text - v.at < length u.text - u.at
+less_behind char = less_left {test = λ c. true} stop char

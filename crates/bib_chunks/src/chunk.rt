@@ -8,9 +8,11 @@ ghost use Rattle.bib_chunks.specs.Written.{written_chunk};
 
 mod ext;
 mod formatting;
+mod settling;
 mod writing;
 
 pub use ext::ChunksExt;
+pub use settling::is_settled;
 
 use crate::items::Items;
 use crate::text::Text;
