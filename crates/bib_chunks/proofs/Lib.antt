@@ -1,4 +1,5 @@
 pub mod BraceFacts
+pub mod CutFacts
 pub mod FormattedFacts
 pub mod PlaceFacts
 pub mod SettledFacts

@@ -1,4 +1,6 @@
 pub mod Braces
+pub mod Cuts
+pub mod Cutting
 pub mod Formatted
 pub mod Lending
 pub mod Places

@@ -6,6 +6,7 @@ ghost use Rattle.bib_chunks.specs.Styled.{text_of};
 ghost use Rattle.bib_chunks.specs.Lending.{LendsText};
 ghost use Rattle.bib_chunks.specs.Written.{written_chunk};
 
+pub mod cuts;
 mod ext;
 mod formatting;
 mod settling;

@@ -1,0 +1,53 @@
+-- Lists in the value of a field, and where they are cut.
+use Rattle.std.specs.Prelude.{ℕ, ◌+◌, ◌-◌, ◌^◌, ◌==◌, Bool, true, false, List, [], ◌∷◌, ◌++◌, length, min}
+use Rattle.std.specs.List.{slice_split}
+use Rattle.std.specs.Str.{trim_start, trim_end}
+use Rattle.std.specs.declared.ops.Range.{Range}
+use Rattle.bib_chunks.specs.declared.chunk.Chunk.{Chunk}
+use Rattle.bib_chunks.specs.declared.chunk.Chunk.TheVariants.{Normal, Verbatim, Math}
+use Rattle.bib_chunks.specs.declared.chunk.Spanned.{Spanned}
+
+-- a place so many bytes further on; what stands at the highest number, as nowhere, stays there
+abbrev pub further : ℕ → ℕ → ℕ
+further at n = min (at + n) (2 ^ 64 - 1)
+
+-- a chunk in these bytes
+abbrev pub placed : Chunk → ℕ → ℕ → Spanned Chunk
+placed chunk start end = record { v = chunk; span = record { start = start; end = end } }
+
+-- a text without the white space at its start, if a separator stands before it
+abbrev pub behind_separator : Bool → List ℕ → List ℕ
+behind_separator true text = trim_start text
+behind_separator false text = text
+
+-- the normal chunks that stand between the commas of one, given the texts between its commas, its bytes, and whether
+-- a comma stands before it: no white space is left next to a comma, and each stands in the bytes between its commas
+abbrev pub between_commas : Bool → ℕ → ℕ → List (List ℕ) → List (Spanned Chunk)
+between_commas behind start end [] = []
+between_commas behind start end (text ∷ []) = placed (Normal (behind_separator behind text)) start end ∷ []
+between_commas behind start end (text ∷ next ∷ more) =
+    placed (Normal (trim_end (behind_separator behind text))) start (further start (length text))
+    ∷ between_commas true (further (further start (length text)) 1) end (next ∷ more)
+
+-- the pieces of a chunk in a comma list: it is cut at its commas if it is normal
+abbrev pub comma_pieces : Chunk → Range ℕ → List (Spanned Chunk)
+comma_pieces (Normal text) span = between_commas false span.start span.end (slice_split (λ b. b == 44) text)
+comma_pieces (Verbatim text) span = placed (Verbatim text) span.start span.end ∷ []
+comma_pieces (Math text) span = placed (Math text) span.start span.end ∷ []
+
+-- parts of a list, the first of which begins with these chunks
+abbrev pub onto : List (Spanned Chunk) → List (List (Spanned Chunk)) → List (List (Spanned Chunk))
+onto chunks [] = chunks ∷ []
+onto chunks (part ∷ parts) = (chunks ++ part) ∷ parts
+
+-- the parts of a list that begins with the pieces of a chunk, given the parts behind that chunk: the last piece
+-- begins the first of these, and each other piece ends a part
+abbrev pub joined : List (Spanned Chunk) → List (List (Spanned Chunk)) → List (List (Spanned Chunk))
+joined [] parts = parts
+joined (piece ∷ []) parts = onto (piece ∷ []) parts
+joined (piece ∷ next ∷ more) parts = (piece ∷ []) ∷ joined (next ∷ more) parts
+
+-- the parts of a comma list: it is cut at each comma of a normal chunk, and no chunks are one empty part
+abbrev pub comma_list : List (Spanned Chunk) → List (List (Spanned Chunk))
+comma_list [] = [] ∷ []
+comma_list (c ∷ rest) = joined (comma_pieces c.v c.span) (comma_list rest)

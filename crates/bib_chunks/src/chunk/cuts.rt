@@ -1,0 +1,123 @@
+//! Lists in the value of a field, and where they are cut.
+
+ghost use Rattle.std.specs.Prelude.{◌≡◌, ◌∷◌, [], ◌++◌, ◌==◌, false, OnOk, IfOk};
+ghost use Rattle.std.specs.List.{slice_split};
+ghost use Rattle.bib_chunks.specs.Cuts.{behind_separator, placed, between_commas, comma_pieces, comma_list};
+ghost use Rattle.bib_chunks.specs.Cutting.{Reads};
+
+use super::{Chunk, Chunks, ChunksRef, Span, Spanned};
+use crate::items::Items;
+use crate::text::Text;
+use std::alloc::{AllocError, Global};
+use std::mem;
+
+// The parts of a list that are done, and the one that goes on.
+#[derive(Drop)]
+struct Parts {
+    done: Items<Chunks>,
+    last: Chunks,
+}
+
+impl Parts {
+    // No part is done.
+    fn new(alloc: Global) -> Self
+        ensures { result ≡ record { done = []; last = [] } }
+    {
+        Parts {
+            done: Items::new(alloc),
+            last: Items::new(alloc),
+        }
+    }
+
+    // Adds a chunk to the part that goes on.
+    fn add(&mut self, chunk: Spanned<Chunk>) -> Result<(), AllocError>
+        ensures { OnOk result (self.new ≡ record { done = self.old.done; last = self.old.last ++ chunk ∷ [] }) }
+    {
+        self.last.push(chunk)?;
+        Ok(())
+    }
+
+    // Ends the part that goes on.
+    fn end(&mut self, alloc: Global) -> Result<(), AllocError>
+        ensures { OnOk result (self.new ≡ record { done = self.old.done ++ self.old.last ∷ []; last = [] }) }
+    {
+        let part = mem::replace(&mut self.last, Items::new(alloc));
+        self.done.push(part)?;
+        Ok(())
+    }
+}
+
+// A copy of a chunk.
+fn copy(chunk: &Spanned<Chunk>) -> Result<Spanned<Chunk>, AllocError>
+    ensures { IfOk result (λ c. c ≡ chunk.now) }
+{
+    let v = chunk.v.clone()?;
+    Ok(Spanned {
+        v,
+        span: chunk.span.start..chunk.span.end,
+    })
+}
+
+// A normal chunk.
+fn normal(alloc: Global, text: &str, start: usize, end: usize) -> Result<Spanned<Chunk>, AllocError>
+    ensures { IfOk result (λ c. c ≡ placed (Chunk.Normal text.now) start end) }
+{
+    let text = Text::from_str(alloc, text)?;
+    Ok(Spanned {
+        v: Chunk::Normal(text),
+        span: start..end,
+    })
+}
+
+// The text without the white space at its start, if a separator stands before it.
+fn behind_separator(text: &str, behind: bool) -> &str
+    ensures { result.now ≡ behind_separator behind text.now }
+{
+    if behind {
+        return text.trim_start();
+    }
+    text
+}
+
+// Cuts a normal chunk at its commas.
+fn cut_at_commas(alloc: Global, parts: &mut Parts, text: &str, span: &Span) -> Result<(), AllocError>
+    ensures { OnOk result (Reads parts.old parts.new (between_commas false span.now.start span.now.end (slice_split (λ b. b == 44) text.now))) }
+{
+    let mut rest = text;
+    let mut start = span.start;
+    let mut behind = false;
+    'pieces: while let Some((before, after)) = rest.split_once(',') {
+        let comma = start.saturating_add(before.len());
+        parts.add(normal(alloc, behind_separator(before, behind).trim_end(), start, comma)?)?;
+        parts.end(alloc)?;
+        rest = after;
+        start = comma.saturating_add(1);
+        behind = true;
+    }
+    parts.add(normal(alloc, behind_separator(rest, behind), start, span.end)?)?;
+    Ok(())
+}
+
+// Reads a chunk of a comma list.
+fn cut_comma_chunk(alloc: Global, parts: &mut Parts, chunk: &Spanned<Chunk>) -> Result<(), AllocError>
+    ensures { OnOk result (Reads parts.old parts.new (comma_pieces chunk.now.v chunk.now.span)) }
+{
+    match &chunk.v {
+        Chunk::Normal(text) => cut_at_commas(alloc, parts, text.as_str(), &chunk.span),
+        Chunk::Verbatim(_) => parts.add(copy(chunk)?),
+        Chunk::Math(_) => parts.add(copy(chunk)?),
+    }
+}
+
+/// The parts of a comma list. It is cut at each comma of a normal chunk, and the white space next to such a comma in
+/// that chunk is left out; no chunks are one empty part.
+pub fn comma_list(alloc: Global, chunks: ChunksRef<'_>) -> Result<Items<Chunks>, AllocError>
+    ensures { IfOk result (λ parts. parts ≡ comma_list chunks.now) }
+{
+    let mut parts = Parts::new(alloc);
+    'chunks: for chunk in chunks {
+        cut_comma_chunk(alloc, &mut parts, chunk)?;
+    }
+    parts.end(alloc)?;
+    Ok(parts.done)
+}
