@@ -2,10 +2,12 @@
 
 ghost use Rattle.std.specs.Prelude.{◌≡◌, ◌==◌, ◌<◌, List, [], ◌∷◌, ◌++◌, length, is_ok, if◌then◌else◌, IfErr, IfOk, option_to_list};
 ghost use Rattle.std.specs.List.{AllZip};
+ghost use Rattle.std.specs.Slice.Iter.{iter_rest};
 ghost use Rattle.std.specs.Cmp.Lexicographic.{pointwise, lists_per, lists_equiv};
 
 use std::alloc::{AllocError, AllocFailed, Global};
 use std::marker::Model;
+use std::slice::Iter;
 
 /// A list of values. Contracts see it as the list of its elements.
 #[derive(Debug, Drop)]
@@ -75,6 +77,13 @@ impl<T> Items<T> {
         ensures { result.now ≡ self.now }
     {
         self.vec.as_slice()
+    }
+
+    /// The elements one after another.
+    pub fn iter(&self) -> Iter<'_, T>
+        ensures { iter_rest result ≡ self.now }
+    {
+        self.vec.iter()
     }
 
     /// Appends an element. A refusal changes nothing, and gives the element back.

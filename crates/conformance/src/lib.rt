@@ -1,2 +1,5 @@
 //! Tests of the libraries: worked examples, and what no contract says.
 #![tactic(auto)]
+
+#[cfg(test)]
+mod chunks;
