@@ -1,8 +1,9 @@
 -- Facts on formatted texts.
-use Rattle.std.proofs.Common.{◌≡◌, ℕ, ◌+◌, ◌<◌, ◌-◌, Bool, true, false, cond, not, List, [], ◌∷◌, ◌++◌, length, get_or, drop, refl, sym, ap, ◌∙◌, arith, append_assoc}
-use Rattle.std.specs.Prelude.{encode_utf8, encode_utf8_all}
+use Rattle.std.proofs.Common.{◌≡◌, ℕ, ◌+◌, ◌<◌, ◌-◌, Bool, true, false, cond, not, List, [], ◌∷◌, ◌++◌, length, get_or, drop, refl, sym, ap, ◌∙◌, arith, append_assoc, Option, None, Some}
+use Rattle.std.specs.Prelude.{encode_utf8, encode_utf8_all, option_to_list}
 use Rattle.std.specs.Char.{is_whitespace}
-use Rattle.std.specs.List.{list_all}
+use Rattle.std.specs.List.{list_all, flat_map}
+use Rattle.std.specs.Char.Unicode.ToLowercase.{to_lowercase}
 use Rattle.std.specs.Str.{chars, IsUtf8}
 use Rattle.std.proofs.lemmas.Bool.{cond-true, cond-false, not-true, not-false, and_parts}
 use Rattle.std.proofs.lemmas.List.{drop_more, append-nil}
@@ -11,7 +12,7 @@ use Rattle.bib_chunks.specs.declared.chunk.Chunk.{Chunk}
 use Rattle.bib_chunks.specs.declared.chunk.Chunk.TheVariants.{Normal, Verbatim, Math}
 use Rattle.bib_chunks.specs.declared.chunk.Spanned.{Spanned}
 use Rattle.bib_chunks.specs.Places.{Place, CharAt, Run, Longest, AtEnd, between}
-use Rattle.bib_chunks.specs.Formatted.{is_break, ends_in_space, unbroken, flowing, space_behind, formatted_chunk, formatted_behind}
+use Rattle.bib_chunks.specs.Formatted.{is_break, ends_in_space, unbroken, flowing, space_behind, formatted_chunk, formatted_behind, cased, sentence_case, sentence_behind}
 use Rattle.bib_chunks.proofs.TextFacts.{ahead, Passed, passed_char, passed_run, passed_between, written_more, written_all, chars_at_end, chars_past, chars_whole}
 
 -- a character that does not break the line
@@ -114,4 +115,66 @@ formatted_part space behind chunks i x out more total within is written tells be
     let split : drop i chunks ≡ x ∷ drop (i + 1) chunks = drop_more chunks i x within ∙ ap (λ y. y ∷ drop (i + 1) chunks) (sym is) in
     let part = formatted_chunk (λ cs. cs) space x.v in
     let cut : formatted_behind space (drop i chunks) ≡ part ++ formatted_behind behind (drop (i + 1) chunks) = ap (formatted_behind space) split ∙ ap (λ b. part ++ formatted_behind b (drop (i + 1) chunks)) (sym tells) in
+    written_more out more total part _ _ written cut before
+
+-- behind its first character a sentence goes on in lower case
+goes_lower : (cs : List ℕ) → flat_map to_lowercase cs ≡ sentence_case false cs
+goes_lower [] = refl
+goes_lower (c ∷ cs) = refl
+
+-- a character was passed, which became nothing
+pub sentence_skip : (out total : List ℕ) {u x : Place} {c : ℕ} (first space ends : Bool) (r : Option ℕ) → CharAt u c x → IsUtf8 (ahead u) → r ≡ None → option_to_list r ≡ unbroken space c
+    → out ++ encode_utf8_all (sentence_case first (flowing space (chars (ahead u)))) ≡ total → ends_in_space space (flowing space (chars (ahead u))) ≡ ends
+    → (x.text ≡ u.text) × IsUtf8 (ahead x) × (out ++ encode_utf8_all (sentence_case first (flowing space (chars (ahead x)))) ≡ total) × (ends_in_space space (flowing space (chars (ahead x))) ≡ ends)
+sentence_skip out total {u} {x} {c} first space ends r char utf8 none becomes before before_ends =
+    let passed : Passed u (c ∷ []) x = passed_char char utf8 in
+    let nothing : unbroken space c ≡ [] = sym becomes ∙ ap option_to_list none in
+    let same : flowing space (chars (ahead u)) ≡ flowing space (chars (ahead x)) =
+        ap (flowing space) passed.spelt ∙ ap (λ ys. ys ++ flowing (ends_in_space space ys) (chars (ahead x))) nothing in
+    (
+      passed.same,
+      passed.utf8,
+      ap (λ ys. out ++ encode_utf8_all (sentence_case first ys)) (sym same) ∙ before,
+      ap (ends_in_space space) (sym same) ∙ before_ends,
+    )
+
+-- a character was passed, and what it became was written
+pub sentence_step : (out more total : List ℕ) {u x : Place} {c : ℕ} (d : ℕ) (first space after ends : Bool) (r : Option ℕ) → CharAt u c x → IsUtf8 (ahead u) → r ≡ Some d → option_to_list r ≡ unbroken space c
+    → more ≡ out ++ encode_utf8_all (cased first d) → after ≡ is_whitespace d
+    → out ++ encode_utf8_all (sentence_case first (flowing space (chars (ahead u)))) ≡ total → ends_in_space space (flowing space (chars (ahead u))) ≡ ends
+    → (x.text ≡ u.text) × IsUtf8 (ahead x) × (more ++ encode_utf8_all (sentence_case false (flowing after (chars (ahead x)))) ≡ total) × (ends_in_space after (flowing after (chars (ahead x))) ≡ ends)
+sentence_step out more total {u} {x} {c} d first space after ends r char utf8 some becomes written tells before before_ends =
+    let passed : Passed u (c ∷ []) x = passed_char char utf8 in
+    let one : unbroken space c ≡ d ∷ [] = sym becomes ∙ ap option_to_list some in
+    let cut : flowing space (chars (ahead u)) ≡ d ∷ flowing after (chars (ahead x)) =
+        ap (flowing space) passed.spelt ∙ ap (λ ys. ys ++ flowing (ends_in_space space ys) (chars (ahead x))) one ∙ ap (λ b. d ∷ flowing b (chars (ahead x))) (sym tells) in
+    let cased_cut : sentence_case first (flowing space (chars (ahead u))) ≡ cased first d ++ sentence_case false (flowing after (chars (ahead x))) =
+        ap (sentence_case first) cut ∙ ap (λ ys. cased first d ++ ys) (goes_lower (flowing after (chars (ahead x)))) in
+    (
+      passed.same,
+      passed.utf8,
+      written_more out more total (cased first d) _ _ written cased_cut before,
+      ap (λ b. ends_in_space b (flowing after (chars (ahead x)))) tells ∙ sym (ap (ends_in_space space) cut) ∙ before_ends,
+    )
+
+-- the text ends
+pub sentence_end : (out total : List ℕ) (u : Place) (first space ends : Bool) → AtEnd u
+    → out ++ encode_utf8_all (sentence_case first (flowing space (chars (ahead u)))) ≡ total → ends_in_space space (flowing space (chars (ahead u))) ≡ ends
+    → (out ≡ total) × (space ≡ ends)
+sentence_end out total u first space ends end before before_ends =
+    let nothing : chars (ahead u) ≡ [] = chars_at_end u end in
+    (
+      written_all out total (sentence_case first (flowing space (chars (ahead u)))) (ap (λ cs. sentence_case first (flowing space cs)) nothing) before,
+      sym (ap (λ cs. ends_in_space space (flowing space cs)) nothing) ∙ before_ends,
+    )
+
+-- one chunk of a sentence was written
+pub sentence_part : (begins space behind : Bool) (chunks : List (Spanned Chunk)) (i : ℕ) (x : Spanned Chunk) (out more total : List ℕ) → i < length chunks → x ≡ get_or chunks i x
+    → more ≡ out ++ encode_utf8_all (formatted_chunk (sentence_case begins) space x.v) → behind ≡ space_behind space x.v
+    → out ++ encode_utf8_all (sentence_behind begins space (drop i chunks)) ≡ total
+    → more ++ encode_utf8_all (sentence_behind false behind (drop (i + 1) chunks)) ≡ total
+sentence_part begins space behind chunks i x out more total within is written tells before =
+    let split : drop i chunks ≡ x ∷ drop (i + 1) chunks = drop_more chunks i x within ∙ ap (λ y. y ∷ drop (i + 1) chunks) (sym is) in
+    let part = formatted_chunk (sentence_case begins) space x.v in
+    let cut : sentence_behind begins space (drop i chunks) ≡ part ++ sentence_behind false behind (drop (i + 1) chunks) = ap (sentence_behind begins space) split ∙ ap (λ b. part ++ sentence_behind false b (drop (i + 1) chunks)) (sym tells) in
     written_more out more total part _ _ written cut before

@@ -51,11 +51,16 @@ formatted_behind space (c ∷ rest) = formatted_chunk (λ cs. cs) space c.v ++ f
 abbrev pub formatted : List (Spanned Chunk) → List ℕ
 formatted = formatted_behind false
 
+-- a character in lower case, or in upper case where it begins a sentence; by Unicode's mappings, in which a character
+-- of ASCII becomes one of ASCII
+abbrev pub cased : Bool → ℕ → List ℕ
+cased true c = to_uppercase c
+cased false c = to_lowercase c
+
 -- a text in lower case, character by character; the first one in upper case where the text begins a sentence
 abbrev pub sentence_case : Bool → List ℕ → List ℕ
 sentence_case begins [] = []
-sentence_case true (c ∷ cs) = to_uppercase c ++ flat_map to_lowercase cs
-sentence_case false (c ∷ cs) = flat_map to_lowercase (c ∷ cs)
+sentence_case begins (c ∷ cs) = cased begins c ++ flat_map to_lowercase cs
 
 -- chunks formatted as a sentence, behind the first one or from it on
 abbrev pub sentence_behind : Bool → Bool → List (Spanned Chunk) → List ℕ

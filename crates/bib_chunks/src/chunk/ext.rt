@@ -3,7 +3,7 @@
 ghost use Rattle.std.specs.Prelude.{◌≡◌, List, IfOk, string_bytes, encode_utf8_all};
 ghost use Rattle.bib_chunks.specs.declared.chunk.Chunk.{Chunk as AChunk};
 ghost use Rattle.bib_chunks.specs.declared.chunk.Spanned.{Spanned as APlaced};
-ghost use Rattle.bib_chunks.specs.Formatted.{formatted};
+ghost use Rattle.bib_chunks.specs.Formatted.{formatted, sentence};
 ghost use Rattle.bib_chunks.specs.Styled.{whole_span};
 ghost use Rattle.bib_chunks.specs.Written.{written_value};
 
@@ -20,6 +20,11 @@ pub trait ChunksExt {
     fn format_verbatim(&self, alloc: Global) -> Result<String, AllocError>
         ensures { IfOk result (λ text. string_bytes text ≡ encode_utf8_all (formatted (contents self.now))) };
 
+    /// The text of the chunks as a sentence has it: as `format_verbatim`, with the characters of normal chunks in lower
+    /// case, and in upper case where the character is the first of the first chunk.
+    fn format_sentence(&self, alloc: Global) -> Result<String, AllocError>
+        ensures { IfOk result (λ text. string_bytes text ≡ encode_utf8_all (sentence (contents self.now))) };
+
     /// From the start of the first chunk to the end of the last, in bytes; `0..0` where there is none.
     fn span(&self) -> Span
         ensures { result ≡ whole_span (contents self.now) };
@@ -34,6 +39,10 @@ impl ChunksExt for ChunksRef<'_> {
 
     fn format_verbatim(&self, alloc: Global) -> Result<String, AllocError> {
         formatting::format_verbatim(alloc, self)
+    }
+
+    fn format_sentence(&self, alloc: Global) -> Result<String, AllocError> {
+        formatting::format_sentence(alloc, self)
     }
 
     fn span(&self) -> Span {

@@ -1,12 +1,14 @@
 //! Chunks as plain text.
 
-ghost use Rattle.std.specs.Prelude.{◌≡◌, ◌∷◌, [], ◌++◌, OnOk, IfOk, if◌then◌else◌, string_bytes, encode_utf8_all};
+ghost use Rattle.std.specs.Prelude.{◌≡◌, ◌∷◌, [], ◌++◌, OnOk, IfOk, option_to_list, if◌then◌else◌, string_bytes, encode_utf8_all};
+ghost use Rattle.std.specs.Char.Iter.{case_mapping_chars};
 ghost use Rattle.std.specs.Str.{chars};
-ghost use Rattle.bib_chunks.specs.Formatted.{is_break, ends_in_space, flowing, formatted, formatted_chunk, space_behind};
+ghost use Rattle.bib_chunks.specs.Formatted.{is_break, ends_in_space, unbroken, flowing, formatted, formatted_chunk, space_behind, cased, sentence_case, sentence};
 
 use super::{Chunk, ChunksRef};
 use crate::scanner::Scanner;
 use std::alloc::{AllocError, Global};
+use std::char::ToLowercase;
 
 // Whether the character breaks the line.
 fn is_break(c: char) -> bool
@@ -93,6 +95,95 @@ pub(super) fn format_verbatim(alloc: Global, chunks: ChunksRef<'_>) -> Result<St
     let mut space = false;
     'chunks: for chunk in chunks {
         space = write_chunk(&mut out, &chunk.v, space)?;
+    }
+    Ok(out)
+}
+
+// What a character of a normal text becomes on one line.
+fn unbroken(c: char, space: bool) -> Option<char>
+    ensures { option_to_list result ≡ unbroken space c }
+{
+    if !is_break(c) {
+        return Some(c);
+    }
+    if space {
+        return None;
+    }
+    Some(' ')
+}
+
+// Writes a character if there is one.
+fn write_some(out: &mut String, c: Option<char>) -> Result<(), AllocError>
+    ensures { OnOk result (string_bytes out.new ≡ string_bytes out.old ++ encode_utf8_all (option_to_list c)) }
+{
+    if let Some(c) = c {
+        out.push(c)?;
+    }
+    Ok(())
+}
+
+// Writes what a character becomes in another case, which is up to three characters; std has one type for both cases.
+fn write_changed(out: &mut String, changed: ToLowercase) -> Result<(), AllocError>
+    ensures { OnOk result (string_bytes out.new ≡ string_bytes out.old ++ encode_utf8_all (case_mapping_chars changed)) }
+{
+    let mut changed = changed;
+    write_some(out, changed.next())?;
+    write_some(out, changed.next())?;
+    write_some(out, changed.next())?;
+    Ok(())
+}
+
+// Writes a character in lower case, or in upper case where it begins a sentence.
+fn write_cased(out: &mut String, c: char, begins: bool) -> Result<(), AllocError>
+    ensures { OnOk result (string_bytes out.new ≡ string_bytes out.old ++ encode_utf8_all (cased begins c)) }
+{
+    if begins {
+        return write_changed(out, c.to_uppercase());
+    }
+    write_changed(out, c.to_lowercase())
+}
+
+// Writes a normal text on one line and in the case of a sentence, and answers whether white space stands behind it.
+fn write_sentence_text(out: &mut String, text: &str, begins: bool, space: bool) -> Result<bool, AllocError>
+    ensures written { OnOk result (string_bytes out.new ≡ string_bytes out.old ++ encode_utf8_all (sentence_case begins (flowing space (chars text.now)))) }
+    ensures behind { IfOk result (λ after. after ≡ ends_in_space space (flowing space (chars text.now))) }
+{
+    let mut scanner = Scanner::new(text);
+    let mut first = begins;
+    let mut after = space;
+    'text: while let Some(c) = scanner.eat() {
+        let Some(shown) = unbroken(c, after) else {
+            continue 'text;
+        };
+        write_cased(out, shown, first)?;
+        first = false;
+        after = shown.is_whitespace();
+    }
+    Ok(after)
+}
+
+// Writes a chunk of a sentence, and answers whether white space stands behind it.
+fn write_sentence_chunk(out: &mut String, chunk: &Chunk, begins: bool, space: bool) -> Result<bool, AllocError>
+    ensures written { OnOk result (string_bytes out.new ≡ string_bytes out.old ++ encode_utf8_all (formatted_chunk (sentence_case begins) space chunk.now)) }
+    ensures behind { IfOk result (λ after. after ≡ space_behind space chunk.now) }
+{
+    match chunk {
+        Chunk::Normal(text) => write_sentence_text(out, text.as_str(), begins, space),
+        Chunk::Verbatim(_) => write_chunk(out, chunk, space),
+        Chunk::Math(_) => write_chunk(out, chunk, space),
+    }
+}
+
+// The text of chunks as a sentence.
+pub(super) fn format_sentence(alloc: Global, chunks: ChunksRef<'_>) -> Result<String, AllocError>
+    ensures { IfOk result (λ text. string_bytes text ≡ encode_utf8_all (sentence chunks.now)) }
+{
+    let mut out = String::new(alloc);
+    let mut begins = true;
+    let mut space = false;
+    'chunks: for chunk in chunks {
+        space = write_sentence_chunk(&mut out, &chunk.v, begins, space)?;
+        begins = false;
     }
     Ok(out)
 }
