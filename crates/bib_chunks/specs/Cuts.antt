@@ -1,6 +1,6 @@
 -- Lists in the value of a field, and where they are cut.
-use Rattle.std.specs.Prelude.{ℕ, ◌+◌, ◌-◌, ◌^◌, ◌==◌, Bool, true, false, List, [], ◌∷◌, ◌++◌, length, min}
-use Rattle.std.specs.List.{slice_split}
+use Rattle.std.specs.Prelude.{ℕ, ◌+◌, ◌-◌, ◌^◌, ◌==◌, Bool, true, false, List, [], ◌∷◌, ◌++◌, length, min, if◌then◌else◌, Option, Some, None}
+use Rattle.std.specs.List.{slice_split, position_or_len, before_first, after_first}
 use Rattle.std.specs.Str.{trim_start, trim_end}
 use Rattle.std.specs.declared.ops.Range.{Range}
 use Rattle.bib_chunks.specs.declared.chunk.Chunk.{Chunk}
@@ -51,3 +51,31 @@ joined (piece ∷ next ∷ more) parts = (piece ∷ []) ∷ joined (next ∷ mor
 abbrev pub comma_list : List (Spanned Chunk) → List (List (Spanned Chunk))
 comma_list [] = [] ∷ []
 comma_list (c ∷ rest) = joined (comma_pieces c.v c.span) (comma_list rest)
+
+-- a normal chunk in two, at the first of its bytes that is this ASCII character: the white space next to it is left
+-- out, and each half stands in the bytes on its side; nothing where the chunk isn't normal or has no such byte
+abbrev pub halves : ℕ → Chunk → Range ℕ → Option (Spanned Chunk × Spanned Chunk)
+halves separator (Normal text) span =
+    let end = further span.start (length (before_first (λ b. b == separator) text)) in
+    if position_or_len (λ b. b == separator) text == length text then None
+    else Some (
+      placed (Normal (trim_end (before_first (λ b. b == separator) text))) span.start end,
+      placed (Normal (trim_start (after_first (λ b. b == separator) text))) (further end 1) span.end,
+    )
+halves separator (Verbatim text) span = None
+halves separator (Math text) span = None
+
+-- a cut of chunks behind these
+abbrev pub cut_behind : List (Spanned Chunk) → Option (List (Spanned Chunk) × List (Spanned Chunk)) → Option (List (Spanned Chunk) × List (Spanned Chunk))
+cut_behind chunks None = None
+cut_behind chunks (Some cut) = Some (chunks ++ cut.0, cut.1)
+
+-- the cut of a chunk and what follows it, given the halves of the chunk and the cut of what follows
+abbrev pub cut_first : Spanned Chunk → List (Spanned Chunk) → Option (Spanned Chunk × Spanned Chunk) → Option (List (Spanned Chunk) × List (Spanned Chunk)) → Option (List (Spanned Chunk) × List (Spanned Chunk))
+cut_first c rest (Some both) later = Some (both.0 ∷ [], both.1 ∷ rest)
+cut_first c rest None later = cut_behind (c ∷ []) later
+
+-- what stands before and behind the first such character of a normal chunk, if there is one
+abbrev pub cut_at : ℕ → List (Spanned Chunk) → Option (List (Spanned Chunk) × List (Spanned Chunk))
+cut_at separator [] = None
+cut_at separator (c ∷ rest) = cut_first c rest (halves separator c.v c.span) (cut_at separator rest)

@@ -1,8 +1,8 @@
 //! Lists in the value of a field, and where they are cut.
 
-ghost use Rattle.std.specs.Prelude.{◌≡◌, ◌∷◌, [], ◌++◌, ◌==◌, false, OnOk, IfOk};
+ghost use Rattle.std.specs.Prelude.{◌≡◌, ◌∷◌, [], ◌++◌, ◌==◌, ◌<◌, false, OnOk, IfOk};
 ghost use Rattle.std.specs.List.{slice_split};
-ghost use Rattle.bib_chunks.specs.Cuts.{behind_separator, placed, between_commas, comma_pieces, comma_list};
+ghost use Rattle.bib_chunks.specs.Cuts.{behind_separator, placed, between_commas, comma_pieces, comma_list, halves, cut_at};
 ghost use Rattle.bib_chunks.specs.Cutting.{Reads};
 
 use super::{Chunk, Chunks, ChunksRef, Span, Spanned};
@@ -120,4 +120,59 @@ pub fn comma_list(alloc: Global, chunks: ChunksRef<'_>) -> Result<Items<Chunks>,
     }
     parts.end(alloc)?;
     Ok(parts.done)
+}
+
+// A normal chunk in two, at the first such character.
+fn halves(alloc: Global, chunk: &Spanned<Chunk>, separator: char) -> Result<Option<(Spanned<Chunk>, Spanned<Chunk>)>, AllocError>
+    requires { separator < 128 }
+    ensures { IfOk result (λ both. both ≡ halves separator chunk.now.v chunk.now.span) }
+{
+    let Chunk::Normal(text) = &chunk.v else {
+        return Ok(None);
+    };
+    let Some((before, behind)) = text.as_str().split_once(separator) else {
+        return Ok(None);
+    };
+    let end = chunk.span.start.saturating_add(before.len());
+    let first = normal(alloc, before.trim_end(), chunk.span.start, end)?;
+    let second = normal(alloc, behind.trim_start(), end.saturating_add(1), chunk.span.end)?;
+    Ok(Some((first, second)))
+}
+
+// Appends copies of chunks.
+fn append(all: &mut Chunks, chunks: ChunksRef<'_>) -> Result<(), AllocError>
+    ensures { OnOk result (all.new ≡ all.old ++ chunks.now) }
+{
+    'chunks: for chunk in chunks {
+        all.push(copy(chunk)?)?;
+    }
+    Ok(())
+}
+
+// What follows a cut: the second half of a chunk, and copies of the chunks behind it.
+fn behind_cut(alloc: Global, second: Spanned<Chunk>, rest: ChunksRef<'_>) -> Result<Chunks, AllocError>
+    ensures { IfOk result (λ chunks. chunks ≡ second ∷ rest.now) }
+{
+    let mut chunks = Items::new(alloc);
+    chunks.push(second)?;
+    append(&mut chunks, rest)?;
+    Ok(chunks)
+}
+
+/// What stands before and behind the first such character, one of ASCII, of a normal chunk; the white space next to it
+/// in that chunk is left out. `None` where no normal chunk holds it.
+pub fn cut_at(alloc: Global, chunks: ChunksRef<'_>, separator: char) -> Result<Option<(Chunks, Chunks)>, AllocError>
+    requires { separator < 128 }
+    ensures { IfOk result (λ cut. cut ≡ cut_at separator chunks.now) }
+{
+    let mut before = Items::new(alloc);
+    'chunks: for (i, chunk) in chunks.iter().enumerate() {
+        if let Some((first, second)) = halves(alloc, chunk, separator)? {
+            before.push(first)?;
+            let behind = behind_cut(alloc, second, &chunks[i + 1..])?;
+            return Ok(Some((before, behind)));
+        }
+        before.push(copy(chunk)?)?;
+    }
+    Ok(None)
 }
