@@ -1,10 +1,10 @@
 -- Facts on texts whose braces balance.
-use Rattle.std.proofs.Common.{◌≡◌, ℕ, zero, suc, ◌+◌, ◌-◌, ◌<◌, ◌≤◌, Bool, true, false, List, length, refl, sym, ap, ◌∙◌, subst, arith, inl, inr, ⊎_elim, MatchBool, nat_eq, add-one}
+use Rattle.std.proofs.Common.{◌≡◌, ℕ, zero, suc, ◌+◌, ◌-◌, Bool, true, false, List, length, refl, sym, ap, ◌∙◌, subst, arith, inl, inr, ⊎_elim, MatchBool, nat_eq, add-one}
 use Rattle.std.specs.Prelude.{◌⊎◌, ◌↔◌}
 use Rattle.std.proofs.lemmas.Bool.{both_ways, ne_eqb}
 use Rattle.std.proofs.Math.Numerals.{sub-one}
 use Rattle.bib_chunks.specs.Places.{Place, place, CharAt, AtEnd}
-use Rattle.bib_chunks.specs.Braces.{is_plain, Parts, IsParts}
+use Rattle.bib_chunks.specs.Braces.{is_plain, Parts}
 use Rattle.bib_chunks.specs.Braces.Parts.{none, plain, hidden, nested}
 use Rattle.bib_chunks.proofs.PlaceFacts.{same_char, same_place, no_char_at_end}
 
@@ -84,9 +84,9 @@ closes_open_suc zero e end char = (
 )
 closes_open_suc (suc n) e {u} {v} end char = (
   λ (w, x, parts, close, rest).
-    ⊎_elim (λ last. let same = (same_char char (subst (λ p. CharAt p 125 x) (sym last) close)).0 in absurd (omega (arith, same)))
-    (λ (y, z, inner, inner_close, more). (y, z, inner, inner_close, (w, x, more, close, rest)))
-    (parts_open char parts),
+      ⊎_elim (λ last. let same = (same_char char (subst (λ p. CharAt p 125 x) (sym last) close)).0 in absurd (omega (arith, same)))
+      (λ (y, z, inner, inner_close, more). (y, z, inner, inner_close, (w, x, more, close, rest)))
+      (parts_open char parts),
   λ (y, z, inner, inner_close, (w, x, more, close, rest)). (w, x, nested char inner inner_close more, close, rest),
 )
 

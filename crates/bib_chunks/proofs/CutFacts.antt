@@ -1,9 +1,8 @@
 -- Facts on lists and their parts.
-use Rattle.std.proofs.Common.{◌≡◌, ℕ, ◌+◌, ◌<◌, Bool, true, false, List, [], ◌∷◌, ◌++◌, length, get_or, drop, refl, sym, ap, ◌∙◌, append_assoc, length-append, suc, arith, Option, Some, None, lit<, ⊎_elim}
+use Rattle.std.proofs.Common.{◌≡◌, ℕ, ◌+◌, ◌<◌, Bool, true, List, [], ◌∷◌, ◌++◌, length, get_or, drop, refl, sym, ap, ◌∙◌, append_assoc, length-append, suc, arith, Option, Some, None, lit<, ⊎_elim}
 use Rattle.std.specs.Prelude.{◌==◌}
 use Rattle.std.specs.List.{slice_split, onto_first, after_first}
 use Rattle.std.specs.Str.{IsUtf8, trim_end}
-use Rattle.std.specs.declared.ops.Range.{Range}
 use Rattle.std.proofs.lemmas.List.{append-nil, drop_more, drop_at, get_or_at, get_or_default, length_push}
 use Rattle.std.proofs.lemmas.Str.{IsUtf8-drop, IsCharBoundary-after_ascii}
 use Rattle.std.proofs.lemmas.List.Splits.{slice_split_first, slice_split_none, slice_split-cons_yes, slice_split-cons_no}
@@ -11,10 +10,10 @@ use Rattle.std.proofs.lemmas.Str.Pattern.{IsSplitOnceResult, split_once_first, s
 use Rattle.std.proofs.lemmas.Bool.{ne_eqb, cases_Bool}
 use Rattle.std.specs.Borrow.{Bor}
 use Rattle.bib_chunks.specs.declared.chunk.Chunk.{Chunk}
-use Rattle.bib_chunks.specs.declared.chunk.Chunk.TheVariants.{Normal, Verbatim, Math}
+use Rattle.bib_chunks.specs.declared.chunk.Chunk.TheVariants.{Normal}
 use Rattle.bib_chunks.specs.declared.chunk.Spanned.{Spanned}
 use Rattle.bib_chunks.specs.declared.chunk.cuts.Parts.{Parts}
-use Rattle.bib_chunks.specs.Cuts.{further, placed, behind_separator, between_commas, comma_pieces, onto, joined, comma_list}
+use Rattle.bib_chunks.specs.Cuts.{further, placed, behind_separator, between_commas, comma_pieces, onto, joined, comma_list, and_pieces, and_parts}
 use Rattle.bib_chunks.specs.Cutting.{all_parts, Reads}
 
 onto_onto : (xs ys : List (Spanned Chunk)) (parts : List (List (Spanned Chunk))) → onto xs (onto ys parts) ≡ onto (xs ++ ys) parts
@@ -30,6 +29,10 @@ onto_nothing (p ∷ q ∷ more) parts some = refl
 pub onto_list : (chunks : List (Spanned Chunk)) → onto [] (comma_list chunks) ≡ comma_list chunks
 onto_list [] = refl
 onto_list (c ∷ rest) = onto_nothing (comma_pieces c.v c.span) (comma_list rest) (onto_list rest)
+
+pub onto_and_parts : (chunks : List (Spanned Chunk)) → onto [] (and_parts chunks) ≡ and_parts chunks
+onto_and_parts [] = refl
+onto_and_parts (c ∷ rest) = onto_nothing (and_pieces c.v c.span) (and_parts rest) (onto_and_parts rest)
 
 onto_some : (next : Spanned Chunk) (more : List (Spanned Chunk)) (parts : List (List (Spanned Chunk))) → onto [] (joined (next ∷ more) parts) ≡ joined (next ∷ more) parts
 onto_some next [] parts = onto_onto [] (next ∷ []) parts
@@ -66,8 +69,7 @@ pub cut_here : (rest : List ℕ) (r : Option (Bor (List ℕ) × Bor (List ℕ)))
 cut_here rest r before after is cut =
     let first = split_once_first 44 rest (Some (before, after)) (rw is at cut) (lit< tt) in
     let parts = split_parts 44 rest (Some (before, after)) (rw is at cut) (lit< tt) in
-    let sizes : length rest ≡ length before.now + suc (length after.now) = ap length parts.0 ∙ length-append before.now (44 ∷ after.now) in
-    (
+    let sizes : length rest ≡ length before.now + suc (length after.now) = ap length parts.0 ∙ length-append before.now (44 ∷ after.now) in (
       slice_split_first is_comma rest 0 first.0 ∙ ap (λ b. b ∷ slice_split is_comma (after_first is_comma rest)) (sym first.1) ∙ ap (λ a. before.now ∷ slice_split is_comma a) (sym first.2),
       omega arith,
     )
@@ -81,7 +83,7 @@ behind_cut_utf8 rest r before after is cut utf8 =
     let comma : get_or rest (length before.now) 0 ≡ 44 = ap (λ bs. get_or bs (length before.now) 0) whole ∙ get_or_at before.now 44 after.now 0 (length before.now) refl in
     let boundary = IsCharBoundary-after_ascii rest (length before.now) utf8 (omega arith) (omega arith) in
     let left : drop (length before.now + 1) rest ≡ after.now =
-        ap (drop (length before.now + 1)) (whole ∙ sym (append_assoc before.now (44 ∷ []) after.now)) ∙ drop_at (before.now ++ 44 ∷ []) after.now (length before.now + 1) (length_push before.now 44) in
+    ap (drop (length before.now + 1)) (whole ∙ sym (append_assoc before.now (44 ∷ []) after.now)) ∙ drop_at (before.now ++ 44 ∷ []) after.now (length before.now + 1) (length_push before.now 44) in
     rw left at (IsUtf8-drop rest (length before.now + 1) utf8 boundary)
 
 -- where it doesn't cut, there is one piece
@@ -114,11 +116,11 @@ read_comma old middle new behind start end comma next rest before after trimmed 
     let (x, xs, some) = between_some true next end text more in
     let rest_pieces : between_commas true next end (slice_split is_comma after) ≡ x ∷ xs = ap (between_commas true next end) split ∙ some in
     let here : between_commas behind start end (before ∷ text ∷ more) ≡ piece ∷ (x ∷ xs) =
-        ap (λ n. placed (Normal (trim_end (behind_separator behind before))) start (further start (length before)) ∷ between_commas true n end (text ∷ more)) (ap (λ n. further n 1) (sym comma_is) ∙ sym next_is)
-        ∙ ap (λ ys. placed (Normal (trim_end (behind_separator behind before))) start (further start (length before)) ∷ ys) some
-        ∙ ap (λ n. placed (Normal (trim_end (behind_separator behind before))) start n ∷ (x ∷ xs)) (sym comma_is)
-        ∙ ap (λ t. placed (Normal t) start comma ∷ (x ∷ xs)) (sym trimmed_is)
-        ∙ ap (λ p. p ∷ (x ∷ xs)) (sym piece_is) in
+    ap (λ n. placed (Normal (trim_end (behind_separator behind before))) start (further start (length before)) ∷ between_commas true n end (text ∷ more)) (ap (λ n. further n 1) (sym comma_is) ∙ sym next_is)
+    ∙ ap (λ ys. placed (Normal (trim_end (behind_separator behind before))) start (further start (length before)) ∷ ys) some
+    ∙ ap (λ n. placed (Normal (trim_end (behind_separator behind before))) start n ∷ (x ∷ xs)) (sym comma_is)
+    ∙ ap (λ t. placed (Normal t) start comma ∷ (x ∷ xs)) (sym trimmed_is)
+    ∙ ap (λ p. p ∷ (x ∷ xs)) (sym piece_is) in
     let all_pieces : between_commas behind start end (slice_split is_comma rest) ≡ piece ∷ (x ∷ xs) = ap (between_commas behind start end) (cut ∙ ap (λ ts. before ∷ ts) split) ∙ here in
     ap (λ ps. all_parts new (joined ps parts)) rest_pieces ∙ read_end old middle new piece x xs added closed parts ∙ ap (λ ps. all_parts old (joined ps parts)) (sym all_pieces)
 
@@ -128,7 +130,7 @@ pub read_rest : (old new : Parts) (behind : Bool) (start end : ℕ) (rest trimme
     → new ≡ record { done = old.done; last = old.last ++ piece ∷ [] } → Reads old new (between_commas behind start end (slice_split is_comma rest))
 read_rest old new behind start end rest trimmed piece whole trimmed_is piece_is added parts =
     let pieces : between_commas behind start end (slice_split is_comma rest) ≡ piece ∷ [] =
-        ap (between_commas behind start end) whole ∙ ap (λ t. placed (Normal t) start end ∷ []) (sym trimmed_is) ∙ ap (λ p. p ∷ []) (sym piece_is) in
+    ap (between_commas behind start end) whole ∙ ap (λ t. placed (Normal t) start end ∷ []) (sym trimmed_is) ∙ ap (λ p. p ∷ []) (sym piece_is) in
     read_one old new piece added parts ∙ ap (λ ps. all_parts old (joined ps parts)) (sym pieces)
 
 -- one chunk of a comma list was read

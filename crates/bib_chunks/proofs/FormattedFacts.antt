@@ -1,5 +1,5 @@
 -- Facts on formatted texts.
-use Rattle.std.proofs.Common.{◌≡◌, ℕ, ◌+◌, ◌<◌, ◌-◌, Bool, true, false, cond, not, List, [], ◌∷◌, ◌++◌, length, get_or, drop, refl, sym, ap, ◌∙◌, arith, append_assoc, Option, None, Some}
+use Rattle.std.proofs.Common.{◌≡◌, ℕ, ◌+◌, ◌<◌, Bool, true, false, cond, not, List, [], ◌∷◌, ◌++◌, length, get_or, drop, refl, sym, ap, ◌∙◌, arith, Option, None, Some}
 use Rattle.std.specs.Prelude.{encode_utf8, encode_utf8_all, option_to_list}
 use Rattle.std.specs.Char.{is_whitespace}
 use Rattle.std.specs.List.{list_all, flat_map}
@@ -9,7 +9,7 @@ use Rattle.std.proofs.lemmas.Bool.{cond-true, cond-false, not-true, not-false, a
 use Rattle.std.proofs.lemmas.List.{drop_more, append-nil}
 use Rattle.std.proofs.lemmas.Str.{chars_past_char, encodes-chars, chars-nil}
 use Rattle.bib_chunks.specs.declared.chunk.Chunk.{Chunk}
-use Rattle.bib_chunks.specs.declared.chunk.Chunk.TheVariants.{Normal, Verbatim, Math}
+use Rattle.bib_chunks.specs.declared.chunk.Chunk.TheVariants.{Verbatim}
 use Rattle.bib_chunks.specs.declared.chunk.Spanned.{Spanned}
 use Rattle.bib_chunks.specs.Places.{Place, CharAt, Run, Longest, AtEnd, between}
 use Rattle.bib_chunks.specs.Formatted.{is_break, ends_in_space, unbroken, flowing, space_behind, formatted_chunk, formatted_behind, cased, sentence_case, sentence_behind}
@@ -66,8 +66,7 @@ run_written out one total run {u} {w} space after ends runs utf8 run_utf8 is_run
     let spells : run ≡ encode_utf8_all cs = is_run ∙ passed_between passed in
     let state : after ≡ ends_in_space space cs = tells ∙ ap (ends_in_space space) (chars_whole cs run run_utf8 spells) in
     let cut : flowing space (chars (ahead u)) ≡ cs ++ flowing after (chars (ahead w)) =
-        ap (flowing space) passed.spelt ∙ flowing_run space cs (chars (ahead w)) all ∙ ap (λ b. cs ++ flowing b (chars (ahead w))) (sym state) in
-    (
+    ap (flowing space) passed.spelt ∙ flowing_run space cs (chars (ahead w)) all ∙ ap (λ b. cs ++ flowing b (chars (ahead w))) (sym state) in (
       passed.same,
       passed.utf8,
       written_more out one total cs _ _ (first ∙ ap (λ bs. out ++ bs) spells) cut before,
@@ -83,8 +82,7 @@ flowing_step out one two total run {u} {w} {x} {c} space after ends longest utf8
     let (same, w_utf8, middle, middle_ends) = run_written out one total run space after ends longest.run utf8 run_utf8 is_run first tells before before_ends in
     let passed : Passed w (c ∷ []) x = passed_char char w_utf8 in
     let breaks : is_break c ≡ true = not-false (is_break c) (longest.stops c x char) in
-    let cut : flowing after (chars (ahead w)) ≡ gap after ++ flowing true (chars (ahead x)) = ap (flowing after) passed.spelt ∙ flowing_break after c (chars (ahead x)) breaks in
-    (
+    let cut : flowing after (chars (ahead w)) ≡ gap after ++ flowing true (chars (ahead x)) = ap (flowing after) passed.spelt ∙ flowing_break after c (chars (ahead x)) breaks in (
       passed.same ∙ same,
       passed.utf8,
       written_more one two total (gap after) _ _ second cut middle,
@@ -130,8 +128,7 @@ sentence_skip out total {u} {x} {c} first space ends r char utf8 none becomes be
     let passed : Passed u (c ∷ []) x = passed_char char utf8 in
     let nothing : unbroken space c ≡ [] = sym becomes ∙ ap option_to_list none in
     let same : flowing space (chars (ahead u)) ≡ flowing space (chars (ahead x)) =
-        ap (flowing space) passed.spelt ∙ ap (λ ys. ys ++ flowing (ends_in_space space ys) (chars (ahead x))) nothing in
-    (
+    ap (flowing space) passed.spelt ∙ ap (λ ys. ys ++ flowing (ends_in_space space ys) (chars (ahead x))) nothing in (
       passed.same,
       passed.utf8,
       ap (λ ys. out ++ encode_utf8_all (sentence_case first ys)) (sym same) ∙ before,
@@ -147,10 +144,9 @@ sentence_step out more total {u} {x} {c} d first space after ends r char utf8 so
     let passed : Passed u (c ∷ []) x = passed_char char utf8 in
     let one : unbroken space c ≡ d ∷ [] = sym becomes ∙ ap option_to_list some in
     let cut : flowing space (chars (ahead u)) ≡ d ∷ flowing after (chars (ahead x)) =
-        ap (flowing space) passed.spelt ∙ ap (λ ys. ys ++ flowing (ends_in_space space ys) (chars (ahead x))) one ∙ ap (λ b. d ∷ flowing b (chars (ahead x))) (sym tells) in
+    ap (flowing space) passed.spelt ∙ ap (λ ys. ys ++ flowing (ends_in_space space ys) (chars (ahead x))) one ∙ ap (λ b. d ∷ flowing b (chars (ahead x))) (sym tells) in
     let cased_cut : sentence_case first (flowing space (chars (ahead u))) ≡ cased first d ++ sentence_case false (flowing after (chars (ahead x))) =
-        ap (sentence_case first) cut ∙ ap (λ ys. cased first d ++ ys) (goes_lower (flowing after (chars (ahead x)))) in
-    (
+    ap (sentence_case first) cut ∙ ap (λ ys. cased first d ++ ys) (goes_lower (flowing after (chars (ahead x)))) in (
       passed.same,
       passed.utf8,
       written_more out more total (cased first d) _ _ written cased_cut before,
@@ -162,8 +158,7 @@ pub sentence_end : (out total : List ℕ) (u : Place) (first space ends : Bool) 
     → out ++ encode_utf8_all (sentence_case first (flowing space (chars (ahead u)))) ≡ total → ends_in_space space (flowing space (chars (ahead u))) ≡ ends
     → (out ≡ total) × (space ≡ ends)
 sentence_end out total u first space ends end before before_ends =
-    let nothing : chars (ahead u) ≡ [] = chars_at_end u end in
-    (
+    let nothing : chars (ahead u) ≡ [] = chars_at_end u end in (
       written_all out total (sentence_case first (flowing space (chars (ahead u)))) (ap (λ cs. sentence_case first (flowing space cs)) nothing) before,
       sym (ap (λ cs. ends_in_space space (flowing space cs)) nothing) ∙ before_ends,
     )

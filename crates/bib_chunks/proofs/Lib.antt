@@ -1,3 +1,4 @@
+pub mod AndFacts
 pub mod BraceFacts
 pub mod CutFacts
 pub mod FormattedFacts

@@ -1,19 +1,17 @@
 -- Facts on settled texts.
-use Rattle.std.proofs.Common.{◌≡◌, ℕ, ◌+◌, ◌<◌, Bool, true, false, not, List, [], ◌∷◌, ◌++◌, length, get_or, drop, refl, sym, ap, ◌∙◌, subst, Option, Some, None, MatchOption, MatchBool}
-use Rattle.std.specs.Prelude.{◌↔◌, ◌==◌, encode_utf8_all, is_some}
-use Rattle.std.specs.List.{list_any, list_all, flat_map, AllByRecursion}
+use Rattle.std.proofs.Common.{◌≡◌, ℕ, Bool, true, false, not, List, [], ◌∷◌, ◌++◌, refl, sym, ap, ◌∙◌, subst, Option, Some, None, MatchOption}
+use Rattle.std.specs.Prelude.{◌↔◌, ◌==◌, is_some}
+use Rattle.std.specs.List.{list_any, list_all, AllByRecursion}
 use Rattle.std.specs.Str.{chars, IsUtf8}
 use Rattle.std.proofs.lemmas.Bool.{and_parts, not-true, not-false, or_left}
-use Rattle.std.proofs.lemmas.List.{drop_more, append-nil}
 use Rattle.std.proofs.lemmas.Str.{encodes-chars}
 use Rattle.bib_chunks.specs.declared.chunk.Chunk.{Chunk}
 use Rattle.bib_chunks.specs.declared.chunk.Chunk.TheVariants.{Normal as NormalChunk, Verbatim as VerbatimChunk, Math as MathChunk}
-use Rattle.bib_chunks.specs.declared.chunk.Spanned.{Spanned}
 use Rattle.bib_chunks.specs.declared.chunk.settling.Before.{Before}
 use Rattle.bib_chunks.specs.declared.chunk.settling.Before.TheVariants.{Nothing, Normal, Verbatim}
 use Rattle.bib_chunks.specs.Braces.{IsParts}
-use Rattle.bib_chunks.specs.Places.{Place, place, CharAt, Longest, AtEnd}
-use Rattle.bib_chunks.specs.Styled.{Atom, atoms_of, styled}
+use Rattle.bib_chunks.specs.Places.{Place, CharAt, Longest, AtEnd}
+use Rattle.bib_chunks.specs.Styled.{Atom, atoms_of}
 use Rattle.bib_chunks.specs.Settled.{IsSettledAtom, runs_together, AreApart, IsSettled}
 use Rattle.bib_chunks.specs.Settling.{character_atom, text_atoms, behind, runs_into, MayFollow, AreSettledBehind, Continues, ContinuesIn, IsStuck, IsStuckIn, IsSettledMath}
 use Rattle.bib_chunks.proofs.TextFacts.{ahead, Passed, passed_char, passed_run, chars_at_end}

@@ -1,5 +1,5 @@
 -- Facts on the characters of a text, and on those that a cursor passes.
-use Rattle.std.proofs.Common.{◌≡◌, ℕ, ◌+◌, ◌-◌, ◌<◌, ◌≤◌, Bool, true, false, ◌&&◌, cond, List, [], ◌∷◌, ◌++◌, length, take, drop, refl, sym, ap, ◌∙◌, subst, arith, length-append, length-drop, append_assoc, Result, Ok, Err, is_ok}
+use Rattle.std.proofs.Common.{◌≡◌, ℕ, ◌+◌, ◌-◌, ◌<◌, ◌≤◌, Bool, true, cond, List, [], ◌∷◌, ◌++◌, length, take, drop, refl, sym, ap, ◌∙◌, arith, length-append, append_assoc, Result, Ok, is_ok}
 use Rattle.std.specs.Prelude.{encode_utf8, encode_utf8_all}
 use Rattle.std.specs.Char.{len_utf8}
 use Rattle.std.specs.List.{list_all, flat_map}
@@ -8,7 +8,7 @@ use Rattle.std.proofs.lemmas.Str.{chars_past_char, IsUtf8-past_char, length-enco
 use Rattle.std.proofs.lemmas.List.{take_at, append-nil, drop_all}
 use Rattle.std.proofs.lemmas.Bool.{and_from, and_parts}
 use Rattle.std.proofs.lemmas.Slice.{pushed}
-use Rattle.bib_chunks.specs.Places.{Place, place, CharAt, Run, Longest, AtEnd, between}
+use Rattle.bib_chunks.specs.Places.{Place, CharAt, Run, AtEnd, between}
 use Rattle.bib_chunks.specs.Places.Run.{stop, step}
 use Rattle.bib_chunks.proofs.PlaceFacts.{char_left}
 

@@ -12,11 +12,10 @@ mod formatting;
 mod settling;
 mod writing;
 
-pub use ext::ChunksExt;
-pub use settling::is_settled;
-
 use crate::items::Items;
 use crate::text::Text;
+pub use ext::ChunksExt;
+pub use settling::is_settled;
 use std::alloc::{AllocError, Global};
 use std::ops::Range;
 

@@ -1,6 +1,6 @@
 //! Lists of one's own: a `Vec` that contracts see as the list of its elements.
 
-ghost use Rattle.std.specs.Prelude.{◌≡◌, ◌==◌, ◌<◌, List, [], ◌∷◌, ◌++◌, length, is_ok, if◌then◌else◌, IfErr, IfOk, option_to_list};
+ghost use Rattle.std.specs.Prelude.{◌≡◌, ◌==◌, ◌<◌, List, [], ◌∷◌, ◌++◌, length, is_ok, if◌then◌else◌, IfErr, IsSome, ◌↔◌, option_to_list};
 ghost use Rattle.std.specs.List.{AllZip};
 ghost use Rattle.std.specs.Slice.Iter.{iter_rest};
 ghost use Rattle.std.specs.Cmp.Lexicographic.{pointwise, lists_per, lists_equiv};
@@ -34,14 +34,6 @@ impl<T> Items<T> {
         Items {
             vec: Vec::new(alloc),
         }
-    }
-
-    /// The empty list, with room for so many elements.
-    pub fn with_capacity(alloc: Global, capacity: usize) -> Result<Self, AllocError>
-        ensures { IfOk result (λ items. items ≡ []) }
-    {
-        let vec = Vec::with_capacity(alloc, capacity)?;
-        Ok(Items { vec })
     }
 
     /// The list of a vector's elements. Takes no memory.
@@ -96,7 +88,8 @@ impl<T> Items<T> {
 
     /// Takes the last element.
     pub fn pop(&mut self) -> Option<T>
-        ensures { self.old ≡ self.new ++ option_to_list result }
+        ensures items { self.old ≡ self.new ++ option_to_list result }
+        ensures found { IsSome result ↔ (0 < length self.old) }
     {
         self.vec.pop()
     }

@@ -1,9 +1,10 @@
 //! Lists in the value of a field, and where they are cut.
 
-ghost use Rattle.std.specs.Prelude.{◌≡◌, ◌∷◌, [], ◌++◌, ◌==◌, ◌<◌, false, OnOk, IfOk};
+ghost use Rattle.std.specs.Prelude.{◌≡◌, ◌∷◌, [], ◌++◌, ◌==◌, ◌<◌, false, OnOk, IfOk, MatchOption};
 ghost use Rattle.std.specs.List.{slice_split};
-ghost use Rattle.bib_chunks.specs.Cuts.{behind_separator, placed, between_commas, comma_pieces, comma_list, halves, cut_at};
-ghost use Rattle.bib_chunks.specs.Cutting.{Reads};
+ghost use Rattle.std.specs.Str.{chars};
+ghost use Rattle.bib_chunks.specs.Cuts.{behind_separator, placed, between_commas, comma_pieces, comma_list, halves, cut_at, begins_with_space, between_ands, placed_between_ands, and_pieces, and_parts, before_end, trimmed, trimmed_ends, and_list};
+ghost use Rattle.bib_chunks.specs.Cutting.{Reads, NoAnd, IsAnd, IsFirstAnd};
 
 use super::{Chunk, Chunks, ChunksRef, Span, Spanned};
 use crate::items::Items;
@@ -80,7 +81,12 @@ fn behind_separator(text: &str, behind: bool) -> &str
 }
 
 // Cuts a normal chunk at its commas.
-fn cut_at_commas(alloc: Global, parts: &mut Parts, text: &str, span: &Span) -> Result<(), AllocError>
+fn cut_at_commas(
+    alloc: Global,
+    parts: &mut Parts,
+    text: &str,
+    span: &Span,
+) -> Result<(), AllocError>
     ensures { OnOk result (Reads parts.old parts.new (between_commas false span.now.start span.now.end (slice_split (λ b. b == 44) text.now))) }
 {
     let mut rest = text;
@@ -88,7 +94,12 @@ fn cut_at_commas(alloc: Global, parts: &mut Parts, text: &str, span: &Span) -> R
     let mut behind = false;
     'pieces: while let Some((before, after)) = rest.split_once(',') {
         let comma = start.saturating_add(before.len());
-        parts.add(normal(alloc, behind_separator(before, behind).trim_end(), start, comma)?)?;
+        parts.add(normal(
+            alloc,
+            behind_separator(before, behind).trim_end(),
+            start,
+            comma,
+        )?)?;
         parts.end(alloc)?;
         rest = after;
         start = comma.saturating_add(1);
@@ -99,7 +110,11 @@ fn cut_at_commas(alloc: Global, parts: &mut Parts, text: &str, span: &Span) -> R
 }
 
 // Reads a chunk of a comma list.
-fn cut_comma_chunk(alloc: Global, parts: &mut Parts, chunk: &Spanned<Chunk>) -> Result<(), AllocError>
+fn cut_comma_chunk(
+    alloc: Global,
+    parts: &mut Parts,
+    chunk: &Spanned<Chunk>,
+) -> Result<(), AllocError>
     ensures { OnOk result (Reads parts.old parts.new (comma_pieces chunk.now.v chunk.now.span)) }
 {
     match &chunk.v {
@@ -123,7 +138,11 @@ pub fn comma_list(alloc: Global, chunks: ChunksRef<'_>) -> Result<Items<Chunks>,
 }
 
 // A normal chunk in two, at the first such character.
-fn halves(alloc: Global, chunk: &Spanned<Chunk>, separator: char) -> Result<Option<(Spanned<Chunk>, Spanned<Chunk>)>, AllocError>
+fn halves(
+    alloc: Global,
+    chunk: &Spanned<Chunk>,
+    separator: char,
+) -> Result<Option<(Spanned<Chunk>, Spanned<Chunk>)>, AllocError>
     requires { separator < 128 }
     ensures { IfOk result (λ both. both ≡ halves separator chunk.now.v chunk.now.span) }
 {
@@ -135,7 +154,12 @@ fn halves(alloc: Global, chunk: &Spanned<Chunk>, separator: char) -> Result<Opti
     };
     let end = chunk.span.start.saturating_add(before.len());
     let first = normal(alloc, before.trim_end(), chunk.span.start, end)?;
-    let second = normal(alloc, behind.trim_start(), end.saturating_add(1), chunk.span.end)?;
+    let second = normal(
+        alloc,
+        behind.trim_start(),
+        end.saturating_add(1),
+        chunk.span.end,
+    )?;
     Ok(Some((first, second)))
 }
 
@@ -150,7 +174,11 @@ fn append(all: &mut Chunks, chunks: ChunksRef<'_>) -> Result<(), AllocError>
 }
 
 // What follows a cut: the second half of a chunk, and copies of the chunks behind it.
-fn behind_cut(alloc: Global, second: Spanned<Chunk>, rest: ChunksRef<'_>) -> Result<Chunks, AllocError>
+fn behind_cut(
+    alloc: Global,
+    second: Spanned<Chunk>,
+    rest: ChunksRef<'_>,
+) -> Result<Chunks, AllocError>
     ensures { IfOk result (λ chunks. chunks ≡ second ∷ rest.now) }
 {
     let mut chunks = Items::new(alloc);
@@ -161,7 +189,11 @@ fn behind_cut(alloc: Global, second: Spanned<Chunk>, rest: ChunksRef<'_>) -> Res
 
 /// What stands before and behind the first such character, one of ASCII, of a normal chunk; the white space next to it
 /// in that chunk is left out. `None` where no normal chunk holds it.
-pub fn cut_at(alloc: Global, chunks: ChunksRef<'_>, separator: char) -> Result<Option<(Chunks, Chunks)>, AllocError>
+pub fn cut_at(
+    alloc: Global,
+    chunks: ChunksRef<'_>,
+    separator: char,
+) -> Result<Option<(Chunks, Chunks)>, AllocError>
     requires { separator < 128 }
     ensures { IfOk result (λ cut. cut ≡ cut_at separator chunks.now) }
 {
@@ -175,4 +207,147 @@ pub fn cut_at(alloc: Global, chunks: ChunksRef<'_>, separator: char) -> Result<O
         before.push(copy(chunk)?)?;
     }
     Ok(None)
+}
+
+// Whether the text begins with white space.
+fn begins_with_space(text: &str) -> bool
+    ensures { result ≡ begins_with_space (chars text.now) }
+{
+    let Some(c) = text.chars().next() else {
+        return false;
+    };
+    c.is_whitespace()
+}
+
+// What stands behind the word `and` at the start of a text, if white space follows it.
+fn after_and(text: &str) -> Option<&str>
+    ensures { MatchOption result (NoAnd text.now) (λ behind. IsAnd text.now behind.now) }
+{
+    let behind = text.strip_prefix("and")?;
+    if !begins_with_space(behind) {
+        return None;
+    }
+    Some(behind)
+}
+
+// What stands before and behind the first word `and` of a text that has white space just before it and just behind it.
+fn first_and(text: &str) -> Option<(&str, &str)>
+    ensures { MatchOption result (between_ands false (chars text.now) ≡ chars text.now ∷ []) (λ both. IsFirstAnd text.now both.0.now both.1.now) }
+{
+    let mut at = 0usize;
+    let mut space = false;
+    'text: while at < text.len() {
+        let rest = &text[at..];
+        if space {
+            if let Some(behind) = after_and(rest) {
+                return Some((&text[..at], behind));
+            }
+        }
+        let Some(c) = rest.chars().next() else {
+            return None;
+        };
+        at += c.len_utf8();
+        space = c.is_whitespace();
+    }
+    None
+}
+
+// Cuts a normal chunk at its words `and`.
+fn cut_at_ands(alloc: Global, parts: &mut Parts, text: &str, span: &Span) -> Result<(), AllocError>
+    ensures { OnOk result (Reads parts.old parts.new (placed_between_ands span.now.start span.now.end (between_ands false (chars text.now)))) }
+{
+    let mut rest = text;
+    let mut start = span.start;
+    'pieces: while let Some((before, behind)) = first_and(rest) {
+        let end = start.saturating_add(before.len());
+        parts.add(normal(alloc, before, start, end)?)?;
+        parts.end(alloc)?;
+        rest = behind;
+        start = end.saturating_add(3);
+    }
+    parts.add(normal(alloc, rest, start, span.end)?)?;
+    Ok(())
+}
+
+// Reads a chunk of an `and` list.
+fn cut_and_chunk(alloc: Global, parts: &mut Parts, chunk: &Spanned<Chunk>) -> Result<(), AllocError>
+    ensures { OnOk result (Reads parts.old parts.new (and_pieces chunk.now.v chunk.now.span)) }
+{
+    match &chunk.v {
+        Chunk::Normal(text) => cut_at_ands(alloc, parts, text.as_str(), &chunk.span),
+        Chunk::Verbatim(_) => parts.add(copy(chunk)?),
+        Chunk::Math(_) => parts.add(copy(chunk)?),
+    }
+}
+
+// The text without the white space at its end, if it ends something.
+fn before_end(text: &str, ends: bool) -> &str
+    ensures { result.now ≡ before_end ends text.now }
+{
+    if ends {
+        return text.trim_end();
+    }
+    text
+}
+
+// A copy of a chunk; of a normal one without the white space at its start, at its end, or at both.
+fn trimmed(
+    alloc: Global,
+    chunk: &Spanned<Chunk>,
+    first: bool,
+    last: bool,
+) -> Result<Spanned<Chunk>, AllocError>
+    ensures { IfOk result (λ c. c ≡ placed (trimmed first last chunk.now.v) chunk.now.span.start chunk.now.span.end) }
+{
+    match &chunk.v {
+        Chunk::Normal(text) => normal(
+            alloc,
+            before_end(behind_separator(text.as_str(), first), last),
+            chunk.span.start,
+            chunk.span.end,
+        ),
+        Chunk::Verbatim(_) => copy(chunk),
+        Chunk::Math(_) => copy(chunk),
+    }
+}
+
+// A copy of chunks without the white space at their start and end, where that is normal.
+fn trimmed_ends(alloc: Global, chunks: ChunksRef<'_>) -> Result<Chunks, AllocError>
+    ensures { IfOk result (λ all. all ≡ trimmed_ends chunks.now) }
+{
+    let mut all = Items::new(alloc);
+    let mut first = true;
+    'chunks: for (i, chunk) in chunks.iter().enumerate() {
+        let last = chunks.len() - i == 1;
+        all.push(trimmed(alloc, chunk, first, last)?)?;
+        first = false;
+    }
+    Ok(all)
+}
+
+// The parts of chunks that are cut at each word `and`.
+fn and_parts(alloc: Global, chunks: ChunksRef<'_>) -> Result<Items<Chunks>, AllocError>
+    ensures { IfOk result (λ parts. parts ≡ and_parts chunks.now) }
+{
+    let mut parts = Parts::new(alloc);
+    'chunks: for chunk in chunks {
+        cut_and_chunk(alloc, &mut parts, chunk)?;
+    }
+    parts.end(alloc)?;
+    Ok(parts.done)
+}
+
+/// The parts of an `and` list. It is cut at each word `and` that has white space just before it and just behind it inside
+/// one normal chunk. The white space at both ends of the list and of each part is left out, where it is normal; no
+/// chunks are one empty part.
+pub fn and_list(alloc: Global, chunks: ChunksRef<'_>) -> Result<Items<Chunks>, AllocError>
+    ensures { IfOk result (λ parts. parts ≡ and_list chunks.now) }
+{
+    let whole = trimmed_ends(alloc, chunks)?;
+    let parts = and_parts(alloc, whole.as_slice())?;
+    let mut list = Items::new(alloc);
+    'parts: for part in parts.as_slice() {
+        list.push(trimmed_ends(alloc, part.as_slice())?)?;
+    }
+    Ok(list)
 }

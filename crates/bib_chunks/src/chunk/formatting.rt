@@ -144,7 +144,12 @@ fn write_cased(out: &mut String, c: char, begins: bool) -> Result<(), AllocError
 }
 
 // Writes a normal text on one line and in the case of a sentence, and answers whether white space stands behind it.
-fn write_sentence_text(out: &mut String, text: &str, begins: bool, space: bool) -> Result<bool, AllocError>
+fn write_sentence_text(
+    out: &mut String,
+    text: &str,
+    begins: bool,
+    space: bool,
+) -> Result<bool, AllocError>
     ensures written { OnOk result (string_bytes out.new ≡ string_bytes out.old ++ encode_utf8_all (sentence_case begins (flowing space (chars text.now)))) }
     ensures behind { IfOk result (λ after. after ≡ ends_in_space space (flowing space (chars text.now))) }
 {
@@ -163,7 +168,12 @@ fn write_sentence_text(out: &mut String, text: &str, begins: bool, space: bool) 
 }
 
 // Writes a chunk of a sentence, and answers whether white space stands behind it.
-fn write_sentence_chunk(out: &mut String, chunk: &Chunk, begins: bool, space: bool) -> Result<bool, AllocError>
+fn write_sentence_chunk(
+    out: &mut String,
+    chunk: &Chunk,
+    begins: bool,
+    space: bool,
+) -> Result<bool, AllocError>
     ensures written { OnOk result (string_bytes out.new ≡ string_bytes out.old ++ encode_utf8_all (formatted_chunk (sentence_case begins) space chunk.now)) }
     ensures behind { IfOk result (λ after. after ≡ space_behind space chunk.now) }
 {

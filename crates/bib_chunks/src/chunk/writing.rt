@@ -150,7 +150,12 @@ fn write_chunk(out: &mut String, chunk: &Chunk, is_verbatim: bool) -> Result<(),
 }
 
 // Writes a chunk of a value.
-fn write_part(out: &mut String, chunk: &Chunk, is_open: bool, is_verbatim: bool) -> Result<(), AllocError>
+fn write_part(
+    out: &mut String,
+    chunk: &Chunk,
+    is_open: bool,
+    is_verbatim: bool,
+) -> Result<(), AllocError>
     ensures { OnOk result (string_bytes out.new ≡ string_bytes out.old ++ encode_utf8_all (lead is_open chunk.now ++ written_chunk is_verbatim chunk.now ++ trail chunk.now)) }
 {
     out.push_str(lead(chunk, is_open))?;
@@ -175,7 +180,11 @@ fn write_parts(out: &mut String, chunks: ChunksRef<'_>, is_verbatim: bool) -> Re
 }
 
 // The text of a chunk by itself.
-pub(super) fn chunk_text(alloc: Global, chunk: &Chunk, is_verbatim: bool) -> Result<String, AllocError>
+pub(super) fn chunk_text(
+    alloc: Global,
+    chunk: &Chunk,
+    is_verbatim: bool,
+) -> Result<String, AllocError>
     ensures { IfOk result (λ text. string_bytes text ≡ encode_utf8_all (written_chunk is_verbatim chunk.now)) }
 {
     let mut out = String::new(alloc);
@@ -184,7 +193,11 @@ pub(super) fn chunk_text(alloc: Global, chunk: &Chunk, is_verbatim: bool) -> Res
 }
 
 // The text of a value.
-pub(super) fn value_text(alloc: Global, chunks: ChunksRef<'_>, is_verbatim: bool) -> Result<String, AllocError>
+pub(super) fn value_text(
+    alloc: Global,
+    chunks: ChunksRef<'_>,
+    is_verbatim: bool,
+) -> Result<String, AllocError>
     ensures { IfOk result (λ text. string_bytes text ≡ encode_utf8_all (written_value is_verbatim chunks.now)) }
 {
     let mut out = String::new(alloc);

@@ -14,7 +14,7 @@ abbrev pub invariant-pieces : goal.invariant-pieces
 invariant-pieces l =
     shadow (Utf8 l.rest)
     × ((behind : List (List (Spanned Chunk))) → all_parts l.parts (joined (between_commas l.behind l.start l.span.end (slice_split (λ b. b == 44) l.rest)) behind)
-        ≡ all_parts l.initial.parts (joined (between_commas false l.span.start l.span.end (slice_split (λ b. b == 44) l.text)) behind))
+    ≡ all_parts l.initial.parts (joined (between_commas false l.span.start l.span.end (slice_split (λ b. b == 44) l.text)) behind))
 
 abbrev pub decreases-pieces : goal.decreases-pieces
 decreases-pieces l = length l.rest

@@ -23,5 +23,5 @@ text-smaller c = less_behind c.in-Some.ensures
 pub text-preserved : goal.text-preserved
 text-preserved c =
     let step = sentence_step (string_bytes c.text.out) (string_bytes c.write_cased.new.out) _ c.in-Some-unbroken.shown c.text.first c.text.after c.is_whitespace-after.result _ c.unbroken.result c.in-Some.ensures c.text.invariant.1 c.in-Some-unbroken.is c.unbroken.ensures
-            c.in_ok-write_cased.ensures c.is_whitespace-after.ensures c.text.invariant.2 c.text.invariant.3 in
+    c.in_ok-write_cased.ensures c.is_whitespace-after.ensures c.text.invariant.2 c.text.invariant.3 in
     (step.0 ∙ c.text.invariant.0, step.1, step.2, step.3)

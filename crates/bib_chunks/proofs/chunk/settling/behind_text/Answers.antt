@@ -1,8 +1,5 @@
-use Rattle.std.proofs.Common.{◌∙◌, refl, sym, ap}
+use Rattle.std.proofs.Common.{◌∙◌, refl}
 use Rattle.std.specs.Str.{chars}
-use Rattle.bib_chunks.specs.Places.{AtEnd}
-use Rattle.bib_chunks.specs.Settling.{Continues, text_atoms}
-use Rattle.bib_chunks.specs.Places.Run.{stop}
 use Rattle.bib_chunks.proofs.TextFacts.{ahead, passed_char, chars_at_end, less_behind}
 use Rattle.bib_chunks.proofs.SettledFacts.{settled_step, settled_stuck, settled_end}
 use Rattle.bib_chunks.proofs.chunk.settling.behind_text.Goals as goal
@@ -21,8 +18,7 @@ text-smaller c = less_behind c.in-Some.ensures
 
 pub text-preserved : goal.text-preserved
 text-preserved c =
-    let passed = passed_char c.in-Some.ensures c.text.invariant.1 in
-    (
+    let passed = passed_char c.in-Some.ensures c.text.invariant.1 in (
       passed.same ∙ c.text.invariant.0,
       passed.utf8,
       rw c.behind-last.ensures (settled_step c.args.is_braced c.args.before c.text.last c.in-Some.c (chars c.args.text.now) (chars (ahead c.eat.new.self)) c.if-not-may_follow.ensures (rw passed.spelt at c.text.invariant.2)),

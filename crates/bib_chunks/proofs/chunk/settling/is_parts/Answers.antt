@@ -1,6 +1,4 @@
-use Rattle.std.proofs.Common.{◌∙◌, refl, sym, ap, arith, subst, length}
-use Rattle.std.specs.Char.{len_utf8}
-use Rattle.std.proofs.lemmas.Str.{len_utf8_bounds}
+use Rattle.std.proofs.Common.{◌∙◌, refl, arith, subst, length}
 use Rattle.bib_chunks.proofs.BraceFacts.{closes_plain, closes_hidden, closes_slash_end, closes_open, closes_close, closes_close_none, closes_end, end_is, is_plain_from, iff_trans, iff_cases, Closes}
 use Rattle.bib_chunks.proofs.TextFacts.{less_behind}
 use Rattle.bib_chunks.specs.Places.{place}
@@ -26,8 +24,7 @@ parts-preserved-then-c-eq125 c =
 
 pub parts-preserved-in-Some-eat-2 : goal.parts-preserved-in-Some-eat-2
 parts-preserved-in-Some-eat-2 c =
-    let slash = rw c.if-c-eq92.true at c.in-Some.ensures in
-    (
+    let slash = rw c.if-c-eq92.true at c.in-Some.ensures in (
       c.in-Some-eat.ensures.same ∙ slash.same ∙ c.parts.invariant.0,
       omega (arith, c.parts.invariant.1, slash.next, c.in-Some-eat.ensures.next),
       iff_trans c.parts.invariant.2 (closes_hidden c.parts.depth _ refl slash c.in-Some-eat.ensures),
@@ -42,12 +39,11 @@ pub parts-smaller : goal.parts-smaller
 parts-smaller c = less_behind c.in-Some.ensures
 
 pub parts-preserved : goal.parts-preserved
-parts-preserved c =
-    (
-      c.in-Some.ensures.same ∙ c.parts.invariant.0,
-      omega (arith, c.parts.invariant.1, c.in-Some.ensures.next),
-      iff_trans c.parts.invariant.2 (closes_plain c.parts.depth _ refl c.in-Some.ensures (is_plain_from c.in-Some.c c.if-c-eq123.false c.if-c-eq125.false c.if-c-eq92.false) c.if-c-eq125.false),
-    )
+parts-preserved c = (
+  c.in-Some.ensures.same ∙ c.parts.invariant.0,
+  omega (arith, c.parts.invariant.1, c.in-Some.ensures.next),
+  iff_trans c.parts.invariant.2 (closes_plain c.parts.depth _ refl c.in-Some.ensures (is_plain_from c.in-Some.c c.if-c-eq123.false c.if-c-eq125.false c.if-c-eq92.false) c.if-c-eq125.false),
+)
 
 pub returns : goal.returns
 returns c = iff_cases _ c.parts.invariant.2 (closes_end c.parts.depth _ c.in_default.ensures.0 (end_is c.args.text.now c.parts.invariant.0 c.in_default.ensures.0))

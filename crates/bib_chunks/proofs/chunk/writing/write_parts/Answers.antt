@@ -1,4 +1,3 @@
-use Rattle.std.proofs.Common.{arith}
 use Rattle.bib_chunks.proofs.WrittenFacts.{written_part}
 use Rattle.bib_chunks.proofs.chunk.writing.write_parts.Goals as goal
 
