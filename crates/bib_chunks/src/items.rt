@@ -37,31 +37,32 @@ impl<T> Items<T> {
     }
 
     /// The list of a vector's elements. Takes no memory.
-    pub fn from_vec(vec: Vec<T>) -> Self
-        ensures { result ≡ vec.items }
+    pub fn from_vec(elements: Vec<T>) -> Self
+        ensures { result ≡ elements.items }
     {
-        Items { vec }
+        Items { vec: elements }
     }
 
     /// The vector of the elements. Takes no memory.
     pub fn into_vec(self) -> Vec<T>
         ensures { result.items ≡ self }
     {
-        self.vec
+        let Items { vec: list } = self;
+        list
     }
 
     /// How many elements there are.
     pub fn len(&self) -> usize
         ensures { result ≡ length self.now }
     {
-        self.vec.as_slice().len()
+        self.vec.len()
     }
 
     /// Whether there is no element.
     pub fn is_empty(&self) -> bool
         ensures { result ≡ (length self.now == 0) }
     {
-        self.vec.as_slice().is_empty()
+        self.vec.is_empty()
     }
 
     /// The elements, borrowed.

@@ -40,17 +40,18 @@ impl Text {
     }
 
     /// The text of a string. Takes no memory.
-    pub fn from_string(string: String) -> Self
-        ensures { result ≡ string_bytes string }
+    pub fn from_string(whole: String) -> Self
+        ensures { result ≡ string_bytes whole }
     {
-        Text { string }
+        Text { string: whole }
     }
 
     /// The string of a text. Takes no memory.
     pub fn into_string(self) -> String
         ensures { string_bytes result ≡ self }
     {
-        self.string
+        let Text { string: text } = self;
+        text
     }
 
     /// The text, borrowed.
@@ -64,14 +65,14 @@ impl Text {
     pub fn len(&self) -> usize
         ensures { result ≡ length self.now }
     {
-        self.string.as_str().len()
+        self.string.len()
     }
 
     /// Whether the text has no character.
     pub fn is_empty(&self) -> bool
         ensures { result ≡ (length self.now == 0) }
     {
-        self.string.as_str().is_empty()
+        self.string.is_empty()
     }
 
     /// Appends a character. A refusal changes nothing.
@@ -104,7 +105,7 @@ impl PartialEq for Text {
     ghost laws = { Cmp.partial_equiv_from_equiv nat_list_eq_equiv };
 
     fn eq(&self, other: &Self) -> bool {
-        self.string.as_str() == other.string.as_str()
+        self.string == other.string
     }
 }
 

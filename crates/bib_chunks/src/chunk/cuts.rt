@@ -117,11 +117,10 @@ fn cut_comma_chunk(
 ) -> Result<(), AllocError>
     ensures { OnOk result (Reads parts.old parts.new (comma_pieces chunk.now.v chunk.now.span)) }
 {
-    match &chunk.v {
-        Chunk::Normal(text) => cut_at_commas(alloc, parts, text.as_str(), &chunk.span),
-        Chunk::Verbatim(_) => parts.add(copy(chunk)?),
-        Chunk::Math(_) => parts.add(copy(chunk)?),
+    if let Chunk::Normal(list) = &chunk.v {
+        return cut_at_commas(alloc, parts, list.as_str(), &chunk.span);
     }
+    parts.add(copy(chunk)?)
 }
 
 /// The parts of a comma list. It is cut at each comma of a normal chunk, and the white space next to such a comma in
