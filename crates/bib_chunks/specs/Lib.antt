@@ -7,4 +7,5 @@ pub mod Places
 pub mod Settled
 pub mod Settling
 pub mod Styled
+pub mod Writing
 pub mod Written

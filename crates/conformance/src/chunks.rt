@@ -117,6 +117,24 @@ fn formats_verbatim(rt: HostRuntime) -> Result<(), Fail> {
 }
 
 #[test]
+fn formats_as_sentence(rt: HostRuntime) -> Result<(), Fail> {
+    let alloc = rt.alloc();
+    let rows: [(&[(char, &str)], &str); 6] = [
+        (&[], ""),
+        (&[('n', "a Big "), ('v', "NASA")], "A big NASA"),
+        (&[('v', "nASA"), ('n', " In Space")], "nASA in space"),
+        (&[('n', ""), ('n', "Big")], "big"),
+        (&[('n', "BIG\n"), ('m', "X"), ('n', "\nB")], "Big $X$b"),
+        (&[('n', "éCOLE ÉTÉ")], "École été"),
+    ];
+    for (parts, text) in rows {
+        let all = chunks(alloc, parts)?;
+        assert_eq!(rt; all.as_slice().format_sentence(alloc)?.as_str(), text);
+    }
+    Ok(())
+}
+
+#[test]
 fn spans_chunks(rt: HostRuntime) -> Result<(), Fail> {
     let alloc = rt.alloc();
     let none = chunks(alloc, &[])?;
@@ -142,6 +160,42 @@ fn cuts_at_commas(rt: HostRuntime) -> Result<(), Fail> {
         let list = cuts::comma_list(alloc, all.as_slice())?;
         assert_eq!(rt; joined(alloc, &list)?.as_str(), text);
     }
+    Ok(())
+}
+
+#[test]
+fn cuts_at_words_and(rt: HostRuntime) -> Result<(), Fail> {
+    let alloc = rt.alloc();
+    let rows: [(&[(char, &str)], &str); 8] = [
+        (&[], "|"),
+        (
+            &[('n', "Johannes anderson Gutenberg and Claudeand Garamond and Aanderson Manutius")],
+            "|Johannes anderson Gutenberg|Claudeand Garamond|Aanderson Manutius",
+        ),
+        (&[('n', "A and and B")], "|A||B"),
+        (&[('n', " and x ")], "|and x"),
+        (&[('n', "x and "), ('v', "y and z")], "|x|y and z"),
+        (&[('n', " a "), ('v', " b "), ('n', " and\u{2003}c d and e")], "|a  b |c d|e"),
+        (&[('n', "a "), ('n', "and b")], "|a and b"),
+        (&[('n', "a\tand\u{2003}b")], "|a|b"),
+    ];
+    for (parts, text) in rows {
+        let all = chunks(alloc, parts)?;
+        let list = cuts::and_list(alloc, all.as_slice())?;
+        assert_eq!(rt; joined(alloc, &list)?.as_str(), text);
+    }
+    Ok(())
+}
+
+#[test]
+fn cuts_at_the_first_separator(rt: HostRuntime) -> Result<(), Fail> {
+    let alloc = rt.alloc();
+    let none = chunks(alloc, &[('v', "a=b"), ('m', "c=d"), ('n', "e")])?;
+    assert!(rt; cuts::cut_at(alloc, none.as_slice(), '=')?.is_none());
+    let some = chunks(alloc, &[('v', "a=b"), ('n', " given = Simon = x"), ('v', "c")])?;
+    let (before, behind) = cuts::cut_at(alloc, some.as_slice(), '=')?.ok_or("no cut")?;
+    assert_eq!(rt; before.as_slice().format_verbatim(alloc)?.as_str(), "a=b given");
+    assert_eq!(rt; behind.as_slice().format_verbatim(alloc)?.as_str(), "Simon = xc");
     Ok(())
 }
 

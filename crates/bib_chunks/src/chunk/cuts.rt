@@ -87,7 +87,8 @@ fn cut_at_commas(
     text: &str,
     span: &Span,
 ) -> Result<(), AllocError>
-    ensures { OnOk result (Reads parts.old parts.new (between_commas false span.now.start span.now.end (slice_split (λ b. b == 44) text.now))) }
+    ensures { OnOk result (Reads parts.old parts.new
+        (between_commas false span.now.start span.now.end (slice_split (λ b. b == 44) text.now))) }
 {
     let mut rest = text;
     let mut start = span.start;
@@ -231,7 +232,8 @@ fn after_and(text: &str) -> Option<&str>
 
 // What stands before and behind the first word `and` of a text that has white space just before it and just behind it.
 fn first_and(text: &str) -> Option<(&str, &str)>
-    ensures { MatchOption result (between_ands false (chars text.now) ≡ chars text.now ∷ []) (λ both. IsFirstAnd text.now both.0.now both.1.now) }
+    ensures { MatchOption result (between_ands false (chars text.now) ≡ chars text.now ∷ [])
+        (λ both. IsFirstAnd text.now both.0.now both.1.now) }
 {
     let mut at = 0usize;
     let mut space = false;
@@ -253,7 +255,8 @@ fn first_and(text: &str) -> Option<(&str, &str)>
 
 // Cuts a normal chunk at its words `and`.
 fn cut_at_ands(alloc: Global, parts: &mut Parts, text: &str, span: &Span) -> Result<(), AllocError>
-    ensures { OnOk result (Reads parts.old parts.new (placed_between_ands span.now.start span.now.end (between_ands false (chars text.now)))) }
+    ensures { OnOk result (Reads parts.old parts.new
+        (placed_between_ands span.now.start span.now.end (between_ands false (chars text.now)))) }
 {
     let mut rest = text;
     let mut start = span.start;

@@ -4,6 +4,7 @@ ghost use Rattle.std.specs.Prelude.{◌≡◌, ◌∷◌, [], ◌++◌, OnOk, If
 ghost use Rattle.std.specs.Char.Iter.{case_mapping_chars};
 ghost use Rattle.std.specs.Str.{chars};
 ghost use Rattle.bib_chunks.specs.Formatted.{is_break, ends_in_space, unbroken, flowing, formatted, formatted_chunk, space_behind, cased, sentence_case, sentence};
+ghost use Rattle.bib_chunks.specs.Writing.{Writes};
 
 use super::{Chunk, ChunksRef};
 use crate::scanner::Scanner;
@@ -32,7 +33,7 @@ fn ends_in_space(text: &str, empty: bool) -> bool
 
 // Writes what a line break becomes.
 fn write_break(out: &mut String, space: bool) -> Result<(), AllocError>
-    ensures { OnOk result (string_bytes out.new ≡ string_bytes out.old ++ encode_utf8_all (if space then [] else 32 ∷ [])) }
+    ensures { OnOk result (Writes out.old out.new (if space then [] else 32 ∷ [])) }
 {
     if !space {
         out.push(' ')?;
@@ -42,7 +43,7 @@ fn write_break(out: &mut String, space: bool) -> Result<(), AllocError>
 
 // Writes a normal text on one line, behind white space or not, and answers whether white space stands behind it.
 fn write_flowing(out: &mut String, text: &str, space: bool) -> Result<bool, AllocError>
-    ensures written { OnOk result (string_bytes out.new ≡ string_bytes out.old ++ encode_utf8_all (flowing space (chars text.now))) }
+    ensures written { OnOk result (Writes out.old out.new (flowing space (chars text.now))) }
     ensures behind { IfOk result (λ after. after ≡ ends_in_space space (flowing space (chars text.now))) }
 {
     let mut scanner = Scanner::new(text);
@@ -61,7 +62,7 @@ fn write_flowing(out: &mut String, text: &str, space: bool) -> Result<bool, Allo
 
 // Writes a chunk behind white space or not, and answers whether white space stands behind it.
 fn write_chunk(out: &mut String, chunk: &Chunk, space: bool) -> Result<bool, AllocError>
-    ensures written { OnOk result (string_bytes out.new ≡ string_bytes out.old ++ encode_utf8_all (formatted_chunk (λ cs. cs) space chunk.now)) }
+    ensures written { OnOk result (Writes out.old out.new (formatted_chunk (λ cs. cs) space chunk.now)) }
     ensures behind { IfOk result (λ after. after ≡ space_behind space chunk.now) }
 {
     match chunk {
@@ -79,7 +80,7 @@ fn write_chunk(out: &mut String, chunk: &Chunk, space: bool) -> Result<bool, All
 
 // Writes a math text between dollar signs.
 fn write_math(out: &mut String, text: &str) -> Result<(), AllocError>
-    ensures { OnOk result (string_bytes out.new ≡ string_bytes out.old ++ encode_utf8_all (36 ∷ (chars text.now ++ 36 ∷ []))) }
+    ensures { OnOk result (Writes out.old out.new (36 ∷ (chars text.now ++ 36 ∷ []))) }
 {
     out.push('$')?;
     out.push_str(text)?;
@@ -114,7 +115,7 @@ fn unbroken(c: char, space: bool) -> Option<char>
 
 // Writes a character if there is one.
 fn write_some(out: &mut String, c: Option<char>) -> Result<(), AllocError>
-    ensures { OnOk result (string_bytes out.new ≡ string_bytes out.old ++ encode_utf8_all (option_to_list c)) }
+    ensures { OnOk result (Writes out.old out.new (option_to_list c)) }
 {
     if let Some(c) = c {
         out.push(c)?;
@@ -124,7 +125,7 @@ fn write_some(out: &mut String, c: Option<char>) -> Result<(), AllocError>
 
 // Writes what a character becomes in another case, which is up to three characters; std has one type for both cases.
 fn write_changed(out: &mut String, changed: ToLowercase) -> Result<(), AllocError>
-    ensures { OnOk result (string_bytes out.new ≡ string_bytes out.old ++ encode_utf8_all (case_mapping_chars changed)) }
+    ensures { OnOk result (Writes out.old out.new (case_mapping_chars changed)) }
 {
     let mut changed = changed;
     write_some(out, changed.next())?;
@@ -135,7 +136,7 @@ fn write_changed(out: &mut String, changed: ToLowercase) -> Result<(), AllocErro
 
 // Writes a character in lower case, or in upper case where it begins a sentence.
 fn write_cased(out: &mut String, c: char, begins: bool) -> Result<(), AllocError>
-    ensures { OnOk result (string_bytes out.new ≡ string_bytes out.old ++ encode_utf8_all (cased begins c)) }
+    ensures { OnOk result (Writes out.old out.new (cased begins c)) }
 {
     if begins {
         return write_changed(out, c.to_uppercase());
@@ -150,7 +151,7 @@ fn write_sentence_text(
     begins: bool,
     space: bool,
 ) -> Result<bool, AllocError>
-    ensures written { OnOk result (string_bytes out.new ≡ string_bytes out.old ++ encode_utf8_all (sentence_case begins (flowing space (chars text.now)))) }
+    ensures written { OnOk result (Writes out.old out.new (sentence_case begins (flowing space (chars text.now)))) }
     ensures behind { IfOk result (λ after. after ≡ ends_in_space space (flowing space (chars text.now))) }
 {
     let mut scanner = Scanner::new(text);
@@ -174,7 +175,7 @@ fn write_sentence_chunk(
     begins: bool,
     space: bool,
 ) -> Result<bool, AllocError>
-    ensures written { OnOk result (string_bytes out.new ≡ string_bytes out.old ++ encode_utf8_all (formatted_chunk (sentence_case begins) space chunk.now)) }
+    ensures written { OnOk result (Writes out.old out.new (formatted_chunk (sentence_case begins) space chunk.now)) }
     ensures behind { IfOk result (λ after. after ≡ space_behind space chunk.now) }
 {
     match chunk {

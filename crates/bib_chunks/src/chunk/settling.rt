@@ -28,7 +28,8 @@ fn is_pair(c: char, d: char) -> bool
 
 // Whether a character may stand behind what stands before it.
 fn may_follow(before: Before, c: char, is_braced: bool) -> bool
-    ensures { MatchBool result (MayFollow before (character_atom is_braced c)) (MayFollow before (character_atom is_braced c) → ⊥) }
+    ensures { MatchBool result (MayFollow before (character_atom is_braced c))
+        (MayFollow before (character_atom is_braced c) → ⊥) }
 {
     if c.is_whitespace() && c != ' ' {
         return false;
@@ -52,7 +53,8 @@ fn behind(c: char, is_braced: bool) -> Before
 
 // What stands behind a text, if its characters may stand there.
 fn behind_text(text: &str, is_braced: bool, before: Before) -> Option<Before>
-    ensures { MatchOption result (IsStuck before (text_atoms is_braced (chars text.now))) (λ after. Continues before (text_atoms is_braced (chars text.now)) after []) }
+    ensures { MatchOption result (IsStuck before (text_atoms is_braced (chars text.now)))
+        (λ after. Continues before (text_atoms is_braced (chars text.now)) after []) }
 {
     let mut scanner = Scanner::new(text);
     let mut last = before;
@@ -113,7 +115,8 @@ fn is_settled_math(text: &str) -> bool
 
 // What stands behind a chunk, if its atoms may stand there.
 fn behind_chunk(chunk: &Chunk, is_verbatim: bool, before: Before) -> Option<Before>
-    ensures { MatchOption result (IsStuckIn is_verbatim before (atoms_of chunk.now)) (λ after. ContinuesIn is_verbatim before (atoms_of chunk.now) after []) }
+    ensures { MatchOption result (IsStuckIn is_verbatim before (atoms_of chunk.now))
+        (λ after. ContinuesIn is_verbatim before (atoms_of chunk.now) after []) }
 {
     match chunk {
         Chunk::Normal(text) => behind_text(text.as_str(), false, before),

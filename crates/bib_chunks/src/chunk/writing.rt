@@ -3,6 +3,7 @@
 ghost use Rattle.std.specs.Prelude.{◌≡◌, ◌∷◌, [], ◌++◌, false, OnOk, IfOk, string_bytes, encode_utf8_all};
 ghost use Rattle.std.specs.Str.{chars};
 ghost use Rattle.bib_chunks.specs.Written.{is_grouping, is_reserved, is_bare, spelled, spelling, lead, trail, is_open_behind, written_chunk, written_chunks, written_value};
+ghost use Rattle.bib_chunks.specs.Writing.{Writes};
 
 use super::{Chunk, ChunksRef};
 use crate::scanner::Scanner;
@@ -43,7 +44,7 @@ fn is_bare(c: char, is_verbatim: bool) -> bool
 
 // Writes a character behind a backslash.
 fn write_hidden(out: &mut String, c: char) -> Result<(), AllocError>
-    ensures { OnOk result (string_bytes out.new ≡ string_bytes out.old ++ encode_utf8_all (92 ∷ c ∷ [])) }
+    ensures { OnOk result (Writes out.old out.new (92 ∷ c ∷ [])) }
 {
     out.push('\\')?;
     out.push(c)?;
@@ -52,7 +53,7 @@ fn write_hidden(out: &mut String, c: char) -> Result<(), AllocError>
 
 // Writes one character.
 fn write_char(out: &mut String, c: char, is_verbatim: bool) -> Result<(), AllocError>
-    ensures { OnOk result (string_bytes out.new ≡ string_bytes out.old ++ encode_utf8_all (spelled is_verbatim c)) }
+    ensures { OnOk result (Writes out.old out.new (spelled is_verbatim c)) }
 {
     if is_grouping(c) {
         return write_hidden(out, c);
@@ -78,7 +79,7 @@ fn write_char(out: &mut String, c: char, is_verbatim: bool) -> Result<(), AllocE
 
 // Writes a text, each character as it is spelled.
 fn write_text(out: &mut String, text: &str, is_verbatim: bool) -> Result<(), AllocError>
-    ensures { OnOk result (string_bytes out.new ≡ string_bytes out.old ++ encode_utf8_all (spelling is_verbatim (chars text.now))) }
+    ensures { OnOk result (Writes out.old out.new (spelling is_verbatim (chars text.now))) }
 {
     let mut scanner = Scanner::new(text);
     'text: loop {
@@ -134,7 +135,7 @@ fn is_open_behind(chunk: &Chunk, is_open: bool) -> bool
 
 // Writes a chunk by itself.
 fn write_chunk(out: &mut String, chunk: &Chunk, is_verbatim: bool) -> Result<(), AllocError>
-    ensures { OnOk result (string_bytes out.new ≡ string_bytes out.old ++ encode_utf8_all (written_chunk is_verbatim chunk.now)) }
+    ensures { OnOk result (Writes out.old out.new (written_chunk is_verbatim chunk.now)) }
 {
     match chunk {
         Chunk::Normal(text) => write_text(out, text.as_str(), is_verbatim),
@@ -156,7 +157,8 @@ fn write_part(
     is_open: bool,
     is_verbatim: bool,
 ) -> Result<(), AllocError>
-    ensures { OnOk result (string_bytes out.new ≡ string_bytes out.old ++ encode_utf8_all (lead is_open chunk.now ++ written_chunk is_verbatim chunk.now ++ trail chunk.now)) }
+    ensures { OnOk result (Writes out.old out.new
+        (lead is_open chunk.now ++ written_chunk is_verbatim chunk.now ++ trail chunk.now)) }
 {
     out.push_str(lead(chunk, is_open))?;
     write_chunk(out, chunk, is_verbatim)?;
@@ -166,7 +168,7 @@ fn write_part(
 
 // Writes the chunks of a value.
 fn write_parts(out: &mut String, chunks: ChunksRef<'_>, is_verbatim: bool) -> Result<(), AllocError>
-    ensures { OnOk result (string_bytes out.new ≡ string_bytes out.old ++ encode_utf8_all (written_chunks is_verbatim false chunks.now)) }
+    ensures { OnOk result (Writes out.old out.new (written_chunks is_verbatim false chunks.now)) }
 {
     let mut is_open = false;
     'parts: for chunk in chunks {
