@@ -1,7 +1,22 @@
-//! Values that know where they stand.
+//! Values that know where they stand, and text that knows what is normal, verbatim and math.
 
-ghost use Rattle.std.specs.Prelude.{◌≡◌, ◌^◌, ◌-◌, ◌↔◌, IsTrue};
+ghost use Rattle.std.specs.Prelude.{◌≡◌, ◌^◌, ◌-◌, ◌↔◌, IsTrue, IfOk, string_bytes, encode_utf8_all};
+ghost use Rattle.std.specs.Borrow.{sem};
+ghost use Rattle.bib_chunks.specs.Styled.{text_of};
+ghost use Rattle.bib_chunks.specs.Lending.{LendsText};
+ghost use Rattle.bib_chunks.specs.Written.{written_chunk};
 
+pub mod cuts;
+mod ext;
+mod formatting;
+mod settling;
+mod writing;
+
+use crate::items::Items;
+use crate::text::Text;
+pub use ext::ChunksExt;
+pub use settling::is_settled;
+use std::alloc::{AllocError, Global};
 use std::ops::Range;
 
 /// A range of bytes of a text.
@@ -68,6 +83,65 @@ impl<T> Spanned<T> {
         Spanned {
             v: f(self.v),
             span: self.span,
+        }
+    }
+}
+
+/// A part of a field's value.
+#[derive(Debug, PartialEq, Eq, Drop)]
+pub enum Chunk {
+    /// Text that a style may put into another case.
+    Normal(Text),
+    /// Text in braces of its own, which stays as it is.
+    Verbatim(Text),
+    /// Text between dollar signs.
+    Math(Text),
+}
+
+/// The chunks of a value, each with its place.
+pub type Chunks = Items<Spanned<Chunk>>;
+
+/// Borrowed chunks.
+pub type ChunksRef<'a> = &'a [Spanned<Chunk>];
+
+impl Chunk {
+    /// The text of the chunk.
+    pub fn get(&self) -> &str
+        ensures { result.now ≡ text_of self.now }
+    {
+        match self {
+            Chunk::Normal(text) | Chunk::Verbatim(text) | Chunk::Math(text) => text.as_str(),
+        }
+    }
+
+    /// The text of the chunk, to be changed.
+    pub fn get_mut(&mut self) -> &mut Text
+        ensures* writes_back { sem 𝓛 (LendsText self.entry result) }
+        ensures value { result.now ≡ text_of self.old }
+    {
+        match self {
+            Chunk::Normal(text) => text,
+            Chunk::Verbatim(text) => text,
+            Chunk::Math(text) => text,
+        }
+    }
+
+    /// The text of the chunk as it is written in a field, verbatim or not, without braces and dollar signs round it.
+    pub fn to_biblatex_string(&self, alloc: Global, is_verbatim: bool) -> Result<String, AllocError>
+        ensures { IfOk result (λ text. string_bytes text ≡ encode_utf8_all (written_chunk is_verbatim self.now)) }
+    {
+        writing::chunk_text(alloc, self, is_verbatim)
+    }
+}
+
+impl Clone for Chunk {
+    ghost is_clone = { λ c copy. copy ≡ c };
+
+    fn clone(&self) -> Result<Self, AllocError> {
+        match self {
+            Chunk::Normal(text) => Ok(Chunk::Normal(text.clone()?)),
+            Chunk::Verbatim(text) => Ok(Chunk::Verbatim(text.clone()?)),
+            Chunk::Math(text) => Ok(Chunk::Math(text.clone()?)),
         }
     }
 }

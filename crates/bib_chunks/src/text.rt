@@ -1,87 +1,114 @@
-//! Text that is owned, seen as its bytes.
+//! Text of one's own: a `String` that contracts see as its bytes.
 
-ghost use Rattle.std.specs.Prelude.{◌≡◌, ◌↔◌, IfOk, IsTrue};
+ghost use Rattle.std.specs.Prelude.{◌≡◌, ◌==◌, ◌↔◌, List, [], ◌++◌, length, is_ok, if◌then◌else◌, IfOk, IsTrue, nat_eq, encode_utf8, string_bytes};
+ghost use Rattle.std.specs.Cmp;
+ghost use Rattle.std.specs.Cmp.Lexicographic.{pointwise, nat_list_eq_equiv};
 
 use std::alloc::{AllocError, Global};
 use std::marker::Model;
 
-/// A text that is owned. Contracts see its bytes in UTF-8, and neither its capacity nor its allocator.
+/// A text. Contracts see it as its bytes, which are UTF-8.
 #[derive(Debug, Drop)]
 pub struct Text {
     string: String,
 }
 
 impl Model for Text {
-    ghost use Rattle.std.specs.Prelude.{List, ℕ};
-    ghost use Rattle.std.specs.String.{string_bytes};
+    ghost use Rattle.std.specs.Prelude.{ℕ, List, string_bytes};
 
     ghost Value = { List ℕ };
 
-    ghost view = { λ text. string_bytes text.string };
+    ghost view = { λ t. string_bytes t.string };
 }
 
 impl Text {
-    ghost use Rattle.std.specs.String.{string_bytes};
-
-    /// The text of a string, with no memory taken.
-    pub fn from_string(string: String) -> Self
-        ensures { result ≡ string_bytes string }
+    /// The empty text.
+    pub fn new(alloc: Global) -> Self
+        ensures { result ≡ [] }
     {
-        Text { string }
-    }
-
-    /// The string that holds the text, with no memory taken.
-    pub fn into_string(self) -> String
-        ensures { string_bytes result ≡ self }
-    {
-        let Text { string } = self;
-        string
+        Text {
+            string: String::new(alloc),
+        }
     }
 
     /// A copy of a text.
     pub fn from_str(alloc: Global, text: &str) -> Result<Self, AllocError>
-        ensures { IfOk result (λ copy. copy ≡ text.now) }
+        ensures { IfOk result (λ t. t ≡ text.now) }
     {
-        Ok(Text {
-            string: String::from_str(alloc, text)?,
-        })
+        let string = String::from_str(alloc, text)?;
+        Ok(Text { string })
     }
 
-    /// The text.
+    /// The text of a string. Takes no memory.
+    pub fn from_string(whole: String) -> Self
+        ensures { result ≡ string_bytes whole }
+    {
+        Text { string: whole }
+    }
+
+    /// The string of a text. Takes no memory.
+    pub fn into_string(self) -> String
+        ensures { string_bytes result ≡ self }
+    {
+        let Text { string: text } = self;
+        text
+    }
+
+    /// The text, borrowed.
     pub fn as_str(&self) -> &str
         ensures { result.now ≡ self.now }
     {
         self.string.as_str()
     }
+
+    /// The length in bytes.
+    pub fn len(&self) -> usize
+        ensures { result ≡ length self.now }
+    {
+        self.string.len()
+    }
+
+    /// Whether the text has no character.
+    pub fn is_empty(&self) -> bool
+        ensures { result ≡ (length self.now == 0) }
+    {
+        self.string.is_empty()
+    }
+
+    /// Appends a character. A refusal changes nothing.
+    pub fn push(&mut self, c: char) -> Result<(), AllocError>
+        ensures { self.new ≡ (if is_ok result then self.old ++ encode_utf8 c else self.old) }
+    {
+        self.string.push(c)
+    }
+
+    /// Appends a text. A refusal changes nothing.
+    pub fn push_str(&mut self, text: &str) -> Result<(), AllocError>
+        ensures { self.new ≡ (if is_ok result then self.old ++ text.now else self.old) }
+    {
+        self.string.push_str(text)
+    }
 }
 
 impl Clone for Text {
-    ghost is_clone = { λ text copy. copy ≡ text };
+    ghost is_clone = { λ t copy. copy ≡ t };
 
     fn clone(&self) -> Result<Self, AllocError> {
-        Ok(Text {
-            string: self.string.clone()?,
-        })
+        let string = self.string.clone()?;
+        Ok(Text { string })
     }
 }
 
 impl PartialEq for Text {
-    ghost use Rattle.std.specs.Prelude.{bytes_eq};
-    ghost use Rattle.std.specs.Cmp.Rules.{comparing};
-    ghost use Rattle.std.proofs.Common.{rules};
+    ghost eq = { pointwise nat_eq };
 
-    ghost eq = { bytes_eq };
+    ghost laws = { Cmp.partial_equiv_from_equiv nat_list_eq_equiv };
 
-    ghost laws = { Prim.search (comparing, rules) };
-
-    fn eq(&self, other: &Text) -> bool {
-        self.as_str() == other.as_str()
+    fn eq(&self, other: &Self) -> bool {
+        self.string == other.string
     }
 }
 
 impl Eq for Text {
-    ghost use Rattle.std.specs.Cmp.Rules.{comparing};
-    ghost use Rattle.std.proofs.Common.{rules};
-
-    ghost laws = { Prim.search (comparing, rules) };
+    ghost laws = { nat_list_eq_equiv };
 }

@@ -1,0 +1,204 @@
+-- Facts on the word `and` in a text.
+use Rattle.std.proofs.Common.{◌≡◌, ℕ, ◌+◌, ◌-◌, ◌<◌, Bool, true, false, ◌&&◌, cond, List, [], ◌∷◌, ◌++◌, length, get_or, take, drop, refl, sym, ap, ◌∙◌, arith, append_assoc, length-append, nat_eq, length-drop, ⊎_elim}
+use Rattle.std.specs.Prelude.{◌==◌, codes, encode_utf8_all}
+use lib.Utf8.{encode}
+use Rattle.std.specs.Char.{is_whitespace}
+use Rattle.std.specs.Str.{IsUtf8, chars}
+use Rattle.std.proofs.lemmas.Bool.{and_parts, cond-true, cond-false, eqb-true, false_from_ne_true, false≢true, ne_eqb, eq-eqb, cases_eq}
+use Rattle.std.proofs.lemmas.List.{append-nil, append_cancel_left, take_at, take-append-drop, drop_more}
+use Rattle.std.proofs.lemmas.Str.{encodes-chars, chars-nil}
+use Rattle.bib_chunks.specs.declared.chunk.Chunk.{Chunk}
+use Rattle.bib_chunks.specs.declared.chunk.Spanned.{Spanned}
+use Rattle.bib_chunks.specs.declared.chunk.cuts.Parts.{Parts}
+use Rattle.bib_chunks.specs.declared.chunk.Chunk.TheVariants.{Normal}
+use Rattle.bib_chunks.specs.Places.{place, CharAt}
+use Rattle.bib_chunks.specs.Cuts.{further, placed, joined, begins_with_space, is_and, prepend, between_ands, placed_between_ands, trimmed, trimmed_from}
+use Rattle.bib_chunks.specs.Cutting.{all_parts, Reads, IsAnd, NoAnd, IsFirstAnd}
+use Rattle.bib_chunks.proofs.TextFacts.{Passed, passed_char, passed_append, chars_past, chars_whole}
+use Rattle.bib_chunks.proofs.CutFacts.{read_one, read_end}
+
+-- whether the word stands at the start of these characters, with white space round it
+abbrev pub word_here : Bool → List ℕ → Bool
+word_here space (a ∷ n ∷ d ∷ rest) = space && is_and a n d && begins_with_space rest
+word_here space rest = false
+
+word_letters : (space : Bool) (cs : List ℕ) → word_here space cs ≡ true → (rest : List ℕ) × (cs ≡ 97 ∷ 110 ∷ 100 ∷ rest) × (begins_with_space rest ≡ true)
+word_letters space [] here = absurd (false≢true here)
+word_letters space (a ∷ []) here = absurd (false≢true here)
+word_letters space (a ∷ n ∷ []) here = absurd (false≢true here)
+word_letters space (a ∷ n ∷ d ∷ rest) here =
+    let outer = and_parts (space && is_and a n d) (begins_with_space rest) here in
+    let word = (and_parts space (is_and a n d) outer.0).1 in
+    let last = and_parts (a == 97 && n == 110) (d == 100) word in
+    let front = and_parts (a == 97) (n == 110) last.0 in (
+      rest,
+      ap (λ x. x ∷ n ∷ d ∷ rest) (eqb-true a 97 front.0) ∙ ap (λ x. 97 ∷ x ∷ d ∷ rest) (eqb-true n 110 front.1) ∙ ap (λ x. 97 ∷ 110 ∷ x ∷ rest) (eqb-true d 100 last.1),
+      outer.1,
+    )
+
+and_bytes : (bs : List ℕ) → codes "and" ++ bs ≡ encode_utf8_all (97 ∷ 110 ∷ 100 ∷ []) ++ bs
+unfolding encode
+and_bytes bs = refl
+
+and_bytes_all : (cs : List ℕ) → codes "and" ++ encode_utf8_all cs ≡ encode_utf8_all (97 ∷ 110 ∷ 100 ∷ cs)
+unfolding encode
+and_bytes_all cs = refl
+
+-- the characters of a text that begins with the word
+and_chars : (text behind : List ℕ) → IsUtf8 text → text ≡ codes "and" ++ behind → (chars text ≡ 97 ∷ 110 ∷ 100 ∷ chars behind) × IsUtf8 behind
+and_chars text behind utf8 word = chars_past (97 ∷ 110 ∷ 100 ∷ []) text behind utf8 (word ∙ and_bytes behind)
+
+never : (cs : List ℕ) → word_here false cs ≡ false
+never [] = refl
+never (a ∷ []) = refl
+never (a ∷ n ∷ []) = refl
+never (a ∷ n ∷ d ∷ rest) = refl
+
+-- no such word stands where no white space stands before it
+pub not_spaced : (space : Bool) (cs : List ℕ) → space ≡ false → word_here space cs ≡ false
+not_spaced space cs none = rw none (never cs)
+
+pub no_word : (space : Bool) (bs : List ℕ) → IsUtf8 bs → NoAnd bs → word_here space (chars bs) ≡ false
+no_word space bs utf8 no_and = false_from_ne_true (word_here space (chars bs)) (λ here.
+    let (rest, letters, spaced) = word_letters space (chars bs) here in
+    let word : bs ≡ codes "and" ++ encode_utf8_all rest = sym (encodes-chars bs utf8) ∙ ap encode_utf8_all letters ∙ sym (and_bytes_all rest) in
+    let same : chars (encode_utf8_all rest) ≡ rest = append_cancel_left (97 ∷ 110 ∷ 100 ∷ []) _ _ (sym (and_chars bs (encode_utf8_all rest) utf8 word).0 ∙ letters) in
+    no_and (encode_utf8_all rest) (record { word = word; space = ap begins_with_space same ∙ spaced }))
+
+-- where no word stands, a character goes into the first text
+between_other : (space : Bool) (c : ℕ) (cs : List ℕ) → word_here space (c ∷ cs) ≡ false → between_ands space (c ∷ cs) ≡ prepend (c ∷ []) (between_ands (is_whitespace c) cs)
+between_other space c [] here = refl
+between_other space c (n ∷ []) here = refl
+between_other space c (n ∷ d ∷ rest) here = cond-false (space && is_and c n d && begins_with_space rest) _ _ here
+
+between_word : (rest : List ℕ) → begins_with_space rest ≡ true → between_ands true (97 ∷ 110 ∷ 100 ∷ rest) ≡ [] ∷ between_ands false rest
+between_word rest spaced = cond-true (begins_with_space rest) _ _ spaced
+
+prepend_prepend : (xs ys : List ℕ) (texts : List (List ℕ)) → prepend xs (prepend ys texts) ≡ prepend (xs ++ ys) texts
+prepend_prepend xs ys [] = refl
+prepend_prepend xs ys (text ∷ texts) = ap (λ t. t ∷ texts) (sym (append_assoc xs ys text))
+
+cond_some : (here : Bool) (cut : List (List ℕ)) (a : ℕ) (texts : List (List ℕ)) → (text : List ℕ) × (more : List (List ℕ)) × (texts ≡ text ∷ more)
+    → (text : List ℕ) × (more : List (List ℕ)) × (cond here ([] ∷ cut) (prepend (a ∷ []) texts) ≡ text ∷ more)
+cond_some true cut a texts some = ([], cut, refl)
+cond_some false cut a texts some = ((a ∷ []) ++ some.0, some.1, ap (prepend (a ∷ [])) some.2)
+
+between_some : (space : Bool) (cs : List ℕ) → (text : List ℕ) × (texts : List (List ℕ)) × (between_ands space cs ≡ text ∷ texts)
+between_some space [] = ([], [], refl)
+between_some space (a ∷ []) = (_, _, refl)
+between_some space (a ∷ n ∷ []) = (_, _, refl)
+between_some space (a ∷ n ∷ d ∷ rest) =
+    let more = between_some (is_whitespace a) (n ∷ d ∷ rest) in
+    cond_some (space && is_and a n d && begins_with_space rest) (between_ands false rest) a (between_ands (is_whitespace a) (n ∷ d ∷ rest)) more
+
+prepend_none : (space : Bool) (cs : List ℕ) → prepend [] (between_ands space cs) ≡ between_ands space cs
+prepend_none space cs = let some = between_some space cs in rw some.2 refl
+
+-- what was passed before a place, in which no such word was found
+pub record Searched (text : List ℕ) (at : ℕ) (space : Bool) : Type 0 where
+  pub cs : List ℕ
+  pub passed : Passed (place text 0) cs (place text at)
+  pub texts : between_ands false (chars text) ≡ prepend cs (between_ands space (chars (drop at text)))
+
+pub searched_none : (text : List ℕ) → IsUtf8 text → Searched text 0 false
+searched_none text utf8 = record {
+  cs = [];
+  passed = record { same = refl; here = refl; next = refl; spelt = refl; utf8 = utf8 };
+  texts = sym (prepend_none false (chars text));
+}
+
+-- a character was passed where no such word stands
+pub searched_char : (text : List ℕ) (at next c : ℕ) (space : Bool) → Searched text at space → CharAt (place text at) c (place text next) → word_here space (chars (drop at text)) ≡ false → Searched text next (is_whitespace c)
+searched_char text at next c space so_far char none =
+    let one : Passed (place text at) (c ∷ []) (place text next) = passed_char char so_far.passed.utf8 in
+    let here : word_here space (c ∷ chars (drop next text)) ≡ false = rw one.spelt at none in
+    record {
+      cs = so_far.cs ++ c ∷ [];
+      passed = passed_append so_far.passed one;
+      texts = so_far.texts ∙ ap (λ xs. prepend so_far.cs (between_ands space xs)) one.spelt ∙ ap (prepend so_far.cs) (between_other space c (chars (drop next text)) here) ∙ prepend_prepend so_far.cs (c ∷ []) _;
+    }
+
+-- the bytes before a place
+before_place : (text : List ℕ) (at : ℕ) (cs : List ℕ) → Passed (place text 0) cs (place text at) → take at text ≡ encode_utf8_all cs
+before_place text at cs passed =
+    let next : at ≡ 0 + length (encode_utf8_all cs) = passed.next in
+    ap (take at) passed.here ∙ take_at (encode_utf8_all cs) (drop at text) at (omega arith)
+
+-- such a word stands there
+pub searched_word : (text : List ℕ) (at : ℕ) (before behind : List ℕ) → Searched text at true → before ≡ take at text → IsUtf8 before → IsAnd (drop at text) behind → IsFirstAnd text before behind
+searched_word text at before behind so_far front front_utf8 word =
+    let letters = and_chars (drop at text) behind so_far.passed.utf8 word.word in
+    let spells : before ≡ encode_utf8_all so_far.cs = front ∙ before_place text at so_far.cs so_far.passed in
+    let chars_before : chars before ≡ so_far.cs = chars_whole so_far.cs before front_utf8 spells in
+    record {
+      word = sym (take-append-drop at text) ∙ ap (λ xs. xs ++ drop at text) (sym front) ∙ ap (λ xs. before ++ xs) word.word;
+      cut =
+          so_far.texts ∙ ap (λ xs. prepend so_far.cs (between_ands true xs)) letters.0 ∙ ap (prepend so_far.cs) (between_word (chars behind) word.space)
+          ∙ ap (λ xs. xs ∷ between_ands false (chars behind)) (append-nil so_far.cs ∙ sym chars_before);
+      spells = sym (encodes-chars before front_utf8);
+      utf8 = letters.1;
+    }
+
+-- no such word stands in the text
+pub searched_all : (text : List ℕ) (at : ℕ) (space : Bool) → Searched text at space → drop at text ≡ [] → between_ands false (chars text) ≡ chars text ∷ []
+searched_all text at space so_far nothing =
+    let left : chars (drop at text) ≡ [] = ap chars nothing ∙ chars-nil in
+    so_far.texts ∙ ap (λ xs. prepend so_far.cs (between_ands space xs)) left ∙ ap (λ xs. (so_far.cs ++ xs) ∷ []) (sym left) ∙ ap (λ xs. xs ∷ []) (sym so_far.passed.spelt)
+
+placed_some : (start end : ℕ) (text : List ℕ) (more : List (List ℕ)) → (x : Spanned Chunk) × (xs : List (Spanned Chunk)) × (placed_between_ands start end (text ∷ more) ≡ x ∷ xs)
+placed_some start end text [] = (_, _, refl)
+placed_some start end text (next ∷ more) = (_, _, refl)
+
+-- a piece up to such a word was read
+pub read_and : (old middle new : Parts) (start end stop next : ℕ) (rest before behind : List ℕ) (piece : Spanned Chunk)
+    → IsFirstAnd rest before behind → stop ≡ further start (length before) → next ≡ further stop 3 → piece ≡ placed (Normal before) start stop
+    → middle ≡ record { done = old.done; last = old.last ++ piece ∷ [] } → new ≡ record { done = middle.done ++ middle.last ∷ []; last = [] }
+    → (parts : List (List (Spanned Chunk))) → all_parts new (joined (placed_between_ands next end (between_ands false (chars behind))) parts) ≡ all_parts old (joined (placed_between_ands start end (between_ands false (chars rest))) parts)
+read_and old middle new start end stop next rest before behind piece first stop_is next_is piece_is added closed parts =
+    let (text, more, split) = between_some false (chars behind) in
+    let (x, xs, some) = placed_some next end text more in
+    let rest_pieces : placed_between_ands next end (between_ands false (chars behind)) ≡ x ∷ xs = ap (placed_between_ands next end) split ∙ some in
+    let bytes : encode_utf8_all (chars before) ≡ before = sym first.spells in
+    let here : placed_between_ands start end (chars before ∷ text ∷ more) ≡ piece ∷ (x ∷ xs) =
+    ap (λ bs. placed (Normal bs) start (further start (length bs)) ∷ placed_between_ands (further (further start (length bs)) 3) end (text ∷ more)) bytes
+    ∙ ap (λ n. placed (Normal before) start n ∷ placed_between_ands (further n 3) end (text ∷ more)) (sym stop_is)
+    ∙ ap (λ n. placed (Normal before) start stop ∷ placed_between_ands n end (text ∷ more)) (sym next_is)
+    ∙ ap (λ ys. placed (Normal before) start stop ∷ ys) some
+    ∙ ap (λ p. p ∷ (x ∷ xs)) (sym piece_is) in
+    let all_pieces : placed_between_ands start end (between_ands false (chars rest)) ≡ piece ∷ (x ∷ xs) = ap (placed_between_ands start end) (first.cut ∙ ap (λ ts. chars before ∷ ts) split) ∙ here in
+    ap (λ ps. all_parts new (joined ps parts)) rest_pieces ∙ read_end old middle new piece x xs added closed parts ∙ ap (λ ps. all_parts old (joined ps parts)) (sym all_pieces)
+
+-- the last piece was read
+pub read_and_rest : (old new : Parts) (start end : ℕ) (rest : List ℕ) (piece : Spanned Chunk)
+    → IsUtf8 rest → between_ands false (chars rest) ≡ chars rest ∷ [] → piece ≡ placed (Normal rest) start end
+    → new ≡ record { done = old.done; last = old.last ++ piece ∷ [] } → Reads old new (placed_between_ands start end (between_ands false (chars rest)))
+read_and_rest old new start end rest piece utf8 whole piece_is added parts =
+    let pieces : placed_between_ands start end (between_ands false (chars rest)) ≡ piece ∷ [] =
+    ap (placed_between_ands start end) whole ∙ ap (λ t. placed (Normal t) start end ∷ []) (encodes-chars rest utf8) ∙ ap (λ p. p ∷ []) (sym piece_is) in
+    read_one old new piece added parts ∙ ap (λ ps. all_parts old (joined ps parts)) (sym pieces)
+
+-- less is left behind such a word
+pub less_behind_and : (text before behind : List ℕ) → IsFirstAnd text before behind → length behind < length text
+less_behind_and text before behind first =
+    let size : length text ≡ length before + (3 + length behind) = ap length first.word ∙ length-append before (codes "and" ++ behind) ∙ ap (λ n. length before + n) (length-append (codes "and") behind) in
+    omega arith
+
+trimmed_cons : (first last : Bool) (x : Spanned Chunk) (rest : List (Spanned Chunk)) → last ≡ nat_eq (length rest) 0
+    → trimmed_from first (x ∷ rest) ≡ placed (trimmed first last x.v) x.span.start x.span.end ∷ trimmed_from false rest
+trimmed_cons first last x [] is_last = ap (λ b. placed (trimmed first b x.v) x.span.start x.span.end ∷ []) (sym is_last)
+trimmed_cons first last x (next ∷ more) is_last =
+    ap (λ b. placed (trimmed first b x.v) x.span.start x.span.end ∷ trimmed_from false (next ∷ more)) (sym (is_last ∙ ne_eqb _ 0 (λ none. omega (arith, none))))
+
+same_test : (m n : ℕ) → m ≡ n + 1 → nat_eq m 1 ≡ nat_eq n 0
+same_test m n more = ⊎_elim
+    (λ none. eq-eqb m 1 (omega arith) ∙ sym (eq-eqb n 0 none))
+    (λ some. ne_eqb m 1 (λ one. some (omega (arith, one))) ∙ sym (ne_eqb n 0 some))
+    (cases_eq n 0)
+
+-- one chunk was copied, the last one just where nothing follows
+pub trimmed_step : (first last : Bool) (x : Spanned Chunk) (chunks : List (Spanned Chunk)) (i : ℕ) → i < length chunks → x ≡ get_or chunks i x → last ≡ nat_eq (length chunks - i) 1
+    → trimmed_from first (drop i chunks) ≡ placed (trimmed first last x.v) x.span.start x.span.end ∷ trimmed_from false (drop (i + 1) chunks)
+trimmed_step first last x chunks i within is is_last =
+    let split : drop i chunks ≡ x ∷ drop (i + 1) chunks = drop_more chunks i x within ∙ ap (λ y. y ∷ drop (i + 1) chunks) (sym is) in
+    let left : length (drop (i + 1) chunks) ≡ length chunks - (i + 1) = length-drop (i + 1) chunks in
+    ap (trimmed_from first) split ∙ trimmed_cons first last x (drop (i + 1) chunks) (is_last ∙ same_test (length chunks - i) (length (drop (i + 1) chunks)) (omega arith))

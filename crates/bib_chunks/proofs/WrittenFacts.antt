@@ -1,0 +1,121 @@
+-- Facts on written texts.
+use Rattle.std.proofs.Common.{◌≡◌, ℕ, ◌+◌, ◌<◌, Bool, true, false, cond, ◌||◌, List, [], ◌∷◌, ◌++◌, length, get_or, drop, refl, sym, ap, ◌∙◌, not}
+use Rattle.std.specs.Prelude.{encode_utf8_all, codes, nat_eq}
+use Rattle.std.specs.Str.{chars, IsUtf8}
+use lib.Utf8.{encode}
+use Rattle.std.proofs.lemmas.Bool.{false≢true, eq-eqb, ne_eqb}
+use Rattle.std.proofs.lemmas.List.Concat.{flat_map-append}
+use Rattle.bib_chunks.specs.Places.{Place, CharAt, Run, AtEnd, between}
+use Rattle.std.proofs.lemmas.List.{drop_more}
+use Rattle.bib_chunks.specs.declared.chunk.Chunk.{Chunk}
+use Rattle.bib_chunks.specs.declared.chunk.Chunk.TheVariants.{Normal, Verbatim, Math}
+use Rattle.bib_chunks.specs.declared.chunk.Spanned.{Spanned}
+use Rattle.bib_chunks.specs.Written.{is_grouping, is_reserved, is_bare, spelled, spelling, lead, trail, is_open_behind, written_chunk, written_chunks}
+use Rattle.bib_chunks.proofs.TextFacts.{ahead, Passed, passed_char, passed_run, passed_between, flat_map_same, written_more, written_all, chars_at_end, three_parts}
+
+pub spelled_grouping : (v : Bool) (c : ℕ) → is_grouping c ≡ true → spelled v c ≡ 92 ∷ c ∷ []
+unfolding spelled
+spelled_grouping v c grouping = rw grouping refl
+
+pub spelled_verbatim : (v : Bool) (c : ℕ) → is_grouping c ≡ false → v ≡ true → spelled v c ≡ c ∷ []
+unfolding spelled
+spelled_verbatim v c other verbatim = rw (other, verbatim) refl
+
+pub spelled_reserved : (v : Bool) (c : ℕ) → is_grouping c ≡ false → v ≡ false → is_reserved c ≡ true → spelled v c ≡ 92 ∷ c ∷ []
+unfolding spelled
+spelled_reserved v c other normal reserved = rw (other, normal, reserved) refl
+
+pub spelled_tilde : (v : Bool) (c : ℕ) → is_grouping c ≡ false → v ≡ false → is_reserved c ≡ false → c ≡ 126 → spelled v c ≡ codes "\\textasciitilde{}"
+unfolding spelled
+spelled_tilde v c other normal free tilde = rw (other, normal, free, eq-eqb c 126 tilde) refl
+
+pub spelled_circumflex : (v : Bool) (c : ℕ) → is_grouping c ≡ false → v ≡ false → is_reserved c ≡ false → (c ≡ 126 → ⊥) → c ≡ 94 → spelled v c ≡ codes "\\textasciicircum{}"
+unfolding spelled
+spelled_circumflex v c other normal free no_tilde circumflex = rw (other, normal, free, ne_eqb c 126 no_tilde, eq-eqb c 94 circumflex) refl
+
+pub spelled_other : (v : Bool) (c : ℕ) → is_grouping c ≡ false → v ≡ false → is_reserved c ≡ false → (c ≡ 126 → ⊥) → (c ≡ 94 → ⊥) → spelled v c ≡ c ∷ []
+unfolding spelled
+spelled_other v c other normal free no_tilde no_circumflex = rw (other, normal, free, ne_eqb c 126 no_tilde, ne_eqb c 94 no_circumflex) refl
+
+-- a bare character stands for itself
+bare_cases : (v grouping reserved tilde circumflex : Bool) (c : ℕ) → cond grouping false (cond v true (not (reserved || tilde || circumflex))) ≡ true
+    → cond grouping (92 ∷ c ∷ []) (cond v (c ∷ []) (cond reserved (92 ∷ c ∷ []) (cond tilde (codes "\\textasciitilde{}") (cond circumflex (codes "\\textasciicircum{}") (c ∷ []))))) ≡ c ∷ []
+bare_cases v true reserved tilde circumflex c bare = absurd (false≢true bare)
+bare_cases true false reserved tilde circumflex c bare = refl
+bare_cases false false true tilde circumflex c bare = absurd (false≢true bare)
+bare_cases false false false true circumflex c bare = absurd (false≢true bare)
+bare_cases false false false false true c bare = absurd (false≢true bare)
+bare_cases false false false false false c bare = refl
+
+pub spelled_bare : (v : Bool) (c : ℕ) → is_bare v c ≡ true → spelled v c ≡ c ∷ []
+unfolding is_bare spelled
+spelled_bare v c bare = bare_cases v (is_grouping c) (is_reserved c) (nat_eq c 126) (nat_eq c 94) c bare
+
+-- the two commands are ASCII
+pub tilde_bytes : codes "\\textasciitilde{}" ≡ encode_utf8_all (codes "\\textasciitilde{}")
+unfolding encode
+tilde_bytes = refl
+
+pub circumflex_bytes : codes "\\textasciicircum{}" ≡ encode_utf8_all (codes "\\textasciicircum{}")
+unfolding encode
+circumflex_bytes = refl
+
+-- a run of bare characters was written, and then one character
+pub written_run_char : (out one two total : List ℕ) {u w x : Place} {c : ℕ} (v : Bool) → Run (is_bare v) u w → IsUtf8 (ahead u) → CharAt w c x
+    → one ≡ out ++ between u w → two ≡ one ++ encode_utf8_all (spelled v c)
+    → out ++ encode_utf8_all (spelling v (chars (ahead u))) ≡ total
+    → (x.text ≡ u.text) × IsUtf8 (ahead x) × (two ++ encode_utf8_all (spelling v (chars (ahead x))) ≡ total)
+written_run_char out one two total {u} {w} {x} {c} v run utf8 char first second before =
+    let (cs, passed, all) = passed_run run utf8 in
+    let behind : Passed w (c ∷ []) x = passed_char char passed.utf8 in
+    let run_spelling : spelling v cs ≡ cs = flat_map_same (is_bare v) (spelled v) (spelled_bare v) cs all in
+    let cut : spelling v (chars (ahead u)) ≡ cs ++ spelling v (chars (ahead w)) = ap (spelling v) passed.spelt ∙ flat_map-append (spelled v) cs _ ∙ ap (λ xs. xs ++ spelling v (chars (ahead w))) run_spelling in
+    let after : one ++ encode_utf8_all (spelling v (chars (ahead w))) ≡ total = written_more out one total cs _ _ (first ∙ ap (λ bs. out ++ bs) (passed_between passed)) cut before in
+    (behind.same ∙ passed.same, behind.utf8, written_more one two total (spelled v c) _ _ second (ap (spelling v) behind.spelt) after)
+
+-- a run of bare characters was written, and the text ends
+pub written_run_end : (out one total : List ℕ) {u w : Place} (v : Bool) → Run (is_bare v) u w → IsUtf8 (ahead u) → AtEnd w
+    → one ≡ out ++ between u w
+    → out ++ encode_utf8_all (spelling v (chars (ahead u))) ≡ total
+    → one ≡ total
+written_run_end out one total {u} {w} v run utf8 end first before =
+    let (cs, passed, all) = passed_run run utf8 in
+    let run_spelling : spelling v cs ≡ cs = flat_map_same (is_bare v) (spelled v) (spelled_bare v) cs all in
+    let cut : spelling v (chars (ahead u)) ≡ cs ++ spelling v (chars (ahead w)) = ap (spelling v) passed.spelt ∙ flat_map-append (spelled v) cs _ ∙ ap (λ xs. xs ++ spelling v (chars (ahead w))) run_spelling in
+    let after : one ++ encode_utf8_all (spelling v (chars (ahead w))) ≡ total = written_more out one total cs _ _ (first ∙ ap (λ bs. out ++ bs) (passed_between passed)) cut before in
+    written_all one total (spelling v (chars (ahead w))) (ap (spelling v) (chars_at_end w end)) after
+
+-- a chunk's text of bytes is the bytes of its characters
+pub written_math : (v : Bool) (chunk : Chunk) (text bytes : List ℕ) → v ≡ false → chunk ≡ Math text → bytes ≡ text → written_chunk v chunk ≡ chars bytes
+written_math v chunk text bytes normal is same = ap (λ b. written_chunk b chunk) normal ∙ ap (written_chunk false) is ∙ ap chars (sym same)
+
+-- what stands before and behind a chunk is ASCII
+pub lead_bytes : (o : Bool) (chunk : Chunk) → lead o chunk ≡ encode_utf8_all (lead o chunk)
+unfolding encode
+lead_bytes true (Normal text) = refl
+lead_bytes false (Normal text) = refl
+lead_bytes true (Verbatim text) = refl
+lead_bytes false (Verbatim text) = refl
+lead_bytes o (Math text) = refl
+
+pub trail_bytes : (chunk : Chunk) → trail chunk ≡ encode_utf8_all (trail chunk)
+unfolding encode
+trail_bytes (Normal text) = refl
+trail_bytes (Verbatim text) = refl
+trail_bytes (Math text) = refl
+
+-- one chunk of a value was written
+pub written_part : (v o behind : Bool) (chunks : List (Spanned Chunk)) (i : ℕ) (x : Spanned Chunk) (out more total : List ℕ) → i < length chunks → x ≡ get_or chunks i x
+    → more ≡ out ++ encode_utf8_all (lead o x.v ++ written_chunk v x.v ++ trail x.v) → behind ≡ is_open_behind o x.v
+    → out ++ encode_utf8_all (written_chunks v o (drop i chunks)) ≡ total
+    → more ++ encode_utf8_all (written_chunks v behind (drop (i + 1) chunks)) ≡ total
+written_part v o behind chunks i x out more total within is written closes before =
+    let split : drop i chunks ≡ x ∷ drop (i + 1) chunks = drop_more chunks i x within ∙ ap (λ y. y ∷ drop (i + 1) chunks) (sym is) in
+    let part = lead o x.v ++ written_chunk v x.v ++ trail x.v in
+    let cut : written_chunks v o (drop i chunks) ≡ part ++ written_chunks v behind (drop (i + 1) chunks) = ap (written_chunks v o) split ∙ ap (λ b. part ++ written_chunks v b (drop (i + 1) chunks)) (sym closes) in
+    written_more out more total part _ _ written cut before
+
+-- a value is its chunks between braces
+pub written_braces : (none one two three parts : List ℕ) → none ≡ [] → one ≡ none ++ encode_utf8_all (123 ∷ []) → two ≡ one ++ encode_utf8_all parts → three ≡ two ++ encode_utf8_all (125 ∷ []) → three ≡ encode_utf8_all (123 ∷ (parts ++ 125 ∷ []))
+written_braces none one two three parts nothing first second third =
+    three_parts none one two three (123 ∷ []) parts (125 ∷ []) first second third ∙ ap (λ bs. bs ++ encode_utf8_all (123 ∷ (parts ++ 125 ∷ []))) nothing

@@ -1,0 +1,7 @@
+use Rattle.std.proofs.Common.{◌≡◌, ◌++◌, drop}
+use Rattle.bib_chunks.specs.Cuts.{trimmed_from, trimmed_ends}
+use Rattle.bib_chunks.proofs.chunk.cuts.trimmed_ends.Given as goal
+
+-- what was copied, and what is left, make up the trimmed chunks
+abbrev pub invariant-chunks : goal.invariant-chunks
+invariant-chunks l = l.all ++ trimmed_from l.first (drop l.i l.chunks) ≡ trimmed_ends l.chunks

@@ -1,0 +1,17 @@
+use Rattle.std.proofs.Common.{◌≡◌, ◌++◌, ◌-◌, length}
+use Rattle.std.specs.Prelude.{string_bytes, encode_utf8_all}
+use Rattle.std.specs.Str.{chars, IsUtf8}
+use Rattle.bib_chunks.specs.Formatted.{ends_in_space, flowing}
+use Rattle.bib_chunks.proofs.TextFacts.{ahead}
+use Rattle.bib_chunks.proofs.chunk.formatting.write_flowing.Given as goal
+
+-- what was written and what is still to come make up the whole text, and end as it does
+abbrev pub invariant-text : goal.invariant-text
+invariant-text l =
+    (l.scanner.text ≡ l.text)
+    × IsUtf8 (ahead l.scanner)
+    × (string_bytes l.out ++ encode_utf8_all (flowing l.after (chars (ahead l.scanner))) ≡ string_bytes l.initial.out ++ encode_utf8_all (flowing l.space (chars l.text)))
+    × (ends_in_space l.after (flowing l.after (chars (ahead l.scanner))) ≡ ends_in_space l.space (flowing l.space (chars l.text)))
+
+abbrev pub decreases-text : goal.decreases-text
+decreases-text l = length l.scanner.text - l.scanner.at

@@ -1,0 +1,74 @@
+-- Chunks as plain text. A formatted text is given by its characters.
+use Rattle.std.specs.Prelude.{ℕ, Bool, true, false, ◌==◌, ◌||◌, if◌then◌else◌, List, [], ◌∷◌, ◌++◌}
+use Rattle.std.specs.Char.{is_whitespace}
+use Rattle.std.specs.List.{flat_map}
+use Rattle.std.specs.Str.{chars}
+use Rattle.std.specs.Char.Unicode.ToLowercase.{to_lowercase}
+use Rattle.std.specs.Char.Unicode.ToUppercase.{to_uppercase}
+use Rattle.bib_chunks.specs.declared.chunk.Chunk.{Chunk}
+use Rattle.bib_chunks.specs.declared.chunk.Chunk.TheVariants.{Normal, Verbatim, Math}
+use Rattle.bib_chunks.specs.declared.chunk.Spanned.{Spanned}
+
+-- the characters that break a line: line feed and carriage return
+abbrev pub is_break : ℕ → Bool
+is_break c = c == 10 || c == 13
+
+-- whether a text ends in white space, with the answer for an empty one
+abbrev pub ends_in_space : Bool → List ℕ → Bool
+ends_in_space empty [] = empty
+ends_in_space empty (c ∷ cs) = ends_in_space (is_whitespace c) cs
+
+-- what a character of a normal text becomes: one that breaks the line a space, or nothing where the character written
+-- before it is white space, which the flag says; any other stays
+abbrev pub unbroken : Bool → ℕ → List ℕ
+unbroken space c = if is_break c then (if space then [] else 32 ∷ []) else c ∷ []
+
+-- a normal text on one line; the flag says whether white space stands before it
+abbrev pub flowing : Bool → List ℕ → List ℕ
+flowing space [] = []
+flowing space (c ∷ cs) = unbroken space c ++ flowing (ends_in_space space (unbroken space c)) cs
+
+-- whether the character written last before the end of a chunk is white space: math is passed over, and an empty
+-- verbatim chunk counts as none
+abbrev pub space_behind : Bool → Chunk → Bool
+space_behind space (Normal text) = ends_in_space space (flowing space (chars text))
+space_behind space (Verbatim text) = ends_in_space false (chars text)
+space_behind space (Math text) = space
+
+-- one chunk, formatted: normal text on one line and in the case that is wanted, verbatim text as it is, math
+-- between dollar signs
+abbrev pub formatted_chunk : (List ℕ → List ℕ) → Bool → Chunk → List ℕ
+formatted_chunk recased space (Normal text) = recased (flowing space (chars text))
+formatted_chunk recased space (Verbatim text) = chars text
+formatted_chunk recased space (Math text) = 36 ∷ (chars text ++ 36 ∷ [])
+
+-- chunks formatted verbatim, behind white space or not
+abbrev pub formatted_behind : Bool → List (Spanned Chunk) → List ℕ
+formatted_behind space [] = []
+formatted_behind space (c ∷ rest) = formatted_chunk (λ cs. cs) space c.v ++ formatted_behind (space_behind space c.v) rest
+
+-- chunks formatted verbatim
+abbrev pub formatted : List (Spanned Chunk) → List ℕ
+formatted = formatted_behind false
+
+-- a character in lower case, or in upper case where it begins a sentence; by Unicode's mappings, in which a character
+-- of ASCII becomes one of ASCII
+abbrev pub cased : Bool → ℕ → List ℕ
+cased true c = to_uppercase c
+cased false c = to_lowercase c
+
+-- a text in lower case, character by character; the first one in upper case where the text begins a sentence
+abbrev pub sentence_case : Bool → List ℕ → List ℕ
+sentence_case begins [] = []
+sentence_case begins (c ∷ cs) = cased begins c ++ flat_map to_lowercase cs
+
+-- chunks formatted as a sentence, behind the first one or from it on
+abbrev pub sentence_behind : Bool → Bool → List (Spanned Chunk) → List ℕ
+sentence_behind begins space [] = []
+sentence_behind begins space (c ∷ rest) =
+    formatted_chunk (sentence_case begins) space c.v ++ sentence_behind false (space_behind space c.v) rest
+
+-- chunks formatted as a sentence: as verbatim, with the characters of normal chunks in lower case, and in upper case
+-- where the character is the first of the first chunk
+abbrev pub sentence : List (Spanned Chunk) → List ℕ
+sentence = sentence_behind true false

@@ -1,0 +1,35 @@
+-- Settled text: what is read again as it was, once it is written.
+use Rattle.std.specs.Prelude.{◌≡◌, ℕ, Bool, true, false, ◌==◌, ◌&&◌, ◌||◌, List, [], ◌∷◌, encode_utf8_all}
+use Rattle.std.specs.Char.{is_whitespace}
+use Rattle.std.specs.List.{list_any, AllByRecursion}
+use Rattle.bib_chunks.specs.Braces.{IsParts}
+use Rattle.bib_chunks.specs.Styled.{Atom}
+
+-- an atom that may stand in settled text: no white space but U+0020, and math outside verbatim fields alone, without
+-- `$` and with its braces in balance
+abbrev pub IsSettledAtom : Bool → Atom → Type 0
+IsSettledAtom is_verbatim (Atom.normal c) = is_whitespace c ≡ true → c ≡ 32
+IsSettledAtom is_verbatim (Atom.verbatim c) = is_whitespace c ≡ true → c ≡ 32
+IsSettledAtom is_verbatim (Atom.math text) =
+    (is_verbatim ≡ false) × (list_any (λ c. c == 36) text ≡ false) × IsParts (encode_utf8_all text)
+
+-- two characters that are read as one unit where they are neighbours: two spaces, or two hyphens
+abbrev pub is_pair : ℕ → ℕ → Bool
+is_pair c d = (c == 32 && d == 32) || (c == 45 && d == 45)
+
+-- whether two neighbours run together: such a pair of equal kind
+abbrev pub runs_together : Atom → Atom → Bool
+runs_together (Atom.normal c) (Atom.normal d) = is_pair c d
+runs_together (Atom.verbatim c) (Atom.verbatim d) = is_pair c d
+runs_together a b = false
+
+-- no two neighbours run together
+abbrev pub AreApart : List Atom → Type 0
+AreApart [] = Unit {0}
+AreApart (a ∷ []) = Unit {0}
+AreApart (a ∷ b ∷ rest) = (runs_together a b ≡ false) × AreApart (b ∷ rest)
+
+-- the styled text of a field, verbatim or not, is settled
+pub record IsSettled (is_verbatim : Bool) (atoms : List Atom) : Type 0 where
+  pub each : AllByRecursion (IsSettledAtom is_verbatim) atoms
+  pub apart : AreApart atoms

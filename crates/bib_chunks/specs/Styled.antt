@@ -1,0 +1,40 @@
+-- Styled text: what a list of chunks says once the borders between chunks are forgotten.
+use Rattle.std.specs.Prelude.{ℕ, List, [], ◌∷◌, map}
+use Rattle.std.specs.declared.ops.Range.{Range}
+use Rattle.std.specs.List.{flat_map}
+use Rattle.std.specs.Str.{chars}
+use Rattle.bib_chunks.specs.declared.chunk.Chunk.{Chunk}
+use Rattle.bib_chunks.specs.declared.chunk.Chunk.TheVariants.{Normal, Verbatim, Math}
+use Rattle.bib_chunks.specs.declared.chunk.Spanned.{Spanned}
+
+-- the bytes of a chunk's text
+abbrev pub text_of : Chunk → List ℕ
+text_of (Normal text) = text
+text_of (Verbatim text) = text
+text_of (Math text) = text
+
+-- what styled text is made of: normal characters, verbatim characters, and math texts, given by their characters
+pub data Atom : Type 0 where
+  normal : ℕ → Atom
+  verbatim : ℕ → Atom
+  math : List ℕ → Atom
+
+-- the atoms of one chunk: its characters, or one math text
+abbrev pub atoms_of : Chunk → List Atom
+atoms_of (Normal text) = map Atom.normal (chars text)
+atoms_of (Verbatim text) = map Atom.verbatim (chars text)
+atoms_of (Math text) = Atom.math (chars text) ∷ []
+
+-- the styled text of chunks: their characters and math texts in order
+abbrev pub styled : List (Spanned Chunk) → List Atom
+styled = flat_map (λ c. atoms_of c.v)
+
+-- the end of the last of some chunks, behind one that ends here
+abbrev pub last_end : ℕ → List (Spanned Chunk) → ℕ
+last_end end [] = end
+last_end end (c ∷ rest) = last_end c.span.end rest
+
+-- the bytes from the start of the first chunk to the end of the last; 0 to 0 where there is none
+abbrev pub whole_span : List (Spanned Chunk) → Range ℕ
+whole_span [] = record { start = 0; end = 0 }
+whole_span (c ∷ rest) = record { start = c.span.start; end = last_end c.span.end rest }

@@ -1,0 +1,75 @@
+-- Values as they are written in a file. A written text is given by its characters.
+use Rattle.std.specs.Prelude.{ℕ, Bool, true, false, ◌==◌, ◌||◌, not, if◌then◌else◌, List, [], ◌∷◌, ◌++◌, codes}
+use Rattle.std.specs.List.{flat_map}
+use Rattle.std.specs.Str.{chars}
+use Rattle.bib_chunks.specs.declared.chunk.Chunk.{Chunk}
+use Rattle.bib_chunks.specs.declared.chunk.Chunk.TheVariants.{Normal, Verbatim, Math}
+use Rattle.bib_chunks.specs.declared.chunk.Spanned.{Spanned}
+
+-- the characters that a file gives a meaning in every field: `{`, `}` and the backslash
+unfoldable pub is_grouping : ℕ → Bool
+is_grouping c = c == 123 || c == 125 || c == 92
+
+-- those that TeX gives a meaning outside verbatim fields, and that a backslash takes it from: `#`, `&`, `%`, `$`, `_`
+unfoldable pub is_reserved : ℕ → Bool
+is_reserved c = c == 35 || c == 38 || c == 37 || c == 36 || c == 95
+
+-- how a character is written: the grouping ones behind a backslash, and outside verbatim fields the reserved ones
+-- too, the tilde and the circumflex by the commands that print them
+unfoldable pub spelled : Bool → ℕ → List ℕ
+spelled is_verbatim c =
+    if is_grouping c then 92 ∷ c ∷ []
+    else if is_verbatim then c ∷ []
+    else if is_reserved c then 92 ∷ c ∷ []
+    else if c == 126 then codes "\\textasciitilde{}"
+    else if c == 94 then codes "\\textasciicircum{}"
+    else c ∷ []
+
+-- whether a character stands for itself
+unfoldable pub is_bare : Bool → ℕ → Bool
+is_bare is_verbatim c =
+    if is_grouping c then false
+    else if is_verbatim then true
+    else not (is_reserved c || c == 126 || c == 94)
+
+-- how a text is written, character by character
+abbrev pub spelling : Bool → List ℕ → List ℕ
+spelling is_verbatim = flat_map (spelled is_verbatim)
+
+-- how a chunk is written by itself; math outside verbatim fields stays as it is
+abbrev pub written_chunk : Bool → Chunk → List ℕ
+written_chunk is_verbatim (Normal text) = spelling is_verbatim (chars text)
+written_chunk is_verbatim (Verbatim text) = spelling is_verbatim (chars text)
+written_chunk true (Math text) = spelling true (chars text)
+written_chunk false (Math text) = chars text
+
+-- what stands before a chunk, where the pair of braces round verbatim chunks is or isn't open: it opens before a
+-- verbatim chunk, and closes before a normal one
+abbrev pub lead : Bool → Chunk → List ℕ
+lead true (Normal text) = 125 ∷ []
+lead false (Normal text) = []
+lead true (Verbatim text) = []
+lead false (Verbatim text) = 123 ∷ []
+lead is_open (Math text) = 36 ∷ []
+
+-- what stands behind a chunk: the second dollar sign of math
+abbrev pub trail : Chunk → List ℕ
+trail (Normal text) = []
+trail (Verbatim text) = []
+trail (Math text) = 36 ∷ []
+
+-- whether that pair of braces is open behind a chunk
+abbrev pub is_open_behind : Bool → Chunk → Bool
+is_open_behind is_open (Normal text) = false
+is_open_behind is_open (Verbatim text) = true
+is_open_behind is_open (Math text) = is_open
+
+-- how chunks are written one after another, to the end, where the pair is closed if it is open
+abbrev pub written_chunks : Bool → Bool → List (Spanned Chunk) → List ℕ
+written_chunks is_verbatim is_open [] = if is_open then 125 ∷ [] else []
+written_chunks is_verbatim is_open (c ∷ rest) =
+    lead is_open c.v ++ written_chunk is_verbatim c.v ++ trail c.v ++ written_chunks is_verbatim (is_open_behind is_open c.v) rest
+
+-- how a value is written: its chunks between braces
+abbrev pub written_value : Bool → List (Spanned Chunk) → List ℕ
+written_value is_verbatim chunks = 123 ∷ (written_chunks is_verbatim false chunks ++ 125 ∷ [])

@@ -1,0 +1,61 @@
+//! Calls on lists of chunks.
+
+ghost use Rattle.std.specs.Prelude.{◌≡◌, List, IfOk, string_bytes, encode_utf8_all};
+ghost use Rattle.bib_chunks.specs.declared.chunk.Chunk.{Chunk as AChunk};
+ghost use Rattle.bib_chunks.specs.declared.chunk.Spanned.{Spanned as APlaced};
+ghost use Rattle.bib_chunks.specs.Formatted.{formatted, sentence};
+ghost use Rattle.bib_chunks.specs.Styled.{whole_span};
+ghost use Rattle.bib_chunks.specs.Written.{written_value};
+
+use super::{ChunksRef, Span, formatting, writing};
+use std::alloc::{AllocError, Global};
+
+/// Calls on lists of chunks.
+pub trait ChunksExt {
+    // The chunks.
+    ghost contents: { Self → List (APlaced AChunk) };
+
+    /// The text of the chunks: math between dollar signs, and in normal text a line break as a space, or as nothing
+    /// behind white space.
+    fn format_verbatim(&self, alloc: Global) -> Result<String, AllocError>
+        ensures { IfOk result (λ text. string_bytes text ≡ encode_utf8_all (formatted (contents self.now))) };
+
+    /// The text of the chunks as a sentence has it: as `format_verbatim`, with the characters of normal chunks in lower
+    /// case, and in upper case where the character is the first of the first chunk.
+    fn format_sentence(&self, alloc: Global) -> Result<String, AllocError>
+        ensures { IfOk result (λ text. string_bytes text ≡ encode_utf8_all (sentence (contents self.now))) };
+
+    /// From the start of the first chunk to the end of the last, in bytes; `0..0` where there is none.
+    fn span(&self) -> Span
+        ensures { result ≡ whole_span (contents self.now) };
+
+    /// The value as it is written in a file, in its braces, for a verbatim field or another.
+    fn to_biblatex_string(&self, alloc: Global, is_verbatim: bool) -> Result<String, AllocError>
+        ensures { IfOk result (λ text. string_bytes text ≡ encode_utf8_all (written_value is_verbatim (contents self.now))) };
+}
+
+impl ChunksExt for ChunksRef<'_> {
+    ghost contents = { λ chunks. chunks.now };
+
+    fn format_verbatim(&self, alloc: Global) -> Result<String, AllocError> {
+        formatting::format_verbatim(alloc, self)
+    }
+
+    fn format_sentence(&self, alloc: Global) -> Result<String, AllocError> {
+        formatting::format_sentence(alloc, self)
+    }
+
+    fn span(&self) -> Span {
+        let Some(first) = self.first() else {
+            return 0..0;
+        };
+        let Some(last) = self.last() else {
+            return 0..0;
+        };
+        first.span.start..last.span.end
+    }
+
+    fn to_biblatex_string(&self, alloc: Global, is_verbatim: bool) -> Result<String, AllocError> {
+        writing::value_text(alloc, self, is_verbatim)
+    }
+}

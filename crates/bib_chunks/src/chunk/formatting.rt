@@ -1,0 +1,200 @@
+//! Chunks as plain text.
+
+ghost use Rattle.std.specs.Prelude.{◌≡◌, ◌∷◌, [], ◌++◌, OnOk, IfOk, option_to_list, if◌then◌else◌, string_bytes, encode_utf8_all};
+ghost use Rattle.std.specs.Char.Iter.{case_mapping_chars};
+ghost use Rattle.std.specs.Str.{chars};
+ghost use Rattle.bib_chunks.specs.Formatted.{is_break, ends_in_space, unbroken, flowing, formatted, formatted_chunk, space_behind, cased, sentence_case, sentence};
+ghost use Rattle.bib_chunks.specs.Writing.{Writes};
+
+use super::{Chunk, ChunksRef};
+use crate::scanner::Scanner;
+use std::alloc::{AllocError, Global};
+use std::char::ToLowercase;
+
+// Whether the character breaks the line.
+fn is_break(c: char) -> bool
+    ensures { result ≡ is_break c }
+{
+    c == '\n' || c == '\r'
+}
+
+// Whether the text ends in white space, with the answer for an empty one.
+fn ends_in_space(text: &str, empty: bool) -> bool
+    ensures { result ≡ ends_in_space empty (chars text.now) }
+{
+    let mut chars = text.chars();
+    let Some(c) = chars.next_back() else {
+        return empty;
+    };
+    // That what stands before the last character is a text too tells where that character begins.
+    let _before = chars.as_str();
+    c.is_whitespace()
+}
+
+// Writes what a line break becomes.
+fn write_break(out: &mut String, space: bool) -> Result<(), AllocError>
+    ensures { OnOk result (Writes out.old out.new (if space then [] else 32 ∷ [])) }
+{
+    if !space {
+        out.push(' ')?;
+    }
+    Ok(())
+}
+
+// Writes a normal text on one line, behind white space or not, and answers whether white space stands behind it.
+fn write_flowing(out: &mut String, text: &str, space: bool) -> Result<bool, AllocError>
+    ensures written { OnOk result (Writes out.old out.new (flowing space (chars text.now))) }
+    ensures behind { IfOk result (λ after. after ≡ ends_in_space space (flowing space (chars text.now))) }
+{
+    let mut scanner = Scanner::new(text);
+    let mut after = space;
+    'text: loop {
+        let run = scanner.eat_while(|c| !is_break(c));
+        out.push_str(run)?;
+        after = ends_in_space(run, after);
+        let Some(_) = scanner.eat() else {
+            return Ok(after);
+        };
+        write_break(out, after)?;
+        after = true;
+    }
+}
+
+// Writes a chunk behind white space or not, and answers whether white space stands behind it.
+fn write_chunk(out: &mut String, chunk: &Chunk, space: bool) -> Result<bool, AllocError>
+    ensures written { OnOk result (Writes out.old out.new (formatted_chunk (λ cs. cs) space chunk.now)) }
+    ensures behind { IfOk result (λ after. after ≡ space_behind space chunk.now) }
+{
+    match chunk {
+        Chunk::Normal(text) => write_flowing(out, text.as_str(), space),
+        Chunk::Verbatim(text) => {
+            out.push_str(text.as_str())?;
+            Ok(ends_in_space(text.as_str(), false))
+        }
+        Chunk::Math(text) => {
+            write_math(out, text.as_str())?;
+            Ok(space)
+        }
+    }
+}
+
+// Writes a math text between dollar signs.
+fn write_math(out: &mut String, text: &str) -> Result<(), AllocError>
+    ensures { OnOk result (Writes out.old out.new (36 ∷ (chars text.now ++ 36 ∷ []))) }
+{
+    out.push('$')?;
+    out.push_str(text)?;
+    out.push('$')?;
+    Ok(())
+}
+
+// The text of chunks.
+pub(super) fn format_verbatim(alloc: Global, chunks: ChunksRef<'_>) -> Result<String, AllocError>
+    ensures { IfOk result (λ text. string_bytes text ≡ encode_utf8_all (formatted chunks.now)) }
+{
+    let mut out = String::new(alloc);
+    let mut space = false;
+    'chunks: for chunk in chunks {
+        space = write_chunk(&mut out, &chunk.v, space)?;
+    }
+    Ok(out)
+}
+
+// What a character of a normal text becomes on one line.
+fn unbroken(c: char, space: bool) -> Option<char>
+    ensures { option_to_list result ≡ unbroken space c }
+{
+    if !is_break(c) {
+        return Some(c);
+    }
+    if space {
+        return None;
+    }
+    Some(' ')
+}
+
+// Writes a character if there is one.
+fn write_some(out: &mut String, c: Option<char>) -> Result<(), AllocError>
+    ensures { OnOk result (Writes out.old out.new (option_to_list c)) }
+{
+    if let Some(c) = c {
+        out.push(c)?;
+    }
+    Ok(())
+}
+
+// Writes what a character becomes in another case, which is up to three characters; std has one type for both cases.
+fn write_changed(out: &mut String, changed: ToLowercase) -> Result<(), AllocError>
+    ensures { OnOk result (Writes out.old out.new (case_mapping_chars changed)) }
+{
+    let mut changed = changed;
+    write_some(out, changed.next())?;
+    write_some(out, changed.next())?;
+    write_some(out, changed.next())?;
+    Ok(())
+}
+
+// Writes a character in lower case, or in upper case where it begins a sentence.
+fn write_cased(out: &mut String, c: char, begins: bool) -> Result<(), AllocError>
+    ensures { OnOk result (Writes out.old out.new (cased begins c)) }
+{
+    if begins {
+        return write_changed(out, c.to_uppercase());
+    }
+    write_changed(out, c.to_lowercase())
+}
+
+// Writes a normal text on one line and in the case of a sentence, and answers whether white space stands behind it.
+fn write_sentence_text(
+    out: &mut String,
+    text: &str,
+    begins: bool,
+    space: bool,
+) -> Result<bool, AllocError>
+    ensures written { OnOk result (Writes out.old out.new (sentence_case begins (flowing space (chars text.now)))) }
+    ensures behind { IfOk result (λ after. after ≡ ends_in_space space (flowing space (chars text.now))) }
+{
+    let mut scanner = Scanner::new(text);
+    let mut first = begins;
+    let mut after = space;
+    'text: while let Some(c) = scanner.eat() {
+        let Some(shown) = unbroken(c, after) else {
+            continue 'text;
+        };
+        write_cased(out, shown, first)?;
+        first = false;
+        after = shown.is_whitespace();
+    }
+    Ok(after)
+}
+
+// Writes a chunk of a sentence, and answers whether white space stands behind it.
+fn write_sentence_chunk(
+    out: &mut String,
+    chunk: &Chunk,
+    begins: bool,
+    space: bool,
+) -> Result<bool, AllocError>
+    ensures written { OnOk result (Writes out.old out.new (formatted_chunk (sentence_case begins) space chunk.now)) }
+    ensures behind { IfOk result (λ after. after ≡ space_behind space chunk.now) }
+{
+    match chunk {
+        Chunk::Normal(text) => write_sentence_text(out, text.as_str(), begins, space),
+        Chunk::Verbatim(_) => write_chunk(out, chunk, space),
+        Chunk::Math(_) => write_chunk(out, chunk, space),
+    }
+}
+
+// The text of chunks as a sentence.
+pub(super) fn format_sentence(alloc: Global, chunks: ChunksRef<'_>) -> Result<String, AllocError>
+    ensures { IfOk result (λ text. string_bytes text ≡ encode_utf8_all (sentence chunks.now)) }
+{
+    let mut out = String::new(alloc);
+    let mut begins = true;
+    let mut space = false;
+    'chunks: for chunk in chunks {
+        space = write_sentence_chunk(&mut out, &chunk.v, begins, space)?;
+        begins = false;
+    }
+    Ok(out)
+}

@@ -1,0 +1,210 @@
+//! Values as they are written in a file.
+
+ghost use Rattle.std.specs.Prelude.{◌≡◌, ◌∷◌, [], ◌++◌, false, OnOk, IfOk, string_bytes, encode_utf8_all};
+ghost use Rattle.std.specs.Str.{chars};
+ghost use Rattle.bib_chunks.specs.Written.{is_grouping, is_reserved, is_bare, spelled, spelling, lead, trail, is_open_behind, written_chunk, written_chunks, written_value};
+ghost use Rattle.bib_chunks.specs.Writing.{Writes};
+
+use super::{Chunk, ChunksRef};
+use crate::scanner::Scanner;
+use std::alloc::{AllocError, Global};
+
+// Whether a backslash takes its meaning from the character in every field.
+#[tactic(auto, unfolding(crate::specs::Written::is_grouping))]
+fn is_grouping(c: char) -> bool
+    ensures { result ≡ is_grouping c }
+{
+    matches!(c, '{' | '}' | '\\')
+}
+
+// Whether a backslash takes its meaning from the character outside verbatim fields.
+#[tactic(auto, unfolding(crate::specs::Written::is_reserved))]
+fn is_reserved(c: char) -> bool
+    ensures { result ≡ is_reserved c }
+{
+    matches!(c, '#' | '&' | '%' | '$' | '_')
+}
+
+// Whether the character stands for itself.
+#[tactic(auto, unfolding(crate::specs::Written::is_bare, crate::specs::Written::is_grouping, crate::specs::Written::is_reserved))]
+fn is_bare(c: char, is_verbatim: bool) -> bool
+    ensures { result ≡ is_bare is_verbatim c }
+{
+    if c.is_ascii_lowercase() {
+        return true;
+    }
+    if is_grouping(c) {
+        return false;
+    }
+    if is_verbatim {
+        return true;
+    }
+    !is_reserved(c) && c != '~' && c != '^'
+}
+
+// Writes a character behind a backslash.
+fn write_hidden(out: &mut String, c: char) -> Result<(), AllocError>
+    ensures { OnOk result (Writes out.old out.new (92 ∷ c ∷ [])) }
+{
+    out.push('\\')?;
+    out.push(c)?;
+    Ok(())
+}
+
+// Writes one character.
+fn write_char(out: &mut String, c: char, is_verbatim: bool) -> Result<(), AllocError>
+    ensures { OnOk result (Writes out.old out.new (spelled is_verbatim c)) }
+{
+    if is_grouping(c) {
+        return write_hidden(out, c);
+    }
+    if is_verbatim {
+        out.push(c)?;
+        return Ok(());
+    }
+    if is_reserved(c) {
+        return write_hidden(out, c);
+    }
+    if c == '~' {
+        out.push_str("\\textasciitilde{}")?;
+        return Ok(());
+    }
+    if c == '^' {
+        out.push_str("\\textasciicircum{}")?;
+        return Ok(());
+    }
+    out.push(c)?;
+    Ok(())
+}
+
+// Writes a text, each character as it is spelled.
+fn write_text(out: &mut String, text: &str, is_verbatim: bool) -> Result<(), AllocError>
+    ensures { OnOk result (Writes out.old out.new (spelling is_verbatim (chars text.now))) }
+{
+    let mut scanner = Scanner::new(text);
+    'text: loop {
+        out.push_str(scanner.eat_while(|c| is_bare(c, is_verbatim)))?;
+        let Some(c) = scanner.eat() else {
+            return Ok(());
+        };
+        write_char(out, c, is_verbatim)?;
+    }
+}
+
+// What stands before a chunk, where the pair of braces round verbatim chunks is or isn't open.
+fn lead(chunk: &Chunk, is_open: bool) -> &'static str
+    ensures { result.now ≡ lead is_open chunk.now }
+{
+    match chunk {
+        Chunk::Normal(_) => {
+            if is_open {
+                return "}";
+            }
+            ""
+        }
+        Chunk::Verbatim(_) => {
+            if is_open {
+                return "";
+            }
+            "{"
+        }
+        Chunk::Math(_) => "$",
+    }
+}
+
+// What stands behind a chunk.
+fn trail(chunk: &Chunk) -> &'static str
+    ensures { result.now ≡ trail chunk.now }
+{
+    match chunk {
+        Chunk::Normal(_) | Chunk::Verbatim(_) => "",
+        Chunk::Math(_) => "$",
+    }
+}
+
+// Whether the pair of braces round verbatim chunks is open behind a chunk.
+fn is_open_behind(chunk: &Chunk, is_open: bool) -> bool
+    ensures { result ≡ is_open_behind is_open chunk.now }
+{
+    match chunk {
+        Chunk::Normal(_) => false,
+        Chunk::Verbatim(_) => true,
+        Chunk::Math(_) => is_open,
+    }
+}
+
+// Writes a chunk by itself.
+fn write_chunk(out: &mut String, chunk: &Chunk, is_verbatim: bool) -> Result<(), AllocError>
+    ensures { OnOk result (Writes out.old out.new (written_chunk is_verbatim chunk.now)) }
+{
+    match chunk {
+        Chunk::Normal(text) => write_text(out, text.as_str(), is_verbatim),
+        Chunk::Verbatim(text) => write_text(out, text.as_str(), is_verbatim),
+        Chunk::Math(text) => {
+            if is_verbatim {
+                return write_text(out, text.as_str(), true);
+            }
+            out.push_str(text.as_str())?;
+            Ok(())
+        }
+    }
+}
+
+// Writes a chunk of a value.
+fn write_part(
+    out: &mut String,
+    chunk: &Chunk,
+    is_open: bool,
+    is_verbatim: bool,
+) -> Result<(), AllocError>
+    ensures { OnOk result (Writes out.old out.new
+        (lead is_open chunk.now ++ written_chunk is_verbatim chunk.now ++ trail chunk.now)) }
+{
+    out.push_str(lead(chunk, is_open))?;
+    write_chunk(out, chunk, is_verbatim)?;
+    out.push_str(trail(chunk))?;
+    Ok(())
+}
+
+// Writes the chunks of a value.
+fn write_parts(out: &mut String, chunks: ChunksRef<'_>, is_verbatim: bool) -> Result<(), AllocError>
+    ensures { OnOk result (Writes out.old out.new (written_chunks is_verbatim false chunks.now)) }
+{
+    let mut is_open = false;
+    'parts: for chunk in chunks {
+        write_part(out, &chunk.v, is_open, is_verbatim)?;
+        is_open = is_open_behind(&chunk.v, is_open);
+    }
+    if is_open {
+        out.push('}')?;
+    }
+    Ok(())
+}
+
+// The text of a chunk by itself.
+pub(super) fn chunk_text(
+    alloc: Global,
+    chunk: &Chunk,
+    is_verbatim: bool,
+) -> Result<String, AllocError>
+    ensures { IfOk result (λ text. string_bytes text ≡ encode_utf8_all (written_chunk is_verbatim chunk.now)) }
+{
+    let mut out = String::new(alloc);
+    write_chunk(&mut out, chunk, is_verbatim)?;
+    Ok(out)
+}
+
+// The text of a value.
+pub(super) fn value_text(
+    alloc: Global,
+    chunks: ChunksRef<'_>,
+    is_verbatim: bool,
+) -> Result<String, AllocError>
+    ensures { IfOk result (λ text. string_bytes text ≡ encode_utf8_all (written_value is_verbatim chunks.now)) }
+{
+    let mut out = String::new(alloc);
+    out.push('{')?;
+    write_parts(&mut out, chunks, is_verbatim)?;
+    out.push('}')?;
+    Ok(out)
+}

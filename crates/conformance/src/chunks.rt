@@ -1,0 +1,213 @@
+//! Chunks: formatting, writing, settled values and cuts.
+
+use bib_chunks::chunk::{Chunk, Chunks, ChunksExt, ChunksRef, Spanned, cuts, is_settled};
+use bib_chunks::items::Items;
+use bib_chunks::text::Text;
+use std::alloc::{AllocError, Global};
+use std::process::Abort;
+use std::test::Fail;
+
+// Chunks from their kinds (`n` normal, `v` verbatim, `m` math) and texts, one behind another.
+fn chunks(alloc: Global, parts: &[(char, &str)]) -> Result<Chunks, AllocError> {
+    let mut all = Items::new(alloc);
+    let mut at = 0usize;
+    for (kind, text) in parts {
+        let end = at.saturating_add(text.len());
+        let text = Text::from_str(alloc, *text)?;
+        let chunk = match *kind {
+            'n' => Chunk::Normal(text),
+            'v' => Chunk::Verbatim(text),
+            _ => Chunk::Math(text),
+        };
+        all.push(Spanned::new(chunk, at..end))?;
+        at = end;
+    }
+    Ok(all)
+}
+
+// What each of these lists of chunks must be written as, in verbatim fields or others.
+fn check_written(rt: &impl Abort, alloc: Global, is_verbatim: bool, parts: &[(char, &str)], written: &str) -> Result<(), Fail> {
+    let all = chunks(alloc, parts)?;
+    let text = all.as_slice().to_biblatex_string(alloc, is_verbatim)?;
+    assert_eq!(rt; text.as_str(), written);
+    Ok(())
+}
+
+#[test]
+fn writes_values(rt: HostRuntime) -> Result<(), Fail> {
+    let alloc = rt.alloc();
+    check_written(&rt, alloc, false, &[], "{}")?;
+    check_written(&rt, alloc, false, &[('v', "a"), ('m', "x"), ('v', "b")], "{{a$x$b}}")?;
+    check_written(&rt, alloc, false, &[('v', "a"), ('m', "x"), ('n', "b")], "{{a$x$}b}")?;
+    check_written(&rt, alloc, false, &[('n', "a~b")], "{a\\textasciitilde{}b}")?;
+    check_written(&rt, alloc, false, &[('v', "x^y"), ('n', " z")], "{{x\\textasciicircum{}y} z}")?;
+    check_written(&rt, alloc, true, &[('n', "x~y^z")], "{x~y^z}")?;
+    check_written(&rt, alloc, false, &[('m', "x^2")], "{$x^2$}")?;
+    check_written(&rt, alloc, false, &[('m', "\\frac{a}{b}")], "{$\\frac{a}{b}$}")?;
+    check_written(&rt, alloc, false, &[('n', "a"), ('v', "{$}$b}")], "{a{\\{\\$\\}\\$b\\}}}")?;
+    check_written(&rt, alloc, false, &[('n', "a & b \\ {c} #1 50% $5 x_y é")], "{a \\& b \\\\ \\{c\\} \\#1 50\\% \\$5 x\\_y é}")?;
+    check_written(&rt, alloc, true, &[('n', "a & b \\ {c} $5"), ('m', "{x}")], "{a & b \\\\ \\{c\\} $5$\\{x\\}$}")?;
+    check_written(&rt, alloc, false, &[('n', "a"), ('v', ""), ('n', "b")], "{a{}b}")
+}
+
+#[test]
+fn writes_a_chunk_by_itself(rt: HostRuntime) -> Result<(), Fail> {
+    let alloc = rt.alloc();
+    let verbatim = Chunk::Verbatim(Text::from_str(alloc, "x^2 & {y}")?);
+    assert_eq!(rt; verbatim.to_biblatex_string(alloc, false)?.as_str(), "x\\textasciicircum{}2 \\& \\{y\\}");
+    let math = Chunk::Math(Text::from_str(alloc, "x^{2}")?);
+    assert_eq!(rt; math.to_biblatex_string(alloc, false)?.as_str(), "x^{2}");
+    assert_eq!(rt; math.to_biblatex_string(alloc, true)?.as_str(), "x^\\{2\\}");
+    Ok(())
+}
+
+#[test]
+fn tells_what_is_settled(rt: HostRuntime) -> Result<(), Fail> {
+    let alloc = rt.alloc();
+    let rows: [(&[(char, &str)], bool, bool); 15] = [
+        (&[], false, true),
+        (&[('n', "Foo")], false, true),
+        (&[('n', "a-"), ('n', "-b")], false, false),
+        (&[('n', "-"), ('v', "-")], false, true),
+        (&[('n', "a "), ('v', ""), ('n', " b")], false, false),
+        (&[('n', "a "), ('v', "x"), ('n', " b")], false, true),
+        (&[('n', "a "), ('m', "x"), ('n', " b")], false, true),
+        (&[('n', "a\tb")], false, false),
+        (&[('m', "x")], false, true),
+        (&[('m', "x")], true, false),
+        (&[('m', "")], false, true),
+        (&[('m', "x^2")], false, true),
+        (&[('m', "\\frac{a}{b}")], false, true),
+        (&[('m', "}")], false, false),
+        (&[('m', "a\\$b")], false, false),
+    ];
+    for (parts, is_verbatim, settled) in rows {
+        let all = chunks(alloc, parts)?;
+        assert_eq!(rt; is_settled(all.as_slice(), is_verbatim), settled, "at {parts:?}");
+    }
+    Ok(())
+}
+
+// The formatted texts of the parts of a list, each behind a bar.
+fn joined(alloc: Global, parts: &Items<Chunks>) -> Result<String, AllocError> {
+    let mut out = String::new(alloc);
+    for part in parts.as_slice() {
+        out.push('|')?;
+        out.push_str(part.as_slice().format_verbatim(alloc)?.as_str())?;
+    }
+    Ok(out)
+}
+
+#[test]
+fn formats_verbatim(rt: HostRuntime) -> Result<(), Fail> {
+    let alloc = rt.alloc();
+    let rows: [(&[(char, &str)], &str); 6] = [
+        (&[], ""),
+        (&[('n', "a Big "), ('v', "NASA"), ('m', "x")], "a Big NASA$x$"),
+        (&[('n', "a\r\nb\n"), ('m', "x"), ('n', "\nc")], "a b $x$c"),
+        (&[('n', "a "), ('v', ""), ('n', "\nb")], "a  b"),
+        (&[('v', "a\n"), ('n', "\nb")], "a\nb"),
+        (&[('n', "é\u{2003}\nü")], "é\u{2003}ü"),
+    ];
+    for (parts, text) in rows {
+        let all = chunks(alloc, parts)?;
+        assert_eq!(rt; all.as_slice().format_verbatim(alloc)?.as_str(), text);
+    }
+    Ok(())
+}
+
+#[test]
+fn formats_as_sentence(rt: HostRuntime) -> Result<(), Fail> {
+    let alloc = rt.alloc();
+    let rows: [(&[(char, &str)], &str); 6] = [
+        (&[], ""),
+        (&[('n', "a Big "), ('v', "NASA")], "A big NASA"),
+        (&[('v', "nASA"), ('n', " In Space")], "nASA in space"),
+        (&[('n', ""), ('n', "Big")], "big"),
+        (&[('n', "BIG\n"), ('m', "X"), ('n', "\nB")], "Big $X$b"),
+        (&[('n', "éCOLE ÉTÉ")], "École été"),
+    ];
+    for (parts, text) in rows {
+        let all = chunks(alloc, parts)?;
+        assert_eq!(rt; all.as_slice().format_sentence(alloc)?.as_str(), text);
+    }
+    Ok(())
+}
+
+#[test]
+fn spans_chunks(rt: HostRuntime) -> Result<(), Fail> {
+    let alloc = rt.alloc();
+    let none = chunks(alloc, &[])?;
+    assert_eq!(rt; none.as_slice().span(), 0..0);
+    let some = chunks(alloc, &[('n', "ab"), ('v', "cde"), ('m', "f")])?;
+    assert_eq!(rt; some.as_slice().span(), 0..6);
+    Ok(())
+}
+
+#[test]
+fn cuts_at_commas(rt: HostRuntime) -> Result<(), Fail> {
+    let alloc = rt.alloc();
+    let rows: [(&[(char, &str)], &str); 6] = [
+        (&[], "|"),
+        (&[('n', " a , b ")], "| a|b "),
+        (&[('n', "a,"), ('v', "b,c"), ('n', ",d")], "|a|b,c|d"),
+        (&[('n', "a"), ('m', "x,y"), ('n', " ,b")], "|a$x,y$|b"),
+        (&[('n', ",")], "||"),
+        (&[('n', "31--43,4-6,  194 --- 245")], "|31--43|4-6|194 --- 245"),
+    ];
+    for (parts, text) in rows {
+        let all = chunks(alloc, parts)?;
+        let list = cuts::comma_list(alloc, all.as_slice())?;
+        assert_eq!(rt; joined(alloc, &list)?.as_str(), text);
+    }
+    Ok(())
+}
+
+#[test]
+fn cuts_at_words_and(rt: HostRuntime) -> Result<(), Fail> {
+    let alloc = rt.alloc();
+    let rows: [(&[(char, &str)], &str); 8] = [
+        (&[], "|"),
+        (
+            &[('n', "Johannes anderson Gutenberg and Claudeand Garamond and Aanderson Manutius")],
+            "|Johannes anderson Gutenberg|Claudeand Garamond|Aanderson Manutius",
+        ),
+        (&[('n', "A and and B")], "|A||B"),
+        (&[('n', " and x ")], "|and x"),
+        (&[('n', "x and "), ('v', "y and z")], "|x|y and z"),
+        (&[('n', " a "), ('v', " b "), ('n', " and\u{2003}c d and e")], "|a  b |c d|e"),
+        (&[('n', "a "), ('n', "and b")], "|a and b"),
+        (&[('n', "a\tand\u{2003}b")], "|a|b"),
+    ];
+    for (parts, text) in rows {
+        let all = chunks(alloc, parts)?;
+        let list = cuts::and_list(alloc, all.as_slice())?;
+        assert_eq!(rt; joined(alloc, &list)?.as_str(), text);
+    }
+    Ok(())
+}
+
+#[test]
+fn cuts_at_the_first_separator(rt: HostRuntime) -> Result<(), Fail> {
+    let alloc = rt.alloc();
+    let none = chunks(alloc, &[('v', "a=b"), ('m', "c=d"), ('n', "e")])?;
+    assert!(rt; cuts::cut_at(alloc, none.as_slice(), '=')?.is_none());
+    let some = chunks(alloc, &[('v', "a=b"), ('n', " given = Simon = x"), ('v', "c")])?;
+    let (before, behind) = cuts::cut_at(alloc, some.as_slice(), '=')?.ok_or("no cut")?;
+    assert_eq!(rt; before.as_slice().format_verbatim(alloc)?.as_str(), "a=b given");
+    assert_eq!(rt; behind.as_slice().format_verbatim(alloc)?.as_str(), "Simon = xc");
+    Ok(())
+}
+
+#[test]
+fn gets_and_changes_texts(rt: HostRuntime) -> Result<(), Fail> {
+    let alloc = rt.alloc();
+    let mut chunk = Chunk::Math(Text::from_str(alloc, "x")?);
+    chunk.get_mut().push_str("^2")?;
+    assert_eq!(rt; chunk.get(), "x^2");
+    assert!(rt; chunk == Chunk::Math(Text::from_str(alloc, "x^2")?));
+    assert!(rt; chunk != Chunk::Verbatim(Text::from_str(alloc, "x^2")?));
+    let copy = chunk.clone()?;
+    assert!(rt; copy == chunk);
+    Ok(())
+}
