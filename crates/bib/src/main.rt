@@ -3,6 +3,8 @@
 
 mod run;
 mod streams;
+#[cfg(test)]
+mod tests;
 
 use run::run;
 use std::process::ExitCode;

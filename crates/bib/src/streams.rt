@@ -25,6 +25,17 @@ impl<R> Input<R> {
             failures: 0,
         }
     }
+
+    /// The reader.
+    pub fn into_reader(self) -> R
+        ensures { result ≡ self.reader }
+    {
+        let Input {
+            reader,
+            failures: _,
+        } = self;
+        reader
+    }
 }
 
 impl<R: Read> Source for Input<R> {
@@ -62,6 +73,17 @@ impl<W> Output<W> {
             writer,
             refusals: 0,
         }
+    }
+
+    /// The writer.
+    pub fn into_writer(self) -> W
+        ensures { result ≡ self.writer }
+    {
+        let Output {
+            writer,
+            refusals: _,
+        } = self;
+        writer
     }
 }
 

@@ -1,0 +1,142 @@
+//! The program on worked examples, on inputs that fail and on outputs that refuse.
+
+use crate::run::run;
+use crate::streams::{Input, Output};
+use std::alloc::Global;
+use std::io::{ErrorKind, Read, Write};
+use std::process::Abort;
+use std::test::Fail;
+use std::{io, str};
+
+// A reader that gives some bytes, and then fails.
+#[derive(Drop)]
+struct Failing {
+    left: u8,
+}
+
+impl Read for Failing {
+    fn read(&mut self, buf: &mut [u8]) -> io::Result<usize> {
+        if self.left == 0 || buf.is_empty() {
+            return Err(io::Error::from(ErrorKind::BrokenPipe));
+        }
+        self.left -= 1;
+        buf[0] = b'@';
+        Ok(1)
+    }
+}
+
+// A writer that counts the writes that it refuses.
+#[derive(Drop)]
+struct Refusing {
+    writes: u8,
+}
+
+impl Write for Refusing {
+    fn write(&mut self, _buf: &[u8]) -> io::Result<usize> {
+        self.writes = self.writes.saturating_add(1);
+        Err(io::Error::from(ErrorKind::BrokenPipe))
+    }
+
+    fn flush(&mut self) -> io::Result<()> {
+        Ok(())
+    }
+}
+
+fn words(alloc: Global, texts: &[&str]) -> Result<Vec<String>, Fail> {
+    let mut words = Vec::new(alloc);
+    for text in texts {
+        words.push(String::from_str(alloc, text)?)?;
+    }
+    Ok(words)
+}
+
+// Asserts what the program prints for these words and this input, and its status.
+fn prints(
+    rt: &impl Abort,
+    alloc: Global,
+    texts: &[&str],
+    bytes: &[u8],
+    want: &str,
+    status: u8,
+) -> Result<(), Fail> {
+    let words = words(alloc, texts)?;
+    let mut input = Input::new(bytes);
+    let mut output = Output::new(Vec::new(alloc));
+    assert_eq!(rt; run(alloc, &words, &mut input, &mut output), status);
+    let written = output.into_writer();
+    assert_eq!(rt; str::from_utf8(&written)?, want);
+    Ok(())
+}
+
+#[test]
+fn prints_keys(rt: HostRuntime) -> Result<(), Fail> {
+    let rows = [
+        ("", "", 0),
+        ("@article{,}", "\n", 0),
+        ("@article{test, author={A}}", "test\n", 0),
+        ("@misc{a,} @misc{b,}", "a\nb\n", 0),
+        ("@article{a}", "error: expected comma: 10-10\n", 1),
+        ("@misc{a, title={x}", "error: expected comma: 18-18\n", 1),
+        (
+            "@misc{a, title={x",
+            "error: unexpected end of file: 17-17\n",
+            1,
+        ),
+        (
+            "@misc{a, year=12.5.1}",
+            "error: unexpected decimal point: 18-18\n",
+            1,
+        ),
+    ];
+    for (text, want, status) in rows {
+        prints(&rt, rt.alloc(), &["keys"], text.as_bytes(), want, status)?;
+    }
+    prints(
+        &rt,
+        rt.alloc(),
+        &["keys"],
+        &[0xff],
+        "error: input is not UTF-8\n",
+        1,
+    )
+}
+
+#[test]
+fn tells_its_usage(rt: HostRuntime) -> Result<(), Fail> {
+    let usage = "usage: bib keys|biblatex|bibtex|check|settled\n";
+    prints(&rt, rt.alloc(), &[], b"@article{a}", usage, 2)?;
+    prints(&rt, rt.alloc(), &["key"], b"", usage, 2)?;
+    prints(&rt, rt.alloc(), &["keys", "keys"], b"", usage, 2)
+}
+
+#[test]
+fn reads_nothing_without_a_command(rt: HostRuntime) -> Result<(), Fail> {
+    let words = words(rt.alloc(), &["other"])?;
+    let mut input = Input::new(Failing { left: 3 });
+    let mut output = Output::new(Vec::new(rt.alloc()));
+    assert_eq!(rt; run(rt.alloc(), &words, &mut input, &mut output), 2);
+    assert_eq!(rt; input.into_reader().left, 3);
+    Ok(())
+}
+
+#[test]
+fn tells_that_its_input_failed(rt: HostRuntime) -> Result<(), Fail> {
+    let words = words(rt.alloc(), &["keys"])?;
+    let mut input = Input::new(Failing { left: 3 });
+    let mut output = Output::new(Vec::new(rt.alloc()));
+    assert_eq!(rt; run(rt.alloc(), &words, &mut input, &mut output), 1);
+    let written = output.into_writer();
+    assert_eq!(rt; str::from_utf8(&written)?, "error: input failed\n");
+    Ok(())
+}
+
+#[test]
+fn writes_once_where_it_is_refused(rt: HostRuntime) -> Result<(), Fail> {
+    let words = words(rt.alloc(), &["keys"])?;
+    let text: &[u8] = b"@article{test, author={A}}";
+    let mut input = Input::new(text);
+    let mut output = Output::new(Refusing { writes: 0 });
+    assert_eq!(rt; run(rt.alloc(), &words, &mut input, &mut output), 1);
+    assert_eq!(rt; output.into_writer().writes, 1);
+    Ok(())
+}
