@@ -22,7 +22,7 @@ same_braced n u = record { there = λ x y p c. p; back = λ x y p c. p }
 pub braced_then : {n m k : ℕ} {u v w : Place} → SameBraced n u m v → SameBraced m v k w → SameBraced n u k w
 braced_then first second = record {
   there = λ x y p c. first.there x y (second.there x y p c) c;
-  back = λ x y p c. second.back x y (first.back x y p c) c
+  back = λ x y p c. second.back x y (first.back x y p c) c;
 }
 
 -- a change of the first parts changes the whole alike
@@ -48,7 +48,7 @@ run_back (step char passes rest) parts brace = run_back rest (plain_back char pa
 pub braced_run : {u v : Place} (n : ℕ) → Run is_plain u v → SameBraced n u n v
 braced_run n run = record {
   there = λ x y p c. closes_map (λ a b parts close. run_there run parts) p c;
-  back = λ x y p c. closes_map (λ a b parts close. run_back run parts close) p c
+  back = λ x y p c. closes_map (λ a b parts close. run_back run parts close) p c;
 }
 
 opened_there : {n : ℕ} {u v w x y : Place} → CharAt u 123 v → Parts v w → CharAt w 125 x → Closes n x y → Closes n u y
@@ -130,11 +130,11 @@ closes_hidden_end slash end (level parts close rest) brace = hidden_end slash en
 pub braced_hidden : {u v w : Place} (n : ℕ) (taken : Option ℕ) → CharAt u 92 v → MatchOption taken (AtEnd v × (w ≡ v)) (λ c. CharAt v c w) → SameBraced n u n w
 braced_hidden {u} {v} {w} n None slash ended = record {
   there = λ x y p c. absurd (closes_end ended.0 (subst (λ q. Closes n q x) ended.1 p) c);
-  back = λ x y p c. absurd (closes_hidden_end slash ended.0 p c)
+  back = λ x y p c. absurd (closes_hidden_end slash ended.0 p c);
 }
 braced_hidden n (Some c) slash char = record {
   there = λ x y p q. closes_map (λ a b parts close. hidden slash char parts) p q;
-  back = λ x y p q. closes_map (λ a b parts close. hidden_back slash char parts close) p q
+  back = λ x y p q. closes_map (λ a b parts close. hidden_back slash char parts close) p q;
 }
 
 parts_stuck : {u x y : Place} → Stops is_plain u → ((v : Place) → CharAt u 123 v → ⊥) → ((v : Place) → CharAt u 125 v → ⊥) → ((v : Place) → CharAt u 92 v → ⊥) → Parts u x → CharAt x 125 y → ⊥

@@ -47,7 +47,7 @@ pub element_read : {start u a b c d : Place} {ps : List Piece} (e : Piece) → E
     → ElementsRead start (ps ++ e ∷ []) d
 element_read {start} {u} {a} {b} {c} {d} {ps} e read one white sign white' = record {
   there = λ es v x. rw append_assoc (read.there (e ∷ es) v (elements.more one white sign white' x));
-  back = λ es v x. let y = read.back es v x in elements_rest one white sign white' y.1
+  back = λ es v x. let y = read.back es v x in elements_rest one white sign white' y.1;
 }
 
 -- the last element
@@ -87,7 +87,7 @@ pub field_read : {start u a b c d : Place} {fs : List FieldReading} (f : FieldRe
     → FieldsRead start (fs ++ f ∷ []) d
 field_read f read one g sign h = record {
   there = λ gs v x. rw append_assoc (read.there (f ∷ gs) v (fields.more one g sign h x));
-  back = λ gs v w x close. let y = read.back gs v w x close in fields_rest one g sign h y.1 close
+  back = λ gs v w x close. let y = read.back gs v w x close in fields_rest one g sign h y.1 close;
 }
 
 gap_stops : {u v : Place} → Gap longest u v → Stops is_whitespace v

@@ -68,28 +68,30 @@ no_entry_fields key white comma gap none start p r v (body.entry {z = z} {fs = f
     let start' = gap_same (moved (Gap longest) behind gap) gap' in
     none fs z v (subst (λ x. Fields longest x fs z) (sym start') fields) close
 
-
 pub body_same : {start u v w : Place} {p : Part} {k : BlockKind} {r s : FileReading} → Body longest start p k u r v → Body longest start p k u s w → (r ≡ s) × (v ≡ w)
 body_same (body.comment a inside close) (body.comment b inside' close') =
     (refl, (same_char (moved (λ x y. CharAt x 125 y) (longest_same inside inside') close) close').1)
 body_same {u = u} {v = v} (body.preamble {c = c} quoted white close is_close) (body.preamble quoted' white' close' is_close') =
     let end = (quoted_same quoted quoted').1 in
-    let there = longest_same (moved (Longest is_whitespace) end white) white' in
-    (ap (λ x. let r : FileReading = record { preamble = between u x; entries = []; abbreviations = [] } in r) end,
-      (same_char (subst (λ x. CharAt x c v) there close) close').1)
+    let there = longest_same (moved (Longest is_whitespace) end white) white' in (
+      ap (λ x. let r : FileReading = record { preamble = between u x; entries = []; abbreviations = [] } in r) end,
+      (same_char (subst (λ x. CharAt x c v) there close) close').1,
+    )
 body_same (body.strings fields close) (body.strings fields' close') =
-    let same = fields_same fields close fields' close' in
-    (ap (λ fs. let r : FileReading = record { preamble = []; entries = []; abbreviations = fs } in r) same.0,
-      (same_char (moved (λ x y. CharAt x 125 y) same.1 close) close').1)
+    let same = fields_same fields close fields' close' in (
+      ap (λ fs. let r : FileReading = record { preamble = []; entries = []; abbreviations = fs } in r) same.0,
+      (same_char (moved (λ x y. CharAt x 125 y) same.1 close) close').1,
+    )
 body_same {start} {u} {p = p} (body.entry {z = z} {fs = fs} a key white comma gap fields close) (body.entry {z = z'} {fs = fs'} b key' white' comma' gap' fields' close') =
     let end = longest_same key key' in
     let there = longest_same (moved (Longest is_whitespace) end white) white' in
     let behind = (same_char (moved (λ x y. CharAt x 44 y) there comma) comma').1 in
     let begin = gap_same (moved (Gap longest) behind gap) gap' in
     let same = fields_same (subst (λ x. Fields longest x fs z) begin fields) close fields' close' in
-    let says : Place → List FieldReading → Place → FileReading = λ x gs y. record { preamble = []; entries = record { key = part u x; kind = p; fields = gs; start = start.at; end = y.at } ∷ []; abbreviations = [] } in
-    (ap (λ x. says x fs z) end ∙ ap (λ gs. says b gs z) same.0 ∙ ap (says b fs') same.1,
-      (same_char (moved (λ x y. CharAt x 125 y) same.1 close) close').1)
+    let says : Place → List FieldReading → Place → FileReading = λ x gs y. record { preamble = []; entries = record { key = part u x; kind = p; fields = gs; start = start.at; end = y.at } ∷ []; abbreviations = [] } in (
+      ap (λ x. says x fs z) end ∙ ap (λ gs. says b gs z) same.0 ∙ ap (says b fs') same.1,
+      (same_char (moved (λ x y. CharAt x 125 y) same.1 close) close').1,
+    )
 
 pub ahead_body : {start u v : Place} {p : Part} {k : BlockKind} {r : FileReading} → Body longest start p k u r v → Ahead u v
 ahead_body (body.comment a inside close) = ahead_then (ahead_run inside.run) (ahead_char close)
@@ -199,13 +201,13 @@ first_block sign (file.block b x) = record { behind = _; first = _; rest = _; bl
 pub skip_read : {start u v : Place} {says : FileReading} → FileRead start says u → Longest is_skipped u v → FileRead start says v
 skip_read read run = record {
   there = λ r x. read.there r (skip_there run.run x);
-  back = λ r x. let y = read.back r x in (y.0, skip_back run.run y.1)
+  back = λ r x. let y = read.back r x in (y.0, skip_back run.run y.1);
 }
 
 pub remark_read : {start u v : Place} {says : FileReading} → FileRead start says u → Remark u v → FileRead start says v
 remark_read read m = record {
   there = λ r x. read.there r (file.remark m x);
-  back = λ r x. let y = read.back r x in (y.0, remark_rest m y.1)
+  back = λ r x. let y = read.back r x in (y.0, remark_rest m y.1);
 }
 
 pub block_read : {start u v : Place} {says first : FileReading} → FileRead start says u → Block longest u first v → FileRead start (then says first) v
@@ -214,7 +216,7 @@ block_read {start} {u} {v} {says} {first} read b = record {
   back = λ r x.
       let y = read.back r x in
       let f = first_block b.head.sign y.1 in
-      (f.rest, subst (λ z. File longest z f.rest) (block_same f.block b).1 f.left)
+      (f.rest, subst (λ z. File longest z f.rest) (block_same f.block b).1 f.left);
 }
 
 -- the whole file
@@ -248,7 +250,7 @@ pub entry_found : {u s a b c d z w : Place} {fs : List FieldReading} (kind key :
     → Fields longest d fs z → CharAt z 125 w → Body longest u kind Entry s (says_entry key kind fs start end) w
 entry_found {u} {s} {a} {b} {c} {d} {z} {w} {fs} kind key start end starts ends reading run white comma gap fields close =
     let same : says_entry (part s a) kind fs u.at z.at ≡ says_entry key kind fs start end =
-        ap (λ k. says_entry k kind fs u.at z.at) (sym reading) ∙ ap (λ n. says_entry key kind fs n z.at) starts ∙ ap (says_entry key kind fs start) (sym ends) in
+    ap (λ k. says_entry k kind fs u.at z.at) (sym reading) ∙ ap (λ n. says_entry key kind fs n z.at) starts ∙ ap (says_entry key kind fs start) (sym ends) in
     subst (λ r. Body longest u kind Entry s r w) same (body.entry a run white comma gap fields close)
 
 -- less is left behind a block, a remark, and a run of characters that are skipped
@@ -256,7 +258,7 @@ pub block_smaller : {u v : Place} {r : FileReading} → Block longest u r v → 
 block_smaller {u} b =
     let h = b.head in
     left_smaller (ahead_here u) h.sign
-      (ahead_then (ahead_identifier h.name) (ahead_then (ahead_run h.white.run) (ahead_then (ahead_char h.opens) (ahead_then (ahead_run h.white'.run) (ahead_body b.body)))))
+    (ahead_then (ahead_identifier h.name) (ahead_then (ahead_run h.white.run) (ahead_then (ahead_char h.opens) (ahead_then (ahead_run h.white'.run) (ahead_body b.body)))))
 
 pub ahead_remark : {u v : Place} → Remark u v → Ahead u v
 ahead_remark m = ahead_then (ahead_char m.sign) (ahead_run m.line.run)

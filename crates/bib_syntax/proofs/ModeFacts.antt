@@ -42,9 +42,17 @@ elements_any (elements.more e w s w' rest) = elements.more (element_any e) w.run
 
 field_any : {u v : Place} {f : FieldReading} → Field longest u f v → Field any u f v
 field_any f = record {
-  name_end = f.name_end; before_sign = f.before_sign; behind_sign = f.behind_sign; value_start = f.value_start;
-  name = identifier_any f.name; white = f.white.run; sign = f.sign; white' = f.white'.run; elements = elements_any f.elements;
-  starts = f.starts; ends = f.ends
+  name_end = f.name_end;
+  before_sign = f.before_sign;
+  behind_sign = f.behind_sign;
+  value_start = f.value_start;
+  name = identifier_any f.name;
+  white = f.white.run;
+  sign = f.sign;
+  white' = f.white'.run;
+  elements = elements_any f.elements;
+  starts = f.starts;
+  ends = f.ends;
 }
 
 gap_any : {u v : Place} → Gap longest u v → Gap any u v
@@ -58,8 +66,17 @@ fields_any (fields.more f g s h rest) = fields.more (field_any f) (gap_any g) s 
 
 head_any : {u v : Place} {p : Part} → Head longest u p v → Head any u p v
 head_any h = record {
-  name_start = h.name_start; name_end = h.name_end; before_brace = h.before_brace; behind_brace = h.behind_brace; brace = h.brace;
-  sign = h.sign; name = identifier_any h.name; white = h.white.run; opens = h.opens; is_brace = h.is_brace; white' = h.white'.run
+  name_start = h.name_start;
+  name_end = h.name_end;
+  before_brace = h.before_brace;
+  behind_brace = h.behind_brace;
+  brace = h.brace;
+  sign = h.sign;
+  name = identifier_any h.name;
+  white = h.white.run;
+  opens = h.opens;
+  is_brace = h.is_brace;
+  white' = h.white'.run;
 }
 
 body_any : {start u v : Place} {p : Part} {k : BlockKind} {r : FileReading} → Body longest start p k u r v → Body any start p k u r v
@@ -125,16 +142,20 @@ end_not_continue c ends = grind (arith, nat_tests)
 element_longest : {u v : Place} {e : Piece} → Element any u e v → Behind v → Element longest u e v
 element_longest (element.number (number.whole {w = w} c d r e)) b =
     element.number (number.whole c d
-      (record { run = r; stops = stops_before is_ascii_digit digit_not_white b.white b.here (end_not_digit b.char b.ends) })
-      (stops_before (λ x. x == 46) white_not_point b.white b.here (end_not_point b.char b.ends)))
+    (record { run = r; stops = stops_before is_ascii_digit digit_not_white b.white b.here (end_not_digit b.char b.ends) })
+    (stops_before (λ x. x == 46) white_not_point b.white b.here (end_not_point b.char b.ends)))
 element_longest (element.number (number.broken c d r p s e)) b =
     element.number (number.broken c d (longest_to is_ascii_digit r p refl) p
-      (record { run = s; stops = stops_before is_ascii_digit digit_not_white b.white b.here (end_not_digit b.char b.ends) })
-      (stops_before (λ x. x == 46) white_not_point b.white b.here (end_not_point b.char b.ends)))
+    (record { run = s; stops = stops_before is_ascii_digit digit_not_white b.white b.here (end_not_digit b.char b.ends) })
+    (stops_before (λ x. x == 46) white_not_point b.white b.here (end_not_point b.char b.ends)))
 element_longest (element.named none i) b =
     element.named none (record {
-      second = i.second; first = i.first; here = i.here; starts = i.starts; reading = i.reading;
-      rest = record { run = i.rest; stops = stops_before is_id_continue white_not_continue b.white b.here (end_not_continue b.char b.ends) }
+      second = i.second;
+      first = i.first;
+      here = i.here;
+      starts = i.starts;
+      reading = i.reading;
+      rest = record { run = i.rest; stops = stops_before is_id_continue white_not_continue b.white b.here (end_not_continue b.char b.ends) };
     })
 element_longest (element.braced x) b = element.braced x
 element_longest (element.quoted q) b = element.quoted q
@@ -171,7 +192,7 @@ white_gap {v} {w} {x} {y} {k} white (gap.white r e) char close =
       white = all;
       rest = gap.white (record { run = stop; stops = all.stops }) (stops_at (λ c. c == 37) char (close_not_percent k close));
       no_sign = stops_at (λ c. c == 35) char (close_not_sign k close);
-      behind = record { at = x; behind = y; char = k; white = all.run; here = char; ends = close_ends k close }
+      behind = record { at = x; behind = y; char = k; white = all.run; here = char; ends = close_ends k close };
     }
 white_gap {v} {w} {x} {y} {k} white (gap.remark {v = a} r m r') char close =
     let all = longest_to is_whitespace (run_append white r) m.sign refl in
@@ -180,7 +201,7 @@ white_gap {v} {w} {x} {y} {k} white (gap.remark {v = a} r m r') char close =
       white = all;
       rest = gap.remark (record { run = stop; stops = all.stops }) m (longest_to is_whitespace r' char (close_not_white k close));
       no_sign = stops_at (λ c. c == 35) m.sign refl;
-      behind = record { at = a; behind = m.inside; char = 37; white = all.run; here = m.sign; ends = refl }
+      behind = record { at = a; behind = m.inside; char = 37; white = all.run; here = m.sign; ends = refl };
     }
 
 -- a first character that is no white space
@@ -232,15 +253,19 @@ elements_longest (elements.more {w = w} {x = b} e white sign white' rest) g char
     record {
       end = more.end;
       elements = elements.more (element_longest e (record { at = w; behind = b; char = 35; white = white; here = sign; ends = refl }))
-        (longest_to is_whitespace white sign refl) sign (longest_to is_whitespace white' first.here first.visible) more.elements;
-      rest = more.rest
+          (longest_to is_whitespace white sign refl) sign (longest_to is_whitespace white' first.here first.visible) more.elements;
+      rest = more.rest;
     }
 
 -- a name with white space behind it, and then a character that is part of no name
 name_longest : {u v w x : Place} {p : Part} {c : ℕ} → Identifier any u p v → Run is_whitespace v w → CharAt w c x → is_id_continue c ≡ false → Identifier longest u p v
 name_longest i white char fails = record {
-  second = i.second; first = i.first; here = i.here; starts = i.starts; reading = i.reading;
-  rest = record { run = i.rest; stops = stops_before is_id_continue white_not_continue white char fails }
+  second = i.second;
+  first = i.first;
+  here = i.here;
+  starts = i.starts;
+  reading = i.reading;
+  rest = record { run = i.rest; stops = stops_before is_id_continue white_not_continue white char fails };
 }
 
 record FieldLongest (u x : Place) : Type 0 where
@@ -257,11 +282,19 @@ field_longest {f = f} a g char close =
       end = more.end;
       says = record { name = f.name; value = record { pieces = f.value.pieces; start = f.value.start; end = more.end.at } };
       field = record {
-        name_end = a.name_end; before_sign = a.before_sign; behind_sign = a.behind_sign; value_start = a.value_start;
-        name = name_longest a.name a.white a.sign refl; white = longest_to is_whitespace a.white a.sign refl; sign = a.sign;
-        white' = longest_to is_whitespace a.white' first.here first.visible; elements = more.elements; starts = a.starts; ends = refl
+        name_end = a.name_end;
+        before_sign = a.before_sign;
+        behind_sign = a.behind_sign;
+        value_start = a.value_start;
+        name = name_longest a.name a.white a.sign refl;
+        white = longest_to is_whitespace a.white a.sign refl;
+        sign = a.sign;
+        white' = longest_to is_whitespace a.white' first.here first.visible;
+        elements = more.elements;
+        starts = a.starts;
+        ends = refl;
       };
-      rest = more.rest
+      rest = more.rest;
     }
 
 -- a gap before a character that is neither white space nor a percent sign
@@ -341,10 +374,17 @@ closing_visible c brace = grind (arith, nat_tests)
 
 head_longest : {u v w : Place} {p : Part} → (h : Head any u p w) → Longest is_whitespace h.behind_brace v → Head longest u p v
 head_longest h white = record {
-  name_start = h.name_start; name_end = h.name_end; before_brace = h.before_brace; behind_brace = h.behind_brace; brace = h.brace;
-  sign = h.sign; name = name_longest h.name h.white h.opens (brace_no_name h.brace h.is_brace);
+  name_start = h.name_start;
+  name_end = h.name_end;
+  before_brace = h.before_brace;
+  behind_brace = h.behind_brace;
+  brace = h.brace;
+  sign = h.sign;
+  name = name_longest h.name h.white h.opens (brace_no_name h.brace h.is_brace);
   white = longest_to is_whitespace h.white h.opens (brace_visible h.brace h.is_brace);
-  opens = h.opens; is_brace = h.is_brace; white' = white
+  opens = h.opens;
+  is_brace = h.is_brace;
+  white' = white;
 }
 
 key_visible : (c : ℕ) → is_key c ≡ true → is_whitespace c ≡ false
@@ -363,9 +403,10 @@ body_longest run (body.comment b inside close) =
     record { inside = cut.end; says = nothing; white = cut.white; body = body.comment b (longest_to (λ c. not (c == 125)) cut.rest close refl) close }
 body_longest {u = u} run (body.preamble {c = c} quoted white close shuts) =
     record {
-      inside = u; says = _;
+      inside = u;
+      says = _;
       white = longest_to is_whitespace run quoted.opens refl;
-      body = body.preamble quoted (longest_to is_whitespace white close (closing_visible c shuts)) close shuts
+      body = body.preamble quoted (longest_to is_whitespace white close (closing_visible c shuts)) close shuts;
     }
 body_longest run (body.strings inner close) =
     let cut = white_fields run inner close in
@@ -374,16 +415,19 @@ body_longest run (body.entry b stop white comma g inner close) =
     let cut = gap_fields g inner close in
     let all = longest_to is_whitespace (run_append run white) comma refl in
     record {
-      inside = _; says = _; white = all;
-      body = body.entry _ (longest_to is_key stop comma refl) (longest_to is_whitespace stop comma refl) comma cut.before cut.fields.fields close
+      inside = _;
+      says = _;
+      white = all;
+      body = body.entry _ (longest_to is_key stop comma refl) (longest_to is_whitespace stop comma refl) comma cut.before cut.fields.fields close;
     }
 body_longest {u = u} run (body.entry b (step {c = c} first passes rest) white comma g inner close) =
     let cut = gap_fields g inner close in
     record {
-      inside = u; says = _;
+      inside = u;
+      says = _;
       white = longest_to is_whitespace run first (key_visible c passes);
       body = body.entry b (record { run = step first passes rest; stops = stops_before is_key white_not_key white comma refl })
-        (longest_to is_whitespace white comma refl) comma cut.before cut.fields.fields close
+          (longest_to is_whitespace white comma refl) comma cut.before cut.fields.fields close;
     }
 
 -- a file that any runs read is read by the longest

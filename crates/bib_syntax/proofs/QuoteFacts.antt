@@ -22,7 +22,7 @@ same_quoted u = record { there = λ x y p c. p; back = λ x y p c. p }
 pub quoted_then : {u v w : Place} → SameQuoted u v → SameQuoted v w → SameQuoted u w
 quoted_then first second = record {
   there = λ x y p c. first.there x y (second.there x y p c) c;
-  back = λ x y p c. second.back x y (first.back x y p c) c
+  back = λ x y p c. second.back x y (first.back x y p c) c;
 }
 
 run_there : {u v x : Place} → Run is_quotable u v → QuotedParts v x → QuotedParts u x
@@ -64,7 +64,7 @@ hidden_end_back slash end (hidden {w = w'} {c = c'} slash' char' parts) quote = 
 pub quoted_hidden : {u v w : Place} (taken : Option ℕ) → CharAt u 92 v → MatchOption taken (AtEnd v × (w ≡ v)) (λ c. CharAt v c w) → SameQuoted u w
 quoted_hidden {u} {v} {w} None slash ended = record {
   there = λ x y p c. absurd (quoted_end ended.0 (subst (λ q. QuotedParts q x) ended.1 p) c);
-  back = λ x y p c. absurd (hidden_end_back slash ended.0 p c)
+  back = λ x y p c. absurd (hidden_end_back slash ended.0 p c);
 }
 quoted_hidden (Some c) slash char = record { there = λ x y p q. hidden slash char p; back = λ x y p q. hidden_back slash char p q }
 

@@ -29,9 +29,12 @@ id_start_continues c starts = (and_parts (not (c == 58 || c == 60 || c == 45 || 
 -- an identifier, from its first character and the longest run that begins with it
 pub identifier_from : {u v w : Place} {c : ℕ} {p : Part} → CharAt u c v → is_id_start c ≡ true → Longest is_id_continue u w → p ≡ part u w → Identifier longest u p w
 identifier_from {u} {v} {w} {c} char starts run reading = record {
-  second = v; first = c; here = char; starts = starts;
+  second = v;
+  first = c;
+  here = char;
+  starts = starts;
   rest = longest_rest run char (id_start_continues c starts);
-  reading = reading
+  reading = reading;
 }
 
 pub number_whole : {u v w : Place} {c : ℕ} → CharAt u c v → is_ascii_digit c ≡ true → Longest is_ascii_digit u w → ((x : Place) → CharAt w 46 x → ⊥) → Number longest u w

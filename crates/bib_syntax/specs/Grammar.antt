@@ -45,9 +45,9 @@ pub record Identifier (mode : Mode) (u : Place) (name : Part) (v : Place) : Type
 -- a digit, and digits with at most one point among them
 pub data Number (mode : Mode) : Place → Place → Type 0 where
   whole : {u v w : Place} {c : ℕ} → CharAt u c v → is_ascii_digit c ≡ true → Chars mode is_ascii_digit v w
-    → Ends mode (λ d. d == 46) w → Number mode u w
+      → Ends mode (λ d. d == 46) w → Number mode u w
   broken : {u v w x y : Place} {c : ℕ} → CharAt u c v → is_ascii_digit c ≡ true → Chars mode is_ascii_digit v w
-    → CharAt w 46 x → Chars mode is_ascii_digit x y → Ends mode (λ d. d == 46) y → Number mode u y
+      → CharAt w 46 x → Chars mode is_ascii_digit x y → Ends mode (λ d. d == 46) y → Number mode u y
 
 -- in quotes: characters other than a quote and a backslash, and backslashes that hide the character behind them
 pub data QuotedParts : Place → Place → Type 0 where
@@ -88,7 +88,7 @@ pub data Element (mode : Mode) : Place → Piece → Place → Type 0 where
 pub data Elements (mode : Mode) : Place → List Piece → Place → Type 0 where
   last : {u v w : Place} {e : Piece} → Element mode u e v → White mode v w → Ends mode (λ c. c == 35) w → Elements mode u (e ∷ []) w
   more : {u v w x y z : Place} {e : Piece} {es : List Piece} → Element mode u e v → White mode v w → CharAt w 35 x
-    → White mode x y → Elements mode y es z → Elements mode u (e ∷ es) z
+      → White mode x y → Elements mode y es z → Elements mode u (e ∷ es) z
 
 -- a name, an equals sign and a value, which goes on over the white space behind it
 pub record Field (mode : Mode) (u : Place) (f : FieldReading) (v : Place) : Type 0 where
@@ -120,7 +120,7 @@ pub data Fields (mode : Mode) : Place → List FieldReading → Place → Type 0
   none : {u v : Place} → White mode u v → Fields mode u [] v
   last : {u v w : Place} {f : FieldReading} → Field mode u f v → Gap mode v w → Fields mode u (f ∷ []) w
   more : {u v w x y z : Place} {f : FieldReading} {fs : List FieldReading} → Field mode u f v → Gap mode v w → CharAt w 44 x
-    → Gap mode x y → Fields mode y fs z → Fields mode u (f ∷ fs) z
+      → Gap mode x y → Fields mode y fs z → Fields mode u (f ∷ fs) z
 
 -- a name in any ASCII case
 abbrev pub is_named : List ℕ → List ℕ → Bool
@@ -130,7 +130,7 @@ is_named word name = str_eq_ignore_ascii_case name word
 abbrev pub block_kind : List ℕ → BlockKind
 block_kind name =
     cond (is_named (codes "comment") name) Comment
-      (cond (is_named (codes "preamble") name) Preamble (cond (is_named (codes "string") name) Strings Entry))
+    (cond (is_named (codes "preamble") name) Preamble (cond (is_named (codes "string") name) Strings Entry))
 
 -- where a block begins: an at sign, its name, and a brace or a quote, with white space round that
 pub record Head (mode : Mode) (u : Place) (kind : Part) (v : Place) : Type 0 where
@@ -150,13 +150,13 @@ pub record Head (mode : Mode) (u : Place) (kind : Part) (v : Place) : Type 0 whe
 pub data Body (mode : Mode) (start : Place) (kind : Part) : BlockKind → Place → FileReading → Place → Type 0 where
   comment : {u w : Place} (v : Place) → Chars mode (λ c. not (c == 125)) u v → CharAt v 125 w → Body mode start kind Comment u nothing w
   preamble : {u v w x : Place} {p : Part} {c : ℕ} → Quoted u p v → White mode v w → CharAt w c x → c == 125 || c == 34 ≡ true
-    → Body mode start kind Preamble u (record { preamble = between u v; entries = []; abbreviations = [] }) x
+      → Body mode start kind Preamble u (record { preamble = between u v; entries = []; abbreviations = [] }) x
   strings : {u v w : Place} {fs : List FieldReading} → Fields mode u fs v → CharAt v 125 w
-    → Body mode start kind Strings u (record { preamble = []; entries = []; abbreviations = fs }) w
+      → Body mode start kind Strings u (record { preamble = []; entries = []; abbreviations = fs }) w
   entry : {u w x y z end : Place} {fs : List FieldReading} (v : Place) → Chars mode is_key u v → White mode v w → CharAt w 44 x → Gap mode x y
-    → Fields mode y fs z → CharAt z 125 end
-    → Body mode start kind Entry u
-        (record { preamble = []; entries = record { key = part u v; kind = kind; fields = fs; start = start.at; end = z.at } ∷ []; abbreviations = [] }) end
+      → Fields mode y fs z → CharAt z 125 end
+      → Body mode start kind Entry u
+      (record { preamble = []; entries = record { key = part u v; kind = kind; fields = fs; start = start.at; end = z.at } ∷ []; abbreviations = [] }) end
 
 -- a block, from its at sign to behind its last brace
 pub record Block (mode : Mode) (u : Place) (says : FileReading) (v : Place) : Type 0 where

@@ -55,5 +55,5 @@ abbrev pub then : FileReading → FileReading → FileReading
 then first rest = record {
   preamble = joined first.preamble rest.preamble;
   entries = first.entries ++ rest.entries;
-  abbreviations = first.abbreviations ++ rest.abbreviations
+  abbreviations = first.abbreviations ++ rest.abbreviations;
 }

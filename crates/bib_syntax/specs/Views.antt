@@ -35,7 +35,7 @@ abbrev pub file_of : RawBibliography → FileReading
 file_of raw = record {
   preamble = string_bytes raw.preamble;
   entries = map entry_of raw.entries.items;
-  abbreviations = map field_of raw.abbreviations.items
+  abbreviations = map field_of raw.abbreviations.items;
 }
 
 -- what a block says

@@ -12,12 +12,11 @@ mod words;
 
 use bib_chunks::chunk::{Span, Spanned};
 use bib_chunks::scanner::Scanner;
+use file::blocks;
 use std::alloc::{AllocError, AllocFailed, Global};
 use std::error::Error;
 use std::fmt;
 use std::marker::Model;
-
-use file::blocks;
 
 /// The elements of a field's value, joined in the file by `#`.
 pub type Field<'s> = Vec<Spanned<RawChunk<'s>>>;

@@ -26,7 +26,13 @@ fn chunks(alloc: Global, parts: &[(char, &str)]) -> Result<Chunks, AllocError> {
 }
 
 // What each of these lists of chunks must be written as, in verbatim fields or others.
-fn check_written(rt: &impl Abort, alloc: Global, is_verbatim: bool, parts: &[(char, &str)], written: &str) -> Result<(), Fail> {
+fn check_written(
+    rt: &impl Abort,
+    alloc: Global,
+    is_verbatim: bool,
+    parts: &[(char, &str)],
+    written: &str,
+) -> Result<(), Fail> {
     let all = chunks(alloc, parts)?;
     let text = all.as_slice().to_biblatex_string(alloc, is_verbatim)?;
     assert_eq!(rt; text.as_str(), written);
@@ -37,24 +43,75 @@ fn check_written(rt: &impl Abort, alloc: Global, is_verbatim: bool, parts: &[(ch
 fn writes_values(rt: HostRuntime) -> Result<(), Fail> {
     let alloc = rt.alloc();
     check_written(&rt, alloc, false, &[], "{}")?;
-    check_written(&rt, alloc, false, &[('v', "a"), ('m', "x"), ('v', "b")], "{{a$x$b}}")?;
-    check_written(&rt, alloc, false, &[('v', "a"), ('m', "x"), ('n', "b")], "{{a$x$}b}")?;
+    check_written(
+        &rt,
+        alloc,
+        false,
+        &[('v', "a"), ('m', "x"), ('v', "b")],
+        "{{a$x$b}}",
+    )?;
+    check_written(
+        &rt,
+        alloc,
+        false,
+        &[('v', "a"), ('m', "x"), ('n', "b")],
+        "{{a$x$}b}",
+    )?;
     check_written(&rt, alloc, false, &[('n', "a~b")], "{a\\textasciitilde{}b}")?;
-    check_written(&rt, alloc, false, &[('v', "x^y"), ('n', " z")], "{{x\\textasciicircum{}y} z}")?;
+    check_written(
+        &rt,
+        alloc,
+        false,
+        &[('v', "x^y"), ('n', " z")],
+        "{{x\\textasciicircum{}y} z}",
+    )?;
     check_written(&rt, alloc, true, &[('n', "x~y^z")], "{x~y^z}")?;
     check_written(&rt, alloc, false, &[('m', "x^2")], "{$x^2$}")?;
-    check_written(&rt, alloc, false, &[('m', "\\frac{a}{b}")], "{$\\frac{a}{b}$}")?;
-    check_written(&rt, alloc, false, &[('n', "a"), ('v', "{$}$b}")], "{a{\\{\\$\\}\\$b\\}}}")?;
-    check_written(&rt, alloc, false, &[('n', "a & b \\ {c} #1 50% $5 x_y é")], "{a \\& b \\\\ \\{c\\} \\#1 50\\% \\$5 x\\_y é}")?;
-    check_written(&rt, alloc, true, &[('n', "a & b \\ {c} $5"), ('m', "{x}")], "{a & b \\\\ \\{c\\} $5$\\{x\\}$}")?;
-    check_written(&rt, alloc, false, &[('n', "a"), ('v', ""), ('n', "b")], "{a{}b}")
+    check_written(
+        &rt,
+        alloc,
+        false,
+        &[('m', "\\frac{a}{b}")],
+        "{$\\frac{a}{b}$}",
+    )?;
+    check_written(
+        &rt,
+        alloc,
+        false,
+        &[('n', "a"), ('v', "{$}$b}")],
+        "{a{\\{\\$\\}\\$b\\}}}",
+    )?;
+    check_written(
+        &rt,
+        alloc,
+        false,
+        &[('n', "a & b \\ {c} #1 50% $5 x_y é")],
+        "{a \\& b \\\\ \\{c\\} \\#1 50\\% \\$5 x\\_y é}",
+    )?;
+    check_written(
+        &rt,
+        alloc,
+        true,
+        &[('n', "a & b \\ {c} $5"), ('m', "{x}")],
+        "{a & b \\\\ \\{c\\} $5$\\{x\\}$}",
+    )?;
+    check_written(
+        &rt,
+        alloc,
+        false,
+        &[('n', "a"), ('v', ""), ('n', "b")],
+        "{a{}b}",
+    )
 }
 
 #[test]
 fn writes_a_chunk_by_itself(rt: HostRuntime) -> Result<(), Fail> {
     let alloc = rt.alloc();
     let verbatim = Chunk::Verbatim(Text::from_str(alloc, "x^2 & {y}")?);
-    assert_eq!(rt; verbatim.to_biblatex_string(alloc, false)?.as_str(), "x\\textasciicircum{}2 \\& \\{y\\}");
+    assert_eq!(rt;
+        verbatim.to_biblatex_string(alloc, false)?.as_str(),
+        "x\\textasciicircum{}2 \\& \\{y\\}"
+    );
     let math = Chunk::Math(Text::from_str(alloc, "x^{2}")?);
     assert_eq!(rt; math.to_biblatex_string(alloc, false)?.as_str(), "x^{2}");
     assert_eq!(rt; math.to_biblatex_string(alloc, true)?.as_str(), "x^\\{2\\}");
@@ -83,7 +140,11 @@ fn tells_what_is_settled(rt: HostRuntime) -> Result<(), Fail> {
     ];
     for (parts, is_verbatim, settled) in rows {
         let all = chunks(alloc, parts)?;
-        assert_eq!(rt; is_settled(all.as_slice(), is_verbatim), settled, "at {parts:?}");
+        assert_eq!(rt;
+            is_settled(all.as_slice(), is_verbatim),
+            settled,
+            "at {parts:?}"
+        );
     }
     Ok(())
 }
@@ -103,7 +164,10 @@ fn formats_verbatim(rt: HostRuntime) -> Result<(), Fail> {
     let alloc = rt.alloc();
     let rows: [(&[(char, &str)], &str); 6] = [
         (&[], ""),
-        (&[('n', "a Big "), ('v', "NASA"), ('m', "x")], "a Big NASA$x$"),
+        (
+            &[('n', "a Big "), ('v', "NASA"), ('m', "x")],
+            "a Big NASA$x$",
+        ),
         (&[('n', "a\r\nb\n"), ('m', "x"), ('n', "\nc")], "a b $x$c"),
         (&[('n', "a "), ('v', ""), ('n', "\nb")], "a  b"),
         (&[('v', "a\n"), ('n', "\nb")], "a\nb"),
@@ -153,7 +217,10 @@ fn cuts_at_commas(rt: HostRuntime) -> Result<(), Fail> {
         (&[('n', "a,"), ('v', "b,c"), ('n', ",d")], "|a|b,c|d"),
         (&[('n', "a"), ('m', "x,y"), ('n', " ,b")], "|a$x,y$|b"),
         (&[('n', ",")], "||"),
-        (&[('n', "31--43,4-6,  194 --- 245")], "|31--43|4-6|194 --- 245"),
+        (
+            &[('n', "31--43,4-6,  194 --- 245")],
+            "|31--43|4-6|194 --- 245",
+        ),
     ];
     for (parts, text) in rows {
         let all = chunks(alloc, parts)?;
@@ -169,13 +236,19 @@ fn cuts_at_words_and(rt: HostRuntime) -> Result<(), Fail> {
     let rows: [(&[(char, &str)], &str); 8] = [
         (&[], "|"),
         (
-            &[('n', "Johannes anderson Gutenberg and Claudeand Garamond and Aanderson Manutius")],
+            &[(
+                'n',
+                "Johannes anderson Gutenberg and Claudeand Garamond and Aanderson Manutius",
+            )],
             "|Johannes anderson Gutenberg|Claudeand Garamond|Aanderson Manutius",
         ),
         (&[('n', "A and and B")], "|A||B"),
         (&[('n', " and x ")], "|and x"),
         (&[('n', "x and "), ('v', "y and z")], "|x|y and z"),
-        (&[('n', " a "), ('v', " b "), ('n', " and\u{2003}c d and e")], "|a  b |c d|e"),
+        (
+            &[('n', " a "), ('v', " b "), ('n', " and\u{2003}c d and e")],
+            "|a  b |c d|e",
+        ),
         (&[('n', "a "), ('n', "and b")], "|a and b"),
         (&[('n', "a\tand\u{2003}b")], "|a|b"),
     ];
@@ -192,10 +265,19 @@ fn cuts_at_the_first_separator(rt: HostRuntime) -> Result<(), Fail> {
     let alloc = rt.alloc();
     let none = chunks(alloc, &[('v', "a=b"), ('m', "c=d"), ('n', "e")])?;
     assert!(rt; cuts::cut_at(alloc, none.as_slice(), '=')?.is_none());
-    let some = chunks(alloc, &[('v', "a=b"), ('n', " given = Simon = x"), ('v', "c")])?;
+    let some = chunks(
+        alloc,
+        &[('v', "a=b"), ('n', " given = Simon = x"), ('v', "c")],
+    )?;
     let (before, behind) = cuts::cut_at(alloc, some.as_slice(), '=')?.ok_or("no cut")?;
-    assert_eq!(rt; before.as_slice().format_verbatim(alloc)?.as_str(), "a=b given");
-    assert_eq!(rt; behind.as_slice().format_verbatim(alloc)?.as_str(), "Simon = xc");
+    assert_eq!(rt;
+        before.as_slice().format_verbatim(alloc)?.as_str(),
+        "a=b given"
+    );
+    assert_eq!(rt;
+        behind.as_slice().format_verbatim(alloc)?.as_str(),
+        "Simon = xc"
+    );
     Ok(())
 }
 

@@ -1,6 +1,8 @@
 //! The file grammar: worked examples, which fault is told and where, and texts cut short.
 
-use bib_syntax::raw::{BiblatexParser, ParseError, RawBibliography, RawChunk, is_id_continue, is_id_start, is_key};
+use bib_syntax::raw::{
+    BiblatexParser, ParseError, RawBibliography, RawChunk, is_id_continue, is_id_start, is_key,
+};
 use std::alloc::Global;
 use std::process::Abort;
 use std::test::Fail;
@@ -31,8 +33,14 @@ fn reads_keys(rt: HostRuntime) -> Result<(), Fail> {
         ("@misc{a, title={x}} junk % @misc{b,}", "|a"),
         ("@comment{x @misc{b,} y}", ""),
         ("@misc{a, title={x}}}", "|a"),
-        ("@STRING{b = 1} @misc{a, title = b # {c} # \"d\" # 12.5,}", "|a"),
-        ("@misc{a, % one\n title={x} % two\n, % three\n year=1 % four\n}", "|a"),
+        (
+            "@STRING{b = 1} @misc{a, title = b # {c} # \"d\" # 12.5,}",
+            "|a",
+        ),
+        (
+            "@misc{a, % one\n title={x} % two\n, % three\n year=1 % four\n}",
+            "|a",
+        ),
         ("@misc{a, title=\"q\\\"} r\"}", "|a"),
         ("@misc{a, title={\\}{\\{}}}@misc{b,}", "|a|b"),
         ("@misc { ü:x , note = \"\" }", "|ü:x"),
@@ -50,7 +58,10 @@ fn tells_faults(rt: HostRuntime) -> Result<(), Fail> {
         ("@article{a}", "expected comma: 10-10"),
         ("@misc{a, title={x}", "expected comma: 18-18"),
         ("@misc{a, title={x", "unexpected end of file: 17-17"),
-        ("@misc{a, title={x}, %1\n%2\n}", "expected identifier: 23-23"),
+        (
+            "@misc{a, title={x}, %1\n%2\n}",
+            "expected identifier: 23-23",
+        ),
         ("@misc{a, year=12.5.1}", "unexpected decimal point: 18-18"),
         ("@misc{a, title=}", "unexpected end of file: 15-15"),
         ("@preamble{x}", "expected double quote: 10-10"),
@@ -68,11 +79,26 @@ fn tells_faults(rt: HostRuntime) -> Result<(), Fail> {
 fn tells_faults_of_texts_cut_short(rt: HostRuntime) -> Result<(), Fail> {
     let whole = "@misc{a, title={x}}";
     let wants = [
-        "", "expected identifier: 1-1", "expected opening brace: 2-2", "expected opening brace: 3-3",
-        "expected opening brace: 4-4", "expected opening brace: 5-5", "expected comma: 6-6", "expected comma: 7-7",
-        "unexpected end of file: 8-8", "unexpected end of file: 9-9", "expected equals: 10-10", "expected equals: 11-11",
-        "expected equals: 12-12", "expected equals: 13-13", "expected equals: 14-14", "unexpected end of file: 15-15",
-        "unexpected end of file: 16-16", "unexpected end of file: 17-17", "expected comma: 18-18", "|a",
+        "",
+        "expected identifier: 1-1",
+        "expected opening brace: 2-2",
+        "expected opening brace: 3-3",
+        "expected opening brace: 4-4",
+        "expected opening brace: 5-5",
+        "expected comma: 6-6",
+        "expected comma: 7-7",
+        "unexpected end of file: 8-8",
+        "unexpected end of file: 9-9",
+        "expected equals: 10-10",
+        "expected equals: 11-11",
+        "expected equals: 12-12",
+        "expected equals: 13-13",
+        "expected equals: 14-14",
+        "unexpected end of file: 15-15",
+        "unexpected end of file: 16-16",
+        "unexpected end of file: 17-17",
+        "expected comma: 18-18",
+        "|a",
     ];
     for (n, want) in wants.iter().enumerate() {
         let cut = whole.get(..n).ok_or("a cut")?;
@@ -164,7 +190,9 @@ fn tells_characters_apart(rt: HostRuntime) {
     for c in ['a', '{', '"', '%', 'é', '@'] {
         assert!(rt; is_key(c), "{c:?}");
     }
-    for c in ['@', '{', '}', '"', '#', '\'', '(', ')', ',', '=', '%', '\\', '~', ' ', '\u{85}'] {
+    for c in [
+        '@', '{', '}', '"', '#', '\'', '(', ')', ',', '=', '%', '\\', '~', ' ', '\u{85}',
+    ] {
         assert!(rt; !is_id_continue(c), "{c:?}");
     }
     for c in [':', '<', '-', '>'] {

@@ -104,7 +104,12 @@ fn strings<'s>(s: &mut Scanner<'s>, alloc: Global) -> Result<Vec<Pair<'s>>, Pars
 }
 
 // The key of an entry and the comma behind it, and its fields. The entry began at `start`.
-fn entry<'s>(s: &mut Scanner<'s>, alloc: Global, kind: Spanned<&'s str>, start: usize) -> Result<Spanned<RawEntry<'s>>, ParseError>
+fn entry<'s>(
+    s: &mut Scanner<'s>,
+    alloc: Global,
+    kind: Spanned<&'s str>,
+    start: usize,
+) -> Result<Spanned<RawEntry<'s>>, ParseError>
     ensures found { IfOk result (λ e. (u : Place) → u.at ≡ start → Body longest u (part_of kind.entry) BlockKind.Entry s.old (item_of (Item.Entry e)) s.new) }
     ensures refused { IfErr result (λ e. Refuses s.old.text e ((u : Place) (p : Part) (r : FileReading) (v : Place) → Body longest u p BlockKind.Entry s.old r v → ⊥)) }
 {
@@ -163,7 +168,10 @@ fn is_skipped(c: char) -> bool
 }
 
 // The blocks of a file, up to its end.
-pub(crate) fn blocks<'s>(s: &mut Scanner<'s>, alloc: Global) -> Result<RawBibliography<'s>, ParseError>
+pub(crate) fn blocks<'s>(
+    s: &mut Scanner<'s>,
+    alloc: Global,
+) -> Result<RawBibliography<'s>, ParseError>
     ensures found { IfOk result (λ raw. File longest s.old (file_of raw)) }
     ensures refused { IfErr result (λ e. Refuses s.old.text e ((r : FileReading) → File longest s.old r → ⊥)) }
 {

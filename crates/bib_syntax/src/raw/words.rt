@@ -10,7 +10,9 @@ ghost use Rattle.bib_syntax.specs.Grammar.{Identifier, Number, Quoted, QuotedPar
 ghost use Rattle.bib_syntax.specs.Reading.{Part, Piece, part};
 ghost use Rattle.bib_syntax.specs.Views.{part_of, piece_of};
 
-use crate::raw::{ParseError, ParseErrorKind, RawChunk, Token, is_id_continue, is_id_start, is_key};
+use crate::raw::{
+    ParseError, ParseErrorKind, RawChunk, Token, is_id_continue, is_id_start, is_key,
+};
 use bib_chunks::chunk::Spanned;
 use bib_chunks::scanner::Scanner;
 

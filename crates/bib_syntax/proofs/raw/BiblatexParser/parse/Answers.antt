@@ -25,4 +25,4 @@ returns-in_err-blocks-clause-refused c =
     let p = err_from_is_err_and c.from_residual.result c.from_residual.ensures.1 in
     let at = start _ _ c.self.view_is c.self.invariant in
     rw (p.1, p.2) (refuses_from {u = place c.args.self 0} _ _ (ahead_same at)
-      (λ none read. let l = file_longest read.1 in none l.0 (subst (λ q. File longest q l.0) (sym at) l.1)) c.in_err-blocks.ensures.refused)
+    (λ none read. let l = file_longest read.1 in none l.0 (subst (λ q. File longest q l.0) (sym at) l.1)) c.in_err-blocks.ensures.refused)

@@ -15,13 +15,14 @@ returns-in_err-piece-clause-refused c =
 pub returns-then-not-eat_if-clause-found : goal.returns-then-not-eat_if-clause-found
 returns-then-not-eat_if-clause-found c =
     rw (c.if-not-eat_if.ensures.0, c.in_ok-push.ensures.items, map-append piece_of c.elements.pieces.items _)
-      (elements_found _ c.elements.invariant.1 c.in_ok-piece.ensures.found c.eat_whitespace.ensures.longest c.if-not-eat_if.ensures.1)
+    (elements_found _ c.elements.invariant.1 c.in_ok-piece.ensures.found c.eat_whitespace.ensures.longest c.if-not-eat_if.ensures.1)
 
 pub elements-smaller : goal.elements-smaller
 elements-smaller c = left_smaller (ahead_then (ahead_element c.in_ok-piece.ensures.found) (ahead_run c.eat_whitespace.ensures.longest.run)) c.if-not-eat_if.ensures (ahead_run c.eat_whitespace-in-elements.ensures.longest.run)
 
 pub elements-preserved : goal.elements-preserved
-elements-preserved c = 
-    (ahead_then c.elements.invariant.0 (ahead_then (ahead_element c.in_ok-piece.ensures.found) (ahead_then (ahead_run c.eat_whitespace.ensures.longest.run) (ahead_then (ahead_char c.if-not-eat_if.ensures) (ahead_run c.eat_whitespace-in-elements.ensures.longest.run)))),
-      rw (c.in_ok-push.ensures.items, map-append piece_of c.elements.pieces.items _)
-        (element_read _ c.elements.invariant.1 c.in_ok-piece.ensures.found c.eat_whitespace.ensures.longest c.if-not-eat_if.ensures c.eat_whitespace-in-elements.ensures.longest))
+elements-preserved c = (
+  ahead_then c.elements.invariant.0 (ahead_then (ahead_element c.in_ok-piece.ensures.found) (ahead_then (ahead_run c.eat_whitespace.ensures.longest.run) (ahead_then (ahead_char c.if-not-eat_if.ensures) (ahead_run c.eat_whitespace-in-elements.ensures.longest.run)))),
+  rw (c.in_ok-push.ensures.items, map-append piece_of c.elements.pieces.items _)
+      (element_read _ c.elements.invariant.1 c.in_ok-piece.ensures.found c.eat_whitespace.ensures.longest c.if-not-eat_if.ensures c.eat_whitespace-in-elements.ensures.longest),
+)

@@ -12,10 +12,11 @@ pub fields-smaller : goal.fields-smaller
 fields-smaller c = left_smaller (ahead_then (ahead_field c.in_ok-pair.ensures.found) (ahead_gap c.gap.ensures)) c.if-not-eat_if.ensures (ahead_gap c.gap-in-fields.ensures)
 
 pub fields-preserved : goal.fields-preserved
-fields-preserved c =
-    (ahead_then c.fields.invariant.0 (ahead_then (ahead_field c.in_ok-pair.ensures.found) (ahead_then (ahead_gap c.gap.ensures) (ahead_then (ahead_char c.if-not-eat_if.ensures) (ahead_gap c.gap-in-fields.ensures)))),
-      rw (c.in_ok-push.ensures.items, map-append field_of c.fields.pairs.items _)
-        (field_read _ c.fields.invariant.1 c.in_ok-pair.ensures.found c.gap.ensures c.if-not-eat_if.ensures c.gap-in-fields.ensures))
+fields-preserved c = (
+  ahead_then c.fields.invariant.0 (ahead_then (ahead_field c.in_ok-pair.ensures.found) (ahead_then (ahead_gap c.gap.ensures) (ahead_then (ahead_char c.if-not-eat_if.ensures) (ahead_gap c.gap-in-fields.ensures)))),
+  rw (c.in_ok-push.ensures.items, map-append field_of c.fields.pairs.items _)
+      (field_read _ c.fields.invariant.1 c.in_ok-pair.ensures.found c.gap.ensures c.if-not-eat_if.ensures c.gap-in-fields.ensures),
+)
 
 pub returns-in_err-pair-clause-refused : goal.returns-in_err-pair-clause-refused
 returns-in_err-pair-clause-refused c =
@@ -28,19 +29,23 @@ returns-in_err-closed-clause-refused c =
     let one = c.in_ok-pair.ensures.found in
     let same = c.if-not-eat_if.ensures.0 in
     let passed = ahead_then c.fields.invariant.0 (ahead_then (ahead_field one) (ahead_then (ahead_gap c.gap.ensures) (ahead_same same))) in
-    rw (p.1, p.2) (inr (fault_back passed c.in_err-closed.ensures.fault,
-      no_fields_last c.fields.invariant.1 one c.gap.ensures c.if-not-eat_if.ensures.1 (rw (← same) c.in_err-closed.ensures.none)))
+    rw (p.1, p.2) (inr (
+      fault_back passed c.in_err-closed.ensures.fault,
+      no_fields_last c.fields.invariant.1 one c.gap.ensures c.if-not-eat_if.ensures.1 (rw (← same) c.in_err-closed.ensures.none),
+    ))
 
 pub returns-then-not-eat_if-clause-found : goal.returns-then-not-eat_if-clause-found
 returns-then-not-eat_if-clause-found c =
     rw (c.in_ok-push.ensures.items, map-append field_of c.fields.pairs.items _)
-      (fields_last _ c.fields.invariant.1 c.in_ok-pair.ensures.found c.gap.ensures (rw (← c.if-not-eat_if.ensures.0) c.in_ok-closed.ensures.found.0))
+    (fields_last _ c.fields.invariant.1 c.in_ok-pair.ensures.found c.gap.ensures (rw (← c.if-not-eat_if.ensures.0) c.in_ok-closed.ensures.found.0))
 
 pub returns-in_err-closed-2-clause-refused : goal.returns-in_err-closed-2-clause-refused
 returns-in_err-closed-2-clause-refused c =
     let p = err_from_is_err_and c.from_residual-in_err-closed-2.result c.from_residual-in_err-closed-2.ensures.1 in
-    rw (p.1, p.2) (inr (fault_back c.fields.invariant.0 c.in_err-closed-2.ensures.fault,
-      no_fields_end c.fields.invariant.1 c.fields-test.ensures c.in_err-closed-2.ensures.none))
+    rw (p.1, p.2) (inr (
+      fault_back c.fields.invariant.0 c.in_err-closed-2.ensures.fault,
+      no_fields_end c.fields.invariant.1 c.fields-test.ensures c.in_err-closed-2.ensures.none,
+    ))
 
 pub returns-clause-found : goal.returns-clause-found
 returns-clause-found c = fields_end c.fields.invariant.1 c.in_ok-closed-2.ensures.found.0

@@ -27,4 +27,4 @@ returns-in_err-fields-clause-refused c =
 pub returns-clause-found : goal.returns-clause-found
 returns-clause-found c u starts =
     rw c.new.ensures (entry_found _ _ _ _ starts c.cursor.ensures.place c.key-key.ensures.reading c.key-key.ensures.longest c.eat_whitespace.ensures.longest
-      c.in_ok-expect.ensures.found c.gap.ensures c.in_ok-fields.ensures.found (taken_if 125 _ c.eat_if.ensures c.in_ok-fields.ensures.closed))
+    c.in_ok-expect.ensures.found c.gap.ensures c.in_ok-fields.ensures.found (taken_if 125 _ c.eat_if.ensures c.in_ok-fields.ensures.closed))

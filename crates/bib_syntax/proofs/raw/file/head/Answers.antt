@@ -31,7 +31,11 @@ returns-in_err-brace-clause-fault c =
 
 pub returns-clause-found : goal.returns-clause-found
 returns-clause-found c = record {
-  name_start = _; name_end = _; before_brace = _; behind_brace = _; brace = c.in_ok-brace.ensures.found.0;
+  name_start = _;
+  name_end = _;
+  before_brace = _;
+  behind_brace = _;
+  brace = c.in_ok-brace.ensures.found.0;
   sign = sign (goal.at.returns-clause-found c).After-eat_if;
   name = c.in_ok-kind.ensures.found;
   white = c.eat_whitespace.ensures.longest;

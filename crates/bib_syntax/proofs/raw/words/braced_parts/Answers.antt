@@ -47,10 +47,11 @@ parts-smaller-then-eat_if c = left_smaller (ahead_run (run (goal.at.parts-smalle
 
 pub parts-preserved-then-eat_if : goal.parts-preserved-then-eat_if
 parts-preserved-then-eat_if c =
-    let at = (goal.at.parts-preserved-then-eat_if c).After-eat_while in
-    (ahead_then (passed at) (ahead_char c.if-eat_if.ensures),
+    let at = (goal.at.parts-preserved-then-eat_if c).After-eat_while in (
+      ahead_then (passed at) (ahead_char c.if-eat_if.ensures),
       rw add-one (braced_then (all at) (braced_open _ c.if-eat_if.ensures)),
-      deeper c.parts.invariant.2 (ahead_run (run at).run) c.if-eat_if.ensures)
+      deeper c.parts.invariant.2 (ahead_run (run at).run) c.if-eat_if.ensures,
+    )
 
 pub returns-then-depth-eq0-clause-found : goal.returns-then-depth-eq0-clause-found
 returns-then-depth-eq0-clause-found c =
@@ -67,10 +68,11 @@ pub parts-preserved-then-at : goal.parts-preserved-then-at
 parts-preserved-then-at c =
     let at = (goal.at.parts-preserved-then-at c).After-eat_while in
     let close = taken_if 125 _ c.eat_if-then-at.ensures c.if-at.ensures in
-    let here = ahead_then (ahead_same c.if-eat_if.ensures.0) (ahead_char close) in
-    (ahead_then (passed at) here,
+    let here = ahead_then (ahead_same c.if-eat_if.ensures.0) (ahead_char close) in (
+      ahead_then (passed at) here,
       braced_less _ (braced_same (all at) c.if-eat_if.ensures.0) c.if-depth-eq0.false close,
-      omega (arith, c.parts.invariant.2, (ahead_run (run at).run).at, here.at))
+      omega (arith, c.parts.invariant.2, (ahead_run (run at).run).at, here.at),
+    )
 
 pub parts-smaller : goal.parts-smaller
 parts-smaller c =
@@ -80,10 +82,11 @@ parts-smaller c =
 pub parts-preserved : goal.parts-preserved
 parts-preserved c =
     let at = (goal.at.parts-preserved c).After-eat_while in
-    let here = ahead_then (ahead_same c.if-eat_if.ensures.0) (ahead_then (ahead_char c.if-eat_if-2.ensures) (ahead_taken _ c.eat.ensures)) in
-    (ahead_then (passed at) here,
+    let here = ahead_then (ahead_same c.if-eat_if.ensures.0) (ahead_then (ahead_char c.if-eat_if-2.ensures) (ahead_taken _ c.eat.ensures)) in (
+      ahead_then (passed at) here,
       braced_then (braced_same (all at) c.if-eat_if.ensures.0) (braced_hidden _ _ c.if-eat_if-2.ensures c.eat.ensures),
-      omega (arith, c.parts.invariant.2, (ahead_run (run at).run).at, here.at))
+      omega (arith, c.parts.invariant.2, (ahead_run (run at).run).at, here.at),
+    )
 
 pub returns-else-eat_if-2-clause-none : goal.returns-else-eat_if-2-clause-none
 returns-else-eat_if-2-clause-none c v w parts close =

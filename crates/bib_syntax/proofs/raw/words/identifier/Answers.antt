@@ -6,4 +6,4 @@ use Rattle.bib_syntax.proofs.raw.words.identifier.Goals as goal
 pub returns-clause-found : goal.returns-clause-found
 returns-clause-found c =
     identifier_found c.if-not-begins_identifier.ensures (c.eat_while-text.ensures.longest is_id_continue (λ x r post. post))
-      (rw c.new.ensures (part_eaten c.args.s.now c.eat_while-text.new.self _ _ _ c.cursor-start.ensures.place c.cursor.ensures.place c.eat_while-text.ensures.eaten))
+    (rw c.new.ensures (part_eaten c.args.s.now c.eat_while-text.new.self _ _ _ c.cursor-start.ensures.place c.cursor.ensures.place c.eat_while-text.ensures.eaten))

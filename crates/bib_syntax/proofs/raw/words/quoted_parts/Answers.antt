@@ -38,7 +38,7 @@ returns-then-not-eat_if-clause-none c v w parts quote =
     quoted_stuck r.stops c.if-at.ensures c.if-not-eat_if.ensures.1 (all.back v w parts quote) quote
 
 pub returns-then-not-eat_if-clause-fault : goal.returns-then-not-eat_if-clause-fault
-returns-then-not-eat_if-clause-fault c = 
+returns-then-not-eat_if-clause-fault c =
     fault_back (ahead_then (passed (goal.at.returns-then-not-eat_if-clause-fault c).After-eat_while) (ahead_same c.if-not-eat_if.ensures.0)) c.fault.ensures
 
 pub parts-smaller : goal.parts-smaller
@@ -47,6 +47,7 @@ parts-smaller c = left_smaller (ahead_run (run (goal.at.parts-smaller c).After-e
 pub parts-preserved : goal.parts-preserved
 parts-preserved c =
     let at = (goal.at.parts-preserved c).After-eat_while in
-    let slash = c.if-not-eat_if.ensures in
-    (ahead_then (passed at) (ahead_then (ahead_char slash) (ahead_taken _ c.eat.ensures)),
-      quoted_then c.parts.invariant.1 (quoted_then (quoted_run (run at).run) (quoted_hidden _ slash c.eat.ensures)))
+    let slash = c.if-not-eat_if.ensures in (
+      ahead_then (passed at) (ahead_then (ahead_char slash) (ahead_taken _ c.eat.ensures)),
+      quoted_then c.parts.invariant.1 (quoted_then (quoted_run (run at).run) (quoted_hidden _ slash c.eat.ensures)),
+    )

@@ -1,0 +1,117 @@
+#!/usr/bin/env python3
+"""Compares a built `bib` with another program on generated bibliographies.
+
+    bench/compare.py OTHER [COMMAND] [--bib PATH] [--rounds N]
+
+OTHER is a program that takes the same argument and reads standard input. Both run in turn on the same files, on one
+core, and what is printed are ratios, `bib` over OTHER: processor time (user and system, the least of the rounds), peak
+memory, instructions (by valgrind, where it is there), and for each program how its time grows from 1,000 to 100,000
+entries, per entry.
+"""
+import argparse
+import os
+import random
+import re
+import shutil
+import subprocess
+import sys
+import tempfile
+
+WORDS = ("sparse systems theory survey {Bayesian} {DNA} folding rivers $O(n)$ time methods large weak "
+         "assumptions design notes on the of with").split()
+NAMES = 'Anna Bj\\"orn Carla Fran\\c{c}ois Gustav José Mih\\\'aly Noor'.split()
+FAMILIES = ["Abel", 'M{\\"u}ller', "van der Berg", "Knuth", "O'Brien", "de la Cruz", "{\\AA}str{\\\"o}m"]
+
+
+def entry(chance, number):
+    """One entry of an article, a book or an online source."""
+    def title():
+        return " ".join(chance.choice(WORDS) for _ in range(chance.randint(5, 12)))
+
+    def people():
+        return " and ".join(f"{chance.choice(FAMILIES)}, {chance.choice(NAMES)}" for _ in range(chance.randint(1, 4)))
+
+    kind = chance.choice(["article", "article", "book", "online"])
+    fields = {"author": people(), "title": title()}
+    if kind == "article":
+        fields.update(journal="Journal of {Made-Up} Results", year=str(chance.randint(1960, 2024)),
+                      pages=f"{number % 500 + 1}--{number % 500 + 20}", doi=f"10.1234/abc.{number}")
+    elif kind == "book":
+        fields.update(publisher="Example Press", address="Berlin", date=f"{chance.randint(1900, 2024)}-07")
+    else:
+        fields.update(url=f"https://example.org/a_b/{number}?x=~y", date="2019")
+    if chance.random() < 0.3:
+        fields["abstract"] = " ".join(title() for _ in range(6))
+    lines = "".join(f"  {name:<10} = {{{value}}},\n" for name, value in fields.items())
+    if chance.random() < 0.2:
+        lines += "  month      = %s,\n" % chance.choice("jan feb mar".split())
+    return f"@{kind}{{key{number},\n{lines}}}\n"
+
+
+def generate(path, entries):
+    chance = random.Random(7)
+    with open(path, "w", encoding="utf-8") as file:
+        file.write('@string{jacm = "Journal of the {ACM}"}\n\n')
+        for number in range(entries):
+            file.write(entry(chance, number) + "\n")
+
+
+def run(program, command, path):
+    """Processor seconds and peak kilobytes of one run."""
+    with open(path, "rb") as text:
+        process = subprocess.Popen([program, command], stdin=text, stdout=subprocess.DEVNULL)
+        _, status, usage = os.wait4(process.pid, 0)
+    if status != 0:
+        sys.exit(f"{program} {command}: status {status}")
+    return usage.ru_utime + usage.ru_stime, usage.ru_maxrss
+
+
+def measure(programs, command, path, rounds):
+    """For each program its least time and its peak memory, measured in turn."""
+    best = [(float("inf"), 0) for _ in programs]
+    for _ in range(rounds):
+        for place, program in enumerate(programs):
+            seconds, memory = run(program, command, path)
+            best[place] = (min(best[place][0], seconds), max(best[place][1], memory))
+    return best
+
+
+def instructions(program, command, path):
+    with open(path, "rb") as text:
+        done = subprocess.run(["valgrind", "--tool=callgrind", "--callgrind-out-file=/dev/null", program, command],
+                              stdin=text, stdout=subprocess.DEVNULL, stderr=subprocess.PIPE, text=True)
+    found = re.search(r"Collected : (\d+)", done.stderr)
+    return int(found.group(1)) if found else None
+
+
+def main():
+    top = os.path.dirname(os.path.dirname(os.path.abspath(__file__)))
+    options = argparse.ArgumentParser(description=__doc__, formatter_class=argparse.RawDescriptionHelpFormatter)
+    options.add_argument("other")
+    options.add_argument("command", nargs="?", default="keys")
+    options.add_argument("--bib", default=os.path.join(top, "crates/bib/out/bib"))
+    options.add_argument("--rounds", type=int, default=9)
+    chosen = options.parse_args()
+    programs = [chosen.bib, chosen.other]
+    os.sched_setaffinity(0, {min(os.sched_getaffinity(0))})
+    print(f"bib {chosen.command} against {os.path.basename(chosen.other)}, one core of {os.cpu_count()}")
+    times = {}
+    with tempfile.TemporaryDirectory() as folder:
+        for entries in (1_000, 10_000, 100_000):
+            path = os.path.join(folder, f"{entries}.bib")
+            generate(path, entries)
+            ours, theirs = measure(programs, chosen.command, path, chosen.rounds)
+            times[entries] = (ours[0], theirs[0])
+            print(f"{entries:>7} entries, {os.path.getsize(path) / 1e6:.1f} MB: "
+                  f"processor time {ours[0] / theirs[0]:.2f}, memory {ours[1] / theirs[1]:.2f}")
+            if entries == 10_000 and shutil.which("valgrind"):
+                counts = [instructions(program, chosen.command, path) for program in programs]
+                if all(counts):
+                    print(f"{entries:>7} entries: instructions {counts[0] / counts[1]:.2f}")
+    for place, name in enumerate(("bib", "other")):
+        growth = (times[100_000][place] / 100_000) / (times[10_000][place] / 10_000)
+        print(f"growth of {name} per entry, 10,000 to 100,000: {growth:.2f}")
+
+
+if __name__ == "__main__":
+    main()
