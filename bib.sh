@@ -3,5 +3,5 @@
 set -eu
 top=$(cd "$(dirname "$0")" && pwd)
 program="$top/crates/bib/out/bib"
-[ -x "$program" ] || (cd "$top" && rt all check >&2)
+[ -x "$program" ] || (cd "$top/crates/bib" && rt run -- keys </dev/null >&2)
 exec "$program" "$@"

@@ -3,10 +3,15 @@
 
 pub mod sink;
 
-pub use bib_chunks::chunk::{Span, Spanned};
+pub use bib_chunks::chunk::{Chunk, Chunks, ChunksExt, ChunksRef, Span, Spanned, is_settled};
+pub use bib_chunks::items::Items;
 pub use bib_chunks::scanner::Scanner;
+pub use bib_chunks::text::Text;
+pub use bib_chunks::types::lang::Language;
+pub use bib_chunks::types::{EditorType, Gender, NameError, Pagination};
 pub use bib_syntax::raw::{
     BiblatexParser, Field, Pair, ParseError, ParseErrorKind, RawBibliography, RawChunk, RawEntry,
     Token, is_id_continue, is_id_start, is_key,
 };
+pub use bib_tables::mechanics::{AuthorMode, EntryType, PagesChapterMode, Requirements};
 pub use sink::Sink;
