@@ -109,8 +109,9 @@ def main():
                 if all(counts):
                     print(f"{entries:>7} entries: instructions {counts[0] / counts[1]:.2f}")
     for place, name in enumerate(("bib", "other")):
-        growth = (times[100_000][place] / 100_000) / (times[10_000][place] / 10_000)
-        print(f"growth of {name} per entry, 10,000 to 100,000: {growth:.2f}")
+        for few in (1_000, 10_000):
+            growth = (times[100_000][place] / 100_000) / (times[few][place] / few)
+            print(f"growth of {name} per entry, {few:,} to 100,000: {growth:.2f}")
 
 
 if __name__ == "__main__":

@@ -23,15 +23,15 @@ fn moves_over_characters(rt: HostRuntime) -> Result<(), Fail> {
 }
 
 #[test]
-fn jumps_back(rt: HostRuntime) -> Result<(), Fail> {
+fn jumps_to_places(rt: HostRuntime) -> Result<(), Fail> {
     let mut s = Scanner::new("one two");
-    s.eat_while(|c| c != ' ');
-    let place = s.cursor();
-    s.eat_while(|_| true);
-    assert_eq!(rt; s.from(0), "one two");
-    s.jump(0);
     assert_eq!(rt; s.cursor(), 0);
-    assert_eq!(rt; place, 3);
+    s.jump(3);
+    assert_eq!(rt; s.cursor(), 3);
+    assert_eq!(rt; s.from(0), "one");
+    s.jump(7);
+    assert!(rt; s.done());
+    assert_eq!(rt; s.from(4), "two");
     Ok(())
 }
 
