@@ -1,8 +1,13 @@
+pub mod ArgumentFacts
 pub mod BraceFacts
+pub mod CommandUnitFacts
+pub mod ContentFacts
 pub mod FieldFacts
 pub mod FileFacts
 pub mod LawFacts
 pub mod ModeFacts
+pub mod PassingFacts
 pub mod QuoteFacts
 pub mod ReadingFacts
+pub mod UnitFacts
 pub mod WordFacts

@@ -21,6 +21,18 @@ is_escapable c is_verbatim is_read = is_grouping c || (not is_verbatim && (is_re
 unfoldable pub is_escaped : Bool → ℕ → Bool
 is_escaped is_verbatim c = is_escapable c is_verbatim true && not (c == 126 || c == 94)
 
+-- white space
+unfoldable pub is_space : ℕ → Bool
+is_space c = is_whitespace c
+
+-- white space and control characters, which begin no command
+unfoldable pub is_blank : ℕ → Bool
+is_blank c = is_whitespace c || is_control c
+
+-- the characters that go on in a command's name
+unfoldable pub is_named : ℕ → Bool
+is_named c = is_id_continue c
+
 -- the characters that name an accent: " ' ^ ~ = . U+00B4 U+0060
 unfoldable pub is_mark : ℕ → Bool
 is_mark c = c == 34 || c == 39 || c == 94 || c == 126 || c == 61 || c == 46 || c == 180 || c == 96
@@ -36,7 +48,7 @@ is_sign c = is_mark c || c == 45
 -- a character that neither begins nor ends anything: no hyphen, white space, brace or backslash, and outside verbatim
 -- fields no dollar sign
 unfoldable pub is_ordinary : Bool → ℕ → Bool
-is_ordinary is_verbatim c = not (c == 45 || is_whitespace c || is_grouping c || (not is_verbatim && c == 36))
+is_ordinary is_verbatim c = not (c == 45 || is_space c || is_grouping c || (not is_verbatim && c == 36))
 
 -- whether a text begins with a character that passes the test
 abbrev pub begins : (ℕ → Bool) → List ℕ → Bool
@@ -92,7 +104,7 @@ unit_spelling (ContentUnit.escaped c) = 92 ∷ c ∷ []
 unit_spelling ContentUnit.backslash = 92 ∷ []
 unit_spelling (ContentUnit.copied c) = 92 ∷ []
 unit_spelling (ContentUnit.formula text) = 36 ∷ (text ++ 36 ∷ [])
-unit_spelling (ContentUnit.command name space argument) = 92 ∷ (name ++ space ++ argument_spelling argument)
+unit_spelling (ContentUnit.command name space argument) = 92 ∷ (name ++ (space ++ argument_spelling argument))
 unit_spelling (ContentUnit.other c) = c ∷ []
 
 -- the name of a command: a sign, or any character that is not escaped and no white space or control character, with
@@ -100,11 +112,11 @@ unit_spelling (ContentUnit.other c) = c ∷ []
 abbrev pub is_name : List ℕ → Bool
 is_name [] = false
 is_name (c ∷ cs) =
-    not (is_escaped false c) && not (is_whitespace c) && not (is_control c) && (if is_sign c then is_empty cs else list_all is_id_continue cs)
+    not (is_escaped false c) && not (is_blank c) && (if is_sign c then is_empty cs else list_all is_named cs)
 
 -- whether a name can end before a text: a sign always, another name where no identifier character follows
 abbrev pub is_whole_name : List ℕ → List ℕ → Bool
-is_whole_name name rest = begins is_sign name || not (begins is_id_continue rest)
+is_whole_name name rest = begins is_sign name || not (begins is_named rest)
 
 -- whether a command takes the next character: an accent named by a mark, or one named by a letter and white space
 abbrev pub takes_next : List ℕ → List ℕ → Bool
@@ -125,16 +137,16 @@ is_argument takes spaced (Argument.braced text) rest = not spaced && balances 0 
 -- behind a name are as long as they can be
 abbrev pub fits : Bool → ContentUnit → List ℕ → Bool
 fits is_verbatim (ContentUnit.hyphens n) rest = nat_lt 0 n && not (begins (λ c. c == 45) rest)
-fits is_verbatim (ContentUnit.spaces cs) rest = not (is_empty cs) && list_all is_whitespace cs && not (begins is_whitespace rest)
+fits is_verbatim (ContentUnit.spaces cs) rest = not (is_empty cs) && list_all is_space cs && not (begins is_space rest)
 fits is_verbatim ContentUnit.opening rest = true
 fits is_verbatim ContentUnit.closing rest = true
 fits is_verbatim (ContentUnit.escaped c) rest = is_escaped is_verbatim c
 fits is_verbatim ContentUnit.backslash rest = is_verbatim && not (begins (is_escaped true) rest)
-fits is_verbatim (ContentUnit.copied c) rest = not is_verbatim && (is_whitespace c || is_control c) && begins (λ d. d == c) rest
+fits is_verbatim (ContentUnit.copied c) rest = not is_verbatim && is_blank c && begins (λ d. d == c) rest
 fits is_verbatim (ContentUnit.formula text) rest = not is_verbatim && not (list_any (λ c. c == 36) text)
 fits is_verbatim (ContentUnit.command name space argument) rest =
-    not is_verbatim && is_name name && is_whole_name name (space ++ argument_spelling argument ++ rest)
-    && list_all is_whitespace space && not (begins is_whitespace (argument_spelling argument ++ rest))
+    not is_verbatim && is_name name && is_whole_name name (space ++ (argument_spelling argument ++ rest))
+    && list_all is_space space && not (begins is_space (argument_spelling argument ++ rest))
     && is_argument (takes_next name space) (not (is_empty space)) argument rest
 fits is_verbatim (ContentUnit.other c) rest = is_ordinary is_verbatim c
 

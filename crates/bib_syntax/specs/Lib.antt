@@ -4,5 +4,7 @@ pub mod Contents
 pub mod Faults
 pub mod Grammar
 pub mod Joined
+pub mod Passing
+pub mod UnitViews
 pub mod Views
 pub mod Reading

@@ -1,5 +1,8 @@
 //! The contents of fields: abbreviations, commands and accents.
 
+mod characters;
+mod classes;
 mod commands;
 mod contents;
 mod joining;
+mod units;
