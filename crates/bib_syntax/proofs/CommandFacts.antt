@@ -21,6 +21,7 @@ use Rattle.unicode_normalization.proofs.Computing.{unicode_normalization}
 use Rattle.unicode_normalization.proofs.ComposeLemmas.{joined-free, joined-none, is_blocked-nil, compose-starter, compose_after-nil, compose_after-joined, compose_after-starter, compose_after-kept, is_starter-true, is_starter-false}
 use Rattle.unicode_normalization.proofs.FormsLemmas.{decomposed-passing, is_final-Nfd, class-latin, quick_check-ascii, nfc-by_nfd, normalize-Nfd, is_in_form-true}
 
+-- a command's name, in ASCII
 abbrev pub copyright : List ℕ
 copyright = codes "copyright"
 
