@@ -1,5 +1,6 @@
 pub mod ArgumentFacts
 pub mod BraceFacts
+pub mod CommandFacts
 pub mod CommandUnitFacts
 pub mod ContentFacts
 pub mod FieldFacts

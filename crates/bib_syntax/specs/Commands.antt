@@ -1,6 +1,93 @@
--- What a command of LaTeX stands for. Texts are given by their characters.
-use Rattle.std.specs.Prelude.{ℕ, List, Option}
+-- What a command of LaTeX stands for, as the Rust crate `biblatex` has it. A text is given by its characters.
+use Rattle.std.specs.Prelude.{ℕ, List, [], ◌∷◌, ◌++◌, Option, Some, None, codes, bytes_eq, if◌then◌else◌, ◌==◌}
+use Prim.Native.String.{String}
+use Rattle.bib_chunks.specs.Enums.{named}
+use Rattle.unicode_normalization.specs.Forms.{nfc}
+
+-- an accent: its name, and the combining character that it puts on a letter
+abbrev pub accent : String → ℕ → List ℕ × ℕ
+accent name mark = (codes name, mark)
+
+-- the accents
+unfoldable pub accents : List (List ℕ × ℕ)
+accents =
+    accent "`" 0x300 ∷ accent "´" 0x301 ∷ accent "'" 0x301 ∷ accent "^" 0x302 ∷ accent "~" 0x303 ∷ accent "=" 0x304 ∷
+    accent "u" 0x306 ∷ accent "." 0x307 ∷ accent "\"" 0x308 ∷ accent "r" 0x30A ∷ accent "H" 0x30B ∷ accent "v" 0x30C ∷
+    accent "d" 0x323 ∷ accent "c" 0x327 ∷ accent "k" 0x328 ∷ accent "b" 0x332 ∷ []
+
+-- the stroke through a letter, which `o` puts on its argument
+abbrev pub stroke : ℕ
+stroke = 0x338
+
+-- a symbol: its name, and the text that it stands for
+abbrev pub symbol : String → String → List ℕ × List ℕ
+symbol name text = (codes name, codes text)
+
+-- the symbols, which drop their argument
+unfoldable pub symbols : List (List ℕ × List ℕ)
+symbols =
+    symbol "LaTeX" "LaTeX" ∷ symbol "TeX" "TeX" ∷
+    symbol "textendash" "–" ∷ symbol "textemdash" "—" ∷
+    symbol "textquotesingle" "'" ∷ symbol "textquotedbl" "\"" ∷
+    symbol "textquotedblleft" "“" ∷ symbol "textquotedblright" "”" ∷
+    symbol "textquoteleft" "‘" ∷ symbol "textquoteright" "’" ∷
+    symbol "textquotestraightdblbase" "„" ∷ symbol "quotedblbase" "„" ∷
+    symbol "textquotestraightbase" "‚" ∷ symbol "quotesinglbase" "‚" ∷
+    symbol "textasciicircum" "^" ∷ symbol "textasciigrave" "`" ∷ symbol "textasciitilde" "~" ∷
+    symbol "textasteriskcentered" "⁎" ∷
+    symbol "textbackslash" "\\" ∷ symbol "textbar" "|" ∷ symbol "textbraceleft" "{" ∷ symbol "textbraceright" "}" ∷
+    symbol "textbullet" "•" ∷ symbol "textdagger" "†" ∷ symbol "textdaggerdbl" "‡" ∷ symbol "ddag" "‡" ∷
+    symbol "textdollar" "$" ∷ symbol "textless" "<" ∷ symbol "textgreater" ">" ∷ symbol "textunderscore" "_" ∷
+    symbol "textexclamdown" "¡" ∷ symbol "textquestiondown" "¿" ∷
+    symbol "textordfeminine" "ª" ∷ symbol "textordmasculine" "º" ∷ symbol "textperiodcentered" "·" ∷
+    symbol "textregistered" "®" ∷ symbol "texttrademark" "™" ∷
+    symbol "textsection" "§" ∷ symbol "S" "§" ∷ symbol "textparagraph" "¶" ∷ symbol "P" "¶" ∷
+    symbol "textvisiblespace" "␣" ∷
+    symbol "guillemotleft" "«" ∷ symbol "guillemotright" "»" ∷ symbol "guilsinglleft" "‹" ∷ symbol "guilsinglright" "›" ∷
+    symbol "aa" "å" ∷ symbol "AA" "Å" ∷ symbol "ae" "æ" ∷ symbol "AE" "Æ" ∷ symbol "oe" "œ" ∷ symbol "OE" "Œ" ∷
+    symbol "dh" "ð" ∷ symbol "DH" "Ð" ∷ symbol "dj" "đ" ∷ symbol "DJ" "Đ" ∷ symbol "ng" "ŋ" ∷ symbol "NG" "Ŋ" ∷
+    symbol "l" "ł" ∷ symbol "L" "Ł" ∷ symbol "i" "ı" ∷ symbol "O" "Ø" ∷
+    symbol "ss" "ß" ∷ symbol "SS" "ẞ" ∷ symbol "th" "þ" ∷ symbol "TH" "Þ" ∷
+    symbol "dots" "…" ∷ symbol "textellipsis" "…" ∷ symbol "pounds" "£" ∷
+    symbol "-" "" ∷ []
+
+-- the letter that a mark is put on: LaTeX wants the letters i and j without their dots there
+abbrev pub letter : ℕ → ℕ
+letter c = if c == 0x131 then 0x69 else if c == 0x237 then 0x6A else c
+
+-- a mark with nothing below it: the circumflex and the tilde are signs of their own
+abbrev pub bare : ℕ → List ℕ
+bare mark = if mark == 0x302 then codes "^" else if mark == 0x303 then codes "~" else mark ∷ []
+
+-- a text with a mark on its last character, composed with it
+abbrev pub marked : ℕ → List ℕ → List ℕ
+marked mark [] = bare mark
+marked mark (c ∷ []) = nfc (letter c ∷ mark ∷ [])
+marked mark (c ∷ d ∷ cs) = c ∷ marked mark (d ∷ cs)
+
+-- what an accent stands for
+abbrev pub accented : ℕ → Option (List ℕ) → List ℕ
+accented mark None = mark ∷ []
+accented mark (Some argument) = marked mark argument
+
+-- what the other commands stand for: two that ask whether there is an argument, and those that are not known, which
+-- stay as they are (`bytes_eq` compares two lists of numbers, here code points)
+abbrev pub other : List ℕ → Option (List ℕ) → List ℕ
+other name None =
+    if bytes_eq name (codes "o") then codes "ø"
+    else if bytes_eq name (codes "copyright") then codes "©"
+    else codes "\\" ++ name ++ codes " "
+other name (Some argument) =
+    if bytes_eq name (codes "o") then marked stroke argument
+    else if bytes_eq name (codes "copyright") then codes "©" ++ argument
+    else codes "\\" ++ name ++ codes "{" ++ argument ++ codes "}"
+
+-- what a command stands for whose name is that of an accent with this mark, that of this symbol, or of neither
+abbrev pub found : Option ℕ → Option (List ℕ) → List ℕ → Option (List ℕ) → List ℕ
+found (Some mark) text name argument = accented mark argument
+found None (Some text) name argument = text
+found None None name argument = other name argument
 
 -- what a command with this name stands for, by the text of its argument if it has one
 unfoldable pub given : List ℕ → Option (List ℕ) → List ℕ
-given name argument = name
+given name argument = found (named accents name) (named symbols name) name argument

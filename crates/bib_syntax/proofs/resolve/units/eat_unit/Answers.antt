@@ -1,6 +1,6 @@
-use Rattle.std.proofs.Common.{◌≡◌, ◌∷◌, ◌∙◌, ap}
+use Rattle.std.proofs.Common.{◌≡◌, ◌∷◌, [], ◌∙◌, ap}
 use Rattle.bib_syntax.specs.Contents.{is_space}
-use Rattle.bib_syntax.specs.Passing.{left}
+use Rattle.bib_syntax.specs.Passing.{left, Passes}
 use Rattle.bib_syntax.proofs.ContentFacts.{no_unit_at_end}
 use Rattle.bib_syntax.proofs.CommandUnitFacts.{last_dollar, eaten_first}
 use Rattle.bib_syntax.proofs.resolve.units.eat_unit.Goals as goal
@@ -14,6 +14,6 @@ eat_while-requires-clause-is_test c = (is_space, λ x r post. post)
 pub returns : goal.returns
 returns c =
     let dollar = last_dollar c.args.is_verbatim c.in-Some.c c.if-is_ordinary.ensures c.if-is_space.ensures c.if-c-eq45.false c.if-c-eq92.false c.if-c-eq123.false c.if-c-eq125.false in
-    let passed = eaten_first c.eat-2.result c.eat-2.ensures c.in-Some.ensures.1 in
+    let passed : Passes c.args.s.now (c.in-Some.c ∷ []) c.eat-2.new.self = eaten_first c.eat-2.result c.eat-2.ensures c.in-Some.ensures.1 in
     let here : left c.args.s.now ≡ 36 ∷ left c.eat-2.new.self = passed.left ∙ ap (λ d. d ∷ left c.eat-2.new.self) dollar.1 in
     rw (dollar.0, here) c.formula.ensures
