@@ -9,6 +9,9 @@ pub mod LawFacts
 pub mod ModeFacts
 pub mod PassingFacts
 pub mod QuoteFacts
+pub mod ReaderFacts
+pub mod ReadingContents
 pub mod ReadingFacts
+pub mod TakingFacts
 pub mod UnitFacts
 pub mod WordFacts

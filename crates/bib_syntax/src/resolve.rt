@@ -4,5 +4,6 @@ mod characters;
 mod classes;
 mod commands;
 mod contents;
+mod growing;
 mod joining;
 mod units;

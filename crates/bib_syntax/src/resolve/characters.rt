@@ -1,8 +1,8 @@
 //! A cursor over the characters of a text.
 
-ghost use Rattle.std.specs.Prelude.{◌≡◌, ℕ, ◌≤◌, ◌<◌, ◌==◌, ◌^◌, Bool, true, false, List, [], ◌∷◌, length, MatchOption, MatchBool};
+ghost use Rattle.std.specs.Prelude.{◌≡◌, ℕ, ◌≤◌, ◌<◌, ◌==◌, ◌^◌, Bool, true, false, List, [], ◌∷◌, length, drop, MatchOption, MatchBool};
 ghost use Rattle.std.specs.List.{list_all};
-ghost use Rattle.std.specs.Str.{chars, IsCharBoundary};
+ghost use Rattle.std.specs.Str.{chars, IsCharBoundary, IsUtf8};
 ghost use Rattle.bib_chunks.specs.Places.{Place, place, Answers, between};
 ghost use Rattle.bib_syntax.specs.Contents.{begins, is_space};
 ghost use Rattle.bib_syntax.specs.Passing.{left, Passes};
@@ -43,6 +43,7 @@ impl<'s> Characters<'s> {
         ensures place { result ≡ self.now.at }
         ensures boundary { IsCharBoundary self.now.text result }
         ensures fits { length self.now.text < 2 ^ 63 }
+        ensures utf8 { IsUtf8 (drop self.now.at self.now.text) }
     {
         self.scanner.cursor()
     }

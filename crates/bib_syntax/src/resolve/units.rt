@@ -42,6 +42,7 @@ pub(crate) enum Unit<'s> {
 
 // Hyphens, counted.
 fn hyphens(s: &mut Characters<'_>) -> usize
+    ensures same { s.new.text ≡ s.old.text }
     ensures spelt { left s.old ≡ replicate result 45 ++ left s.new }
     ensures whole { begins (λ c. c == 45) (left s.new) ≡ false }
 {
@@ -50,7 +51,8 @@ fn hyphens(s: &mut Characters<'_>) -> usize
 
 // A math text, behind its dollar sign.
 fn formula<'s>(s: &mut Characters<'s>) -> Option<Unit<'s>>
-    ensures { MatchOption result ((u : ContentUnit) (rest : List ℕ) → IsNext false u (36 ∷ left s.old) rest → ⊥) (λ u. IsNext false (unit_of u) (36 ∷ left s.old) (left s.new)) }
+    ensures same { s.new.text ≡ s.old.text }
+    ensures found { MatchOption result ((u : ContentUnit) (rest : List ℕ) → IsNext false u (36 ∷ left s.old) rest → ⊥) (λ u. IsNext false (unit_of u) (36 ∷ left s.old) (left s.new)) }
 {
     let text = s.eat_while(|c| c != '$');
     if !s.eat_if('$') {
@@ -61,7 +63,8 @@ fn formula<'s>(s: &mut Characters<'s>) -> Option<Unit<'s>>
 
 // The text of an argument, behind its opening brace.
 fn braced<'s>(s: &mut Characters<'s>) -> Option<&'s str>
-    ensures { MatchOption result ((text rest : List ℕ) → left s.old ≡ text ++ 125 ∷ rest → balances 0 text ≡ true → ⊥) (λ text. (left s.old ≡ chars text.now ++ 125 ∷ left s.new) × (balances 0 (chars text.now) ≡ true)) }
+    ensures same { s.new.text ≡ s.old.text }
+    ensures found { MatchOption result ((text rest : List ℕ) → left s.old ≡ text ++ 125 ∷ rest → balances 0 text ≡ true → ⊥) (λ text. (left s.old ≡ chars text.now ++ 125 ∷ left s.new) × (balances 0 (chars text.now) ≡ true)) }
 {
     let start = s.cursor();
     let mut depth: usize = 0;
@@ -83,7 +86,8 @@ fn braced<'s>(s: &mut Characters<'s>) -> Option<&'s str>
 
 // The argument of a command, behind its name and the white space there.
 fn eat_argument<'s>(s: &mut Characters<'s>, takes_next: bool, is_spaced: bool) -> Option<Argument<'s>>
-    ensures { MatchOption result ((a : contents.Argument) (rest : List ℕ) → left s.old ≡ argument_spelling a ++ rest → is_argument takes_next is_spaced a rest ≡ true → ⊥) (λ a. (left s.old ≡ argument_spelling (argument_of a) ++ left s.new) × (is_argument takes_next is_spaced (argument_of a) (left s.new) ≡ true)) }
+    ensures same { s.new.text ≡ s.old.text }
+    ensures found { MatchOption result ((a : contents.Argument) (rest : List ℕ) → left s.old ≡ argument_spelling a ++ rest → is_argument takes_next is_spaced a rest ≡ true → ⊥) (λ a. (left s.old ≡ argument_spelling (argument_of a) ++ left s.new) × (is_argument takes_next is_spaced (argument_of a) (left s.new) ≡ true)) }
 {
     if s.peek() == Some('{') {
         if is_spaced {
@@ -139,7 +143,8 @@ fn takes_next(name: &str, is_spaced: bool) -> bool
 fn command<'s>(s: &mut Characters<'s>, first: char) -> Option<Unit<'s>>
     requires stands { (rest : List ℕ) × (left s.old ≡ first ∷ rest) }
     requires begins { (contents.is_escaped false first ≡ false) × (contents.is_blank first ≡ false) }
-    ensures { MatchOption result ((u : ContentUnit) (rest : List ℕ) → IsNext false u (92 ∷ left s.old) rest → ⊥) (λ u. IsNext false (unit_of u) (92 ∷ left s.old) (left s.new)) }
+    ensures same { s.new.text ≡ s.old.text }
+    ensures found { MatchOption result ((u : ContentUnit) (rest : List ℕ) → IsNext false u (92 ∷ left s.old) rest → ⊥) (λ u. IsNext false (unit_of u) (92 ∷ left s.old) (left s.new)) }
 {
     let name = eat_name(s, first);
     let space = s.eat_while(is_space);
@@ -153,7 +158,8 @@ fn command<'s>(s: &mut Characters<'s>, first: char) -> Option<Unit<'s>>
 
 // What a backslash begins, behind it.
 fn escape<'s>(s: &mut Characters<'s>, is_verbatim: bool) -> Option<Unit<'s>>
-    ensures { MatchOption result ((u : ContentUnit) (rest : List ℕ) → IsNext is_verbatim u (92 ∷ left s.old) rest → ⊥) (λ u. IsNext is_verbatim (unit_of u) (92 ∷ left s.old) (left s.new)) }
+    ensures same { s.new.text ≡ s.old.text }
+    ensures found { MatchOption result ((u : ContentUnit) (rest : List ℕ) → IsNext is_verbatim u (92 ∷ left s.old) rest → ⊥) (λ u. IsNext is_verbatim (unit_of u) (92 ∷ left s.old) (left s.new)) }
 {
     let Some(c) = s.peek() else {
         if is_verbatim {
@@ -176,7 +182,8 @@ fn escape<'s>(s: &mut Characters<'s>, is_verbatim: bool) -> Option<Unit<'s>>
 
 // The unit that stands here; none at the end of the text, and where no unit begins.
 pub(crate) fn eat_unit<'s>(s: &mut Characters<'s>, is_verbatim: bool) -> Option<Unit<'s>>
-    ensures { MatchOption result ((u : ContentUnit) (rest : List ℕ) → IsNext is_verbatim u (left s.old) rest → ⊥) (λ u. IsNext is_verbatim (unit_of u) (left s.old) (left s.new)) }
+    ensures same { s.new.text ≡ s.old.text }
+    ensures found { MatchOption result ((u : ContentUnit) (rest : List ℕ) → IsNext is_verbatim u (left s.old) rest → ⊥) (λ u. IsNext is_verbatim (unit_of u) (left s.old) (left s.new)) }
 {
     let Some(c) = s.peek() else {
         return None;

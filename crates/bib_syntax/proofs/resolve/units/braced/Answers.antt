@@ -11,8 +11,8 @@ use Rattle.bib_syntax.proofs.resolve.units.braced.Goals as goal
 pub eat_while-requires-clause-is_test : goal.eat_while-requires-clause-is_test
 eat_while-requires-clause-is_test c = (is_no_brace, λ x r post. search rules)
 
-pub returns-in_default : goal.returns-in_default
-returns-in_default c =
+pub returns-in_default-clause-found : goal.returns-in_default-clause-found
+returns-in_default-clause-found c =
     let run = c.eat_while.ensures.longest is_no_brace (λ x r post. search rules) in
     braced_never c.braces.invariant.0 c.eat_while.ensures.passed run.0 c.in_default.ensures.0
 
@@ -26,8 +26,8 @@ braces-preserved-then-brace-eq123 c =
     let run = c.eat_while.ensures.longest is_no_brace (λ x r post. search rules) in
     braced_opened c.braces.invariant.0 c.braces.invariant.1 c.eat_while.ensures.passed run.0 c.in-Some.ensures c.if-brace-eq123.true
 
-pub returns-then-depth-eq0 : goal.returns-then-depth-eq0
-returns-then-depth-eq0 c =
+pub returns-then-depth-eq0-clause-found : goal.returns-then-depth-eq0-clause-found
+returns-then-depth-eq0-clause-found c =
     let run = c.eat_while.ensures.longest is_no_brace (λ x r post. search rules) in
     braced_text c.cursor-start.result c.from-text.result.now c.braces.invariant.0 c.if-depth-eq0.true c.eat_while.ensures.passed run.0 run.1 c.in-Some.ensures c.if-brace-eq123.false c.cursor-start.ensures.place c.from-text.utf8 c.from-text.ensures
 

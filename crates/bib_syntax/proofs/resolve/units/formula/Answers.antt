@@ -9,15 +9,15 @@ use Rattle.bib_syntax.proofs.resolve.units.formula.Goals as goal
 pub eat_while-text-requires-clause-is_test : goal.eat_while-text-requires-clause-is_test
 eat_while-text-requires-clause-is_test c = (λ d. not (d == 36), λ x r post. search rules)
 
-pub returns-then-not-eat_if : goal.returns-then-not-eat_if
-returns-then-not-eat_if c u rest one =
+pub returns-then-not-eat_if-clause-found : goal.returns-then-not-eat_if-clause-found
+returns-then-not-eat_if-clause-found c u rest one =
     let run = c.eat_while-text.ensures.longest (λ d. not (d == 36)) (λ x r post. search rules) in
     let ended : left c.eat_while-text.new.self ≡ [] = nothing_left (λ d. d == 36) _ run.1 c.if-not-eat_if.ensures.1 in
     let whole : left c.args.s.now ≡ chars c.eat_while-text.result.now = c.eat_while-text.ensures.passed.left ∙ ap (λ xs. chars c.eat_while-text.result.now ++ xs) ended ∙ append-nil _ in
     no_formula (chars c.eat_while-text.result.now) run.0 u rest (rw whole at one)
 
-pub returns : goal.returns
-returns c =
+pub returns-clause-found : goal.returns-clause-found
+returns-clause-found c =
     let run = c.eat_while-text.ensures.longest (λ d. not (d == 36)) (λ x r post. search rules) in
     formula_found (left c.args.s.now) (chars c.eat_while-text.result.now) (left c.eat_if.new.self) run.0
     (c.eat_while-text.ensures.passed.left ∙ ap (λ xs. chars c.eat_while-text.result.now ++ xs) c.if-not-eat_if.ensures.left)
