@@ -1,3 +1,4 @@
+pub mod AbbreviationFacts
 pub mod BraceFacts
 pub mod FieldFacts
 pub mod FileFacts

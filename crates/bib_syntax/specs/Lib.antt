@@ -1,3 +1,4 @@
+pub mod Abbreviations
 pub mod Characters
 pub mod Commands
 pub mod Contents
