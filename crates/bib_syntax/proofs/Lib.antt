@@ -2,6 +2,7 @@ pub mod AbbreviationFacts
 pub mod BraceFacts
 pub mod FieldFacts
 pub mod FileFacts
+pub mod JoinedFacts
 pub mod LawFacts
 pub mod ModeFacts
 pub mod QuoteFacts

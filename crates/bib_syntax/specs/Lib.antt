@@ -2,6 +2,7 @@ pub mod Abbreviations
 pub mod Characters
 pub mod Commands
 pub mod Contents
+pub mod Expanding
 pub mod Faults
 pub mod Grammar
 pub mod Joined
