@@ -1,5 +1,6 @@
 pub mod AbbreviationFacts
 pub mod BraceFacts
+pub mod ExpansionFacts
 pub mod FieldFacts
 pub mod FileFacts
 pub mod JoinedFacts

@@ -3,6 +3,7 @@ use Rattle.std.specs.Prelude.{◌≡◌, ℕ, ◌-◌, ◌≤◌, Bool, List, []
 use Rattle.std.specs.BTreeMap.{get_by}
 use Rattle.std.specs.Cmp.Lexicographic.{slice_cmp}
 use Rattle.std.specs.Ordering.{nat_cmp}
+use Rattle.std.specs.declared.ops.Range.{Range}
 use Rattle.bib_chunks.specs.declared.chunk.Chunk.{Chunk}
 use Rattle.bib_chunks.specs.declared.chunk.Spanned.{Spanned}
 use Rattle.bib_chunks.specs.Styled.{styled}
@@ -24,12 +25,20 @@ known_to source = defined_in source.definitions.now
 abbrev pub progress : Memo → List ℕ → Option Progress
 progress memo name = get_by (λ key. slice_cmp nat_cmp name key.now) memo.names
 
+-- a text with these ends
+abbrev pub part_at : List ℕ → Range ℕ → Part
+part_at text span = record { text = text; start = span.start; end = span.end }
+
 -- the same as before, but at one name
 abbrev pub noted : List ℕ → Progress → (List ℕ → Option Progress) → List ℕ → Option Progress
 noted name now before other = if bytes_eq name other then Some now else before other
 
 abbrev pub chunks_between : ℕ → ℕ → List (Spanned Chunk) → List (Spanned Chunk)
 chunks_between start end chunks = take (end - start) (drop start chunks)
+
+-- the chunks of each name that was expanded stand in the memo
+abbrev pub AreWithin : Memo → Type 0
+AreWithin memo = (name : List ℕ) (start end : ℕ) → progress memo name ≡ Some (Done start end) → (start ≤ end) × (end ≤ length memo.values.items)
 
 -- these chunks are what the definition of a name says
 pub record IsValue (definitions : Definitions) (is_verbatim : Bool) (chunks : List (Spanned Chunk)) (name : List ℕ) (start end : ℕ) : Type 0 where
@@ -65,4 +74,4 @@ pub record Opens (definitions : Definitions) (old new : Memo) (name : List ℕ) 
 abbrev pub Takes : Definitions → Bool → Memo → Memo → Piece → Option Frame → Type 0
 Takes definitions is_verbatim old new piece None =
     Expands definitions is_verbatim old.values.items new.values.items (piece ∷ []) × (new.names ≡ old.names)
-Takes definitions is_verbatim old new piece (Some frame) = (use : Part) × (piece ≡ abbreviation use) × Opens definitions old new use.text frame
+Takes definitions is_verbatim old new piece (Some frame) = (p : Part) × (piece ≡ abbreviation p) × Opens definitions old new p.text frame

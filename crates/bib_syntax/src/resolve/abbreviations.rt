@@ -3,12 +3,12 @@
 use crate::raw::{Field, ParseError, ParseErrorKind, RawChunk};
 use crate::resolve::contents::contents;
 use crate::resolve::joining::append_copies;
-ghost use Rattle.std.specs.Prelude.{◌≡◌, ℕ, ◌≤◌, ◌⊎◌, List, [], ◌∷◌, ◌++◌, map, length, vec_len, IsOk, OnOk, OnErr, IfOk, IfErr};
+ghost use Rattle.std.specs.Prelude.{◌≡◌, ℕ, ◌+◌, ◌≤◌, ◌⊎◌, Some, None, List, [], ◌∷◌, ◌++◌, map, length, vec_len, IsOk, OnOk, OnErr, IfOk, IfErr};
 ghost use Rattle.std.specs.Option.{option_map};
 ghost use Rattle.bib_chunks.specs.Styled.{Atom, styled};
 ghost use Rattle.bib_syntax.specs.Abbreviations as abbreviations;
-ghost use Rattle.bib_syntax.specs.Abbreviations.{Evaluates, IsFirstFault};
-ghost use Rattle.bib_syntax.specs.Expanding.{known_to, progress, noted, chunks_between, IsSound, Expands, Opens, Takes};
+ghost use Rattle.bib_syntax.specs.Abbreviations.{Definitions, Evaluates, IsFirstFault};
+ghost use Rattle.bib_syntax.specs.Expanding.{known_to, progress, noted, part_at, chunks_between, AreWithin, IsSound, Expands, Opens, Takes};
 ghost use Rattle.bib_syntax.specs.Faults.{out_of_memory};
 ghost use Rattle.bib_syntax.specs.Joined.{AreJoined, ArePlaced};
 ghost use Rattle.bib_syntax.specs.Reading.{Part, Piece};
@@ -57,7 +57,10 @@ struct Frame<'a> {
 
 impl<'a> Memo<'a> {
     // No name was met.
-    pub(crate) fn new(alloc: Global) -> Self {
+    pub(crate) fn new(alloc: Global) -> Self
+        ensures none { (name : List ℕ) → progress result name ≡ None }
+        ensures empty { result.values.items ≡ [] }
+    {
         Memo {
             names: BTreeMap::new(alloc),
             values: Vec::new(alloc),
@@ -65,7 +68,10 @@ impl<'a> Memo<'a> {
     }
 
     // Begins the expansion of a name.
-    fn open(&mut self, name: &'a str, definition: &'a Field<'a>) -> Result<Frame<'a>, ParseError> {
+    fn open(&mut self, name: &'a str, definition: &'a Field<'a>) -> Result<Frame<'a>, ParseError>
+        ensures opened { (definitions : Definitions) → definitions name.now ≡ Some (map piece_of definition.now.items) → progress self.old name.now ≡ None → IfOk result (λ frame. Opens definitions self.old self.new name.now frame) }
+        ensures err { IfErr result (λ e. e ≡ out_of_memory) }
+    {
         self.names.insert(name, Progress::Begun)?;
         Ok(Frame {
             name,
@@ -75,7 +81,11 @@ impl<'a> Memo<'a> {
     }
 
     // Ends the expansion of a name.
-    fn close(&mut self, frame: &Frame<'a>) -> Result<(), ParseError> {
+    fn close(&mut self, frame: &Frame<'a>) -> Result<(), ParseError>
+        ensures values { self.new.values ≡ self.old.values }
+        ensures names { OnOk result ((other : List ℕ) → progress self.new other ≡ noted frame.now.name.now (Done frame.now.start (length self.old.values.items)) (progress self.old) other) }
+        ensures err { IfErr result (λ e. e ≡ out_of_memory) }
+    {
         let done = Progress::Done {
             start: frame.start,
             end: self.values.len(),
@@ -85,7 +95,13 @@ impl<'a> Memo<'a> {
     }
 
     // Says again what the chunks between two places say.
-    fn repeat(&mut self, alloc: Global, start: usize, end: usize) -> Result<(), ParseError> {
+    fn repeat(&mut self, alloc: Global, start: usize, end: usize) -> Result<(), ParseError>
+        requires ordered { start ≤ end }
+        requires within { end ≤ length self.old.values.items }
+        ensures names { self.new.names ≡ self.old.names }
+        ensures values { OnOk result ((more : List (Spanned Chunk)) × (self.new.values.items ≡ self.old.values.items ++ more) × (styled more ≡ styled (chunks_between start end self.old.values.items))) }
+        ensures err { IfErr result (λ e. e ≡ out_of_memory) }
+    {
         let mut part = Chunks::new(alloc);
         append_copies(&mut part, &self.values[start..end])?;
         self.values.append(&mut part.into_vec())?;
@@ -100,7 +116,14 @@ impl<'a> Source<'a> {
         memo: &mut Memo<'a>,
         out: &mut Chunks,
         piece: &'a Spanned<RawChunk<'a>>,
-    ) -> Result<(), ParseError> {
+    ) -> Result<(), ParseError>
+        requires sound { IsSound (known_to self) self.is_verbatim memo.old [] }
+        ensures said { OnOk result ((atoms : List Atom) × Evaluates (known_to self.entry) self.entry.is_verbatim (piece_of piece.now ∷ []) atoms × (styled out.new ≡ styled out.old ++ atoms)) }
+        ensures sound { OnOk result (IsSound (known_to self.entry) self.entry.is_verbatim memo.new []) }
+        ensures joined { OnOk result (AreJoined out.old → AreJoined out.new) }
+        ensures placed { OnOk result ((p : Part) → piece_of piece.now ≡ literal p → p.end ≡ p.start + length p.text → (low : ℕ) → ArePlaced low p.start out.old → ArePlaced low p.end out.new) }
+        ensures refused { IfErr result (λ e. (e ≡ out_of_memory) ⊎ ((rest : List Piece) → IsFirstFault (known_to self.entry) self.entry.is_verbatim [] (piece_of piece.now ∷ rest) e)) }
+    {
         if let RawChunk::Normal(text) = piece.v {
             return contents(out, self.alloc, text, piece.span.start, self.is_verbatim);
         }
@@ -113,7 +136,14 @@ impl<'a> Source<'a> {
     }
 
     // Expands the name of a frame.
-    fn run(self, memo: &mut Memo<'a>, first: Frame<'a>) -> Result<(), ParseError> {
+    fn run(self, memo: &mut Memo<'a>, first: Frame<'a>) -> Result<(), ParseError>
+        requires sound { IsSound (known_to self) self.is_verbatim memo.old (first.name.now ∷ []) }
+        requires defined { known_to self first.name.now ≡ Some (map piece_of first.rest.now) }
+        requires start { first.start ≡ length memo.old.values.items }
+        ensures said { OnOk result (Expands (known_to self.entry) self.entry.is_verbatim memo.old.values.items memo.new.values.items (map piece_of first.entry.rest.now)) }
+        ensures sound { OnOk result (IsSound (known_to self.entry) self.entry.is_verbatim memo.new []) }
+        ensures refused { IfErr result (λ e. (e ≡ out_of_memory) ⊎ IsFirstFault (known_to self.entry) self.entry.is_verbatim (first.entry.name.now ∷ []) (map piece_of first.entry.rest.now) e) }
+    {
         let mut frames: Vec<Frame<'a>> = Vec::new(self.alloc);
         let mut frame = first;
         'frames: loop {
@@ -138,7 +168,11 @@ impl<'a> Source<'a> {
         self,
         memo: &mut Memo<'a>,
         piece: &'a Spanned<RawChunk<'a>>,
-    ) -> Result<Option<Frame<'a>>, ParseError> {
+    ) -> Result<Option<Frame<'a>>, ParseError>
+        requires within { AreWithin memo.old }
+        ensures taken { (path : List (List ℕ)) → IsSound (known_to self.entry) self.entry.is_verbatim memo.old path → IfOk result (Takes (known_to self.entry) self.entry.is_verbatim memo.old memo.new (piece_of piece.now)) }
+        ensures refused { (path : List (List ℕ)) → IsSound (known_to self.entry) self.entry.is_verbatim memo.old path → IfErr result (λ e. (e ≡ out_of_memory) ⊎ ((rest : List Piece) → IsFirstFault (known_to self.entry) self.entry.is_verbatim path (piece_of piece.now ∷ rest) e)) }
+    {
         match piece.v {
             RawChunk::Normal(text) => {
                 self.text(memo, text, piece.span.start)?;
@@ -149,7 +183,11 @@ impl<'a> Source<'a> {
     }
 
     // A text.
-    fn text(self, memo: &mut Memo<'a>, text: &str, offset: usize) -> Result<(), ParseError> {
+    fn text(self, memo: &mut Memo<'a>, text: &str, offset: usize) -> Result<(), ParseError>
+        ensures names { memo.new.names ≡ memo.old.names }
+        ensures said { OnOk result ((p : Part) → p.text ≡ text.now → Expands (known_to self.entry) self.entry.is_verbatim memo.old.values.items memo.new.values.items (literal p ∷ [])) }
+        ensures refused { IfErr result (λ e. (e ≡ out_of_memory) ⊎ ((p : Part) (path : List (List ℕ)) (rest : List Piece) → p.text ≡ text.now → IsFirstFault (known_to self.entry) self.entry.is_verbatim path (literal p ∷ rest) e)) }
+    {
         let mut part = Chunks::new(self.alloc);
         contents(&mut part, self.alloc, text, offset, self.is_verbatim)?;
         memo.values.append(&mut part.into_vec())?;
@@ -162,7 +200,11 @@ impl<'a> Source<'a> {
         memo: &mut Memo<'a>,
         name: &'a str,
         span: &Span,
-    ) -> Result<Option<Frame<'a>>, ParseError> {
+    ) -> Result<Option<Frame<'a>>, ParseError>
+        requires within { AreWithin memo.old }
+        ensures taken { (path : List (List ℕ)) → IsSound (known_to self.entry) self.entry.is_verbatim memo.old path → IfOk result (Takes (known_to self.entry) self.entry.is_verbatim memo.old memo.new (abbreviation (part_at name.now span.now))) }
+        ensures refused { (path : List (List ℕ)) → IsSound (known_to self.entry) self.entry.is_verbatim memo.old path → IfErr result (λ e. (e ≡ out_of_memory) ⊎ ((rest : List Piece) → IsFirstFault (known_to self.entry) self.entry.is_verbatim path (abbreviation (part_at name.now span.now) ∷ rest) e)) }
+    {
         match memo.names.get(name) {
             Some(Progress::Begun) => Err(ParseError {
                 span: span.start..span.end,
@@ -183,7 +225,11 @@ impl<'a> Source<'a> {
         memo: &mut Memo<'a>,
         name: &'a str,
         span: &Span,
-    ) -> Result<Option<Frame<'a>>, ParseError> {
+    ) -> Result<Option<Frame<'a>>, ParseError>
+        requires fresh { progress memo.old name.now ≡ None }
+        ensures taken { IfOk result (Takes (known_to self.entry) self.entry.is_verbatim memo.old memo.new (abbreviation (part_at name.now span.now))) }
+        ensures refused { IfErr result (λ e. (e ≡ out_of_memory) ⊎ ((path : List (List ℕ)) (rest : List Piece) → IsFirstFault (known_to self.entry) self.entry.is_verbatim path (abbreviation (part_at name.now span.now) ∷ rest) e)) }
+    {
         if let Some(definition) = self.definitions.get(name) {
             return Ok(Some(memo.open(name, *definition)?));
         }
@@ -200,7 +246,9 @@ impl<'a> Source<'a> {
 }
 
 // The English name of the month with these first three letters, in any ASCII case.
+#[tactic(auto, unfolding(crate::specs::Abbreviations::month))]
 fn month(name: &str) -> Option<&'static str>
+    ensures { option_map (λ english. english.now) result ≡ abbreviations.month name.now }
 {
     if is_named(name, "jan") {
         Some("January")
