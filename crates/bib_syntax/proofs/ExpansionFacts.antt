@@ -1,6 +1,6 @@
 -- How names are expanded, each once.
 use Rattle.std.proofs.Common.{◌≡◌, ℕ, suc, zero, ◌+◌, ◌-◌, ◌<◌, ◌≤◌, Bool, true, false, List, [], ◌∷◌, ◌++◌, map, length, take, drop, refl, sym, ap, ◌∙◌, subst, append_assoc, append-nil, inl, inr, arith, Option, Some, None, length-append, length-drop, cond, reverse}
-use Rattle.std.specs.Prelude.{◌⊎◌, if◌then◌else◌, bytes_eq, is_some}
+use Rattle.std.specs.Prelude.{◌⊎◌, if◌then◌else◌, bytes_eq, is_some, min, ◌^◌}
 use Rattle.std.specs.BTreeMap as tree
 use Rattle.std.specs.Borrow.{Bor}
 use Rattle.std.specs.Cmp.Lexicographic.{slice_cmp}
@@ -19,19 +19,21 @@ use Rattle.bib_chunks.specs.declared.chunk.Spanned.{Spanned}
 use Rattle.bib_chunks.specs.Styled.{Atom, atoms_of, styled}
 use Rattle.bib_syntax.specs.declared.raw.ParseError.{ParseError}
 use Rattle.bib_syntax.specs.declared.raw.RawChunk.{RawChunk}
+use Rattle.bib_syntax.specs.declared.raw.RawChunk.TheVariants.{Normal as RawText}
 use Rattle.bib_syntax.specs.declared.resolve.abbreviations.Frame.{Frame}
 use Rattle.bib_syntax.specs.declared.resolve.abbreviations.Memo.{Memo}
 use Rattle.bib_syntax.specs.declared.resolve.abbreviations.Progress.{Progress}
 use Rattle.bib_syntax.specs.declared.resolve.abbreviations.Progress.TheVariants.{Begun, Done}
 use Rattle.bib_syntax.specs.Contents.{IsContent, IsUnread}
 use Rattle.bib_syntax.specs.Faults.{out_of_memory}
+use Rattle.bib_syntax.specs.Joined.{AreJoined, ArePlaced}
 use Rattle.bib_syntax.specs.Reading.{Part, Piece}
 use Rattle.bib_syntax.specs.Reading.Piece.{literal, abbreviation}
 use Rattle.bib_syntax.specs.Abbreviations.{Definitions, month, Evaluates, IsOnPath, IsFirstFault, defined_in}
 use Rattle.bib_syntax.specs.Abbreviations.{Evaluates as evaluates, IsFirstFault as first_fault}
 use Rattle.bib_syntax.specs.Expanding.{progress, noted, chunks_between, AreWithin, IsValue, IsSound, Expands, Opens, Takes}
-use Rattle.bib_syntax.specs.Views.{piece_of}
-use Rattle.bib_syntax.proofs.JoinedFacts.{styled-append}
+use Rattle.bib_syntax.specs.Views.{piece_of, piece_at}
+use Rattle.bib_syntax.proofs.JoinedFacts.{styled-append, placed_up}
 
 -- what a map gives is the definition of a name
 pub defined_by : {S : Type 0} (m : HashMap (Bor (List ℕ)) (Bor (Vec (Spanned RawChunk))) S) (name : List ℕ) (field : Bor (Vec (Spanned RawChunk)))
@@ -160,6 +162,12 @@ none_begun is = cc is
 progress_same : (new old : Memo) → new.names ≡ old.names → (name : List ℕ) → progress new name ≡ progress old name
 progress_same new old names name = ap (λ m. tree.get_by (λ key. slice_cmp nat_cmp name key.now) m) names
 
+none_done : (start end : ℕ) → None ≡ Some (Done start end) → ⊥
+none_done start end is = cc is
+
+no_pieces : (p : Part) → [] ≡ literal p ∷ [] → ⊥
+no_pieces p is = cc is
+
 begun_done : (start end : ℕ) → Some Begun ≡ Some (Done start end) → ⊥
 begun_done start end is = cc is
 
@@ -198,7 +206,7 @@ module _ {definitions : Definitions} {is_verbatim : Bool} where
       → IsValue definitions is_verbatim new.values.items name start end
   value_moves {name} {start} {end} old new values value = subst (λ (v : Vec (Spanned Chunk)). IsValue definitions is_verbatim v.items name start end) (sym values) value
 
-  sound_grows : {path : List (List ℕ)} {old : Memo} (new : Memo) (more : List (Spanned Chunk)) → new.names ≡ old.names → new.values.items ≡ old.values.items ++ more
+  pub sound_grows : {path : List (List ℕ)} {old : Memo} (new : Memo) (more : List (Spanned Chunk)) → new.names ≡ old.names → new.values.items ≡ old.values.items ++ more
       → IsSound definitions is_verbatim old path → IsSound definitions is_verbatim new path
   sound_grows {old = old} new more names grown sound = record {
     done = λ name start end is. value_grows new.values.items more grown (sound.done name start end (sym (progress_same new old names name) ∙ is));
@@ -563,3 +571,115 @@ no_elements (x ∷ xs) empty = absurd (omega (arith, empty))
 -- the last element of a list, read backwards
 pub reversed_push : {A : Type 0} (whole xs : List A) (x : A) → whole ≡ xs ++ x ∷ [] → reverse whole ≡ x ∷ reverse xs
 reversed_push whole xs x is = ap reverse is ∙ reverse-append xs (x ∷ [])
+
+module _ {definitions : Definitions} {is_verbatim : Bool} where
+  -- a memo without names is right
+  pub sound_empty : (memo : Memo) → ((name : List ℕ) → progress memo name ≡ None) → IsSound definitions is_verbatim memo []
+  sound_empty memo empty = record {
+    done = λ name start end is. absurd (none_done start end (sym (empty name) ∙ is));
+    begun = λ name is. absurd (none_begun (sym (empty name) ∙ is));
+    on_path = λ name on. absurd on;
+  }
+
+  -- the frame of a name that a field holds
+  pub opened_sound : {old : Memo} (new : Memo) (name : List ℕ) (frame : Frame) → IsSound definitions is_verbatim old [] → Opens definitions old new name frame
+      → IsSound definitions is_verbatim new (frame.name.now ∷ [])
+  opened_sound new name frame sound opens =
+      subst (λ n. IsSound definitions is_verbatim new (n ∷ [])) (sym opens.named) (sound_open new name opens.fresh opens.values opens.names sound)
+
+  -- it says what its definition says
+  pub expands_opened : {old : Memo} (mid new : Memo) (p : Part) (frame : Frame) → Opens definitions old mid p.text frame
+      → Expands definitions is_verbatim mid.values.items new.values.items (map piece_of frame.rest.now)
+      → Expands definitions is_verbatim old.values.items new.values.items (abbreviation p ∷ [])
+  expands_opened mid new p frame opens x = record {
+    more = x.more;
+    values = x.values ∙ ap (λ (v : Vec (Spanned Chunk)). v.items ++ x.more) opens.values;
+    says = evaluates_as (append-nil (styled x.more)) (evaluates.defined opens.is x.says evaluates.none);
+  }
+
+  pub fault_opened : {old : Memo} (mid : Memo) (p : Part) (frame : Frame) (e : ParseError) → Opens definitions old mid p.text frame
+      → (e ≡ out_of_memory) ⊎ IsFirstFault definitions is_verbatim (frame.name.now ∷ []) (map piece_of frame.rest.now) e
+      → (e ≡ out_of_memory) ⊎ ((rest : List Piece) → IsFirstFault definitions is_verbatim [] (abbreviation p ∷ rest) e)
+  fault_opened mid p frame e opens (inl memory) = inl memory
+  fault_opened mid p frame e opens (inr fault) =
+      inr (λ rest. first_fault.inside (λ on. on) opens.is (subst (λ n. IsFirstFault definitions is_verbatim (n ∷ []) (map piece_of frame.rest.now) e) opens.named fault))
+
+pub opened_defined : {definitions : Definitions} {old : Memo} (new : Memo) (name : List ℕ) (frame : Frame) → Opens definitions old new name frame
+    → definitions frame.name.now ≡ Some (map piece_of frame.rest.now)
+opened_defined {definitions} new name frame opens = ap definitions opens.named ∙ opens.is
+
+pub opened_start : {definitions : Definitions} {old : Memo} (new : Memo) (name : List ℕ) (frame : Frame) → Opens definitions old new name frame → frame.start ≡ length new.values.items
+opened_start new name frame opens = opens.start ∙ ap (λ (v : Vec (Spanned Chunk)). length v.items) (sym opens.values)
+
+-- what was read of the elements of a field
+pub record IsRead (definitions : Definitions) (is_verbatim : Bool) (pieces : List Piece) (out : List (Spanned Chunk)) : Type 0 where
+  pub said : Evaluates definitions is_verbatim pieces (styled out)
+  pub joined : AreJoined out
+  pub empty : pieces ≡ [] → out ≡ []
+  pub placed : (p : Part) → pieces ≡ literal p ∷ [] → p.end ≡ p.start + length p.text → ArePlaced p.start p.end out
+
+one_piece : {A : Type 0} (xs : List A) (x y : A) → xs ++ x ∷ [] ≡ y ∷ [] → (xs ≡ []) × (x ≡ y)
+one_piece [] x y is = (refl, cc is)
+one_piece (z ∷ []) x y is = absurd (cc is)
+one_piece (z ∷ w ∷ xs) x y is = absurd (cc is)
+
+no_push : {A : Type 0} (xs : List A) (x : A) → xs ++ x ∷ [] ≡ [] → ⊥
+no_push [] x is = cc is
+no_push (z ∷ xs) x is = cc is
+
+module _ {definitions : Definitions} {is_verbatim : Bool} where
+  pub read_none : IsRead definitions is_verbatim [] []
+  read_none = record { said = evaluates.none; joined = tt; empty = λ none. refl; placed = λ p is long. absurd (no_pieces p is) }
+
+  -- one element more
+  pub read_more : {pieces : List Piece} {old new : List (Spanned Chunk)} {atoms : List Atom} (piece : Piece) → IsRead definitions is_verbatim pieces old
+      → Evaluates definitions is_verbatim (piece ∷ []) atoms → styled new ≡ styled old ++ atoms → (AreJoined old → AreJoined new)
+      → ((p : Part) → piece ≡ literal p → p.end ≡ p.start + length p.text → (low : ℕ) → ArePlaced low p.start old → ArePlaced low p.end new)
+      → IsRead definitions is_verbatim (pieces ++ piece ∷ []) new
+  read_more {pieces} {old} {new} {atoms} piece x says styles joins places = record {
+    said = evaluates_as (sym styles) (evaluates_append atoms x.said says);
+    joined = joins x.joined;
+    empty = λ none. absurd (no_push pieces piece none);
+    placed = λ p is long.
+        let one = one_piece pieces piece (literal p) is in
+        places p one.1 long p.start (subst (λ c. ArePlaced p.start p.start c) (sym (x.empty one.0)) (omega arith));
+  }
+
+  -- a fault of an element is that of the field
+  pub read_refused : {pieces : List Piece} {out : List (Spanned Chunk)} (whole : List Piece) (piece : Piece) (rest : List Piece) (e : ParseError)
+      → IsRead definitions is_verbatim pieces out → whole ≡ pieces ++ piece ∷ rest
+      → (e ≡ out_of_memory) ⊎ ((more : List Piece) → IsFirstFault definitions is_verbatim [] (piece ∷ more) e)
+      → (e ≡ out_of_memory) ⊎ IsFirstFault definitions is_verbatim [] whole e
+  read_refused whole piece rest e x is (inl memory) = inl memory
+  read_refused whole piece rest e x is (inr fault) =
+      inr (subst (λ pieces. IsFirstFault definitions is_verbatim [] pieces e) (sym is) (fault_behind x.said (fault rest)))
+
+-- a text of a field
+pub text_piece : (piece : Spanned RawChunk) (text : Bor (List ℕ)) → piece.v ≡ RawText text
+    → piece_of piece ≡ literal (record { text = text.now; start = piece.span.start; end = piece.span.end })
+text_piece piece text is = ap (piece_at piece.span.start piece.span.end) is
+
+module _ {definitions : Definitions} {is_verbatim : Bool} where
+  pub text_says : {atoms : List Atom} (piece : Spanned RawChunk) (text : Bor (List ℕ)) → piece.v ≡ RawText text → IsContent is_verbatim (chars text.now) atoms
+      → Evaluates definitions is_verbatim (piece_of piece ∷ []) atoms
+  text_says {atoms} piece text is read =
+      subst (λ one. Evaluates definitions is_verbatim (one ∷ []) atoms) (sym (text_piece piece text is)) (evaluates_as (append-nil atoms) (evaluates.text read evaluates.none))
+
+  pub text_refused : (piece : Spanned RawChunk) (text : Bor (List ℕ)) (e : ParseError) → piece.v ≡ RawText text
+      → (e ≡ out_of_memory) ⊎ (IsUnread e.kind × ((atoms : List Atom) → IsContent is_verbatim (chars text.now) atoms → ⊥))
+      → (e ≡ out_of_memory) ⊎ ((rest : List Piece) → IsFirstFault definitions is_verbatim [] (piece_of piece ∷ rest) e)
+  text_refused piece text e is (inl memory) = inl memory
+  text_refused piece text e is (inr x) =
+      inr (λ rest. subst (λ one. IsFirstFault definitions is_verbatim [] (one ∷ rest) e) (sym (text_piece piece text is)) (first_fault.unread x.1 x.0))
+
+-- the chunks of a text whose span is as long as the text
+pub text_placed : (old new : List (Spanned Chunk)) (piece : Spanned RawChunk) (text : Bor (List ℕ)) (p : Part) (low : ℕ) → piece.v ≡ RawText text
+    → piece_of piece ≡ literal p → p.end ≡ p.start + length p.text
+    → (ArePlaced low piece.span.start old → ArePlaced low (min (piece.span.start + length text.now) (2 ^ 64 - 1)) new)
+    → ArePlaced low p.start old → ArePlaced low p.end new
+text_placed old new piece text p low is named long places placed =
+    let same : literal (record { text = text.now; start = piece.span.start; end = piece.span.end }) ≡ literal p = sym (text_piece piece text is) ∙ named in
+    let start : piece.span.start ≡ p.start = cc same in
+    let bytes : text.now ≡ p.text = cc same in
+    let below : min (piece.span.start + length text.now) (2 ^ 64 - 1) ≤ p.end = omega (arith, start, ap length bytes, long) in
+    placed_up new low _ p.end below (places (subst (λ n. ArePlaced low n old) (sym start) placed))

@@ -70,3 +70,8 @@ placed_push (c ∷ rest) chunk low high placed before ordered = (
 pub blank_atoms : {A : Type 0} (f : ℕ → A) (text : List ℕ) → IsTrue (length text == 0) → map f (chars text) ≡ []
 blank_atoms f [] blank = rw chars-nil refl
 blank_atoms f (b ∷ bs) blank = absurd (suc_not_zero (length bs) blank)
+
+-- chunks that stand before a place stand before a later one
+pub placed_up : (chunks : List (Spanned Chunk)) (low high higher : ℕ) → high ≤ higher → ArePlaced low high chunks → ArePlaced low higher chunks
+placed_up [] low high higher up placed = omega (arith, up, placed)
+placed_up (c ∷ rest) low high higher up placed = (placed.0, placed.1, placed_up rest c.span.end high higher up placed.2)

@@ -7,7 +7,7 @@ ghost use Rattle.std.specs.Prelude.{◌≡◌, ℕ, ◌+◌, ◌≤◌, ◌⊎�
 ghost use Rattle.std.specs.Option.{option_map};
 ghost use Rattle.bib_chunks.specs.Styled.{Atom, styled};
 ghost use Rattle.bib_syntax.specs.Abbreviations as abbreviations;
-ghost use Rattle.bib_syntax.specs.Abbreviations.{Definitions, Evaluates, IsFirstFault};
+ghost use Rattle.bib_syntax.specs.Abbreviations.{Definitions, Evaluates, IsFirstFault, defined_in};
 ghost use Rattle.bib_syntax.specs.Expanding.{known_to, progress, noted, part_at, chunks_between, AreWithin, IsSound, Expands, Opens, Takes};
 ghost use Rattle.bib_syntax.specs.Faults.{out_of_memory};
 ghost use Rattle.bib_syntax.specs.Joined.{AreJoined, ArePlaced};
@@ -21,6 +21,31 @@ use bib_chunks::chunk::{Chunk, Chunks, Span, Spanned};
 use bib_chunks::text::Text;
 use std::alloc::{AllocError, Global};
 use std::collections::{BTreeMap, HashMap};
+
+// Reads the contents of a field.
+pub(crate) fn field_contents<'a>(
+    alloc: Global,
+    is_verbatim: bool,
+    field: &'a Field<'a>,
+    definitions: &'a HashMap<&'a str, &'a Field<'a>>,
+) -> Result<Chunks, ParseError>
+    ensures read { IfOk result (λ chunks. Evaluates (defined_in definitions.now) is_verbatim (map piece_of field.now.items) (styled chunks)) }
+    ensures refused { IfErr result (λ e. (e ≡ out_of_memory) ⊎ IsFirstFault (defined_in definitions.now) is_verbatim [] (map piece_of field.now.items) e) }
+    ensures joined { IfOk result AreJoined }
+    ensures placed { (p : Part) → map piece_of field.now.items ≡ literal p ∷ [] → p.end ≡ p.start + length p.text → IfOk result (ArePlaced p.start p.end) }
+{
+    let source = Source {
+        alloc,
+        definitions,
+        is_verbatim,
+    };
+    let mut memo = Memo::new(alloc);
+    let mut out = Chunks::new(alloc);
+    'pieces: for piece in field {
+        source.expand(&mut memo, &mut out, piece)?;
+    }
+    Ok(out)
+}
 
 // What a field is expanded by.
 #[derive(Clone, Copy)]
@@ -125,13 +150,30 @@ impl<'a> Source<'a> {
         ensures refused { IfErr result (λ e. (e ≡ out_of_memory) ⊎ ((rest : List Piece) → IsFirstFault (known_to self.entry) self.entry.is_verbatim [] (piece_of piece.now ∷ rest) e)) }
     {
         if let RawChunk::Normal(text) = piece.v {
-            return contents(out, self.alloc, text, piece.span.start, self.is_verbatim);
+            contents(out, self.alloc, text, piece.span.start, self.is_verbatim)?;
+            return Ok(());
         }
         let start = memo.values.len();
-        if let Some(frame) = self.take(memo, piece)? {
-            self.run(memo, frame)?;
-        }
+        self.say(memo, piece)?;
         append_copies(out, &memo.values[start..])?;
+        Ok(())
+    }
+
+    // Says an element of a field: what it says goes behind the chunks.
+    fn say(
+        self,
+        memo: &mut Memo<'a>,
+        piece: &'a Spanned<RawChunk<'a>>,
+    ) -> Result<(), ParseError>
+        requires sound { IsSound (known_to self) self.is_verbatim memo.old [] }
+        ensures said { OnOk result (Expands (known_to self.entry) self.entry.is_verbatim memo.old.values.items memo.new.values.items (piece_of piece.now ∷ [])) }
+        ensures sound { OnOk result (IsSound (known_to self.entry) self.entry.is_verbatim memo.new []) }
+        ensures refused { IfErr result (λ e. (e ≡ out_of_memory) ⊎ ((rest : List Piece) → IsFirstFault (known_to self.entry) self.entry.is_verbatim [] (piece_of piece.now ∷ rest) e)) }
+    {
+        let Some(frame) = self.take(memo, piece)? else {
+            return Ok(());
+        };
+        self.run(memo, frame)?;
         Ok(())
     }
 
