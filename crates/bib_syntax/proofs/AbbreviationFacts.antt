@@ -1,10 +1,11 @@
 -- What pieces say, their first faults, and whether they can be read.
-use Rattle.std.proofs.Common.{◌≡◌, ℕ, suc, zero, ◌+◌, ◌<◌, ◌≤◌, Bool, true, false, List, [], ◌∷◌, ◌++◌, map, refl, sym, ap, ◌∙◌, subst, append_assoc, append-nil, inl, inr, arith, Option, Some, None}
-use Rattle.std.specs.Prelude.{◌⊎◌}
+use Rattle.std.proofs.Common.{◌≡◌, ℕ, suc, zero, ◌+◌, ◌<◌, ◌≤◌, Bool, true, false, List, [], ◌∷◌, ◌++◌, map, refl, sym, ap, ◌∙◌, subst, append_assoc, append-nil, inl, inr, arith, Option, Some, None, Result, Ok, Err}
+use Rattle.std.specs.Prelude.{◌⊎◌, IfOk, IfErr, OnOk}
 use Rattle.std.specs.Str.{chars}
 use Rattle.bib_chunks.specs.Styled.{Atom}
 use Rattle.bib_syntax.specs.declared.raw.ParseError.{ParseError}
 use Rattle.bib_syntax.specs.Contents.{IsContent, IsUnread}
+use Rattle.bib_syntax.specs.Faults.{out_of_memory}
 use Rattle.bib_syntax.specs.Reading.{Part, Piece}
 use Rattle.bib_syntax.specs.Reading.Piece.{literal, abbreviation}
 use Rattle.bib_syntax.specs.Abbreviations.{Definitions, month, HoldsName, HoldsText, Reaches, IsKnown, AreRead, IsReadable, Evaluates, IsOnPath, IsFirstFault}
@@ -182,3 +183,18 @@ module _ {definitions : Definitions} {is_verbatim : Bool} {field : List Piece} w
   -- a field with a first fault can't be read
   pub not_readable : {e : ParseError} → IsFirstFault definitions is_verbatim [] field e → IsReadable definitions is_verbatim field → ⊥
   not_readable fault can = no_fault_met can (record { names = λ name held. reaches.held held; texts = can.texts; on_path = λ name on. absurd on }) fault
+
+-- what was read can be read
+pub read_is_readable : {T E : Type 0} (definitions : Definitions) (is_verbatim same_rule : Bool) (field : List Piece) (said : T → List Atom) (r : Result T E) → is_verbatim ≡ same_rule
+    → IfOk r (λ x. Evaluates definitions is_verbatim field (said x)) → OnOk r (IsReadable definitions same_rule field)
+read_is_readable definitions is_verbatim same_rule field said (Ok x) same read = subst (λ v. IsReadable definitions v field) same (readable read)
+read_is_readable definitions is_verbatim same_rule field said (Err e) same read = tt
+
+-- what was refused can't be read
+pub refused_not_readable : {T : Type 0} (definitions : Definitions) (is_verbatim same_rule : Bool) (field : List Piece) (r : Result T ParseError) → is_verbatim ≡ same_rule
+    → IfErr r (λ e. (e ≡ out_of_memory) ⊎ IsFirstFault definitions is_verbatim [] field e)
+    → IfErr r (λ e. (e ≡ out_of_memory) ⊎ (IsFirstFault definitions same_rule [] field e × (IsReadable definitions same_rule field → ⊥)))
+refused_not_readable definitions is_verbatim same_rule field (Ok x) same refused = tt
+refused_not_readable definitions is_verbatim same_rule field (Err e) same (inl memory) = inl memory
+refused_not_readable definitions is_verbatim same_rule field (Err e) same (inr fault) =
+    let moved = subst (λ v. IsFirstFault definitions v [] field e) same fault in inr (moved, not_readable moved)

@@ -1,5 +1,5 @@
 -- How names are expanded, each once.
-use Rattle.std.proofs.Common.{◌≡◌, ℕ, suc, zero, ◌+◌, ◌-◌, ◌<◌, ◌≤◌, Bool, true, false, List, [], ◌∷◌, ◌++◌, map, length, take, drop, refl, sym, ap, ◌∙◌, subst, append_assoc, append-nil, inl, inr, arith, Option, Some, None, length-append, length-drop, cond, reverse}
+use Rattle.std.proofs.Common.{◌≡◌, ℕ, suc, zero, ◌+◌, ◌-◌, ◌<◌, ◌≤◌, Bool, true, false, List, [], ◌∷◌, ◌++◌, map, length, take, drop, refl, sym, ap, ◌∙◌, subst, append_assoc, append-nil, inl, inr, arith, Option, Some, None, length-append, length-drop, cond, reverse, get_or}
 use Rattle.std.specs.Prelude.{◌⊎◌, if◌then◌else◌, bytes_eq, is_some, min, ◌^◌}
 use Rattle.std.specs.BTreeMap as tree
 use Rattle.std.specs.Borrow.{Bor}
@@ -12,7 +12,7 @@ use Rattle.std.specs.HashMap.{HashMap, get_by}
 use Rattle.std.specs.Map.{lookup}
 use Rattle.std.specs.Option.{option_map}
 use Rattle.std.specs.Str.{chars}
-use Rattle.std.proofs.lemmas.List.{length-map, take-append-le, drop-append-le, take_all, take-append-drop, drop-drop, reverse-append}
+use Rattle.std.proofs.lemmas.List.{length-map, map-append, take_more, take-append-le, drop-append-le, take_all, take-append-drop, drop-drop, reverse-append}
 use Rattle.bib_chunks.specs.declared.chunk.Chunk.{Chunk}
 use Rattle.bib_chunks.specs.declared.chunk.Chunk.TheVariants.{Normal}
 use Rattle.bib_chunks.specs.declared.chunk.Spanned.{Spanned}
@@ -683,3 +683,39 @@ text_placed old new piece text p low is named long places placed =
     let bytes : text.now ≡ p.text = cc same in
     let below : min (piece.span.start + length text.now) (2 ^ 64 - 1) ≤ p.end = omega (arith, start, ap length bytes, long) in
     placed_up new low _ p.end below (places (subst (λ n. ArePlaced low n old) (sym start) placed))
+
+pieces_more : (items : List (Spanned RawChunk)) (i : ℕ) (d : Spanned RawChunk) → i < length items
+    → map piece_of (take (i + 1) items) ≡ map piece_of (take i items) ++ piece_of (get_or items i d) ∷ []
+pieces_more items i d within = ap (map piece_of) (take_more items i d within) ∙ map-append piece_of (take i items) (get_or items i d ∷ [])
+
+pieces_at : (items : List (Spanned RawChunk)) (i : ℕ) (d : Spanned RawChunk) → i < length items
+    → map piece_of items ≡ map piece_of (take i items) ++ piece_of (get_or items i d) ∷ map piece_of (drop (i + 1) items)
+pieces_at items i d within =
+    let before = map piece_of (take i items) in
+    let piece = piece_of (get_or items i d) in
+    ap (map piece_of) (sym (take-append-drop (i + 1) items)) ∙ map-append piece_of (take (i + 1) items) (drop (i + 1) items)
+    ∙ ap (λ pieces. pieces ++ map piece_of (drop (i + 1) items)) (pieces_more items i d within) ∙ append_assoc before (piece ∷ []) (map piece_of (drop (i + 1) items))
+
+module _ {definitions : Definitions} {is_verbatim : Bool} where
+  -- one element more of a field
+  pub read_step : {old new : List (Spanned Chunk)} {atoms : List Atom} (items shown : List (Spanned RawChunk)) (i : ℕ) (d : Spanned RawChunk) → shown ≡ items
+      → i < length shown → IsRead definitions is_verbatim (map piece_of (take i items)) old
+      → Evaluates definitions is_verbatim (piece_of (get_or shown i d) ∷ []) atoms → styled new ≡ styled old ++ atoms → (AreJoined old → AreJoined new)
+      → ((p : Part) → piece_of (get_or shown i d) ≡ literal p → p.end ≡ p.start + length p.text → (low : ℕ) → ArePlaced low p.start old → ArePlaced low p.end new)
+      → IsRead definitions is_verbatim (map piece_of (take (i + 1) items)) new
+  read_step {new = new} {atoms = atoms} items shown i d same within x says styles joins places =
+      let before : i < length items = omega (arith, ap length same) in
+      let is : get_or shown i d ≡ get_or items i d = ap (λ xs. get_or xs i d) same in
+      let piece = piece_of (get_or shown i d) in
+      let more = ap (λ one. map piece_of (take i items) ++ piece_of one ∷ []) is ∙ sym (pieces_more items i d before) in
+      subst (λ pieces. IsRead definitions is_verbatim pieces new) more (read_more piece x says styles joins places)
+
+  pub read_stop : {old : List (Spanned Chunk)} (items shown : List (Spanned RawChunk)) (i : ℕ) (d : Spanned RawChunk) (e : ParseError) → shown ≡ items
+      → i < length shown → IsRead definitions is_verbatim (map piece_of (take i items)) old
+      → (e ≡ out_of_memory) ⊎ ((more : List Piece) → IsFirstFault definitions is_verbatim [] (piece_of (get_or shown i d) ∷ more) e)
+      → (e ≡ out_of_memory) ⊎ IsFirstFault definitions is_verbatim [] (map piece_of items) e
+  read_stop items shown i d e same within x fault =
+      let before : i < length items = omega (arith, ap length same) in
+      let rest = map piece_of (drop (i + 1) items) in
+      let is = pieces_at items i d before ∙ ap (λ xs. map piece_of (take i items) ++ piece_of (get_or xs i d) ∷ rest) (sym same) in
+      read_refused (map piece_of items) (piece_of (get_or shown i d)) rest e x is fault

@@ -1,7 +1,5 @@
-use Rattle.std.proofs.Common.{sym, ◌∙◌, refl, ◌⊎◌, ◌≡◌, ◌∷◌}
 use Rattle.std.proofs.lemmas.Result.{err_from_is_err_and}
-use Rattle.bib_syntax.specs.Expanding.{known_to, Expands}
-use Rattle.bib_syntax.proofs.ExpansionFacts.{sound_within, sound_grows, opened_sound, opened_defined, opened_start, expands_opened, fault_opened}
+use Rattle.bib_syntax.proofs.ExpansionFacts.{sound_within, sound_grows, expands_opened, fault_opened}
 use Rattle.bib_syntax.proofs.resolve.abbreviations.Source.say.Goals as goal
 
 pub take-requires : goal.take-requires
@@ -11,21 +9,6 @@ pub returns-in_default-clause-sound : goal.returns-in_default-clause-sound
 returns-in_default-clause-sound c =
     let taken = rw c.in_default.is at (c.in_ok-frame.ensures.taken _ c.requires.sound) in
     sound_grows c.take.new.memo taken.0.more taken.1 taken.0.values c.requires.sound
-
-pub run-requires-clause-sound : goal.run-requires-clause-sound
-run-requires-clause-sound c =
-    let taken = rw c.in-Some.is at (c.in_ok-frame.ensures.taken _ c.requires.sound) in
-    opened_sound c.take.new.memo taken.0.text c.in-Some.frame c.requires.sound taken.2
-
-pub run-requires-clause-defined : goal.run-requires-clause-defined
-run-requires-clause-defined c =
-    let taken = rw c.in-Some.is at (c.in_ok-frame.ensures.taken _ c.requires.sound) in
-    opened_defined c.take.new.memo taken.0.text c.in-Some.frame taken.2
-
-pub run-requires-clause-start : goal.run-requires-clause-start
-run-requires-clause-start c =
-    let taken = rw c.in-Some.is at (c.in_ok-frame.ensures.taken _ c.requires.sound) in
-    opened_start c.take.new.memo taken.0.text c.in-Some.frame taken.2
 
 pub returns-in_err-run-clause-refused : goal.returns-in_err-run-clause-refused
 returns-in_err-run-clause-refused c =
