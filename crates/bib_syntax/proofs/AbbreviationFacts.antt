@@ -1,14 +1,14 @@
 -- What pieces say, their first faults, and whether they can be read.
-use Rattle.std.proofs.Common.{◌≡◌, ℕ, suc, zero, ◌+◌, ◌<◌, ◌≤◌, Bool, true, false, List, [], ◌∷◌, ◌++◌, map, refl, sym, ap, ◌∙◌, subst, append_assoc, append-nil, inl, inr, arith, Option, Some, None, Result, Ok, Err}
+use Rattle.std.proofs.Common.{◌≡◌, ℕ, suc, zero, ◌+◌, ◌<◌, ◌≤◌, Bool, List, [], ◌∷◌, refl, sym, ap, ◌∙◌, subst, inl, inr, arith, Some, None, Result, Ok, Err}
 use Rattle.std.specs.Prelude.{◌⊎◌, IfOk, IfErr, OnOk}
 use Rattle.std.specs.Str.{chars}
 use Rattle.bib_chunks.specs.Styled.{Atom}
 use Rattle.bib_syntax.specs.declared.raw.ParseError.{ParseError}
-use Rattle.bib_syntax.specs.Contents.{IsContent, IsUnread}
+use Rattle.bib_syntax.specs.Contents.{IsContent}
 use Rattle.bib_syntax.specs.Faults.{out_of_memory}
 use Rattle.bib_syntax.specs.Reading.{Part, Piece}
 use Rattle.bib_syntax.specs.Reading.Piece.{literal, abbreviation}
-use Rattle.bib_syntax.specs.Abbreviations.{Definitions, month, HoldsName, HoldsText, Reaches, IsKnown, AreRead, IsReadable, Evaluates, IsOnPath, IsFirstFault}
+use Rattle.bib_syntax.specs.Abbreviations.{Definitions, month, HoldsName, Reaches, IsKnown, AreRead, IsReadable, Evaluates, IsOnPath, IsFirstFault}
 use Rattle.bib_syntax.specs.Abbreviations.{Reaches as reaches, Evaluates as evaluates, IsFirstFault as first_fault}
 
 -- how many steps it takes to say what pieces say

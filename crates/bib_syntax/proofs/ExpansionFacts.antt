@@ -1,5 +1,5 @@
 -- How names are expanded, each once.
-use Rattle.std.proofs.Common.{◌≡◌, ℕ, suc, zero, ◌+◌, ◌-◌, ◌<◌, ◌≤◌, Bool, true, false, List, [], ◌∷◌, ◌++◌, map, length, take, drop, refl, sym, ap, ◌∙◌, subst, append_assoc, append-nil, inl, inr, arith, Option, Some, None, length-append, length-drop, cond, reverse, get_or}
+use Rattle.std.proofs.Common.{◌≡◌, ℕ, suc, ◌+◌, ◌-◌, ◌<◌, ◌≤◌, Bool, true, false, List, [], ◌∷◌, ◌++◌, map, length, take, drop, refl, sym, ap, ◌∙◌, subst, append_assoc, append-nil, inl, inr, arith, Option, Some, None, length-append, length-drop, reverse, get_or}
 use Rattle.std.specs.Prelude.{◌⊎◌, if◌then◌else◌, bytes_eq, is_some, min, ◌^◌}
 use Rattle.std.specs.BTreeMap as tree
 use Rattle.std.specs.Borrow.{Bor}
@@ -31,7 +31,7 @@ use Rattle.bib_syntax.specs.Reading.{Part, Piece}
 use Rattle.bib_syntax.specs.Reading.Piece.{literal, abbreviation}
 use Rattle.bib_syntax.specs.Abbreviations.{Definitions, month, Evaluates, IsOnPath, IsFirstFault, defined_in}
 use Rattle.bib_syntax.specs.Abbreviations.{Evaluates as evaluates, IsFirstFault as first_fault}
-use Rattle.bib_syntax.specs.Expanding.{progress, noted, chunks_between, AreWithin, IsValue, IsSound, Expands, Opens, Takes}
+use Rattle.bib_syntax.specs.Expanding.{progress, noted, chunks_between, AreWithin, IsValue, IsSound, Expands, Opens}
 use Rattle.bib_syntax.specs.Views.{piece_of, piece_at}
 use Rattle.bib_syntax.proofs.JoinedFacts.{styled-append, placed_up}
 
@@ -248,7 +248,7 @@ module _ {definitions : Definitions} {is_verbatim : Bool} where
       let same = same_ends start end from to (sym x.1 ∙ is) in
       let chunks = old.values.items in
       value_moves old new values (subst (λ n. IsValue definitions is_verbatim chunks other n to) same.0
-        (subst (λ n. IsValue definitions is_verbatim chunks other start n) same.1 (subst (λ n. IsValue definitions is_verbatim chunks n start end) x.0 value)))
+      (subst (λ n. IsValue definitions is_verbatim chunks other start n) same.1 (subst (λ n. IsValue definitions is_verbatim chunks n start end) x.0 value)))
   done_close {old = old} new name other start end from to values value sound is (inr x) = value_moves old new values (sound.done other from to (sym x.0 ∙ is))
 
   begun_close : {path : List (List ℕ)} {old : Memo} (new : Memo) (name other : List ℕ) (start end : ℕ) → IsSound definitions is_verbatim old (name ∷ path)
@@ -311,8 +311,8 @@ module _ {definitions : Definitions} {is_verbatim : Bool} where
     start = omega (arith, x.start, ap length said.values, length-append memo.values.items said.more);
     says = evaluates_as
         (sym (ap (λ chunks. styled (drop frame.start chunks)) said.values
-          ∙ ap styled (drop-append-le frame.start memo.values.items said.more x.start)
-          ∙ styled-append (drop frame.start memo.values.items) said.more))
+        ∙ ap styled (drop-append-le frame.start memo.values.items said.more x.start)
+        ∙ styled-append (drop frame.start memo.values.items) said.more))
         (evaluates_append (styled said.more) x.says said.says);
     fresh = x.fresh;
     waiting = waiting_grows new.values.items said.more said.values x.start x.waiting;
@@ -329,11 +329,11 @@ module _ {definitions : Definitions} {is_verbatim : Bool} where
       let off : IsOnPath path p.text → ⊥ = λ on. none_begun (sym opens.fresh ∙ x.sound.on_path p.text on) in
       let all : List Frame = record { name = frame.name; rest = rest; start = frame.start } ∷ frames in
       let waiting : AreWaiting definitions is_verbatim memo.values.items first (length base) p.text (length memo.values.items) all
-        = AreWaiting.above x.said p refl
-          (x.is ∙ ap (λ pieces. Some (x.said ++ map piece_of pieces)) split ∙ ap (λ one. Some (x.said ++ one ∷ map piece_of rest.now)) named)
-          x.start
-          (evaluates_as (ap styled (sym (between_all frame.start memo.values.items))) x.says)
-          x.fresh x.waiting in
+      = AreWaiting.above x.said p refl
+      (x.is ∙ ap (λ pieces. Some (x.said ++ map piece_of pieces)) split ∙ ap (λ one. Some (x.said ++ one ∷ map piece_of rest.now)) named)
+      x.start
+      (evaluates_as (ap styled (sym (between_all frame.start memo.values.items))) x.says)
+      x.fresh x.waiting in
       record {
         sound = subst (λ n. IsSound definitions is_verbatim new (n ∷ path)) (sym opens.named) (sound_open new p.text opens.fresh opens.values opens.names x.sound);
         more = x.more;
@@ -344,7 +344,7 @@ module _ {definitions : Definitions} {is_verbatim : Bool} where
         says = evaluates_as (ap styled (sym (ap (λ n. drop n new.values.items) opens.start ∙ ap (drop (length memo.values.items)) same ∙ nothing_behind memo.values.items))) evaluates.none;
         fresh = λ on. off (subst (λ n. IsOnPath path n) opens.named on);
         waiting = subst (λ n. AreWaiting definitions is_verbatim new.values.items first (length base) n opened.start all) (sym opens.named)
-          (subst (λ n. AreWaiting definitions is_verbatim new.values.items first (length base) p.text n all) (sym opens.start)
+            (subst (λ n. AreWaiting definitions is_verbatim new.values.items first (length base) p.text n all) (sym opens.start)
             (subst (λ chunks. AreWaiting definitions is_verbatim chunks first (length base) p.text (length memo.values.items) all) (sym same) waiting));
       }
 
@@ -375,9 +375,9 @@ module _ {definitions : Definitions} {is_verbatim : Bool} where
       let chunks = memo.values.items in
       let items : new.values.items ≡ chunks = ap (λ (v : Vec (Spanned Chunk)). v.items) values in
       let whole : styled (chunks_between below.start frame.start chunks) ++ (styled (drop frame.start chunks) ++ []) ≡ styled (drop below.start new.values.items)
-        = ap (λ a. styled (chunks_between below.start frame.start chunks) ++ a) (append-nil (styled (drop frame.start chunks)))
-          ∙ sym (styled-append (chunks_between below.start frame.start chunks) (drop frame.start chunks))
-          ∙ ap styled (sym (between_then below.start frame.start chunks start)) ∙ ap (λ c. styled (drop below.start c)) (sym items) in
+      = ap (λ a. styled (chunks_between below.start frame.start chunks) ++ a) (append-nil (styled (drop frame.start chunks)))
+      ∙ sym (styled-append (chunks_between below.start frame.start chunks) (drop frame.start chunks))
+      ∙ ap styled (sym (between_then below.start frame.start chunks start)) ∙ ap (λ c. styled (drop below.start c)) (sym items) in
       record {
         sound = sound_close new frame.name.now frame.start (length chunks) x.fresh value values names x.sound;
         more = x.more;
@@ -386,7 +386,7 @@ module _ {definitions : Definitions} {is_verbatim : Bool} where
         is = is ∙ ap Some (sym (append_assoc said (abbreviation p ∷ []) (map piece_of below.rest.now)));
         start = omega (arith, start, x.start, ap length items);
         says = evaluates_as whole (evaluates_append _ says
-          (evaluates.defined (ap definitions same ∙ said_all x ends) x.says evaluates.none));
+            (evaluates.defined (ap definitions same ∙ said_all x ends) x.says evaluates.none));
         fresh = fresh;
         waiting = subst (λ c. AreWaiting definitions is_verbatim c first (length base) below.name.now below.start frames) (sym items) waiting;
       }
@@ -409,7 +409,7 @@ module _ {definitions : Definitions} {is_verbatim : Bool} where
         more = x.more;
         values = items ∙ x.kept;
         says = subst (λ pieces. Evaluates definitions is_verbatim pieces (styled x.more)) same
-          (evaluates_as (ap (λ n. styled (drop n memo.values.items)) at ∙ ap (λ c. styled (drop (length base) c)) x.kept ∙ ap styled (all_behind base x.more)) x.says);
+            (evaluates_as (ap (λ n. styled (drop n memo.values.items)) at ∙ ap (λ c. styled (drop (length base) c)) x.kept ∙ ap styled (all_behind base x.more)) x.says);
       }
 
   -- the first name was expanded
@@ -437,7 +437,7 @@ module _ {definitions : Definitions} {is_verbatim : Bool} where
       let path = frame.name.now ∷ names_of frames in
       fault_first (said ++ abbreviation p ∷ map piece_of frame.rest.now) d waiting is off
       (fault_behind says (first_fault.inside (λ on. fresh (subst (λ n. IsOnPath path n) same on)) (ap definitions same ∙ defined)
-          (subst (λ n. IsFirstFault definitions is_verbatim (n ∷ path) definition e) (sym same) fault)))
+      (subst (λ n. IsFirstFault definitions is_verbatim (n ∷ path) definition e) (sym same) fault)))
 
   -- a fault of an element is the first fault of all
   pub expanding_fault : {base : List (Spanned Chunk)} {first : List ℕ} {memo : Memo} {frame : Frame} {frames : List Frame} {whole : List Piece} {e : ParseError}
@@ -543,7 +543,7 @@ less_opened m new old left piece frame opened frames waiting name opens split wa
     let met : met_in new name ≡ true = now_met new old cases in
     let less = less_met (met_in old) (met_in new) name field.0 keeps fresh met m.entries field.1 in
     let many : length field.0.now.items ≡ length opened.rest.now
-      = sym (length-map field.0.now.items piece_of) ∙ ap length field.2 ∙ length-map opened.rest.now piece_of in
+    = sym (length-map field.0.now.items piece_of) ∙ ap length field.2 ∙ length-map opened.rest.now piece_of in
     omega (arith, ap length split, ap weight waits, less, many)
 
 -- less is left once the expansion of a name ends

@@ -1,5 +1,5 @@
 -- Chunks that grow at their end.
-use Rattle.std.proofs.Common.{◌≡◌, ℕ, ◌<◌, ◌≤◌, Bool, true, false, List, [], ◌∷◌, ◌++◌, length, refl, sym, ap, ◌∙◌, subst, append_assoc, append-nil, arith, suc, map}
+use Rattle.std.proofs.Common.{◌≡◌, ℕ, ◌≤◌, false, List, [], ◌∷◌, ◌++◌, length, refl, sym, ap, ◌∙◌, append_assoc, append-nil, arith, suc, map}
 use Rattle.std.proofs.lemmas.Bool.Decides.{nat_tests}
 use Rattle.std.proofs.lemmas.Str.{chars-nil}
 use Rattle.std.specs.Prelude.{IsTrue, ◌==◌}
@@ -7,7 +7,7 @@ use Rattle.std.specs.Str.{chars}
 use Rattle.std.proofs.lemmas.List.Concat.{flat_map-append}
 use Rattle.bib_chunks.specs.declared.chunk.Chunk.{Chunk}
 use Rattle.bib_chunks.specs.declared.chunk.Spanned.{Spanned}
-use Rattle.bib_chunks.specs.Styled.{Atom, atoms_of, styled}
+use Rattle.bib_chunks.specs.Styled.{atoms_of, styled}
 use Rattle.bib_syntax.specs.Joined.{is_same_kind, AreJoined, ArePlaced, IsWhole}
 
 suc_not_zero : (n : ℕ) → IsTrue (suc n == 0) → ⊥

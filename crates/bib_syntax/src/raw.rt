@@ -233,11 +233,23 @@ impl fmt::Display for ParseErrorKind {
             ParseErrorKind::Unexpected(token) => write!(f, "unexpected {token}"),
             ParseErrorKind::Expected(token) => write!(f, "expected {token}"),
             ParseErrorKind::UnknownAbbreviation(name) => {
-                write!(f, "unknown abbreviation {}", Quoted { name: name.as_str() })
+                write!(
+                    f,
+                    "unknown abbreviation {}",
+                    Quoted {
+                        name: name.as_str()
+                    }
+                )
             }
             ParseErrorKind::MalformedCommand => f.write_str("malformed command"),
             ParseErrorKind::AbbreviationCycle(name) => {
-                write!(f, "circular abbreviation {}", Quoted { name: name.as_str() })
+                write!(
+                    f,
+                    "circular abbreviation {}",
+                    Quoted {
+                        name: name.as_str()
+                    }
+                )
             }
             ParseErrorKind::OutOfMemory => f.write_str("out of memory"),
         }

@@ -57,7 +57,7 @@ pub fn is_verbatim_field(key: &str) -> bool
 
 /// Whether a backslash takes a character its meaning, in a verbatim field or another, where a text is read or where it
 /// is written.
-#[tactic(auto, unfolding(crate::specs::Contents::is_escapable))]
+#[tactic(auto, unfolding(crate::specs::Contents::is_escapable, bib_chunks::specs::Written::is_grouping, bib_chunks::specs::Written::is_reserved))]
 pub fn is_escapable(c: char, verb: bool, read_char: bool) -> bool
     ensures { result ≡ contents.is_escapable c verb read_char }
 {

@@ -1,8 +1,5 @@
 //! Abbreviations: each name is expanded once, and what it says is kept for its later uses.
 
-use crate::raw::{Field, ParseError, ParseErrorKind, RawChunk};
-use crate::resolve::contents::contents;
-use crate::resolve::joining::append_copies;
 ghost use Rattle.std.specs.Prelude.{◌≡◌, ℕ, ◌+◌, ◌≤◌, ◌⊎◌, Some, None, List, [], ◌∷◌, ◌++◌, map, length, vec_len, IsOk, OnOk, OnErr, IfOk, IfErr};
 ghost use Rattle.std.specs.Option.{option_map};
 ghost use Rattle.bib_chunks.specs.Styled.{Atom, styled};
@@ -16,7 +13,9 @@ ghost use Rattle.bib_syntax.specs.Reading.Piece.{abbreviation, literal};
 ghost use Rattle.bib_syntax.specs.Views.{piece_of};
 ghost use Rattle.bib_syntax.specs.declared.resolve.abbreviations.Progress.TheVariants.{Begun, Done};
 
-use crate::raw::is_named;
+use crate::raw::{Field, ParseError, ParseErrorKind, RawChunk, is_named};
+use crate::resolve::contents::contents;
+use crate::resolve::joining::append_copies;
 use bib_chunks::chunk::{Chunk, Chunks, Span, Spanned};
 use bib_chunks::text::Text;
 use std::alloc::{AllocError, Global};
@@ -160,11 +159,7 @@ impl<'a> Source<'a> {
     }
 
     // Says an element of a field: what it says goes behind the chunks.
-    fn say(
-        self,
-        memo: &mut Memo<'a>,
-        piece: &'a Spanned<RawChunk<'a>>,
-    ) -> Result<(), ParseError>
+    fn say(self, memo: &mut Memo<'a>, piece: &'a Spanned<RawChunk<'a>>) -> Result<(), ParseError>
         requires sound { IsSound (known_to self) self.is_verbatim memo.old [] }
         ensures said { OnOk result (Expands (known_to self.entry) self.entry.is_verbatim memo.old.values.items memo.new.values.items (piece_of piece.now ∷ [])) }
         ensures sound { OnOk result (IsSound (known_to self.entry) self.entry.is_verbatim memo.new []) }

@@ -61,10 +61,7 @@ fn longer(text: Text, more: &str) -> Result<Text, AllocError>
 }
 
 // Appends copies of chunks.
-pub(crate) fn append_copies(
-    out: &mut Chunks,
-    chunks: &[Spanned<Chunk>],
-) -> Result<(), AllocError>
+pub(crate) fn append_copies(out: &mut Chunks, chunks: &[Spanned<Chunk>]) -> Result<(), AllocError>
     ensures styled { OnOk result (styled out.new ≡ styled out.old ++ styled chunks.now) }
     ensures joined { OnOk result (AreJoined out.old → AreJoined out.new) }
 {

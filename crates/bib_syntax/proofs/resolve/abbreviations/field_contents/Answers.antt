@@ -16,4 +16,4 @@ pub returns-in_err-expand-clause-refused : goal.returns-in_err-expand-clause-ref
 returns-in_err-expand-clause-refused c =
     let p = err_from_is_err_and c.from_residual.result c.from_residual.ensures.1 in
     rw (p.1, p.2) (read_stop c.args.field.now.items c.deref-piece-items.result.now c.pieces.piece-index _ _ c.deref-piece-items.ensures.value c.pieces-test.true
-      c.pieces.invariant.read c.in_err-expand.ensures.refused)
+    c.pieces.invariant.read c.in_err-expand.ensures.refused)

@@ -1,4 +1,4 @@
-use Rattle.std.proofs.Common.{refl, inr, inl, sym}
+use Rattle.std.proofs.Common.{refl, inr, sym}
 use Rattle.bib_syntax.specs.Abbreviations.{IsFirstFault as first_fault}
 use Rattle.bib_syntax.specs.Expanding.{part_at}
 use Rattle.bib_syntax.proofs.ExpansionFacts.{expands_again}
@@ -12,7 +12,7 @@ repeat-requires-clause-within c = (c.requires.within c.args.name.now _ _ (sym (r
 
 pub returns-in_ok-from_str-in-Some-Begun-clause-refused : goal.returns-in_ok-from_str-in-Some-Begun-clause-refused
 returns-in_ok-from_str-in-Some-Begun-clause-refused c = λ path sound. inr (λ rest.
-      first_fault.circle (sound.begun c.args.name.now (sym (rw c.in-Some-Begun.field-0-is at c.in-Some-Begun.ensures.value))) (rw c.in_ok-from_str-in-Some-Begun.ensures refl))
+    first_fault.circle (sound.begun c.args.name.now (sym (rw c.in-Some-Begun.field-0-is at c.in-Some-Begun.ensures.value))) (rw c.in_ok-from_str-in-Some-Begun.ensures refl))
 
 pub returns-in_ok-repeat-in-Some-Done-clause-taken : goal.returns-in_ok-repeat-in-Some-Done-clause-taken
 returns-in_ok-repeat-in-Some-Done-clause-taken c = λ path sound.

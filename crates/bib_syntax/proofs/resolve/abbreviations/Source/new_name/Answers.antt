@@ -13,8 +13,8 @@ returns-in-Some-clause-taken c =
 
 pub returns-in_default-month-clause-refused : goal.returns-in_default-month-clause-refused
 returns-in_default-month-clause-refused c = inr (λ path rest.
-      let absent = not_defined_by c.args.self.definitions.now c.args.name.now c.in_default.ensures.value in
-      first_fault.unknown absent (sym c.in_default-month.ensures) (rw c.in_ok-from_str.ensures refl))
+    let absent = not_defined_by c.args.self.definitions.now c.args.name.now c.in_default.ensures.value in
+    first_fault.unknown absent (sym c.in_default-month.ensures) (rw c.in_ok-from_str.ensures refl))
 
 pub returns-clause-taken : goal.returns-clause-taken
 returns-clause-taken c =

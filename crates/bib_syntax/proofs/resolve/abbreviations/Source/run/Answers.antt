@@ -1,8 +1,6 @@
-use Rattle.std.proofs.Common.{◌≡◌, [], ◌∷◌, reverse, subst, arith, sym, List, length, ◌+◌, ◌<◌, suc}
+use Rattle.std.proofs.Common.{reverse, arith}
 use Rattle.std.proofs.lemmas.Result.{err_from_is_err_and}
-use Rattle.bib_syntax.specs.declared.resolve.abbreviations.Frame.{Frame}
-use Rattle.bib_syntax.specs.Expanding.{known_to}
-use Rattle.bib_syntax.proofs.ExpansionFacts.{IsExpanding, names_of, expanding_first, expanding_done, sound_done, expanding_closed, expanding_opened, expanding_said, expanding_refused, sound_within, less_said, less_opened, less_closed, no_elements, reversed_push}
+use Rattle.bib_syntax.proofs.ExpansionFacts.{expanding_first, expanding_done, sound_done, expanding_closed, expanding_opened, expanding_said, expanding_refused, sound_within, less_opened, less_closed, no_elements, reversed_push}
 use Rattle.bib_syntax.proofs.resolve.abbreviations.Source.run.Goals as goal
 
 pub frames-init : goal.frames-init

@@ -1,6 +1,5 @@
 use Rattle.std.proofs.Common.{◌∙◌, ap, ◌++◌}
 use Rattle.std.proofs.lemmas.Result.{err_from_is_err_and}
-use Rattle.bib_chunks.specs.Styled.{styled}
 use Rattle.bib_syntax.specs.Expanding.{known_to}
 use Rattle.bib_syntax.proofs.ExpansionFacts.{expands_text, unread_told}
 use Rattle.bib_syntax.proofs.resolve.abbreviations.Source.text.Goals as goal
