@@ -1,10 +1,13 @@
+pub mod AbbreviationFacts
 pub mod ArgumentFacts
 pub mod BraceFacts
 pub mod CommandFacts
 pub mod CommandUnitFacts
 pub mod ContentFacts
+pub mod ExpansionFacts
 pub mod FieldFacts
 pub mod FileFacts
+pub mod JoinedFacts
 pub mod LawFacts
 pub mod ModeFacts
 pub mod PassingFacts

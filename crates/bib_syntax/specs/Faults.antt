@@ -1,10 +1,10 @@
 -- Faults of a text, and how they are printed, as the Rust crate `biblatex` prints them.
-use Rattle.std.specs.Prelude.{◌≡◌, ℕ, ◌≤◌, Bool, true, false, List, ◌++◌, length, codes, IsTrue, ◌⊎◌}
-use Rattle.std.specs.Fmt.{decimal}
+use Rattle.std.specs.Prelude.{◌≡◌, ℕ, ◌≤◌, Bool, true, false, List, [], ◌∷◌, ◌++◌, unwrap_or, length, codes, IsTrue, ◌⊎◌}
+use Rattle.std.specs.Fmt.{decimal, debug_str}
 use Rattle.bib_syntax.specs.declared.raw.Token.{Token}
 use Rattle.bib_syntax.specs.declared.raw.Token.TheVariants as token
 use Rattle.bib_syntax.specs.declared.raw.ParseErrorKind.{ParseErrorKind}
-use Rattle.bib_syntax.specs.declared.raw.ParseErrorKind.TheVariants.{UnexpectedEof, Unexpected, Expected, MalformedCommand, OutOfMemory}
+use Rattle.bib_syntax.specs.declared.raw.ParseErrorKind.TheVariants.{UnexpectedEof, Unexpected, Expected, UnknownAbbreviation, MalformedCommand, AbbreviationCycle, OutOfMemory}
 use Rattle.bib_syntax.specs.declared.raw.ParseError.{ParseError}
 
 abbrev pub token_text : Token → List ℕ
@@ -16,11 +16,17 @@ token_text token.QuotationMark = codes "double quote"
 token_text token.Equals = codes "equals"
 token_text token.DecimalPoint = codes "decimal point"
 
+-- a name between quotes: one of ASCII characters as Rust's `{:?}` prints it, another as it is
+abbrev pub quoted : List ℕ → List ℕ
+quoted name = unwrap_or (debug_str name) (34 ∷ (name ++ 34 ∷ []))
+
 abbrev pub kind_text : ParseErrorKind → List ℕ
 kind_text UnexpectedEof = codes "unexpected end of file"
 kind_text (Unexpected t) = codes "unexpected " ++ token_text t
 kind_text (Expected t) = codes "expected " ++ token_text t
+kind_text (UnknownAbbreviation name) = codes "unknown abbreviation " ++ quoted name
 kind_text MalformedCommand = codes "malformed command"
+kind_text (AbbreviationCycle name) = codes "circular abbreviation " ++ quoted name
 kind_text OutOfMemory = codes "out of memory"
 
 -- the kind, and the bytes at fault
@@ -36,7 +42,9 @@ abbrev pub is_syntax : ParseErrorKind → Bool
 is_syntax UnexpectedEof = true
 is_syntax (Unexpected t) = true
 is_syntax (Expected t) = true
+is_syntax (UnknownAbbreviation name) = false
 is_syntax MalformedCommand = false
+is_syntax (AbbreviationCycle name) = false
 is_syntax OutOfMemory = false
 
 -- a fault of the grammar, in the text

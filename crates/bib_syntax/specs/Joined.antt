@@ -1,8 +1,9 @@
 -- Chunks as a reader gives them: joined where they are of one kind, and in the order in which they stand.
-use Rattle.std.specs.Prelude.{◌≡◌, ℕ, ◌≤◌, Bool, true, false, List, [], ◌∷◌}
+use Rattle.std.specs.Prelude.{◌≡◌, ℕ, ◌≤◌, Bool, true, false, List, [], ◌∷◌, ◌++◌, Option, Some, None}
 use Rattle.bib_chunks.specs.declared.chunk.Chunk.{Chunk}
-use Rattle.bib_chunks.specs.declared.chunk.Chunk.TheVariants.{Normal, Verbatim, Math}
+use Rattle.bib_chunks.specs.declared.chunk.Chunk.TheVariants.{Normal, Verbatim}
 use Rattle.bib_chunks.specs.declared.chunk.Spanned.{Spanned}
+use Rattle.bib_chunks.specs.Styled.{atoms_of}
 
 -- whether two chunks are both normal or both verbatim
 abbrev pub is_same_kind : Chunk → Chunk → Bool
@@ -20,3 +21,15 @@ AreJoined (c ∷ d ∷ rest) = (is_same_kind c.v d.v ≡ false) × AreJoined (d 
 abbrev pub ArePlaced : ℕ → ℕ → List (Spanned Chunk) → Type 0
 ArePlaced low high [] = low ≤ high
 ArePlaced low high (c ∷ rest) = (low ≤ c.span.start) × (c.span.start ≤ c.span.end) × ArePlaced c.span.end high rest
+
+-- a chunk that says what two say, of the kind of the first, from its start to the end of the second
+pub record IsWhole (first second whole : Spanned Chunk) : Type 0 where
+  pub says : atoms_of whole.v ≡ atoms_of first.v ++ atoms_of second.v
+  pub kind : (before : Chunk) → is_same_kind before whole.v ≡ is_same_kind before first.v
+  pub start : whole.span.start ≡ first.span.start
+  pub end : whole.span.end ≡ second.span.end
+
+-- what two neighbours become: one chunk, or where they are of two kinds the two
+abbrev pub AreNeighbours : Spanned Chunk → Spanned Chunk → Spanned Chunk × Option (Spanned Chunk) → Type 0
+AreNeighbours first second (whole, None) = IsWhole first second whole
+AreNeighbours first second (before, Some behind) = (before ≡ first) × (behind ≡ second) × (is_same_kind first.v second.v ≡ false)

@@ -1,6 +1,8 @@
+pub mod Abbreviations
 pub mod Characters
 pub mod Commands
 pub mod Contents
+pub mod Expanding
 pub mod Faults
 pub mod Grammar
 pub mod Joined

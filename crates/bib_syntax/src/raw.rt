@@ -2,7 +2,7 @@
 
 ghost use Rattle.std.specs.Prelude.{◌≡◌, [], ◌∷◌, ◌++◌, codes, Some, IfOk, IfErr, OnOk};
 ghost use Rattle.bib_syntax.specs.Characters as characters;
-ghost use Rattle.bib_syntax.specs.Faults.{token_text, kind_text, error_text, out_of_memory, Refuses};
+ghost use Rattle.bib_syntax.specs.Faults.{token_text, quoted, kind_text, error_text, out_of_memory, Refuses};
 ghost use Rattle.bib_syntax.specs.Grammar.{IsFile, IsRawReading};
 ghost use Rattle.bib_syntax.specs.Views.{file_of};
 
@@ -12,7 +12,9 @@ mod words;
 
 use bib_chunks::chunk::{Span, Spanned};
 use bib_chunks::scanner::Scanner;
+use bib_chunks::text::Text;
 use file::blocks;
+pub(crate) use file::is_named;
 use std::alloc::{AllocError, AllocFailed, Global};
 use std::error::Error;
 use std::fmt;
@@ -130,7 +132,7 @@ pub struct ParseError {
 }
 
 /// Why a text was refused.
-#[derive(Debug, Clone, PartialEq, Eq, Drop)]
+#[derive(Debug, PartialEq, Eq, Drop)]
 #[non_exhaustive]
 pub enum ParseErrorKind {
     /// The text ended too soon.
@@ -139,10 +141,34 @@ pub enum ParseErrorKind {
     Unexpected(Token),
     /// A token was expected and doesn't stand there.
     Expected(Token),
+    /// An abbreviation is neither defined nor the start of a month. The text is its name.
+    UnknownAbbreviation(Text),
     /// A command was malformed. Kept for its name: nothing gives it.
     MalformedCommand,
+    /// An abbreviation was met while it was being expanded. The text is its name.
+    AbbreviationCycle(Text),
     /// There was no memory.
     OutOfMemory,
+}
+
+impl Clone for ParseErrorKind {
+    ghost is_clone = { λ kind copy. copy ≡ kind };
+
+    fn clone(&self) -> Result<Self, AllocError> {
+        Ok(match self {
+            ParseErrorKind::UnexpectedEof => ParseErrorKind::UnexpectedEof,
+            ParseErrorKind::Unexpected(token) => ParseErrorKind::Unexpected(*token),
+            ParseErrorKind::Expected(token) => ParseErrorKind::Expected(*token),
+            ParseErrorKind::UnknownAbbreviation(name) => {
+                ParseErrorKind::UnknownAbbreviation(name.clone()?)
+            }
+            ParseErrorKind::MalformedCommand => ParseErrorKind::MalformedCommand,
+            ParseErrorKind::AbbreviationCycle(name) => {
+                ParseErrorKind::AbbreviationCycle(name.clone()?)
+            }
+            ParseErrorKind::OutOfMemory => ParseErrorKind::OutOfMemory,
+        })
+    }
 }
 
 /// A token of a bibliography file.
@@ -180,6 +206,24 @@ impl fmt::Display for Token {
     }
 }
 
+// A name between quotes: one of ASCII characters as `{:?}` prints it, another as it is.
+#[derive(Drop)]
+struct Quoted<'a> {
+    name: &'a str,
+}
+
+impl<'a> fmt::Display for Quoted<'a> {
+    ghost output = { λ q. Some (quoted q.name.now) };
+
+    fn fmt<W: fmt::Write>(&self, f: &mut fmt::Formatter<W>) -> fmt::Result {
+        if self.name.is_ascii() {
+            write!(f, "{:?}", self.name)
+        } else {
+            write!(f, "\"{}\"", self.name)
+        }
+    }
+}
+
 impl fmt::Display for ParseErrorKind {
     ghost output = { λ kind. Some (kind_text kind) };
 
@@ -188,7 +232,25 @@ impl fmt::Display for ParseErrorKind {
             ParseErrorKind::UnexpectedEof => f.write_str("unexpected end of file"),
             ParseErrorKind::Unexpected(token) => write!(f, "unexpected {token}"),
             ParseErrorKind::Expected(token) => write!(f, "expected {token}"),
+            ParseErrorKind::UnknownAbbreviation(name) => {
+                write!(
+                    f,
+                    "unknown abbreviation {}",
+                    Quoted {
+                        name: name.as_str()
+                    }
+                )
+            }
             ParseErrorKind::MalformedCommand => f.write_str("malformed command"),
+            ParseErrorKind::AbbreviationCycle(name) => {
+                write!(
+                    f,
+                    "circular abbreviation {}",
+                    Quoted {
+                        name: name.as_str()
+                    }
+                )
+            }
             ParseErrorKind::OutOfMemory => f.write_str("out of memory"),
         }
     }

@@ -24,7 +24,7 @@ enum BlockKind {
 }
 
 // Whether a name is this word in some ASCII case.
-fn is_named(name: &str, word: &str) -> bool
+pub(crate) fn is_named(name: &str, word: &str) -> bool
     ensures { result ≡ grammar.is_named word.now name.now }
 {
     name.eq_ignore_ascii_case(word)
