@@ -4,7 +4,9 @@ use Rattle.std.proofs.lemmas.Slice.Eq.{bytes_eq-Decides}
 use Rattle.biblatex.specs.Syntax.{Refuses, IsFile, ParseError, OutOfMemory, error_text}
 use Rattle.bib.specs.Output.{IsKeysAnswer, error_line}
 use Rattle.bib.specs.Output.IsKeysAnswer.{no_file}
-use Rattle.std.proofs.Common.{inl, inr, ◌≡◌, ◌<◌, ◌≤◌, ℕ, Bool, true, false, List, [], ◌∷◌, length, get_or, map, refl, sym, ap, ◌∙◌, subst, arith}
+use Rattle.bib.specs.declared.run.Answer.{Answer}
+use Rattle.std.specs.Prelude.{IfOk, string_bytes, ◌≢◌}
+use Rattle.std.proofs.Common.{Result, Ok, Err, inl, inr, ◌≡◌, ◌<◌, ◌≤◌, ℕ, Bool, true, false, List, [], ◌∷◌, length, get_or, map, refl, sym, ap, ◌∙◌, subst, arith}
 
 -- a list of one item
 pub one_item : {X Y : Type 0} (f : X → Y) (xs : List X) (x : X) → 1 ≤ length xs → length xs < 2 → x ≡ get_or xs 0 x → map f xs ≡ f x ∷ []
@@ -25,3 +27,10 @@ decides_one b word text words named tests one same =
 pub fault_told : {bytes : List ℕ} {e : ParseError} → Refuses bytes e (IsFile bytes → ⊥) → (e.kind ≡ OutOfMemory → ⊥) → IsKeysAnswer bytes (error_line (error_text e)) 1
 fault_told (inl memory) other = absurd (other (ap (λ x. x.kind) memory))
 fault_told (inr fault) other = no_file fault.0 fault.1
+
+-- the answer for a fault
+pub fault_answered : {E : Type 0} {bytes : List ℕ} (e : ParseError) (r : Result Answer E)
+    → IfOk r (λ answer. (e.kind ≢ OutOfMemory) × (string_bytes answer.text ≡ error_line (error_text e)) × (answer.status ≡ 1))
+    → Refuses bytes e (IsFile bytes → ⊥) → IfOk r (λ answer. IsKeysAnswer bytes (string_bytes answer.text) answer.status)
+fault_answered e (Ok answer) told refused = rw (told.1, told.2) (fault_told refused told.0)
+fault_answered e (Err x) told refused = tt

@@ -4,9 +4,10 @@ ghost use Rattle.std.specs.Prelude.{◌≡◌, ◌≢◌, ℕ, ◌-◌, ◌^◌,
 ghost use Rattle.std.specs.Io.KnownBytes.{Appends};
 ghost use Rattle.std.specs.String.{string_bytes};
 ghost use Rattle.biblatex.specs.Syntax.{IsFile, IsRawReading, FileReading, file_of};
-ghost use Rattle.bib.specs.Output.{IsAnswer, IsKeys, IsKeysAnswer, key_lines};
+ghost use Rattle.biblatex.specs.Syntax.{OutOfMemory, error_text};
+ghost use Rattle.bib.specs.Output.{IsAnswer, IsKeys, IsKeysAnswer, key_lines, error_line};
 
-use biblatex::{ParseErrorKind, RawBibliography, Sink};
+use biblatex::{ParseError, ParseErrorKind, RawBibliography, Sink};
 use std::alloc::{AllocError, Global};
 use std::str;
 
@@ -72,18 +73,26 @@ fn keys(alloc: Global, bytes: &[u8]) -> Result<Answer, AllocError>
             status: 1,
         });
     };
-    match RawBibliography::parse(alloc, text) {
-        Ok(raw) => Ok(Answer {
-            text: key_lines(alloc, &raw)?,
-            status: 0,
+    let raw = match RawBibliography::parse(alloc, text) {
+        Ok(raw) => raw,
+        Err(error) => return fault(alloc, &error),
+    };
+    Ok(Answer {
+        text: key_lines(alloc, &raw)?,
+        status: 0,
+    })
+}
+
+// The answer for an input with a fault.
+fn fault(alloc: Global, error: &ParseError) -> Result<Answer, AllocError>
+    ensures { IfOk result (λ answer. (error.now.kind ≢ OutOfMemory) × (string_bytes answer.text ≡ error_line (error_text error.now)) × (answer.status ≡ 1)) }
+{
+    match &error.kind {
+        ParseErrorKind::OutOfMemory => Err(AllocError),
+        _ => Ok(Answer {
+            text: format!(in alloc; "error: {error}\n")?,
+            status: 1,
         }),
-        Err(error) => match error.kind {
-            ParseErrorKind::OutOfMemory => Err(AllocError),
-            _ => Ok(Answer {
-                text: format!(in alloc; "error: {error}\n")?,
-                status: 1,
-            }),
-        },
     }
 }
 
