@@ -58,8 +58,8 @@ command_found before name middle space after rest takes spaced argument front na
       rw (name_is, whole', white, stops', right') refl;
   spells =
       ap (λ xs. 92 ∷ xs) (
-        front ∙ ap (λ xs. name ++ xs) (then_is ∙ ap (λ xs. space ++ xs) last ∙ sym (append_assoc space (argument_spelling argument) rest))
-        ∙ sym (append_assoc name (space ++ argument_spelling argument) rest)
+      front ∙ ap (λ xs. name ++ xs) (then_is ∙ ap (λ xs. space ++ xs) last ∙ sym (append_assoc space (argument_spelling argument) rest))
+      ∙ sym (append_assoc name (space ++ argument_spelling argument) rest)
       );
 }
 

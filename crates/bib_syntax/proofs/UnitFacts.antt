@@ -135,8 +135,17 @@ unfolding is_blank is_escaped is_escapable is_grouping is_reserved
 blank_apart c blank =
     let apart = other_than is_blank c in
     rw (
-      apart 123 blank refl, apart 125 blank refl, apart 92 blank refl, apart 35 blank refl, apart 38 blank refl, apart 37 blank refl,
-      apart 36 blank refl, apart 95 blank refl, apart 126 blank refl, apart 94 blank refl, apart 58 blank refl,
+      apart 123 blank refl,
+      apart 125 blank refl,
+      apart 92 blank refl,
+      apart 35 blank refl,
+      apart 38 blank refl,
+      apart 37 blank refl,
+      apart 36 blank refl,
+      apart 95 blank refl,
+      apart 126 blank refl,
+      apart 94 blank refl,
+      apart 58 blank refl,
     ) refl
 
 -- an ordinary character is none of those that begin something else

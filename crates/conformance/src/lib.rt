@@ -4,6 +4,8 @@
 #[cfg(test)]
 mod chunks;
 #[cfg(test)]
+mod contents;
+#[cfg(test)]
 mod raw;
 #[cfg(test)]
 mod scanner;

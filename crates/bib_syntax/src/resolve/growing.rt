@@ -47,7 +47,10 @@ pub(crate) fn turn(
 {
     let empty = String::new(*growing.text.allocator());
     let text = std::mem::replace(&mut growing.text, empty);
-    append(out, Spanned::new(chunk_of(growing.depth, text), growing.start..end))?;
+    append(
+        out,
+        Spanned::new(chunk_of(growing.depth, text), growing.start..end),
+    )?;
     growing.depth = depth;
     growing.start = behind;
     growing.is_first = false;

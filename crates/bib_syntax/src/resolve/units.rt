@@ -85,7 +85,11 @@ fn braced<'s>(s: &mut Characters<'s>) -> Option<&'s str>
 }
 
 // The argument of a command, behind its name and the white space there.
-fn eat_argument<'s>(s: &mut Characters<'s>, takes_next: bool, is_spaced: bool) -> Option<Argument<'s>>
+fn eat_argument<'s>(
+    s: &mut Characters<'s>,
+    takes_next: bool,
+    is_spaced: bool,
+) -> Option<Argument<'s>>
     ensures same { s.new.text ≡ s.old.text }
     ensures found { MatchOption result ((a : contents.Argument) (rest : List ℕ) → left s.old ≡ argument_spelling a ++ rest → is_argument takes_next is_spaced a rest ≡ true → ⊥) (λ a. (left s.old ≡ argument_spelling (argument_of a) ++ left s.new) × (is_argument takes_next is_spaced (argument_of a) (left s.new) ≡ true)) }
 {

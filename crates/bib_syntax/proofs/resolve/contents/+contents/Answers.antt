@@ -152,9 +152,12 @@ write_unit-returns-clause-written t c = elim c.match-unit.branch [
   | write_unit-in-Backslash+in_ok-push-in-Backslash w ↦
       rw (w.text-is, w.in-Backslash.is) ([], (λ argument holds. absurd (no_argument holds)), pushed_chars _ _ _ _ (92 ∷ []) w.in_ok-push-in-Backslash.was w.push-in-Backslash.ensures.bytes (encode_one 92))
   | write_unit-in-Copied+in_ok-push-in-Copied+in_ok-push-in-Copied-2 w ↦
-      rw (w.text-is, w.in-Copied.is)
-      ([], (λ argument holds. absurd (no_argument holds)), two_parts _ _ _ (92 ∷ []) (w.in-Copied.c ∷ []) (pushed_chars _ _ _ _ (92 ∷ []) w.in_ok-push-in-Copied.was w.push-in-Copied.ensures.bytes (encode_one 92))
-          (pushed_chars _ _ _ _ (w.in-Copied.c ∷ []) w.in_ok-push-in-Copied-2.was w.push-in-Copied-2.ensures.bytes (encode_one w.in-Copied.c)))
+      rw (w.text-is, w.in-Copied.is) (
+        [],
+        (λ argument holds. absurd (no_argument holds)),
+        two_parts _ _ _ (92 ∷ []) (w.in-Copied.c ∷ []) (pushed_chars _ _ _ _ (92 ∷ []) w.in_ok-push-in-Copied.was w.push-in-Copied.ensures.bytes (encode_one 92))
+            (pushed_chars _ _ _ _ (w.in-Copied.c ∷ []) w.in_ok-push-in-Copied-2.was w.push-in-Copied-2.ensures.bytes (encode_one w.in-Copied.c)),
+      )
   | write_unit-in-Command+in-Without+in_ok-write_command-in-Without w ↦
       rw (w.text-is, command_is given.Without w.in-Command.is w.in-Without.is) ([], (λ argument holds. absurd (no_argument holds)), w.in_ok-write_command-in-Without.ensures)
   | write_unit-in-Command+in-Empty+in_ok-write_command-in-Empty w ↦
