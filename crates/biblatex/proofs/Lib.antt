@@ -1,0 +1,2 @@
+pub mod NamesFacts
+pub mod SortedFacts

@@ -1,1 +1,3 @@
+pub mod Names
+pub mod Sorted
 pub mod Syntax

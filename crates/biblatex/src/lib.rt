@@ -2,6 +2,9 @@
 #![tactic(auto)]
 
 pub mod sink;
+mod names;
+mod sorted;
+pub mod text_map;
 
 pub use bib_chunks::chunk::{Chunk, Chunks, ChunksExt, ChunksRef, Span, Spanned, is_settled};
 pub use bib_chunks::items::Items;

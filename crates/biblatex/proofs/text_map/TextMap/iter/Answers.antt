@@ -1,0 +1,7 @@
+use Rattle.std.proofs.Common.{◌≡◌, Some, IsSome, sym, ap, subst, ◌∙◌, refl, length, arith, rules}
+use Rattle.biblatex.specs.Sorted.{IsPlaceOf, IsGapFor}
+use Rattle.biblatex.proofs.SortedFacts.{entries_are}
+use Rattle.biblatex.proofs.text_map.TextMap.iter.Goals as goal
+
+pub returns : goal.returns
+returns g c = c.iter.ensures.rest ∙ c.deref.ensures.value ∙ sym (entries_are _ _ c.self.view_is c.self.invariant)

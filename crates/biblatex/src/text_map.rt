@@ -1,0 +1,106 @@
+//! Maps by text.
+
+ghost use Rattle.std.specs.Prelude.{◌≡◌, ◌==◌, OnOk, OnErr, IfOk, IfErr, IsSome, IsOk};
+ghost use Rattle.std.specs.Option.{option_copied};
+ghost use Rattle.std.specs.FinMap as map;
+ghost use Rattle.std.specs.Slice.Iter.{iter_rest};
+
+use crate::sorted::search;
+use bib_chunks::text::Text;
+use std::alloc::{AllocError, AllocFailed, Global};
+use std::marker::Model;
+use std::mem;
+use std::slice::Iter;
+
+/// A map by text. Contracts see it as a finite map from the bytes of texts, in their order.
+#[derive(Debug, Drop)]
+pub struct TextMap<V> {
+    pairs: Vec<(Text, V)>,
+}
+
+impl<V> Model for TextMap<V> {
+    ghost use Rattle.std.specs.FinMap as map;
+    ghost use Rattle.std.specs.Coded.{coded_list, coded_ℕ};
+    ghost use Rattle.biblatex.specs.Sorted.{ByText, IsSorted, map_of};
+
+    ghost Value = { ByText V };
+
+    ghost coded = { map.code (coded_list coded_ℕ) V.code };
+
+    ghost view = { λ a. map_of a.pairs.items };
+
+    ghost invariant = { λ a. IsSorted a.pairs.items };
+}
+
+impl<V> TextMap<V> {
+    /// The empty map. Takes no memory.
+    pub fn new(alloc: Global) -> Self
+        ensures { result ≡ map.empty }
+    {
+        TextMap {
+            pairs: Vec::new(alloc),
+        }
+    }
+
+    /// How many names there are.
+    pub fn len(&self) -> usize
+        ensures { result ≡ map.len self.now }
+    {
+        self.pairs.len()
+    }
+
+    /// Whether there is no name.
+    pub fn is_empty(&self) -> bool
+        ensures { result ≡ (map.len self.now == 0) }
+    {
+        self.pairs.is_empty()
+    }
+
+    /// The value of a name, if it has one.
+    pub fn get(&self, name: &str) -> Option<&V>
+        ensures { option_copied result ≡ map.get self.now name.now }
+    {
+        match search(self.pairs.as_slice(), name) {
+            Ok(place) => Some(&self.pairs[place].1),
+            Err(_) => None,
+        }
+    }
+
+    /// The pairs of a name and its value, in the order of the names' bytes.
+    pub fn iter(&self) -> Iter<'_, (Text, V)>
+        ensures { iter_rest result ≡ map.entries self.now }
+    {
+        self.pairs.iter()
+    }
+
+    /// Gives a name a value, and hands back the one that it had. A refusal changes nothing, and gives both back.
+    pub fn insert(&mut self, name: Text, value: V) -> Result<Option<V>, AllocFailed<(Text, V)>>
+        ensures had { IfOk result (λ had. had ≡ map.get self.old name) }
+        ensures inserted { OnOk result (self.new ≡ map.insert self.old name value) }
+        ensures refused { OnErr result (self.new ≡ self.old) }
+        ensures returned { IfErr result (λ e. e.value ≡ (name, value)) }
+        ensures present { IsSome (map.get self.old name) → IsOk result }
+    {
+        match search(self.pairs.as_slice(), name.as_str()) {
+            Ok(place) => Ok(Some(mem::replace(&mut self.pairs[place].1, value))),
+            Err(place) => {
+                self.pairs.insert(place, (name, value))?;
+                Ok(None)
+            }
+        }
+    }
+
+    /// Takes a name out, and hands back its value. Takes no memory.
+    pub fn remove(&mut self, name: &str) -> Option<V>
+        ensures had { result ≡ map.get self.old name.now }
+        ensures removed { self.new ≡ map.remove self.old name.now }
+    {
+        match search(self.pairs.as_slice(), name) {
+            Ok(place) => {
+                let (_, value) = self.pairs.remove(place);
+                Some(value)
+            }
+            Err(_) => None,
+        }
+    }
+}
