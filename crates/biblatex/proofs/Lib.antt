@@ -1,2 +1,5 @@
+pub mod CopyFacts
+pub mod EntryFacts
+pub mod ListFacts
 pub mod NamesFacts
 pub mod SortedFacts

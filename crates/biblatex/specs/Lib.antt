@@ -1,3 +1,6 @@
+pub mod Joining
+pub mod Lists
 pub mod Names
 pub mod Sorted
 pub mod Syntax
+pub mod TextMap

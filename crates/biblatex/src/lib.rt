@@ -2,6 +2,8 @@
 #![tactic(auto)]
 
 pub mod sink;
+pub mod entry;
+mod lists;
 mod names;
 mod sorted;
 pub mod text_map;

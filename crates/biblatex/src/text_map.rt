@@ -4,6 +4,7 @@ ghost use Rattle.std.specs.Prelude.{◌≡◌, ◌==◌, OnOk, OnErr, IfOk, IfEr
 ghost use Rattle.std.specs.Option.{option_copied};
 ghost use Rattle.std.specs.FinMap as map;
 ghost use Rattle.std.specs.Slice.Iter.{iter_rest};
+ghost use Rattle.biblatex.specs.TextMap.{AreClones, same_pairs, same_pairs_per, same_pairs_equiv};
 
 use crate::sorted::search;
 use bib_chunks::text::Text;
@@ -40,6 +41,11 @@ impl<V> TextMap<V> {
         TextMap {
             pairs: Vec::new(alloc),
         }
+    }
+
+    // The allocator that the map takes memory from.
+    pub fn allocator(&self) -> Global {
+        *self.pairs.allocator()
     }
 
     /// How many names there are.
@@ -103,4 +109,27 @@ impl<V> TextMap<V> {
             Err(_) => None,
         }
     }
+}
+
+impl<V: Clone> Clone for TextMap<V> {
+    ghost is_clone = { λ m copy. AreClones V.is_clone m copy };
+
+    fn clone(&self) -> Result<Self, AllocError> {
+        let pairs = self.pairs.clone()?;
+        Ok(TextMap { pairs })
+    }
+}
+
+impl<V: PartialEq> PartialEq for TextMap<V> {
+    ghost eq = { λ m n. same_pairs V.eq m n };
+
+    ghost laws = { same_pairs_per V.laws };
+
+    fn eq(&self, other: &Self) -> bool {
+        self.pairs == other.pairs
+    }
+}
+
+impl<V: Eq> Eq for TextMap<V> {
+    ghost laws = { same_pairs_equiv V.Eq.laws };
 }
