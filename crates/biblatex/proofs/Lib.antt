@@ -1,5 +1,6 @@
 pub mod CopyFacts
 pub mod EntryFacts
+pub mod LibraryFacts
 pub mod ListFacts
 pub mod NamesFacts
 pub mod SortedFacts

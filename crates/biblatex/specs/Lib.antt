@@ -1,4 +1,5 @@
 pub mod Joining
+pub mod Library
 pub mod Lists
 pub mod Names
 pub mod Sorted

@@ -2,6 +2,7 @@
 #![tactic(auto)]
 
 pub mod sink;
+pub mod bibliography;
 pub mod entry;
 mod lists;
 mod names;

@@ -1,0 +1,181 @@
+//! Bibliographies: entries in order, with names that point to them.
+
+ghost use Rattle.std.specs.Prelude.{◌≡◌, ◌==◌, ◌<◌, ◌++◌, ◌∷◌, [], length, vec_len, vec_capacity, codes, map, Some, IsSome, IsNone, IsOk, OnOk, OnErr, IfOk, IfErr};
+ghost use Rattle.std.specs.Option.{option_copied};
+ghost use Rattle.std.specs.Slice.Iter.{iter_rest};
+ghost use Rattle.biblatex.specs.Names.{ArePlacesBelow, claimed, claims_for};
+ghost use Rattle.biblatex.specs.Library.{aliased, aliases, claims, entry_of, inserted, nothing, place_of, removed};
+
+use crate::entry::Entry;
+use crate::lists::comma_texts;
+use crate::names::Names;
+use bib_chunks::text::Text;
+use std::alloc::{AllocError, Global};
+use std::error::Error;
+use std::fmt;
+use std::marker::Model;
+use std::mem;
+use std::slice::Iter;
+
+/// Entries in order, and names that point to them.
+#[derive(Debug, Drop)]
+pub struct Bibliography {
+    entries: Vec<Entry>,
+    names: Names,
+}
+
+impl Model for Bibliography {
+    ghost use Rattle.biblatex.specs.Library.{Library, library_code};
+    ghost use Rattle.biblatex.specs.Names.{ArePlacesBelow};
+    ghost use Rattle.std.specs.Prelude.{length};
+
+    ghost Value = { Library };
+
+    ghost coded = { library_code };
+
+    ghost view = { λ a. record { entries = a.entries.items; names = a.names } };
+
+    ghost invariant = { λ a. ArePlacesBelow (length a.entries.items) a.names };
+}
+
+/// An entry that was not added for want of memory.
+#[derive(Debug, Drop)]
+pub struct InsertError {
+    /// The entry.
+    pub entry: Entry,
+}
+
+impl fmt::Display for InsertError {
+    ghost output = { λ _. Some (codes "out of memory") };
+
+    fn fmt<W: fmt::Write>(&self, f: &mut fmt::Formatter<W>) -> fmt::Result {
+        f.write_str("out of memory")
+    }
+}
+
+impl Error for InsertError {}
+
+// The names that an entry claims: its key, then the parts of its field `ids`.
+fn claims(alloc: Global, entry: &Entry) -> Result<Vec<Text>, AllocError>
+    ensures { IfOk result (λ names. names.items ≡ claims entry.now) }
+{
+    let mut names = match entry.get("ids") {
+        Some(chunks) => comma_texts(alloc, chunks)?,
+        None => Vec::new(alloc),
+    };
+    names.insert(0, entry.key.clone()?)?;
+    Ok(names)
+}
+
+// Makes room for an entry behind the others, and lets the names that it claims point there.
+fn claim_next(
+    entries: &mut Vec<Entry>,
+    names: &mut Names,
+    entry: &Entry,
+) -> Result<(), AllocError>
+    ensures same_entries { entries.new.items ≡ entries.old.items }
+    ensures room { OnOk result (vec_len entries.new < vec_capacity entries.new) }
+    ensures claimed { OnOk result (names.new ≡ claimed names.old (claims_for (length entries.old.items) (claims entry.now))) }
+    ensures refused { OnErr result (names.new ≡ names.old) }
+{
+    let claims = claims(*entries.allocator(), entry)?;
+    entries.reserve(1)?;
+    names.claim_all(claims, entries.len())
+}
+
+impl Bibliography {
+    /// No entries. Takes no memory.
+    pub fn new(alloc: Global) -> Self
+        ensures { result ≡ nothing }
+    {
+        Bibliography {
+            entries: Vec::new(alloc),
+            names: Names::new(alloc),
+        }
+    }
+
+    /// How many entries there are. Each name points below this.
+    pub fn len(&self) -> usize
+        ensures count { result ≡ length self.now.entries }
+        ensures places { ArePlacesBelow result self.now.names }
+    {
+        self.entries.len()
+    }
+
+    /// Whether there is no entry.
+    pub fn is_empty(&self) -> bool
+        ensures { result ≡ (length self.now.entries == 0) }
+    {
+        self.entries.is_empty()
+    }
+
+    /// The entry that a name points to: a key, or another name.
+    pub fn get(&self, key: &str) -> Option<&Entry>
+        ensures value { option_copied result ≡ entry_of self.now key.now }
+        ensures named { IsSome (place_of self.now key.now) → IsSome result }
+    {
+        let place = self.names.get(key)?;
+        Some(&self.entries[place])
+    }
+
+    /// Adds an entry. If its key is a name, the entry takes the place that this name points to, the entry that stood
+    /// there is handed back, and all names stay. Otherwise it is added behind the others, and its key and the names in
+    /// its field `ids` point to it from now on. A refusal changes nothing, and gives the entry back.
+    pub fn insert(&mut self, entry: Entry) -> Result<Option<Entry>, InsertError>
+        ensures had { IfOk result (λ had. had ≡ entry_of self.old entry.key) }
+        ensures inserted { OnOk result (self.new ≡ inserted self.old entry) }
+        ensures refused { OnErr result (self.new ≡ self.old) }
+        ensures returned { IfErr result (λ e. e.entry ≡ entry) }
+        ensures present { IsSome (place_of self.old entry.key) → IsOk result }
+    {
+        if let Some(place) = self.names.get(entry.key.as_str()) {
+            let had = mem::replace(&mut self.entries[place], entry);
+            return Ok(Some(had));
+        }
+        let Ok(()) = claim_next(&mut self.entries, &mut self.names, &entry) else {
+            return Err(InsertError { entry });
+        };
+        self.entries.push_reserved(entry);
+        Ok(None)
+    }
+
+    /// Takes the entry out that a name points to, with all names that point to it. The entries behind it move up by
+    /// one. Takes no memory.
+    pub fn remove(&mut self, key: &str) -> Option<Entry>
+        ensures had { result ≡ entry_of self.old key.now }
+        ensures removed { self.new ≡ removed self.old key.now }
+    {
+        let place = self.names.get(key)?;
+        self.names.close_gap(place);
+        Some(self.entries.remove(place))
+    }
+
+    /// Lets another name point to the entry that a name points to, if there is one. A refusal changes nothing.
+    pub fn alias(&mut self, key: &str, alias: &str) -> Result<(), AllocError>
+        ensures aliased { OnOk result (self.new ≡ aliased self.old key.now alias.now) }
+        ensures refused { OnErr result (self.new ≡ self.old) }
+        ensures unknown { IsNone (place_of self.old key.now) → IsOk result }
+    {
+        let Some(place) = self.names.get(key) else {
+            return Ok(());
+        };
+        let name = Text::from_str(*self.entries.allocator(), alias)?;
+        self.names.claim(name, place)?;
+        Ok(())
+    }
+
+    /// The entries in order.
+    pub fn iter(&self) -> Iter<'_, Entry>
+        ensures { iter_rest result ≡ self.now.entries }
+    {
+        self.entries.iter()
+    }
+
+    /// The vector of the entries in order. Takes no memory.
+    pub fn into_vec(self) -> Vec<Entry>
+        ensures { result.items ≡ self.entries }
+    {
+        let Bibliography { entries, names: _ } = self;
+        entries
+    }
+}
