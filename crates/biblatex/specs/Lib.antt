@@ -1,7 +1,10 @@
 pub mod Joining
+pub mod Keys
+pub mod Lending
 pub mod Library
 pub mod Lists
 pub mod Names
 pub mod Sorted
 pub mod Syntax
 pub mod TextMap
+pub mod TextMapLending

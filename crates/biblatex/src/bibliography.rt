@@ -1,8 +1,13 @@
 //! Bibliographies: entries in order, with names that point to them.
 
 ghost use Rattle.std.specs.Prelude.{◌≡◌, ◌==◌, ◌<◌, ◌++◌, ◌∷◌, [], length, vec_len, vec_capacity, codes, map, Some, IsSome, IsNone, IsOk, OnOk, OnErr, IfOk, IfErr};
-ghost use Rattle.std.specs.Option.{option_copied};
-ghost use Rattle.std.specs.Slice.Iter.{iter_rest};
+ghost use Rattle.std.specs.Borrow.{sem};
+ghost use Rattle.std.specs.Option.{option_copied, option_copied_mut};
+ghost use Rattle.std.specs.Slice.Iter.{iter_rest, iter_mut_rest};
+ghost use Rattle.std.specs.Vec.Iter.{into_iter_items};
+ghost use Rattle.std.specs.Iterator.{YieldsFirstRef, item_count};
+ghost use Rattle.biblatex.specs.Keys.{keys_left};
+ghost use Rattle.biblatex.specs.Lending.{LendsEntry, LendsEntries};
 ghost use Rattle.biblatex.specs.Names.{ArePlacesBelow, claimed, claims_for};
 ghost use Rattle.biblatex.specs.Library.{aliased, aliases, claims, entry_of, inserted, nothing, place_of, removed};
 
@@ -15,7 +20,8 @@ use std::error::Error;
 use std::fmt;
 use std::marker::Model;
 use std::mem;
-use std::slice::Iter;
+use std::slice::{Iter, IterMut};
+use std::vec::IntoIter;
 
 /// Entries in order, and names that point to them.
 #[derive(Debug, Drop)]
@@ -118,6 +124,15 @@ impl Bibliography {
         Some(&self.entries[place])
     }
 
+    /// The entry that a name points to, to be changed. This changes no names.
+    pub fn get_mut(&mut self, key: &str) -> Option<&mut Entry>
+        ensures* writes_back { sem 𝓛 (LendsEntry self.entry key.now result) }
+        ensures value { option_copied_mut result ≡ entry_of self.old key.now }
+    {
+        let place = self.names.get(key)?;
+        self.entries.get_mut(place)
+    }
+
     /// Adds an entry. If its key is a name, the entry takes the place that this name points to, the entry that stood
     /// there is handed back, and all names stay. Otherwise it is added behind the others, and its key and the names in
     /// its field `ids` point to it from now on. A refusal changes nothing, and gives the entry back.
@@ -171,11 +186,71 @@ impl Bibliography {
         self.entries.iter()
     }
 
+    /// The entries in order, to be changed. This changes no names.
+    pub fn iter_mut(&mut self) -> IterMut<'_, Entry>
+        ensures* writes_back { sem 𝓛 (LendsEntries self.entry result) }
+        ensures entries { iter_mut_rest result ≡ self.old.entries }
+    {
+        self.entries.iter_mut()
+    }
+
+    /// The key of each entry, in order.
+    pub fn keys(&self) -> Keys<'_>
+        ensures { keys_left result ≡ map (λ e. e.key) self.now.entries }
+    {
+        Keys {
+            entries: self.entries.iter(),
+        }
+    }
+
     /// The vector of the entries in order. Takes no memory.
     pub fn into_vec(self) -> Vec<Entry>
         ensures { result.items ≡ self.entries }
     {
         let Bibliography { entries, names: _ } = self;
         entries
+    }
+}
+
+/// The keys of entries, in order.
+#[derive(Debug, Drop)]
+pub struct Keys<'a> {
+    entries: Iter<'a, Entry>,
+}
+
+impl<'a> Iterator for Keys<'a> {
+    type Item = &'a str;
+
+    ghost next_gives = { YieldsFirstRef keys_left };
+
+    ghost remaining = { item_count keys_left };
+
+    fn next(&mut self) -> Option<&'a str> {
+        let entry = self.entries.next()?;
+        Some(entry.key.as_str())
+    }
+}
+
+impl IntoIterator for Bibliography {
+    type Item = Entry;
+
+    type IntoIter = IntoIter<Entry>;
+
+    ghost into_iter_gives = { λ library it. into_iter_items it ≡ library.entries };
+
+    fn into_iter(self) -> Self::IntoIter {
+        self.into_vec().into_iter()
+    }
+}
+
+impl<'a> IntoIterator for &'a Bibliography {
+    type Item = &'a Entry;
+
+    type IntoIter = Iter<'a, Entry>;
+
+    ghost into_iter_gives = { λ library it. iter_rest it ≡ library.now.entries };
+
+    fn into_iter(self) -> Self::IntoIter {
+        self.iter()
     }
 }

@@ -1,9 +1,11 @@
 //! Maps by text.
 
 ghost use Rattle.std.specs.Prelude.{◌≡◌, ◌==◌, OnOk, OnErr, IfOk, IfErr, IsSome, IsOk};
-ghost use Rattle.std.specs.Option.{option_copied};
+ghost use Rattle.std.specs.Option.{option_copied, option_copied_mut};
+ghost use Rattle.std.specs.Borrow.{sem};
 ghost use Rattle.std.specs.FinMap as map;
 ghost use Rattle.std.specs.Slice.Iter.{iter_rest};
+ghost use Rattle.biblatex.specs.TextMapLending.{LendsValue};
 ghost use Rattle.biblatex.specs.TextMap.{AreClones, same_pairs, same_pairs_per, same_pairs_equiv};
 
 use crate::sorted::search;
@@ -68,6 +70,17 @@ impl<V> TextMap<V> {
     {
         match search(self.pairs.as_slice(), name) {
             Ok(place) => Some(&self.pairs[place].1),
+            Err(_) => None,
+        }
+    }
+
+    /// The value of a name, if it has one, to be changed.
+    pub fn get_mut(&mut self, name: &str) -> Option<&mut V>
+        ensures* writes_back { sem 𝓛 (LendsValue V.row self.entry name.now result) }
+        ensures value { option_copied_mut result ≡ map.get self.old name.now }
+    {
+        match search(self.pairs.as_slice(), name) {
+            Ok(place) => Some(&mut self.pairs[place].1),
             Err(_) => None,
         }
     }
