@@ -11,10 +11,10 @@ use Rattle.std.proofs.lemmas.Cmp.{alike_right, eq_by_cmp_equiv, nat_list_cmp_tot
 use Rattle.std.specs.FinMap as map
 use Rattle.std.specs.FinMap.{empty_of_len, len-entries}
 use Rattle.std.proofs.lemmas.Bool.{false≢true}
-use Rattle.std.proofs.Common.{IsSome}
+use Rattle.std.proofs.Common.{IsSome, ◌⊎◌, inl}
 use Rattle.std.specs.FinMap.{find, put, is_sorted, IsAntisymmetric, from_sorted, entries-from_sorted, get-from_sorted, same_entries_map, entries-insert, same_map, get-remove, slice_cmp-IsAntisymmetric, nat_cmp-IsAntisymmetric}
 use Rattle.std.specs.FinMap.Entries.{by_order, where_key, below_all, is_sorted-put, is_sorted-where_key, find-where_key}
-use Rattle.biblatex.specs.Sorted.{ByText, by_bytes, IsSorted, IsPlaceOf, IsGapFor}
+use Rattle.biblatex.specs.Sorted.{ByText, by_bytes, map_of, IsSorted, IsPlaceOf, IsGapFor}
 
 pub first : (a b : Bool) → T (a && b) → T a
 first true b p = tt
@@ -206,6 +206,10 @@ module _ {V : Type 0} (m : ByText V) (es : List (List ℕ × V)) (is : from_sort
     set_at v d = subst (λ n. from_sorted (set es i ((get_or es i d).0, v)) ≡ map.insert n k v) is
         (ap from_sorted (sym (place_put nat_list_cmp_total k v es i h at.in_range at.has_name d)) ∙ sym (insert-from_sorted nat_list_cmp_total es k v h))
 
+    -- the pair that stands there, with another value
+    pub set_written : (x : List ℕ × V) → x ≡ get_or es i x → (v : V) → map_of (set es i (x.0, v)) ≡ map.insert m k v
+    set_written x here v = ap (λ p. map_of (set es i (p.0, v))) here ∙ set_at v x
+
     pub remove_sorted : IsSorted (remove es i)
     unfolding h
     remove_sorted = subst IsSorted (place_others nat_list_cmp_total k es i h at.in_range at.has_name) (is_true _ (is_sorted-others nat_list_cmp_total es k h))
@@ -240,3 +244,7 @@ searched es sorted k (Ok i) lt here = record { in_range = lt; has_name = here }
 searched es sorted k (Err i) le parted =
     let apart = parted (searchable_from_sorted nat_list_cmp_total (λ pair. pair.0) es k (ascends nat_list_cmp_total es (holds _ sorted))) in
     record { in_range = le; smaller = apart.0; greater = apart.1 }
+
+-- two ways to say what a lender ends as are the same if they agree on each last value
+pub lent : {N A B C : Type 0} (n : N) (f g : A → B) → ((w : A) → f w ≡ g w) → ◌≡◌ {A = (N × (A → B)) ⊎ C} (inl (n, f)) (inl (n, g))
+lent n f g same = λ i. inl (n, λ w. same w i)
