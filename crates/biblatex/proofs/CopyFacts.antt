@@ -1,5 +1,5 @@
 -- Facts on copies of maps by text, and on comparing them.
-use Rattle.std.proofs.Common.{◌≡◌, ℕ, Bool, ◌&&◌, List, [], ◌∷◌, refl, sym, ap, ap₂, subst, ◌∙◌, is_lt, IsTrue}
+use Rattle.std.proofs.Common.{◌≡◌, ℕ, Bool, ◌&&◌, List, [], ◌∷◌, refl, sym, ap, ap₂, subst, ◌∙◌, is_lt}
 use Rattle.std.specs.List.{AllZip}
 use Rattle.std.specs.Cmp.Lexicographic.{pointwise}
 use Rattle.std.proofs.lemmas.List.Elements.{same_from_all_zip}
@@ -34,7 +34,7 @@ module _ {V : Type 0} (C : V → V → Type 0) where
   pub map_copy : (m : ByText V) (es fs : List (List ℕ × V)) → map_of es ≡ m → IsSorted es → AllZip CopiedPair es fs → AreClones C m (map_of fs)
   map_copy m es fs is sorted z =
       subst (λ l. AllZip CopiedPair l (entries (map_of fs))) (sym (entries_are m es is sorted))
-        (subst (λ l. AllZip CopiedPair es l) (sym (entries_are (map_of fs) fs refl (sorted_copy es fs z sorted))) z)
+      (subst (λ l. AllZip CopiedPair es l) (sym (entries_are (map_of fs) fs refl (sorted_copy es fs z sorted))) z)
 
   -- a copy is equal if the copies of its values are
   pub same_copy : ((v w : V) → C v w → w ≡ v) → (m n : ByText V) → AreClones C m n → n ≡ m

@@ -4,3 +4,4 @@ pub mod LibraryFacts
 pub mod ListFacts
 pub mod NamesFacts
 pub mod SortedFacts
+pub mod SortingFacts

@@ -1,15 +1,15 @@
 -- Facts on names and the places that they point to.
-use Rattle.std.proofs.Common.{◌≡◌, ℕ, ◌+◌, ◌<◌, ◌≤◌, Bool, true, false, cond, ◌&&◌, T, List, [], ◌∷◌, ◌++◌, length, drop, Option, Some, None, refl, sym, ap, subst, ◌∙◌, MatchBool, Less, Equal, Ordering, is_eq, IsTrue, option_map, option_and_then, filter_map}
+use Rattle.std.proofs.Common.{◌≡◌, ℕ, Bool, true, false, cond, T, List, [], ◌∷◌, Option, Some, None, refl, sym, ap, subst, ◌∙◌, MatchBool, Equal, Ordering, is_eq, option_map, option_and_then, filter_map}
 use Rattle.std.specs.List.{cons_option}
 use Rattle.std.specs.List.Retain.{RetainsInTurn}
 use Rattle.std.specs.Cmp.{IsTotalOrder}
 use Rattle.std.specs.Ordering.{eq_by_cmp}
 use Rattle.std.proofs.lemmas.Cmp.{nat_list_cmp_total}
 use Rattle.std.specs.FinMap as map
-use Rattle.std.specs.FinMap.{find, is_sorted, from_sorted, entries-from_sorted, get-from_sorted, get-entries, entries_sorted}
+use Rattle.std.specs.FinMap.{find, is_sorted, get-from_sorted, get-entries, entries_sorted}
 use Rattle.std.specs.FinMap.Entries.{below_all}
 use Rattle.biblatex.specs.Sorted.{ByText, by_bytes, IsSorted, map_of}
-use Rattle.biblatex.specs.Names.{claimed, claims_for, moved, moved_pair, without_place}
+use Rattle.biblatex.specs.Names.{moved, moved_pair, without_place}
 use Rattle.biblatex.proofs.SortedFacts.{first, second, both, less, tied, holds, is_true, entries_are}
 
 kept_or_dropped : {X : Type 0} (b : Bool) (o : Option X) (y : X) (zs : List X) → MatchBool b (o ≡ Some y) (o ≡ None) → cond b (y ∷ zs) zs ≡ cons_option o zs

@@ -1,5 +1,5 @@
 -- Chunks that grow at their end: words of private contracts.
-use Rattle.std.specs.Prelude.{ℕ, Bool, List, [], ◌∷◌, true, ◌==◌, not, length}
+use Rattle.std.specs.Prelude.{Bool, List, [], ◌∷◌, true, ◌==◌, not, length}
 use Rattle.bib_chunks.specs.declared.chunk.Chunk.{Chunk}
 use Rattle.bib_chunks.specs.declared.chunk.Chunk.TheVariants.{Normal, Verbatim, Math}
 use Rattle.bib_chunks.specs.declared.chunk.Spanned.{Spanned}

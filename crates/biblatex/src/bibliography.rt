@@ -1,7 +1,8 @@
 //! Bibliographies: entries in order, with names that point to them.
 
-ghost use Rattle.std.specs.Prelude.{◌≡◌, ◌==◌, ◌<◌, ◌++◌, ◌∷◌, [], length, vec_len, vec_capacity, codes, map, Some, IsSome, IsNone, IsOk, OnOk, OnErr, IfOk, IfErr};
+ghost use Rattle.std.specs.Prelude.{All, ◌≡◌, ◌==◌, ◌<◌, ◌++◌, ◌∷◌, [], length, vec_len, vec_capacity, codes, map, Some, IsSome, IsNone, IsOk, OnOk, OnErr, IfOk, IfErr};
 ghost use Rattle.std.specs.Borrow.{sem};
+ghost use Rattle.std.specs.FinMap as by_name;
 ghost use Rattle.std.specs.Option.{option_copied, option_copied_mut};
 ghost use Rattle.std.specs.Slice.Iter.{iter_rest, iter_mut_rest};
 ghost use Rattle.std.specs.Vec.Iter.{into_iter_items};
@@ -17,11 +18,10 @@ use crate::names::Names;
 use bib_chunks::text::Text;
 use std::alloc::{AllocError, Global};
 use std::error::Error;
-use std::fmt;
 use std::marker::Model;
-use std::mem;
 use std::slice::{Iter, IterMut};
 use std::vec::IntoIter;
+use std::{fmt, mem};
 
 /// Entries in order, and names that point to them.
 #[derive(Debug, Drop)]
@@ -74,11 +74,7 @@ fn claims(alloc: Global, entry: &Entry) -> Result<Vec<Text>, AllocError>
 }
 
 // Makes room for an entry behind the others, and lets the names that it claims point there.
-fn claim_next(
-    entries: &mut Vec<Entry>,
-    names: &mut Names,
-    entry: &Entry,
-) -> Result<(), AllocError>
+fn claim_next(entries: &mut Vec<Entry>, names: &mut Names, entry: &Entry) -> Result<(), AllocError>
     ensures same_entries { entries.new.items ≡ entries.old.items }
     ensures room { OnOk result (vec_len entries.new < vec_capacity entries.new) }
     ensures claimed { OnOk result (names.new ≡ claimed names.old (claims_for (length entries.old.items) (claims entry.now))) }
@@ -98,6 +94,19 @@ impl Bibliography {
             entries: Vec::new(alloc),
             names: Names::new(alloc),
         }
+    }
+
+    // These entries, with names claimed one after another: a name points where its last claim says.
+    pub(crate) fn from_claims(
+        entries: Vec<Entry>,
+        claims: Vec<(Text, usize)>,
+    ) -> Result<Self, AllocError>
+        requires { All (λ claim. claim.1 < length entries.items) claims.items }
+        ensures { IfOk result (λ library. library ≡ record
+            { entries = entries.items; names = claimed by_name.empty claims.items }) }
+    {
+        let names = Names::from_claims(claims)?;
+        Ok(Bibliography { entries, names })
     }
 
     /// How many entries there are. Each name points below this.
@@ -212,6 +221,16 @@ impl Bibliography {
     }
 }
 
+impl Clone for Bibliography {
+    ghost is_clone = { λ library copy. copy ≡ library };
+
+    fn clone(&self) -> Result<Self, AllocError> {
+        let entries = self.entries.clone()?;
+        let names = self.names.clone()?;
+        Ok(Bibliography { entries, names })
+    }
+}
+
 /// The keys of entries, in order.
 #[derive(Debug, Drop)]
 pub struct Keys<'a> {
@@ -240,6 +259,21 @@ impl IntoIterator for Bibliography {
 
     fn into_iter(self) -> Self::IntoIter {
         self.into_vec().into_iter()
+    }
+}
+
+impl<'a> IntoIterator for &'a mut Bibliography {
+    type Item = &'a mut Entry;
+
+    type IntoIter = IterMut<'a, Entry>;
+
+    ghost into_iter_gives = { λ library it. iter_mut_rest it ≡ library.now.entries };
+
+    fn into_iter(self) -> Self::IntoIter
+        ensures* writes_back { sem 𝓛 (LendsEntries self.entry result) }
+        ensures into_iter_gives { iter_mut_rest result ≡ self.old.entries }
+    {
+        self.iter_mut()
     }
 }
 

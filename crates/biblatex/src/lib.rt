@@ -1,11 +1,11 @@
 //! A reader and writer of BibTeX and BibLaTeX files, proved.
 #![tactic(auto)]
 
-pub mod sink;
 pub mod bibliography;
 pub mod entry;
 mod lists;
 mod names;
+pub mod sink;
 mod sorted;
 pub mod text_map;
 
@@ -20,4 +20,7 @@ pub use bib_syntax::raw::{
     Token, is_id_continue, is_id_start, is_key,
 };
 pub use bib_tables::mechanics::{AuthorMode, EntryType, PagesChapterMode, Requirements};
+pub use bibliography::{Bibliography, InsertError, Keys};
+pub use entry::{Entry, SetError};
 pub use sink::Sink;
+pub use text_map::TextMap;

@@ -1,11 +1,11 @@
 //! The names of a bibliography, each pointing to the place of an entry.
 
-ghost use Rattle.std.specs.Prelude.{◌≡◌, ◌+◌, ◌<◌, ◌≤◌, ◌∷◌, [], OnOk, OnErr, vec_len, vec_capacity};
+ghost use Rattle.std.specs.Prelude.{◌≡◌, ◌+◌, ◌<◌, ◌≤◌, ◌∷◌, [], IfOk, OnOk, OnErr, vec_len, vec_capacity};
 ghost use Rattle.std.specs.FinMap as map;
 ghost use Rattle.biblatex.specs.Sorted.{IsSorted, map_of};
 ghost use Rattle.biblatex.specs.Names.{claimed, claims_for, moved_pair, without_place, IsMoved};
 
-use crate::sorted::search;
+use crate::sorted::{search, sorted};
 use bib_chunks::text::Text;
 use std::alloc::{AllocError, Global};
 use std::marker::Model;
@@ -59,6 +59,14 @@ impl Names {
         }
     }
 
+    // The names with these claims, one after another: a name points where its last claim says. Sorts once.
+    pub fn from_claims(claims: Vec<(Text, usize)>) -> Result<Self, AllocError>
+        ensures { IfOk result (λ names. names ≡ claimed map.empty claims.items) }
+    {
+        let pairs = sorted(claims)?;
+        Ok(Names { pairs })
+    }
+
     // The place that a name points to, found by halving.
     pub fn get(&self, name: &str) -> Option<usize>
         ensures { result ≡ map.get self.now name.now }
@@ -95,16 +103,27 @@ impl Names {
     pub fn close_gap(&mut self, place: usize)
         ensures { self.new ≡ without_place place self.old }
     {
-        self.pairs.retain_mut(|pair: &mut (Text, usize)| -> bool
-            ensures { IsMoved place pair.old result pair.new }
-        {
-            if pair.1 == place {
-                return false;
-            }
-            if pair.1 > place {
-                pair.1 -= 1;
-            }
-            true
-        });
+        self.pairs.retain_mut(
+            |pair: &mut (Text, usize)| -> bool
+                ensures { IsMoved place pair.old result pair.new }
+            {
+                if pair.1 == place {
+                    return false;
+                }
+                if pair.1 > place {
+                    pair.1 -= 1;
+                }
+                true
+            },
+        );
+    }
+}
+
+impl Clone for Names {
+    ghost is_clone = { λ names copy. copy ≡ names };
+
+    fn clone(&self) -> Result<Self, AllocError> {
+        let pairs = self.pairs.clone()?;
+        Ok(Names { pairs })
     }
 }

@@ -1,6 +1,6 @@
 //! Maps by text.
 
-ghost use Rattle.std.specs.Prelude.{◌≡◌, ◌==◌, OnOk, OnErr, IfOk, IfErr, IsSome, IsOk};
+ghost use Rattle.std.specs.Prelude.{◌≡◌, ◌==◌, OnOk, OnErr, IfOk, IfErr, IsSome, IsOk, reverse};
 ghost use Rattle.std.specs.Option.{option_copied, option_copied_mut};
 ghost use Rattle.std.specs.Borrow.{sem};
 ghost use Rattle.std.specs.FinMap as map;
@@ -8,7 +8,7 @@ ghost use Rattle.std.specs.Slice.Iter.{iter_rest};
 ghost use Rattle.biblatex.specs.TextMapLending.{LendsValue};
 ghost use Rattle.biblatex.specs.TextMap.{AreClones, same_pairs, same_pairs_per, same_pairs_equiv};
 
-use crate::sorted::search;
+use crate::sorted::{search, sorted};
 use bib_chunks::text::Text;
 use std::alloc::{AllocError, AllocFailed, Global};
 use std::marker::Model;
@@ -43,6 +43,14 @@ impl<V> TextMap<V> {
         TextMap {
             pairs: Vec::new(alloc),
         }
+    }
+
+    /// The pairs of a name and its value, in the order of the names' bytes. Takes no memory.
+    pub fn into_pairs(self) -> Vec<(Text, V)>
+        ensures { result.items ≡ map.entries self }
+    {
+        let TextMap { pairs } = self;
+        pairs
     }
 
     // The allocator that the map takes memory from.
@@ -121,6 +129,28 @@ impl<V> TextMap<V> {
             }
             Err(_) => None,
         }
+    }
+}
+
+impl<V: Drop> TextMap<V> {
+    /// The map of these pairs. Of pairs with one name the last stands. Sorts once.
+    pub fn from_pairs(pairs: Vec<(Text, V)>) -> Result<Self, AllocError>
+        ensures { IfOk result (λ m. m ≡ map.from_entries (reverse pairs.items)) }
+    {
+        let pairs = sorted(pairs)?;
+        Ok(TextMap { pairs })
+    }
+}
+
+impl<'a, V> IntoIterator for &'a TextMap<V> {
+    type Item = &'a (Text, V);
+
+    type IntoIter = Iter<'a, (Text, V)>;
+
+    ghost into_iter_gives = { λ m it. iter_rest it ≡ map.entries m.now };
+
+    fn into_iter(self) -> Self::IntoIter {
+        self.iter()
     }
 }
 

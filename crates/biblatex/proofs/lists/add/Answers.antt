@@ -1,4 +1,4 @@
-use Rattle.std.proofs.Common.{◌≡◌, sym, ◌∙◌, rules}
+use Rattle.std.proofs.Common.{sym, ◌∙◌}
 use Rattle.std.proofs.lemmas.Result.{on_ok_weaker}
 use Rattle.biblatex.proofs.ListFacts.{added_joined, added_apart}
 use Rattle.biblatex.proofs.lists.add.Goals as goal

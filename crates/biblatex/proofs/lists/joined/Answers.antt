@@ -1,6 +1,5 @@
-use Rattle.std.proofs.Common.{◌≡◌, ◌++◌, ◌∙◌, sym, ap, take, subst}
+use Rattle.std.proofs.Common.{◌++◌, ◌∙◌, sym, ap, take}
 use Rattle.bib_chunks.specs.Styled.{styled, atoms_of}
-use Rattle.biblatex.specs.Lists.{chunks_of}
 use Rattle.biblatex.proofs.ListFacts.{joined_more, joined_shown, joined_hidden}
 use Rattle.biblatex.proofs.lists.joined.Goals as goal
 use Rattle.biblatex.proofs.lists.joined.Goals.{then-shows+in_ok-add, else-shows}

@@ -1,5 +1,5 @@
-use Rattle.std.proofs.Common.{is_ok, ◌+◌, vec_len, if◌then◌else◌, insert, ◌≡◌, Some, IsSome, IsOk, sym, ap, subst, ◌∙◌, refl, length, arith, rules}
-use Rattle.biblatex.specs.Sorted.{IsPlaceOf, IsGapFor, IsSorted, map_of}
+use Rattle.std.proofs.Common.{is_ok, ◌+◌, vec_len, if◌then◌else◌, insert, ap, ◌∙◌, refl, arith}
+use Rattle.biblatex.specs.Sorted.{IsPlaceOf, IsGapFor}
 use Rattle.biblatex.proofs.SortedFacts.{set_at, set_sorted, insert_gap, insert_sorted}
 use Rattle.biblatex.proofs.names.point.Goals as goal
 

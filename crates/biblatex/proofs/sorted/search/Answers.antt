@@ -1,4 +1,4 @@
-use Rattle.std.proofs.Common.{ℕ, Ok, Err, IfOk, Result, rules}
+use Rattle.std.proofs.Common.{rules}
 use Rattle.std.proofs.lemmas.Fn.{always_returns_same}
 use Rattle.biblatex.specs.Sorted.{by_bytes}
 use Rattle.biblatex.proofs.SortedFacts.{searched}

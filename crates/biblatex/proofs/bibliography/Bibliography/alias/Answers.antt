@@ -1,4 +1,4 @@
-use Rattle.std.proofs.Common.{sym, ◌∙◌}
+use Rattle.std.proofs.Common.{sym}
 use Rattle.biblatex.proofs.LibraryFacts.{below_insert}
 use Rattle.biblatex.proofs.bibliography.Bibliography.alias.Goals as goal
 

@@ -1,4 +1,4 @@
-use Rattle.std.proofs.Common.{◌≡◌, ◌++◌, ◌∷◌, [], ◌+◌, ◌≤◌, List, ap, arith, length, length-append, sym, ◌∙◌}
+use Rattle.std.proofs.Common.{◌++◌, ◌∷◌, [], ◌+◌, ap, arith, length, length-append, ◌∙◌}
 use Rattle.biblatex.specs.Names.{ArePlacesBelow}
 use Rattle.biblatex.specs.Library.{claims}
 use Rattle.biblatex.proofs.LibraryFacts.{below_claimed, below_more}

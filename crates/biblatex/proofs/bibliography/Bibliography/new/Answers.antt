@@ -1,5 +1,3 @@
-use Rattle.std.proofs.Common.{sym, subst}
-use Rattle.biblatex.specs.Names.{ArePlacesBelow}
 use Rattle.biblatex.proofs.LibraryFacts.{below_empty}
 use Rattle.biblatex.proofs.bibliography.Bibliography.new.Goals as goal
 

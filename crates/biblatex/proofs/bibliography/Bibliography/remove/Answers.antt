@@ -1,4 +1,4 @@
-use Rattle.std.proofs.Common.{◌≡◌, ◌<◌, ◌-◌, arith, Some, length, sym, subst, ◌∙◌}
+use Rattle.std.proofs.Common.{◌≡◌, ◌<◌, ◌-◌, arith, Some, length, sym, subst}
 use Rattle.biblatex.specs.Names.{ArePlacesBelow}
 use Rattle.biblatex.specs.Library.{entry_of}
 use Rattle.biblatex.proofs.LibraryFacts.{below_more, below_without_place, found_at}

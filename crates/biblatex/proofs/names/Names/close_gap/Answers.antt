@@ -1,5 +1,4 @@
-use Rattle.std.proofs.Common.{◌≡◌, sym, ap, subst, ◌∙◌, filter_map, rules}
-use Rattle.biblatex.specs.Sorted.{IsSorted, map_of}
+use Rattle.std.proofs.Common.{rules}
 use Rattle.biblatex.specs.Names.{moved_pair}
 use Rattle.biblatex.proofs.NamesFacts.{retained, moved_sorted, moved_names}
 use Rattle.biblatex.proofs.names.Names.close_gap.Goals as goal

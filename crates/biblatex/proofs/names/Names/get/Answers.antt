@@ -1,5 +1,5 @@
-use Rattle.std.proofs.Common.{◌≡◌, Some, IsSome, IsOk, sym, ap, subst, ◌∙◌, refl, length, arith, rules}
-use Rattle.biblatex.specs.Sorted.{IsPlaceOf, IsGapFor, IsSorted, map_of}
+use Rattle.std.proofs.Common.{Some, sym, ap, ◌∙◌}
+use Rattle.biblatex.specs.Sorted.{IsPlaceOf, IsGapFor}
 use Rattle.biblatex.proofs.SortedFacts.{get_at, get_gap}
 use Rattle.biblatex.proofs.names.Names.get.Goals as goal
 

@@ -1,4 +1,4 @@
-use Rattle.std.proofs.Common.{◌≡◌, Some, inl, inr, sym, ap, ◌∙◌}
+use Rattle.std.proofs.Common.{Some, inr, sym, ap, ◌∙◌}
 use Rattle.biblatex.specs.Sorted.{IsPlaceOf, IsGapFor}
 use Rattle.biblatex.proofs.SortedFacts.{lent, get_at, get_gap, set_written, set_sorted}
 use Rattle.biblatex.proofs.text_map.TextMap.get_mut.Goals as goal

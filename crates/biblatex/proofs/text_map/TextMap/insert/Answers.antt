@@ -1,4 +1,4 @@
-use Rattle.std.proofs.Common.{◌≡◌, Some, IsSome, sym, ap, subst, ◌∙◌, refl, length, arith, rules}
+use Rattle.std.proofs.Common.{Some, sym, ap, ◌∙◌}
 use Rattle.biblatex.specs.Sorted.{IsPlaceOf, IsGapFor}
 use Rattle.biblatex.proofs.SortedFacts.{get_at, get_gap, set_at, set_sorted, insert_gap, insert_sorted, not_found}
 use Rattle.biblatex.proofs.text_map.TextMap.insert.Goals as goal

@@ -1,5 +1,4 @@
-use Rattle.std.proofs.Common.{◌≡◌, Some, IsSome, sym, ap, subst, ◌∙◌, refl, length, arith, rules}
-use Rattle.biblatex.specs.Sorted.{IsPlaceOf, IsGapFor}
+use Rattle.std.proofs.Common.{sym, ◌∙◌}
 use Rattle.biblatex.proofs.SortedFacts.{len_is}
 use Rattle.biblatex.proofs.text_map.TextMap.len.Goals as goal
 

@@ -1,5 +1,3 @@
-use Rattle.std.proofs.Common.{◌≡◌, Some, IsSome, sym, ap, subst, ◌∙◌, refl, length, arith, rules}
-use Rattle.biblatex.specs.Sorted.{IsPlaceOf, IsGapFor}
 use Rattle.biblatex.proofs.SortedFacts.{no_pairs}
 use Rattle.biblatex.proofs.text_map.TextMap.new.Goals as goal
 
