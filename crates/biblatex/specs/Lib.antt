@@ -4,6 +4,7 @@ pub mod Lending
 pub mod Library
 pub mod Lists
 pub mod Names
+pub mod SameLibrary
 pub mod Sorted
 pub mod Syntax
 pub mod TextMap

@@ -11,6 +11,7 @@ ghost use Rattle.biblatex.specs.Keys.{keys_left};
 ghost use Rattle.biblatex.specs.Lending.{LendsEntry, LendsEntries};
 ghost use Rattle.biblatex.specs.Names.{ArePlacesBelow, claimed, claims_for};
 ghost use Rattle.biblatex.specs.Library.{aliased, aliases, claims, entry_of, inserted, nothing, place_of, removed};
+ghost use Rattle.biblatex.specs.SameLibrary.{same_library, same_library_per, same_library_equiv};
 
 use crate::entry::Entry;
 use crate::lists::comma_texts;
@@ -229,6 +230,20 @@ impl Clone for Bibliography {
         let names = self.names.clone()?;
         Ok(Bibliography { entries, names })
     }
+}
+
+impl PartialEq for Bibliography {
+    ghost eq = { same_library };
+
+    ghost laws = { same_library_per };
+
+    fn eq(&self, other: &Self) -> bool {
+        self.entries == other.entries && self.names == other.names
+    }
+}
+
+impl Eq for Bibliography {
+    ghost laws = { same_library_equiv };
 }
 
 /// The keys of entries, in order.

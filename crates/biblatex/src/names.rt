@@ -1,8 +1,10 @@
 //! The names of a bibliography, each pointing to the place of an entry.
 
-ghost use Rattle.std.specs.Prelude.{◌≡◌, ◌+◌, ◌<◌, ◌≤◌, ◌∷◌, [], IfOk, OnOk, OnErr, vec_len, vec_capacity};
+ghost use Rattle.std.specs.Prelude.{nat_eq, ◌≡◌, ◌+◌, ◌<◌, ◌≤◌, ◌∷◌, [], IfOk, OnOk, OnErr, vec_len, vec_capacity};
 ghost use Rattle.std.specs.FinMap as map;
+ghost use Rattle.std.specs.Cmp.{nat_eq_equiv, partial_equiv_from_equiv};
 ghost use Rattle.biblatex.specs.Sorted.{IsSorted, map_of};
+ghost use Rattle.biblatex.specs.TextMap.{same_pairs, same_pairs_per, same_pairs_equiv};
 ghost use Rattle.biblatex.specs.Names.{claimed, claims_for, moved_pair, without_place, IsMoved};
 
 use crate::sorted::{search, sorted};
@@ -126,4 +128,18 @@ impl Clone for Names {
         let pairs = self.pairs.clone()?;
         Ok(Names { pairs })
     }
+}
+
+impl PartialEq for Names {
+    ghost eq = { same_pairs nat_eq };
+
+    ghost laws = { same_pairs_per (partial_equiv_from_equiv nat_eq_equiv) };
+
+    fn eq(&self, other: &Self) -> bool {
+        self.pairs == other.pairs
+    }
+}
+
+impl Eq for Names {
+    ghost laws = { same_pairs_equiv nat_eq_equiv };
 }
