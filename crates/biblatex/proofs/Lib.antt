@@ -1,0 +1,7 @@
+pub mod CopyFacts
+pub mod EntryFacts
+pub mod LibraryFacts
+pub mod ListFacts
+pub mod NamesFacts
+pub mod SortedFacts
+pub mod SortingFacts

@@ -1,1 +1,11 @@
+pub mod Joining
+pub mod Keys
+pub mod Lending
+pub mod Library
+pub mod Lists
+pub mod Names
+pub mod SameLibrary
+pub mod Sorted
 pub mod Syntax
+pub mod TextMap
+pub mod TextMapLending

@@ -1,7 +1,13 @@
 //! A reader and writer of BibTeX and BibLaTeX files, proved.
 #![tactic(auto)]
 
+pub mod bibliography;
+pub mod entry;
+mod lists;
+mod names;
 pub mod sink;
+mod sorted;
+pub mod text_map;
 
 pub use bib_chunks::chunk::{Chunk, Chunks, ChunksExt, ChunksRef, Span, Spanned, is_settled};
 pub use bib_chunks::items::Items;
@@ -14,4 +20,7 @@ pub use bib_syntax::raw::{
     Token, is_id_continue, is_id_start, is_key,
 };
 pub use bib_tables::mechanics::{AuthorMode, EntryType, PagesChapterMode, Requirements};
+pub use bibliography::{Bibliography, InsertError, Keys};
+pub use entry::{Entry, SetError};
 pub use sink::Sink;
+pub use text_map::TextMap;

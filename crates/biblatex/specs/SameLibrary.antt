@@ -1,0 +1,19 @@
+-- Comparing libraries.
+use Rattle.std.specs.Prelude.{Bool, ◌&&◌, nat_eq}
+use Rattle.std.specs.Cmp.{IsEquivalence, IsPartialEquivalence, and_per, and_equiv, on_per, on_equiv, partial_equiv_from_equiv, nat_eq_equiv}
+use Rattle.std.specs.Cmp.Lexicographic.{pointwise, lists_per, lists_equiv}
+use Rattle.biblatex.specs.contracts.entry.EntryPartialEq.TheImpl as entry
+use Rattle.biblatex.specs.contracts.entry.EntryPartialEq.TheImpl.Laws as entry_per
+use Rattle.biblatex.specs.contracts.entry.EntryEq.TheImpl.Laws as entry_equiv
+use Rattle.biblatex.specs.Library.{Library}
+use Rattle.biblatex.specs.TextMap.{same_pairs, same_pairs_per, same_pairs_equiv}
+
+-- whether two libraries have the same entries in the same order, and the same names at the same places
+abbrev pub same_library : Library → Library → Bool
+same_library a b = pointwise entry.ghosts.eq a.entries b.entries && same_pairs nat_eq a.names b.names
+
+pub same_library_per : IsPartialEquivalence same_library
+same_library_per = and_per (on_per (λ l. l.entries) (lists_per entry_per.laws-law)) (on_per (λ l. l.names) (same_pairs_per (partial_equiv_from_equiv nat_eq_equiv)))
+
+pub same_library_equiv : IsEquivalence same_library
+same_library_equiv = and_equiv (on_equiv (λ l. l.entries) (lists_equiv entry_equiv.laws-law)) (on_equiv (λ l. l.names) (same_pairs_equiv nat_eq_equiv))

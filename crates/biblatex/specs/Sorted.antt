@@ -1,0 +1,35 @@
+-- Pairs of a name and a value, sorted by the names' bytes.
+use Rattle.std.specs.Prelude.{◌≡◌, ℕ, ◌<◌, ◌≤◌, List, length, IsTrue}
+use Rattle.std.specs.List.{AllWithin, HoldsAt}
+use Rattle.std.specs.declared.cmp.Ordering.{Ordering}
+use Rattle.std.specs.declared.cmp.Ordering.TheVariants.{Less, Equal, Greater}
+use Rattle.std.specs.Ordering.{nat_cmp}
+use Rattle.std.specs.Cmp.Lexicographic.{slice_cmp}
+use Rattle.std.specs.FinMap.{FinMap, from_sorted, is_sorted}
+
+-- texts in the order of their bytes
+abbrev pub by_bytes : List ℕ → List ℕ → Ordering
+by_bytes = slice_cmp nat_cmp
+
+-- a map by text
+abbrev pub ByText : Type 0 → Type 0
+ByText V = FinMap by_bytes V
+
+-- the names strictly rise, so that each stands once
+abbrev pub IsSorted : {V : Type 0} → List (List ℕ × V) → Type 0
+IsSorted pairs = IsTrue (is_sorted by_bytes pairs)
+
+-- the map of sorted pairs
+abbrev pub map_of : {V : Type 0} → List (List ℕ × V) → ByText V
+map_of pairs = from_sorted pairs
+
+-- the pair at this place has this name
+pub record IsPlaceOf {V : Type 0} (pairs : List (List ℕ × V)) (name : List ℕ) (place : ℕ) : Type 0 where
+  pub in_range : place < length pairs
+  pub has_name : HoldsAt (λ pair. by_bytes pair.0 name ≡ Equal) pairs place
+
+-- a pair of this name would stand at this place: smaller names stand before it, and greater ones from it on
+pub record IsGapFor {V : Type 0} (pairs : List (List ℕ × V)) (name : List ℕ) (place : ℕ) : Type 0 where
+  pub in_range : place ≤ length pairs
+  pub smaller : AllWithin (λ pair. by_bytes pair.0 name ≡ Less) pairs 0 place
+  pub greater : AllWithin (λ pair. by_bytes pair.0 name ≡ Greater) pairs place (length pairs)

@@ -1,0 +1,305 @@
+//! Bibliographies: entries in order, with names that point to them.
+
+ghost use Rattle.std.specs.Prelude.{All, ◌≡◌, ◌==◌, ◌<◌, ◌++◌, ◌∷◌, [], length, vec_len, vec_capacity, codes, map, Some, IsSome, IsNone, IsOk, OnOk, OnErr, IfOk, IfErr};
+ghost use Rattle.std.specs.Borrow.{sem};
+ghost use Rattle.std.specs.FinMap as by_name;
+ghost use Rattle.std.specs.Option.{option_copied, option_copied_mut};
+ghost use Rattle.std.specs.Slice.Iter.{iter_rest, iter_mut_rest};
+ghost use Rattle.std.specs.Vec.Iter.{into_iter_items};
+ghost use Rattle.std.specs.Iterator.{YieldsFirstRef, item_count};
+ghost use Rattle.biblatex.specs.Keys.{keys_left};
+ghost use Rattle.biblatex.specs.Lending.{LendsEntry, LendsEntries};
+ghost use Rattle.biblatex.specs.Names.{ArePlacesBelow, claimed, claims_for};
+ghost use Rattle.biblatex.specs.Library.{aliased, aliases, claims, entry_of, inserted, nothing, place_of, removed};
+ghost use Rattle.biblatex.specs.SameLibrary.{same_library, same_library_per, same_library_equiv};
+
+use crate::entry::Entry;
+use crate::lists::comma_texts;
+use crate::names::Names;
+use bib_chunks::text::Text;
+use std::alloc::{AllocError, Global};
+use std::error::Error;
+use std::marker::Model;
+use std::slice::{Iter, IterMut};
+use std::vec::IntoIter;
+use std::{fmt, mem};
+
+/// Entries in order, and names that point to them.
+#[derive(Debug, Drop)]
+pub struct Bibliography {
+    entries: Vec<Entry>,
+    names: Names,
+}
+
+impl Model for Bibliography {
+    ghost use Rattle.biblatex.specs.Library.{Library, library_code};
+    ghost use Rattle.biblatex.specs.Names.{ArePlacesBelow};
+    ghost use Rattle.std.specs.Prelude.{length};
+
+    ghost Value = { Library };
+
+    ghost coded = { library_code };
+
+    ghost view = { λ a. record { entries = a.entries.items; names = a.names } };
+
+    ghost invariant = { λ a. ArePlacesBelow (length a.entries.items) a.names };
+}
+
+/// An entry that was not added for want of memory.
+#[derive(Debug, Drop)]
+pub struct InsertError {
+    /// The entry.
+    pub entry: Entry,
+}
+
+impl fmt::Display for InsertError {
+    ghost output = { λ _. Some (codes "out of memory") };
+
+    fn fmt<W: fmt::Write>(&self, f: &mut fmt::Formatter<W>) -> fmt::Result {
+        f.write_str("out of memory")
+    }
+}
+
+impl Error for InsertError {}
+
+// The names that an entry claims: its key, then the parts of its field `ids`.
+fn claims(alloc: Global, entry: &Entry) -> Result<Vec<Text>, AllocError>
+    ensures { IfOk result (λ names. names.items ≡ claims entry.now) }
+{
+    let mut names = match entry.get("ids") {
+        Some(chunks) => comma_texts(alloc, chunks)?,
+        None => Vec::new(alloc),
+    };
+    names.insert(0, entry.key.clone()?)?;
+    Ok(names)
+}
+
+// Makes room for an entry behind the others, and lets the names that it claims point there.
+fn claim_next(entries: &mut Vec<Entry>, names: &mut Names, entry: &Entry) -> Result<(), AllocError>
+    ensures same_entries { entries.new.items ≡ entries.old.items }
+    ensures room { OnOk result (vec_len entries.new < vec_capacity entries.new) }
+    ensures claimed { OnOk result (names.new ≡ claimed names.old (claims_for (length entries.old.items) (claims entry.now))) }
+    ensures refused { OnErr result (names.new ≡ names.old) }
+{
+    let claims = claims(*entries.allocator(), entry)?;
+    entries.reserve(1)?;
+    names.claim_all(claims, entries.len())
+}
+
+impl Bibliography {
+    /// No entries. Takes no memory.
+    pub fn new(alloc: Global) -> Self
+        ensures { result ≡ nothing }
+    {
+        Bibliography {
+            entries: Vec::new(alloc),
+            names: Names::new(alloc),
+        }
+    }
+
+    // These entries, with names claimed one after another: a name points where its last claim says.
+    pub(crate) fn from_claims(
+        entries: Vec<Entry>,
+        claims: Vec<(Text, usize)>,
+    ) -> Result<Self, AllocError>
+        requires { All (λ claim. claim.1 < length entries.items) claims.items }
+        ensures { IfOk result (λ library. library ≡ record
+            { entries = entries.items; names = claimed by_name.empty claims.items }) }
+    {
+        let names = Names::from_claims(claims)?;
+        Ok(Bibliography { entries, names })
+    }
+
+    /// How many entries there are. Each name points below this.
+    pub fn len(&self) -> usize
+        ensures count { result ≡ length self.now.entries }
+        ensures places { ArePlacesBelow result self.now.names }
+    {
+        self.entries.len()
+    }
+
+    /// Whether there is no entry.
+    pub fn is_empty(&self) -> bool
+        ensures { result ≡ (length self.now.entries == 0) }
+    {
+        self.entries.is_empty()
+    }
+
+    /// The entry that a name points to: a key, or another name.
+    pub fn get(&self, key: &str) -> Option<&Entry>
+        ensures value { option_copied result ≡ entry_of self.now key.now }
+        ensures named { IsSome (place_of self.now key.now) → IsSome result }
+    {
+        let place = self.names.get(key)?;
+        Some(&self.entries[place])
+    }
+
+    /// The entry that a name points to, to be changed. This changes no names.
+    pub fn get_mut(&mut self, key: &str) -> Option<&mut Entry>
+        ensures* writes_back { sem 𝓛 (LendsEntry self.entry key.now result) }
+        ensures value { option_copied_mut result ≡ entry_of self.old key.now }
+    {
+        let place = self.names.get(key)?;
+        self.entries.get_mut(place)
+    }
+
+    /// Adds an entry. If its key is a name, the entry takes the place that this name points to, the entry that stood
+    /// there is handed back, and all names stay. Otherwise it is added behind the others, and its key and the names in
+    /// its field `ids` point to it from now on. A refusal changes nothing, and gives the entry back.
+    pub fn insert(&mut self, entry: Entry) -> Result<Option<Entry>, InsertError>
+        ensures had { IfOk result (λ had. had ≡ entry_of self.old entry.key) }
+        ensures inserted { OnOk result (self.new ≡ inserted self.old entry) }
+        ensures refused { OnErr result (self.new ≡ self.old) }
+        ensures returned { IfErr result (λ e. e.entry ≡ entry) }
+        ensures present { IsSome (place_of self.old entry.key) → IsOk result }
+    {
+        if let Some(place) = self.names.get(entry.key.as_str()) {
+            let had = mem::replace(&mut self.entries[place], entry);
+            return Ok(Some(had));
+        }
+        let Ok(()) = claim_next(&mut self.entries, &mut self.names, &entry) else {
+            return Err(InsertError { entry });
+        };
+        self.entries.push_reserved(entry);
+        Ok(None)
+    }
+
+    /// Takes the entry out that a name points to, with all names that point to it. The entries behind it move up by
+    /// one. Takes no memory.
+    pub fn remove(&mut self, key: &str) -> Option<Entry>
+        ensures had { result ≡ entry_of self.old key.now }
+        ensures removed { self.new ≡ removed self.old key.now }
+    {
+        let place = self.names.get(key)?;
+        self.names.close_gap(place);
+        Some(self.entries.remove(place))
+    }
+
+    /// Lets another name point to the entry that a name points to, if there is one. A refusal changes nothing.
+    pub fn alias(&mut self, key: &str, alias: &str) -> Result<(), AllocError>
+        ensures aliased { OnOk result (self.new ≡ aliased self.old key.now alias.now) }
+        ensures refused { OnErr result (self.new ≡ self.old) }
+        ensures unknown { IsNone (place_of self.old key.now) → IsOk result }
+    {
+        let Some(place) = self.names.get(key) else {
+            return Ok(());
+        };
+        let name = Text::from_str(*self.entries.allocator(), alias)?;
+        self.names.claim(name, place)?;
+        Ok(())
+    }
+
+    /// The entries in order.
+    pub fn iter(&self) -> Iter<'_, Entry>
+        ensures { iter_rest result ≡ self.now.entries }
+    {
+        self.entries.iter()
+    }
+
+    /// The entries in order, to be changed. This changes no names.
+    pub fn iter_mut(&mut self) -> IterMut<'_, Entry>
+        ensures* writes_back { sem 𝓛 (LendsEntries self.entry result) }
+        ensures entries { iter_mut_rest result ≡ self.old.entries }
+    {
+        self.entries.iter_mut()
+    }
+
+    /// The key of each entry, in order.
+    pub fn keys(&self) -> Keys<'_>
+        ensures { keys_left result ≡ map (λ e. e.key) self.now.entries }
+    {
+        Keys {
+            entries: self.entries.iter(),
+        }
+    }
+
+    /// The vector of the entries in order. Takes no memory.
+    pub fn into_vec(self) -> Vec<Entry>
+        ensures { result.items ≡ self.entries }
+    {
+        let Bibliography { entries, names: _ } = self;
+        entries
+    }
+}
+
+impl Clone for Bibliography {
+    ghost is_clone = { λ library copy. copy ≡ library };
+
+    fn clone(&self) -> Result<Self, AllocError> {
+        let entries = self.entries.clone()?;
+        let names = self.names.clone()?;
+        Ok(Bibliography { entries, names })
+    }
+}
+
+impl PartialEq for Bibliography {
+    ghost eq = { same_library };
+
+    ghost laws = { same_library_per };
+
+    fn eq(&self, other: &Self) -> bool {
+        self.entries == other.entries && self.names == other.names
+    }
+}
+
+impl Eq for Bibliography {
+    ghost laws = { same_library_equiv };
+}
+
+/// The keys of entries, in order.
+#[derive(Debug, Drop)]
+pub struct Keys<'a> {
+    entries: Iter<'a, Entry>,
+}
+
+impl<'a> Iterator for Keys<'a> {
+    type Item = &'a str;
+
+    ghost next_gives = { YieldsFirstRef keys_left };
+
+    ghost remaining = { item_count keys_left };
+
+    fn next(&mut self) -> Option<&'a str> {
+        let entry = self.entries.next()?;
+        Some(entry.key.as_str())
+    }
+}
+
+impl IntoIterator for Bibliography {
+    type Item = Entry;
+
+    type IntoIter = IntoIter<Entry>;
+
+    ghost into_iter_gives = { λ library it. into_iter_items it ≡ library.entries };
+
+    fn into_iter(self) -> Self::IntoIter {
+        self.into_vec().into_iter()
+    }
+}
+
+impl<'a> IntoIterator for &'a mut Bibliography {
+    type Item = &'a mut Entry;
+
+    type IntoIter = IterMut<'a, Entry>;
+
+    ghost into_iter_gives = { λ library it. iter_mut_rest it ≡ library.now.entries };
+
+    fn into_iter(self) -> Self::IntoIter
+        ensures* writes_back { sem 𝓛 (LendsEntries self.entry result) }
+        ensures into_iter_gives { iter_mut_rest result ≡ self.old.entries }
+    {
+        self.iter_mut()
+    }
+}
+
+impl<'a> IntoIterator for &'a Bibliography {
+    type Item = &'a Entry;
+
+    type IntoIter = Iter<'a, Entry>;
+
+    ghost into_iter_gives = { λ library it. iter_rest it ≡ library.now.entries };
+
+    fn into_iter(self) -> Self::IntoIter {
+        self.iter()
+    }
+}

@@ -1,0 +1,106 @@
+//! Entries of a bibliography.
+
+ghost use Rattle.std.specs.Prelude.{◌≡◌, map, Some, OnOk, OnErr, IfOk, IfErr, codes};
+ghost use Rattle.std.specs.Char.{to_ascii_lowercase};
+ghost use Rattle.std.specs.Option.{option_copied};
+ghost use Rattle.std.specs.FinMap as by_name;
+
+use crate::text_map::TextMap;
+use bib_chunks::chunk::{Chunks, ChunksRef};
+use bib_chunks::text::Text;
+use bib_tables::mechanics::EntryType;
+use std::alloc::{AllocError, Global};
+use std::error::Error;
+use std::fmt;
+
+/// An entry of a bibliography.
+#[derive(Debug, PartialEq, Eq, Drop)]
+pub struct Entry {
+    /// The key that the entry is cited by.
+    pub key: Text,
+    /// The type of the entry.
+    pub entry_type: EntryType,
+    /// The fields by name.
+    pub fields: TextMap<Chunks>,
+}
+
+/// A field that was not set for want of memory.
+#[derive(Debug, Drop)]
+pub struct SetError {
+    /// What the field would have held.
+    pub chunks: Chunks,
+}
+
+impl fmt::Display for SetError {
+    ghost output = { λ _. Some (codes "out of memory") };
+
+    fn fmt<W: fmt::Write>(&self, f: &mut fmt::Formatter<W>) -> fmt::Result {
+        f.write_str("out of memory")
+    }
+}
+
+impl Error for SetError {}
+
+impl Entry {
+    /// An entry without fields. Takes no memory.
+    pub fn new(alloc: Global, key: Text, entry_type: EntryType) -> Self
+        ensures { result ≡ record { key = key; entry_type = entry_type; fields = by_name.empty } }
+    {
+        Entry {
+            key,
+            entry_type,
+            fields: TextMap::new(alloc),
+        }
+    }
+
+    /// The field of this very name.
+    pub fn get(&self, name: &str) -> Option<ChunksRef<'_>>
+        ensures { option_copied result ≡ by_name.get self.now.fields name.now }
+    {
+        let chunks = self.fields.get(name)?;
+        Some(chunks.as_slice())
+    }
+
+    /// Sets the field of the name in lower case, and hands back what it held. A refusal changes nothing, and gives the
+    /// chunks back.
+    pub fn set(&mut self, name: &str, chunks: Chunks) -> Result<Option<Chunks>, SetError>
+        ensures had { IfOk result (λ had. had ≡ by_name.get self.old.fields (map to_ascii_lowercase name.now)) }
+        ensures set { OnOk result (self.new ≡ record self.old
+            { fields = by_name.insert self.old.fields (map to_ascii_lowercase name.now) chunks }) }
+        ensures refused { OnErr result (self.new ≡ self.old) }
+        ensures returned { IfErr result (λ e. e.chunks ≡ chunks) }
+    {
+        let Ok(lowered) = name.to_ascii_lowercase(self.fields.allocator()) else {
+            return Err(SetError { chunks });
+        };
+        match self.fields.insert(Text::from_string(lowered), chunks) {
+            Ok(had) => Ok(had),
+            Err(failed) => Err(SetError {
+                chunks: failed.value.1,
+            }),
+        }
+    }
+
+    /// Takes the field of this very name out. Takes no memory.
+    pub fn remove(&mut self, name: &str) -> Option<Chunks>
+        ensures had { result ≡ by_name.get self.old.fields name.now }
+        ensures removed { self.new ≡ record self.old { fields = by_name.remove self.old.fields name.now } }
+    {
+        self.fields.remove(name)
+    }
+}
+
+impl Clone for Entry {
+    ghost is_clone = { λ e copy. copy ≡ e };
+
+    fn clone(&self) -> Result<Self, AllocError> {
+        let key = self.key.clone()?;
+        let entry_type = self.entry_type.clone()?;
+        let fields = self.fields.clone()?;
+        Ok(Entry {
+            key,
+            entry_type,
+            fields,
+        })
+    }
+}
