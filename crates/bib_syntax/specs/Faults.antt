@@ -4,7 +4,7 @@ use Rattle.std.specs.Fmt.{decimal, debug_str}
 use Rattle.bib_syntax.specs.declared.raw.Token.{Token}
 use Rattle.bib_syntax.specs.declared.raw.Token.TheVariants as token
 use Rattle.bib_syntax.specs.declared.raw.ParseErrorKind.{ParseErrorKind}
-use Rattle.bib_syntax.specs.declared.raw.ParseErrorKind.TheVariants.{UnexpectedEof, Unexpected, Expected, UnknownAbbreviation, MalformedCommand, AbbreviationCycle, OutOfMemory}
+use Rattle.bib_syntax.specs.declared.raw.ParseErrorKind.TheVariants.{UnexpectedEof, Unexpected, Expected, UnknownAbbreviation, MalformedCommand, DuplicateKey, AbbreviationCycle, OutOfMemory}
 use Rattle.bib_syntax.specs.declared.raw.ParseError.{ParseError}
 
 abbrev pub token_text : Token → List ℕ
@@ -26,6 +26,7 @@ kind_text (Unexpected t) = codes "unexpected " ++ token_text t
 kind_text (Expected t) = codes "expected " ++ token_text t
 kind_text (UnknownAbbreviation name) = codes "unknown abbreviation " ++ quoted name
 kind_text MalformedCommand = codes "malformed command"
+kind_text (DuplicateKey key) = codes "duplicate key " ++ quoted key
 kind_text (AbbreviationCycle name) = codes "circular abbreviation " ++ quoted name
 kind_text OutOfMemory = codes "out of memory"
 
@@ -44,6 +45,7 @@ is_syntax (Unexpected t) = true
 is_syntax (Expected t) = true
 is_syntax (UnknownAbbreviation name) = false
 is_syntax MalformedCommand = false
+is_syntax (DuplicateKey key) = false
 is_syntax (AbbreviationCycle name) = false
 is_syntax OutOfMemory = false
 

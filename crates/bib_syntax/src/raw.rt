@@ -145,6 +145,8 @@ pub enum ParseErrorKind {
     UnknownAbbreviation(Text),
     /// A command was malformed. Kept for its name: nothing gives it.
     MalformedCommand,
+    /// The key of an entry is a name that an earlier entry claimed. The text is the key.
+    DuplicateKey(Text),
     /// An abbreviation was met while it was being expanded. The text is its name.
     AbbreviationCycle(Text),
     /// There was no memory.
@@ -163,6 +165,7 @@ impl Clone for ParseErrorKind {
                 ParseErrorKind::UnknownAbbreviation(name.clone()?)
             }
             ParseErrorKind::MalformedCommand => ParseErrorKind::MalformedCommand,
+            ParseErrorKind::DuplicateKey(key) => ParseErrorKind::DuplicateKey(key.clone()?),
             ParseErrorKind::AbbreviationCycle(name) => {
                 ParseErrorKind::AbbreviationCycle(name.clone()?)
             }
@@ -242,6 +245,9 @@ impl fmt::Display for ParseErrorKind {
                 )
             }
             ParseErrorKind::MalformedCommand => f.write_str("malformed command"),
+            ParseErrorKind::DuplicateKey(key) => {
+                write!(f, "duplicate key {}", Quoted { name: key.as_str() })
+            }
             ParseErrorKind::AbbreviationCycle(name) => {
                 write!(
                     f,

@@ -3,6 +3,7 @@ pub mod Keys
 pub mod Lending
 pub mod Library
 pub mod Lists
+pub mod Loading
 pub mod Names
 pub mod SameLibrary
 pub mod Sorted

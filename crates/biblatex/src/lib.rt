@@ -4,6 +4,7 @@
 pub mod bibliography;
 pub mod entry;
 mod lists;
+mod loading;
 mod names;
 pub mod sink;
 mod sorted;

@@ -1,0 +1,96 @@
+-- What a file's entries are as entries of a bibliography, and the first fault if they can't be.
+use Rattle.std.specs.Prelude.{◌≡◌, ◌⊎◌, ℕ, List, [], ◌∷◌, ◌++◌, map, reverse, find, bytes_eq, option_map, Option, Some, None, MatchOption}
+use Rattle.std.specs.Char.{to_ascii_lowercase}
+use Rattle.std.specs.FinMap as by_name
+use Rattle.bib_chunks.specs.Styled.{styled}
+use Rattle.bib_chunks.specs.declared.chunk.Chunk.{Chunk}
+use Rattle.bib_chunks.specs.declared.chunk.Spanned.{Spanned}
+use Rattle.bib_syntax.specs.Abbreviations.{Definitions, Evaluates, IsFirstFault, IsReadable, is_verbatim_field}
+use Rattle.bib_syntax.specs.Reading.{Piece}
+use Rattle.bib_syntax.specs.Views.{piece_of}
+use Rattle.bib_syntax.specs.declared.raw.Pair.{Pair}
+use Rattle.bib_syntax.specs.declared.raw.ParseError.{ParseError}
+use Rattle.bib_syntax.specs.declared.raw.ParseErrorKind.TheVariants.{DuplicateKey}
+use Rattle.bib_syntax.specs.declared.raw.RawEntry.{RawEntry}
+use Rattle.bib_tables.specs.EntryType.{entry_type_of}
+use Rattle.biblatex.specs.declared.entry.Entry.{Entry}
+use Rattle.biblatex.specs.Library.{Library, claims, appended, nothing}
+
+-- the elements of a value
+abbrev pub pieces_of : Pair → List Piece
+pieces_of p = map piece_of p.value.v.items
+
+-- the definition of an abbreviation is its last one in the file, wherever it stands
+abbrev pub last_definition : List Pair → Definitions
+last_definition pairs name = option_map pieces_of (find (λ p. bytes_eq name p.key.v.now) (reverse pairs))
+
+-- the name of a field, in small letters
+abbrev pub field_name : Pair → List ℕ
+field_name p = map to_ascii_lowercase p.key.v.now
+
+-- the field that stands for a name: of two with one name the last
+abbrev pub last_field : List Pair → List ℕ → Option Pair
+last_field fields name = find (λ p. bytes_eq name (field_name p)) (reverse fields)
+
+-- these chunks are what a field says
+abbrev pub IsFieldOf : Definitions → Pair → List (Spanned Chunk) → Type 0
+IsFieldOf definitions p chunks = Evaluates definitions (is_verbatim_field (field_name p)) (pieces_of p) (styled chunks)
+
+-- a field can be read
+abbrev pub IsFieldReadable : Definitions → Pair → Type 0
+IsFieldReadable definitions p = IsReadable definitions (is_verbatim_field (field_name p)) (pieces_of p)
+
+-- each field can be read
+abbrev pub AreReadable : Definitions → List Pair → Type 0
+AreReadable definitions [] = Unit {0}
+AreReadable definitions (p ∷ rest) = IsFieldReadable definitions p × AreReadable definitions rest
+
+-- an entry is read from its raw form: the same key, the type of that kind, and for each name the last field with it
+pub record IsEntryOf (definitions : Definitions) (raw : RawEntry) (entry : Entry) : Type 0 where
+  pub key : entry.key ≡ raw.key.v.now
+  pub kind : entry.entry_type ≡ entry_type_of raw.kind.v.now
+  pub fields : (name : List ℕ)
+      → MatchOption (last_field raw.fields.items name) (by_name.get entry.fields name ≡ None) (λ p. (chunks : List (Spanned Chunk)) × (by_name.get entry.fields name ≡ Some chunks) × IsFieldOf definitions p chunks)
+  pub readable : AreReadable definitions raw.fields.items
+
+-- the first fault of fields in order
+pub data IsFieldsFault (definitions : Definitions) : List Pair → ParseError → Type 0 where
+  here : {p : Pair} {rest : List Pair} {e : ParseError} → IsFirstFault definitions (is_verbatim_field (field_name p)) [] (pieces_of p) e
+      → (IsFieldReadable definitions p → ⊥) → IsFieldsFault definitions (p ∷ rest) e
+  behind : {p : Pair} {rest : List Pair} {e : ParseError} → IsFieldReadable definitions p → IsFieldsFault definitions rest e
+      → IsFieldsFault definitions (p ∷ rest) e
+
+-- a name is among these
+abbrev pub IsAmong : List (List ℕ) → List ℕ → Type 0
+IsAmong [] name = ⊥
+IsAmong (one ∷ rest) name = (one ≡ name) ⊎ IsAmong rest name
+
+-- entries are read from raw ones in order, behind claims of earlier ones: no key is a name that was claimed before
+pub data AreEntriesOf (definitions : Definitions) : List (List ℕ) → List (Spanned RawEntry) → List Entry → Type 0 where
+  none : {claimed : List (List ℕ)} → AreEntriesOf definitions claimed [] []
+  next : {claimed : List (List ℕ)} {raw : Spanned RawEntry} {rest : List (Spanned RawEntry)} {entry : Entry} {entries : List Entry}
+      → (IsAmong claimed raw.v.key.v.now → ⊥) → IsEntryOf definitions raw.v entry
+      → AreEntriesOf definitions (claimed ++ claims entry) rest entries
+      → AreEntriesOf definitions claimed (raw ∷ rest) (entry ∷ entries)
+
+-- the first fault of raw entries in order, behind claims of earlier ones: a key that was claimed before, and then a
+-- field that can't be read
+pub data IsEntriesFault (definitions : Definitions) : List (List ℕ) → List (Spanned RawEntry) → ParseError → Type 0 where
+  duplicate : {claimed : List (List ℕ)} {raw : Spanned RawEntry} {rest : List (Spanned RawEntry)} {e : ParseError}
+      → IsAmong claimed raw.v.key.v.now → e ≡ record { span = raw.span; kind = DuplicateKey raw.v.key.v.now }
+      → IsEntriesFault definitions claimed (raw ∷ rest) e
+  unreadable : {claimed : List (List ℕ)} {raw : Spanned RawEntry} {rest : List (Spanned RawEntry)} {e : ParseError}
+      → (IsAmong claimed raw.v.key.v.now → ⊥) → IsFieldsFault definitions raw.v.fields.items e
+      → IsEntriesFault definitions claimed (raw ∷ rest) e
+  behind : {claimed : List (List ℕ)} {raw : Spanned RawEntry} {rest : List (Spanned RawEntry)} {entry : Entry} {e : ParseError}
+      → (IsAmong claimed raw.v.key.v.now → ⊥) → IsEntryOf definitions raw.v entry
+      → IsEntriesFault definitions (claimed ++ claims entry) rest e
+      → IsEntriesFault definitions claimed (raw ∷ rest) e
+
+-- entries one behind another, each with the names that it claims
+abbrev pub loaded_behind : Library → List Entry → Library
+loaded_behind library [] = library
+loaded_behind library (entry ∷ entries) = loaded_behind (appended library entry) entries
+
+abbrev pub loaded : List Entry → Library
+loaded = loaded_behind nothing
