@@ -2,6 +2,8 @@ pub mod CopyFacts
 pub mod EntryFacts
 pub mod LibraryFacts
 pub mod ListFacts
+pub mod LoadedFacts
 pub mod NamesFacts
+pub mod RawFacts
 pub mod SortedFacts
 pub mod SortingFacts

@@ -1,8 +1,10 @@
+pub mod Claiming
 pub mod Joining
 pub mod Keys
 pub mod Lending
 pub mod Library
 pub mod Lists
+pub mod Loaded
 pub mod Loading
 pub mod Names
 pub mod SameLibrary

@@ -1,13 +1,18 @@
 //! Bibliographies: entries in order, with names that point to them.
 
-ghost use Rattle.std.specs.Prelude.{All, ◌≡◌, ◌==◌, ◌<◌, ◌++◌, ◌∷◌, [], length, vec_len, vec_capacity, codes, map, Some, IsSome, IsNone, IsOk, OnOk, OnErr, IfOk, IfErr};
+ghost use Rattle.std.specs.Prelude.{All, ◌≡◌, ◌⊎◌, ◌==◌, ◌<◌, ◌++◌, ◌∷◌, [], length, vec_len, vec_capacity, codes, map, Some, IsSome, IsNone, IsOk, OnOk, OnErr, IfOk, IfErr};
 ghost use Rattle.std.specs.Borrow.{sem};
 ghost use Rattle.std.specs.FinMap as by_name;
 ghost use Rattle.std.specs.Option.{option_copied, option_copied_mut};
 ghost use Rattle.std.specs.Slice.Iter.{iter_rest, iter_mut_rest};
 ghost use Rattle.std.specs.Vec.Iter.{into_iter_items};
 ghost use Rattle.std.specs.Iterator.{YieldsFirstRef, item_count};
+ghost use Rattle.bib_syntax.specs.Faults.{Refuses, out_of_memory};
+ghost use Rattle.bib_syntax.specs.Grammar.{IsFile, IsRawReading};
+ghost use Rattle.bib_syntax.specs.Reading.{FileReading};
+ghost use Rattle.bib_syntax.specs.Views.{file_of};
 ghost use Rattle.biblatex.specs.Keys.{keys_left};
+ghost use Rattle.biblatex.specs.Loaded.{IsAccepted, IsFaultOf, IsLoaded};
 ghost use Rattle.biblatex.specs.Lending.{LendsEntry, LendsEntries};
 ghost use Rattle.biblatex.specs.Names.{ArePlacesBelow, claimed, claims_for};
 ghost use Rattle.biblatex.specs.Library.{aliased, aliases, claims, entry_of, inserted, nothing, place_of, removed};
@@ -16,7 +21,9 @@ ghost use Rattle.biblatex.specs.SameLibrary.{same_library, same_library_per, sam
 use crate::entry::Entry;
 use crate::lists::comma_texts;
 use crate::names::Names;
+use crate::reading::load;
 use bib_chunks::text::Text;
+use bib_syntax::raw::{ParseError, RawBibliography};
 use std::alloc::{AllocError, Global};
 use std::error::Error;
 use std::marker::Model;
@@ -63,7 +70,7 @@ impl fmt::Display for InsertError {
 impl Error for InsertError {}
 
 // The names that an entry claims: its key, then the parts of its field `ids`.
-fn claims(alloc: Global, entry: &Entry) -> Result<Vec<Text>, AllocError>
+pub(crate) fn claims(alloc: Global, entry: &Entry) -> Result<Vec<Text>, AllocError>
     ensures { IfOk result (λ names. names.items ≡ claims entry.now) }
 {
     let mut names = match entry.get("ids") {
@@ -95,6 +102,32 @@ impl Bibliography {
             entries: Vec::new(alloc),
             names: Names::new(alloc),
         }
+    }
+
+    /// Reads a bibliography file.
+    ///
+    /// Refused with a syntax fault where the file grammar doesn't read the text; otherwise, in the order of the file, for
+    /// the first entry whose key an earlier one claimed (`DuplicateKey`, at the entry) or which has a field that can't be
+    /// read. Spans are in bytes of the text.
+    pub fn parse(alloc: Global, src: &str) -> Result<Self, ParseError>
+        ensures loaded { IfOk result (λ library. (says : FileReading) × IsRawReading src.now says × IsLoaded says library) }
+        ensures accepted { OnOk result (IsFile src.now) }
+        ensures refused { IfErr result (λ e. Refuses src.now e (IsFile src.now → ⊥) ⊎ ((says : FileReading) × IsRawReading src.now says × IsFaultOf says e × (IsAccepted says → ⊥))) }
+    {
+        let raw = RawBibliography::parse(alloc, src)?;
+        Self::from_raw(alloc, raw)
+    }
+
+    /// The bibliography of a file that was read already. What the file says of texts and places is believed.
+    ///
+    /// Refused, in the order of the file, for the first entry whose key an earlier one claimed (`DuplicateKey`, at the
+    /// entry) or which has a field that can't be read.
+    pub fn from_raw(alloc: Global, raw: RawBibliography<'_>) -> Result<Self, ParseError>
+        ensures loaded { IfOk result (IsLoaded (file_of raw.entry)) }
+        ensures refused { IfErr result (λ e. (e ≡ out_of_memory) ⊎ (IsFaultOf (file_of raw.entry) e × (IsAccepted (file_of raw.entry) → ⊥))) }
+    {
+        let (entries, claims) = load(alloc, &raw)?;
+        Ok(Self::from_claims(entries, claims)?)
     }
 
     // These entries, with names claimed one after another: a name points where its last claim says.

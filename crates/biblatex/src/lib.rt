@@ -6,6 +6,7 @@ pub mod entry;
 mod lists;
 mod loading;
 mod names;
+mod reading;
 pub mod sink;
 mod sorted;
 pub mod text_map;
