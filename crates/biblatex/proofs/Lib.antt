@@ -2,6 +2,7 @@ pub mod CopyFacts
 pub mod EntryFacts
 pub mod LibraryFacts
 pub mod ListFacts
+pub mod LoadingFacts
 pub mod NamesFacts
 pub mod SortedFacts
 pub mod SortingFacts

@@ -5,6 +5,7 @@ pub mod Library
 pub mod Lists
 pub mod Loading
 pub mod Names
+pub mod Reading
 pub mod SameLibrary
 pub mod Sorted
 pub mod Syntax
