@@ -3,6 +3,7 @@ pub mod EntryFacts
 pub mod LibraryFacts
 pub mod ListFacts
 pub mod LoadedFacts
+pub mod LoadingFacts
 pub mod NamesFacts
 pub mod RawFacts
 pub mod SortedFacts

@@ -1,9 +1,13 @@
 -- Facts on what a file says as a bibliography.
 use Rattle.std.proofs.Common.{◌≡◌, ℕ, suc, ◌+◌, ◌<◌, ◌≤◌, Bool, true, false, List, [], ◌∷◌, ◌++◌, length, drop, map, get_or, refl, sym, ap, ◌∙◌, subst, arith, append_assoc, length-append, inl, inr, Option, None, Some, MatchOption, cond, ◌&&◌}
-use Rattle.std.specs.Prelude.{reverse, find, bytes_eq, option_map, codes, ◌==◌}
+use Rattle.std.specs.Prelude.{reverse, find, bytes_eq, option_map, codes, ◌==◌, All}
 use Rattle.std.specs.FinMap as by_name
 use Rattle.std.proofs.lemmas.Bool.{both_ways, cases_Bool, cases_eq, ne_eqb}
-use Rattle.std.proofs.lemmas.List.{map-append, append-nil}
+use Rattle.std.proofs.lemmas.List.{map-append, append-nil, drop_more, drop-map}
+use Rattle.std.proofs.lemmas.List.Elements.{All-append, All-from_recursion}
+use Rattle.std.specs.List.{AllByRecursion}
+use Rattle.bib_syntax.specs.Views.{entry_of}
+use Rattle.bib_syntax.specs.declared.raw.RawEntry.{RawEntry}
 use Rattle.std.specs.Str.{chars}
 use Rattle.std.specs.Option.{option_map_or}
 use Rattle.bib_syntax.specs.declared.raw.ParseError.{ParseError}
@@ -143,3 +147,19 @@ faithful_more had (pair ∷ pairs) name other place is =
       | inl same ↦ rw same (cond_true (bytes_eq name other) had (is ∙ rw same refl))
       | inr apart ↦ rw apart (faithful_more had pairs name other place (rw apart at is))
     ]
+
+-- the entries that are left at an index
+pub entries_left : (raws : List (Spanned RawEntry)) (i : ℕ) (x : Spanned RawEntry) → i < length raws → x ≡ get_or raws i x → drop i (map entry_of raws) ≡ entry_of x ∷ drop (i + 1) (map entry_of raws)
+entries_left raws i x within is =
+    drop-map entry_of i raws ∙ ap (map entry_of) (drop_more raws i x within ∙ ap (λ y. y ∷ drop (i + 1) raws) (sym is)) ∙ ap (λ rest. entry_of x ∷ rest) (sym (drop-map entry_of (i + 1) raws))
+
+each_for : (next place : ℕ) (names : List (List ℕ)) → place < next → AllByRecursion (λ claim. claim.1 < next) (claims_for place names)
+each_for next place [] within = tt
+each_for next place (name ∷ names) within = (within, each_for next place names within)
+
+all_for : (next place : ℕ) (names : List (List ℕ)) → place < next → All (λ claim. claim.1 < next) (claims_for place names)
+all_for next place names within = All-from_recursion (λ claim. claim.1 < next) (claims_for place names) (each_for next place names within)
+
+-- claims for the last entry are for one of the entries
+pub claims_below : (count next place : ℕ) (pairs : List (List ℕ × ℕ)) (names : List (List ℕ)) → count ≤ next → place < next → All (λ claim. claim.1 < count) pairs → All (λ claim. claim.1 < next) (pairs ++ claims_for place names)
+claims_below count next place pairs names more within below = All-append (λ claim. claim.1 < next) pairs (claims_for place names) (λ k d inside. omega (arith, below k d inside, more)) (all_for next place names within)

@@ -1,6 +1,7 @@
 -- What is read of raw entries is what the file says of them.
 use Rattle.std.proofs.Common.{◌≡◌, ℕ, ◌+◌, ◌<◌, Bool, true, false, List, [], ◌∷◌, ◌++◌, length, drop, map, get_or, refl, sym, ap, ◌∙◌, subst, Option, None, Some, MatchOption, cond, inl, inr}
 use Rattle.std.specs.Prelude.{reverse, find, bytes_eq, option_map}
+use mathlib.Core.List.{reverse_aux}
 use Rattle.std.specs.FinMap as by_name
 use Rattle.std.proofs.lemmas.Bool.{cases_Bool}
 use Rattle.std.proofs.lemmas.List.{map-append}
@@ -27,9 +28,12 @@ find_map test f (x ∷ xs) =
       | inr other ↦ rw other (find_map test f xs)
     ]
 
+turned_map : {A B : Type 0} (f : A → B) (xs ys : List A) → reverse_aux (map f xs) (map f ys) ≡ map f (reverse_aux xs ys)
+turned_map f [] ys = refl
+turned_map f (x ∷ xs) ys = turned_map f xs (x ∷ ys)
+
 reverse_map : {A B : Type 0} (f : A → B) (xs : List A) → reverse (map f xs) ≡ map f (reverse xs)
-reverse_map f [] = refl
-reverse_map f (x ∷ xs) = ?
+reverse_map f xs = turned_map f xs []
 
 found_map : {A B C : Type 0} (g : B → C) (f : A → B) (o : Option A) → option_map g (option_map f o) ≡ option_map (λ x. g (f x)) o
 found_map g f None = refl

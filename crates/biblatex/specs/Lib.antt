@@ -7,6 +7,7 @@ pub mod Lists
 pub mod Loaded
 pub mod Loading
 pub mod Names
+pub mod Reading
 pub mod SameLibrary
 pub mod Sorted
 pub mod Syntax

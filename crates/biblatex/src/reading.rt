@@ -4,6 +4,7 @@ ghost use Rattle.std.specs.Prelude.{All, ◌≡◌, ◌⊎◌, ◌<◌, ◌++◌
 ghost use Rattle.std.specs.BTreeSet.{contains_text};
 ghost use Rattle.bib_syntax.specs.Faults.{out_of_memory};
 ghost use Rattle.bib_syntax.specs.Views.{file_of};
+ghost use Rattle.bib_syntax.specs.declared.raw.ParseErrorKind.TheVariants.{DuplicateKey};
 ghost use Rattle.biblatex.specs.Claiming.{IsFaithful, IsLoadedSoFar, claimed_names};
 ghost use Rattle.biblatex.specs.Library.{claims};
 ghost use Rattle.biblatex.specs.Loaded.{IsAccepted, IsFaultOf};
@@ -63,7 +64,9 @@ impl Claimed {
 }
 
 // The fault of a key that an earlier entry claimed.
-fn duplicate(alloc: Global, raw: &Spanned<RawEntry<'_>>) -> Result<ParseError, AllocError> {
+fn duplicate(alloc: Global, raw: &Spanned<RawEntry<'_>>) -> Result<ParseError, AllocError>
+    ensures { IfOk result (λ e. e ≡ record { span = raw.now.span; kind = DuplicateKey raw.now.v.key.v.now }) }
+{
     let key = Text::from_str(alloc, raw.v.key.v)?;
     Ok(ParseError {
         span: raw.span.start..raw.span.end,

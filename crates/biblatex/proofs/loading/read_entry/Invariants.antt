@@ -1,0 +1,12 @@
+use Rattle.std.proofs.Common.{◌≡◌, take}
+use Rattle.std.specs.List.{AllZip}
+use Rattle.bib_syntax.specs.Abbreviations.{defined_in}
+use Rattle.biblatex.proofs.LoadingFacts.{IsRead}
+use Rattle.biblatex.proofs.loading.read_entry.Given as goal
+
+-- the fields so far are read
+abbrev pub invariant-fields : goal.invariant-fields
+invariant-fields l = record {
+  fields : l.field-items ≡ l.raw.fields.items;
+  read : AllZip (IsRead (defined_in l.definitions)) (take l.field-index l.field-items) l.pairs.items;
+}
