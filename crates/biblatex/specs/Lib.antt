@@ -1,3 +1,4 @@
+pub mod Claims
 pub mod Joining
 pub mod Keys
 pub mod Lending

@@ -61,6 +61,14 @@ impl Names {
         }
     }
 
+    // The names of sorted pairs. Takes no memory.
+    pub fn from_sorted(pairs: Vec<(Text, usize)>) -> Self
+        requires { IsSorted pairs.items }
+        ensures { result ≡ map_of pairs.items }
+    {
+        Names { pairs }
+    }
+
     // The names with these claims, one after another: a name points where its last claim says. Sorts once.
     pub fn from_claims(claims: Vec<(Text, usize)>) -> Result<Self, AllocError>
         ensures { IfOk result (λ names. names ≡ claimed map.empty claims.items) }
