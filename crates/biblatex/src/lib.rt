@@ -21,6 +21,7 @@ pub use bib_syntax::raw::{
     BiblatexParser, Field, Pair, ParseError, ParseErrorKind, RawBibliography, RawChunk, RawEntry,
     Token, is_id_continue, is_id_start, is_key,
 };
+pub use bib_syntax::resolve::{is_escapable, is_verbatim_field, parse_field};
 pub use bib_tables::mechanics::{AuthorMode, EntryType, PagesChapterMode, Requirements};
 pub use bibliography::{Bibliography, InsertError, Keys};
 pub use entry::{Entry, SetError};
