@@ -1,5 +1,5 @@
 -- What a file's entries are as entries of a bibliography, and the first fault if they can't be.
-use Rattle.std.specs.Prelude.{◌≡◌, ◌⊎◌, ℕ, List, [], ◌∷◌, ◌++◌, map, reverse, find, bytes_eq, option_map, Option, Some, None, MatchOption}
+use Rattle.std.specs.Prelude.{◌≡◌, ℕ, List, [], ◌∷◌, map, reverse, find, bytes_eq, option_map, Option, Some, None, MatchOption}
 use Rattle.std.specs.Char.{to_ascii_lowercase}
 use Rattle.std.specs.FinMap as by_name
 use Rattle.bib_chunks.specs.Styled.{styled}
@@ -10,11 +10,9 @@ use Rattle.bib_syntax.specs.Reading.{Piece}
 use Rattle.bib_syntax.specs.Views.{piece_of}
 use Rattle.bib_syntax.specs.declared.raw.Pair.{Pair}
 use Rattle.bib_syntax.specs.declared.raw.ParseError.{ParseError}
-use Rattle.bib_syntax.specs.declared.raw.ParseErrorKind.TheVariants.{DuplicateKey}
 use Rattle.bib_syntax.specs.declared.raw.RawEntry.{RawEntry}
 use Rattle.bib_tables.specs.EntryType.{entry_type_of}
 use Rattle.biblatex.specs.declared.entry.Entry.{Entry}
-use Rattle.biblatex.specs.Library.{Library, claims, appended, nothing}
 
 -- the elements of a value
 abbrev pub pieces_of : Pair → List Piece
@@ -59,38 +57,3 @@ pub data IsFieldsFault (definitions : Definitions) : List Pair → ParseError �
       → (IsFieldReadable definitions p → ⊥) → IsFieldsFault definitions (p ∷ rest) e
   behind : {p : Pair} {rest : List Pair} {e : ParseError} → IsFieldReadable definitions p → IsFieldsFault definitions rest e
       → IsFieldsFault definitions (p ∷ rest) e
-
--- a name is among these
-abbrev pub IsAmong : List (List ℕ) → List ℕ → Type 0
-IsAmong [] name = ⊥
-IsAmong (one ∷ rest) name = (one ≡ name) ⊎ IsAmong rest name
-
--- entries are read from raw ones in order, behind claims of earlier ones: no key is a name that was claimed before
-pub data AreEntriesOf (definitions : Definitions) : List (List ℕ) → List (Spanned RawEntry) → List Entry → Type 0 where
-  none : {claimed : List (List ℕ)} → AreEntriesOf definitions claimed [] []
-  next : {claimed : List (List ℕ)} {raw : Spanned RawEntry} {rest : List (Spanned RawEntry)} {entry : Entry} {entries : List Entry}
-      → (IsAmong claimed raw.v.key.v.now → ⊥) → IsEntryOf definitions raw.v entry
-      → AreEntriesOf definitions (claimed ++ claims entry) rest entries
-      → AreEntriesOf definitions claimed (raw ∷ rest) (entry ∷ entries)
-
--- the first fault of raw entries in order, behind claims of earlier ones: a key that was claimed before, and then a
--- field that can't be read
-pub data IsEntriesFault (definitions : Definitions) : List (List ℕ) → List (Spanned RawEntry) → ParseError → Type 0 where
-  duplicate : {claimed : List (List ℕ)} {raw : Spanned RawEntry} {rest : List (Spanned RawEntry)} {e : ParseError}
-      → IsAmong claimed raw.v.key.v.now → e ≡ record { span = raw.span; kind = DuplicateKey raw.v.key.v.now }
-      → IsEntriesFault definitions claimed (raw ∷ rest) e
-  unreadable : {claimed : List (List ℕ)} {raw : Spanned RawEntry} {rest : List (Spanned RawEntry)} {e : ParseError}
-      → (IsAmong claimed raw.v.key.v.now → ⊥) → IsFieldsFault definitions raw.v.fields.items e
-      → IsEntriesFault definitions claimed (raw ∷ rest) e
-  behind : {claimed : List (List ℕ)} {raw : Spanned RawEntry} {rest : List (Spanned RawEntry)} {entry : Entry} {e : ParseError}
-      → (IsAmong claimed raw.v.key.v.now → ⊥) → IsEntryOf definitions raw.v entry
-      → IsEntriesFault definitions (claimed ++ claims entry) rest e
-      → IsEntriesFault definitions claimed (raw ∷ rest) e
-
--- entries one behind another, each with the names that it claims
-abbrev pub loaded_behind : Library → List Entry → Library
-loaded_behind library [] = library
-loaded_behind library (entry ∷ entries) = loaded_behind (appended library entry) entries
-
-abbrev pub loaded : List Entry → Library
-loaded = loaded_behind nothing
