@@ -1,6 +1,6 @@
 -- Facts on what a file says as a bibliography.
-use Rattle.std.proofs.Common.{◌≡◌, ℕ, suc, ◌+◌, ◌<◌, ◌≤◌, Bool, true, false, List, [], ◌∷◌, ◌++◌, length, drop, map, get_or, refl, sym, ap, ◌∙◌, subst, arith, append_assoc, length-append, inl, inr, Option, None, Some, MatchOption, cond, ◌&&◌}
-use Rattle.std.specs.Prelude.{reverse, find, bytes_eq, option_map, codes, ◌==◌, All}
+use Rattle.std.proofs.Common.{◌≡◌, ℕ, ◌+◌, ◌<◌, ◌≤◌, Bool, true, false, List, [], ◌∷◌, ◌++◌, length, drop, map, get_or, refl, sym, ap, ◌∙◌, subst, arith, append_assoc, inl, inr, Option, None, Some, MatchOption, cond, ◌&&◌}
+use Rattle.std.specs.Prelude.{bytes_eq, codes, ◌==◌, All}
 use Rattle.std.specs.FinMap as by_name
 use Rattle.std.proofs.lemmas.Bool.{both_ways, cases_Bool, cases_eq, ne_eqb}
 use Rattle.std.proofs.lemmas.List.{map-append, append-nil, drop_more, drop-map}
@@ -14,13 +14,13 @@ use Rattle.bib_syntax.specs.declared.raw.ParseError.{ParseError}
 use Rattle.bib_chunks.specs.Styled.{Atom, styled}
 use Rattle.bib_chunks.specs.declared.chunk.Chunk.{Chunk}
 use Rattle.bib_chunks.specs.declared.chunk.Spanned.{Spanned}
-use Rattle.bib_syntax.specs.Abbreviations.{Definitions, Evaluates, IsReadable, IsFirstFault}
+use Rattle.bib_syntax.specs.Abbreviations.{Definitions, Evaluates}
 use Rattle.bib_syntax.specs.Reading.{Piece, FieldReading, EntryReading}
 use Rattle.bib_syntax.proofs.ContentFacts.{read_same}
 use Rattle.biblatex.specs.declared.entry.Entry.{Entry}
 use Rattle.biblatex.specs.Library.{Library, claims, aliases, appended, nothing}
 use Rattle.biblatex.specs.Lists.{comma_texts}
-use Rattle.biblatex.specs.Loaded.{CanBeRead, AllCanBeRead, IsEntry, AreEntries, IsFaultOfFields, IsFaultOfEntries, Says, field_in, is_claimed, loaded_behind}
+use Rattle.biblatex.specs.Loaded.{AllCanBeRead, IsEntry, AreEntries, IsFaultOfFields, IsFaultOfEntries, Says, field_in, is_claimed, loaded_behind}
 use Rattle.biblatex.specs.Names.{claimed, claims_for}
 use Rattle.biblatex.specs.Sorted.{ByText}
 use Rattle.biblatex.specs.Claiming.{claimed_names}

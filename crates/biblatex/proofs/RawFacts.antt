@@ -1,22 +1,19 @@
 -- What is read of raw entries is what the file says of them.
-use Rattle.std.proofs.Common.{◌≡◌, ℕ, ◌+◌, ◌<◌, Bool, true, false, List, [], ◌∷◌, ◌++◌, length, drop, map, get_or, refl, sym, ap, ◌∙◌, subst, Option, None, Some, MatchOption, cond, inl, inr}
+use Rattle.std.proofs.Common.{◌≡◌, ℕ, Bool, List, [], ◌∷◌, map, refl, sym, ap, ◌∙◌, subst, Option, None, Some, MatchOption, inl, inr}
 use Rattle.std.specs.Prelude.{reverse, find, bytes_eq, option_map}
 use mathlib.Core.List.{reverse_aux}
 use Rattle.std.specs.FinMap as by_name
 use Rattle.std.proofs.lemmas.Bool.{cases_Bool}
-use Rattle.std.proofs.lemmas.List.{map-append}
-use Rattle.std.specs.HashMap.{HashMap}
 use Rattle.bib_chunks.specs.declared.chunk.Chunk.{Chunk}
 use Rattle.bib_chunks.specs.declared.chunk.Spanned.{Spanned}
 use Rattle.bib_syntax.specs.Abbreviations.{Definitions}
-use Rattle.bib_syntax.specs.Reading.{Piece, FieldReading, EntryReading}
-use Rattle.bib_syntax.specs.Views.{field_of, entry_of, file_of}
+use Rattle.bib_syntax.specs.Reading.{FieldReading}
+use Rattle.bib_syntax.specs.Views.{field_of, entry_of}
 use Rattle.bib_syntax.specs.declared.raw.Pair.{Pair}
 use Rattle.bib_syntax.specs.declared.raw.RawEntry.{RawEntry}
-use Rattle.bib_syntax.specs.declared.raw.RawBibliography.{RawBibliography}
 use Rattle.bib_syntax.specs.declared.raw.ParseError.{ParseError}
 use Rattle.biblatex.specs.declared.entry.Entry.{Entry}
-use Rattle.biblatex.specs.Loading.{IsEntryOf, IsFieldsFault, AreReadable, IsFieldOf, last_definition, last_field, pieces_of, field_name}
+use Rattle.biblatex.specs.Loading.{IsEntryOf, IsFieldsFault, AreReadable, IsFieldOf, last_definition, last_field}
 use Rattle.biblatex.specs.Loaded.{IsEntry, IsFaultOfFields, AllCanBeRead, Says, definition_in, field_in, name_of}
 
 -- finding goes through what each element is taken for
@@ -43,9 +40,9 @@ found_map g f (Some x) = refl
 pub definition_same : (pairs : List Pair) (name : List ℕ) → last_definition pairs name ≡ definition_in (map field_of pairs) name
 definition_same pairs name =
     sym (
-      ap (λ fs. option_map (λ (f : FieldReading). f.value.pieces) (find (λ f. bytes_eq name f.name.text) fs)) (reverse_map field_of pairs)
-      ∙ ap (option_map (λ (f : FieldReading). f.value.pieces)) (find_map (λ f. bytes_eq name f.name.text) field_of (reverse pairs))
-      ∙ found_map (λ (f : FieldReading). f.value.pieces) field_of (find (λ p. bytes_eq name p.key.v.now) (reverse pairs))
+    ap (λ fs. option_map (λ (f : FieldReading). f.value.pieces) (find (λ f. bytes_eq name f.name.text) fs)) (reverse_map field_of pairs)
+    ∙ ap (option_map (λ (f : FieldReading). f.value.pieces)) (find_map (λ f. bytes_eq name f.name.text) field_of (reverse pairs))
+    ∙ found_map (λ (f : FieldReading). f.value.pieces) field_of (find (λ p. bytes_eq name p.key.v.now) (reverse pairs))
     )
 
 -- two definitions that agree on each name are one
@@ -75,6 +72,6 @@ entry_same {definitions} {raw} {entry} read = record {
       let found : field_in (map field_of raw.v.fields.items) name ≡ option_map field_of (last_field raw.v.fields.items name) =
       ap (find (λ f. bytes_eq name (name_of f))) (reverse_map field_of raw.v.fields.items) ∙ find_map (λ f. bytes_eq name (name_of f)) field_of (reverse raw.v.fields.items) in
       subst (λ o. MatchOption o (by_name.get entry.fields name ≡ None) (λ f. (chunks : List (Spanned Chunk)) × (by_name.get entry.fields name ≡ Some chunks) × Says definitions f chunks)) (sym found)
-          (field_same definitions (last_field raw.v.fields.items name) (by_name.get entry.fields name) (read.fields name));
+      (field_same definitions (last_field raw.v.fields.items name) (by_name.get entry.fields name) (read.fields name));
   readable = readable_same definitions raw.v.fields.items read.readable;
 }

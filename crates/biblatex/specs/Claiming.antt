@@ -1,11 +1,10 @@
 -- Names that entries claim as they are read: words of private contracts.
-use Rattle.std.specs.Prelude.{◌≡◌, ℕ, List, [], map, bytes_eq}
+use Rattle.std.specs.Prelude.{◌≡◌, ℕ, List, [], map}
 use Rattle.std.specs.BTreeSet.{contains_text}
 use Rattle.std.specs.FinMap as by_name
 use Rattle.bib_syntax.specs.Reading.{FileReading}
 use Rattle.biblatex.specs.declared.entry.Entry.{Entry}
 use Rattle.biblatex.specs.declared.reading.Claimed.{Claimed}
-use Rattle.biblatex.specs.Library.{Library}
 use Rattle.biblatex.specs.Loaded.{AreEntries, definition_in, is_claimed, loaded_behind}
 use Rattle.biblatex.specs.Library.{nothing}
 use Rattle.biblatex.specs.Names.{claimed}

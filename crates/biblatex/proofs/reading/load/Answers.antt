@@ -1,15 +1,14 @@
-use Rattle.std.proofs.Common.{◌≡◌, ◌∷◌, ◌++◌, ◌+◌, ◌<◌, [], ap, sym, ◌∙◌, refl, subst, inl, inr, map, drop, length, get_or, List, ℕ, arith, true, false, rules, length-append, All}
-use Rattle.std.proofs.lemmas.List.{drop_more, drop-map, drop_all}
+use Rattle.std.proofs.Common.{◌≡◌, ◌∷◌, ◌++◌, ◌+◌, ◌<◌, [], ap, sym, ◌∙◌, subst, inl, inr, map, drop, length, arith, true, false, rules, length-append, All}
+use Rattle.std.proofs.lemmas.List.{drop-map, drop_all}
 use Rattle.std.proofs.lemmas.Result.{err_from_is_err_and}
 use Rattle.bib_syntax.specs.Abbreviations.{defined_in}
-use Rattle.bib_syntax.specs.Views.{file_of, entry_of, field_of}
-use Rattle.bib_syntax.specs.Reading.{EntryReading}
+use Rattle.bib_syntax.specs.Views.{entry_of, field_of}
 use Rattle.biblatex.specs.Loading.{last_definition}
 use Rattle.biblatex.specs.Claiming.{claimed_names}
 use Rattle.biblatex.specs.Library.{claims}
 use Rattle.biblatex.specs.Names.{claims_for}
 use Rattle.biblatex.specs.Loaded.{IsFaultOfEntries, definition_in, is_claimed}
-use Rattle.biblatex.proofs.LoadedFacts.{loaded_next, loaded_all, LoadedSoFar, entries_left, claims_below}
+use Rattle.biblatex.proofs.LoadedFacts.{loaded_next, loaded_all, entries_left, claims_below}
 use Rattle.biblatex.proofs.RawFacts.{definition_same, definitions_same, entry_same, fault_same}
 use Rattle.biblatex.proofs.reading.load.Goals as goal
 

@@ -1,5 +1,5 @@
 use Rattle.std.proofs.Common.{◌<◌, length, drop, All, map}
-use Rattle.bib_syntax.specs.Views.{file_of, entry_of, field_of}
+use Rattle.bib_syntax.specs.Views.{entry_of, field_of}
 use Rattle.biblatex.specs.Claiming.{IsFaithful}
 use Rattle.biblatex.specs.Loaded.{definition_in}
 use Rattle.biblatex.proofs.LoadedFacts.{LoadedSoFar}
