@@ -6,6 +6,8 @@ mod chunks;
 #[cfg(test)]
 mod contents;
 #[cfg(test)]
+mod library;
+#[cfg(test)]
 mod raw;
 #[cfg(test)]
 mod scanner;
