@@ -54,7 +54,7 @@ impl<V> TextMap<V> {
     }
 
     // The allocator that the map takes memory from.
-    pub fn allocator(&self) -> Global {
+    pub(crate) fn allocator(&self) -> Global {
         *self.pairs.allocator()
     }
 
