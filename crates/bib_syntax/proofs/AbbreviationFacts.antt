@@ -1,14 +1,22 @@
 -- What pieces say, their first faults, and whether they can be read.
-use Rattle.std.proofs.Common.{◌≡◌, ℕ, suc, zero, ◌+◌, ◌<◌, ◌≤◌, Bool, List, [], ◌∷◌, refl, sym, ap, ◌∙◌, subst, inl, inr, arith, Some, None, Result, Ok, Err}
+use Rattle.std.proofs.Common.{◌≡◌, ℕ, suc, zero, ◌+◌, ◌<◌, ◌≤◌, List, [], ◌∷◌, refl, sym, ap, ◌∙◌, subst, inl, inr, arith, Some, None, Result, Ok, Err}
 use Rattle.std.specs.Prelude.{◌⊎◌, IfOk, IfErr, OnOk}
+use Rattle.std.specs.Prelude.{bytes_eq, if◌then◌else◌, option_map, Bool, true, false, map}
+use Rattle.std.specs.Borrow.{Bor}
+use Rattle.std.specs.BTreeMap.{BTreeMap}
+use Rattle.std.specs.Global.{Vec}
+use Rattle.std.specs.Map.{lookup}
 use Rattle.std.specs.Str.{chars}
+use Rattle.bib_chunks.specs.declared.chunk.Spanned.{Spanned}
+use Rattle.bib_syntax.specs.declared.raw.RawChunk.{RawChunk}
+use Rattle.bib_syntax.specs.Views.{piece_of}
 use Rattle.bib_chunks.specs.Styled.{Atom}
 use Rattle.bib_syntax.specs.declared.raw.ParseError.{ParseError}
 use Rattle.bib_syntax.specs.Contents.{IsContent}
 use Rattle.bib_syntax.specs.Faults.{out_of_memory}
 use Rattle.bib_syntax.specs.Reading.{Part, Piece}
 use Rattle.bib_syntax.specs.Reading.Piece.{literal, abbreviation}
-use Rattle.bib_syntax.specs.Abbreviations.{Definitions, month, HoldsName, Reaches, IsKnown, AreRead, IsReadable, Evaluates, IsOnPath, IsFirstFault}
+use Rattle.bib_syntax.specs.Abbreviations.{Definitions, month, HoldsName, Reaches, IsKnown, AreRead, IsReadable, Evaluates, IsOnPath, IsFirstFault, definition_among, given_by, pairs_in, sorted_in}
 use Rattle.bib_syntax.specs.Abbreviations.{Reaches as reaches, Evaluates as evaluates, IsFirstFault as first_fault}
 
 -- how many steps it takes to say what pieces say
@@ -198,3 +206,34 @@ refused_not_readable definitions is_verbatim same_rule field (Ok x) same refused
 refused_not_readable definitions is_verbatim same_rule field (Err e) same (inl memory) = inl memory
 refused_not_readable definitions is_verbatim same_rule field (Err e) same (inr fault) =
     let moved = subst (λ v. IsFirstFault definitions v [] field e) same fault in inr (moved, not_readable moved)
+
+-- definitions that are the same at each name
+pub definitions_same : {one two : Definitions} → ((name : List ℕ) → one name ≡ two name) → one ≡ two
+definitions_same same = λ i. λ name. same name i
+
+-- the definitions of a sorted map are those of its pairs
+given_among : (es : List (Bor (List ℕ) × Bor (Vec (Spanned RawChunk)))) (name : List ℕ)
+    → definition_among es name ≡ given_by (map (λ e. (e.0.now, map piece_of e.1.now.items)) es) name
+given_among [] name = refl
+given_among (e ∷ es) name =
+    elim (bytes_eq name e.0.now) as (λ b. option_map (λ (f : Bor (Vec (Spanned RawChunk))). map piece_of f.now.items) (if b then Some e.1 else lookup (λ key. bytes_eq name key.now) es)
+    ≡ (if b then Some (map piece_of e.1.now.items) else given_by (map (λ e. (e.0.now, map piece_of e.1.now.items)) es) name)) [
+      | true ↦ refl
+      | false ↦ given_among es name
+    ]
+
+pub sorted_given : (m : BTreeMap (Bor (List ℕ)) (Bor (Vec (Spanned RawChunk)))) → sorted_in m ≡ given_by (pairs_in m)
+sorted_given m = definitions_same (given_among m.entries)
+
+-- what was read with definitions that are the same, by a rule that is the same, and what was refused
+pub read_same_rule : {T E : Type 0} (definitions same_definitions : Definitions) (is_verbatim same_rule : Bool) (field : List Piece) (said : T → List Atom) (r : Result T E)
+    → definitions ≡ same_definitions → is_verbatim ≡ same_rule
+    → IfOk r (λ x. Evaluates definitions is_verbatim field (said x)) → IfOk r (λ x. Evaluates same_definitions same_rule field (said x))
+read_same_rule definitions same_definitions is_verbatim same_rule field said r same rule read =
+    subst (λ v. IfOk r (λ x. Evaluates same_definitions v field (said x))) rule (subst (λ d. IfOk r (λ x. Evaluates d is_verbatim field (said x))) same read)
+
+pub refused_same_rule : {T : Type 0} (definitions same_definitions : Definitions) (is_verbatim : Bool) (field : List Piece) (r : Result T ParseError) → definitions ≡ same_definitions
+    → IfErr r (λ e. (e ≡ out_of_memory) ⊎ IsFirstFault definitions is_verbatim [] field e)
+    → IfErr r (λ e. (e ≡ out_of_memory) ⊎ IsFirstFault same_definitions is_verbatim [] field e)
+refused_same_rule definitions same_definitions is_verbatim field r same refused =
+    subst (λ d. IfErr r (λ e. (e ≡ out_of_memory) ⊎ IsFirstFault d is_verbatim [] field e)) same refused

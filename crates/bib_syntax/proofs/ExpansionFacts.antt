@@ -1,14 +1,14 @@
 -- How names are expanded, each once.
-use Rattle.std.proofs.Common.{◌≡◌, ℕ, suc, ◌+◌, ◌-◌, ◌<◌, ◌≤◌, Bool, true, false, List, [], ◌∷◌, ◌++◌, map, length, take, drop, refl, sym, ap, ◌∙◌, subst, append_assoc, append-nil, inl, inr, arith, Option, Some, None, length-append, length-drop, reverse, get_or}
+use Rattle.std.proofs.Common.{◌≡◌, ℕ, suc, ◌+◌, ◌-◌, ◌<◌, ◌≤◌, Bool, true, false, List, [], ◌∷◌, ◌++◌, map, length, take, drop, refl, sym, ap, ap₂, ◌∙◌, subst, append_assoc, append-nil, inl, inr, arith, Option, Some, None, length-append, length-drop, reverse, get_or}
 use Rattle.std.specs.Prelude.{◌⊎◌, if◌then◌else◌, bytes_eq, is_some, min, ◌^◌}
 use Rattle.std.specs.BTreeMap as tree
 use Rattle.std.specs.Borrow.{Bor}
 use Rattle.std.specs.Cmp.Lexicographic.{slice_cmp}
 use Rattle.std.specs.Ordering.{nat_cmp}
 use Rattle.std.proofs.lemmas.Bool.{false≢true}
+use Rattle.std.proofs.lemmas.Map.Text.{is_eq-slice_cmp}
 use Rattle.std.proofs.lemmas.Slice.Eq.{bytes_eq-Decides}
 use Rattle.std.specs.Global.{Vec}
-use Rattle.std.specs.HashMap.{HashMap, get_by}
 use Rattle.std.specs.Map.{lookup}
 use Rattle.std.specs.Option.{option_map}
 use Rattle.std.specs.Str.{chars}
@@ -22,6 +22,8 @@ use Rattle.bib_syntax.specs.declared.raw.RawChunk.{RawChunk}
 use Rattle.bib_syntax.specs.declared.raw.RawChunk.TheVariants.{Normal as RawText}
 use Rattle.bib_syntax.specs.declared.resolve.abbreviations.Frame.{Frame}
 use Rattle.bib_syntax.specs.declared.resolve.abbreviations.Memo.{Memo}
+use Rattle.bib_syntax.specs.declared.resolve.definitions.LookUp.{LookUp}
+use Rattle.bib_syntax.specs.declared.resolve.definitions.LookUp.TheVariants.{Hashed, Sorted}
 use Rattle.bib_syntax.specs.declared.resolve.abbreviations.Progress.{Progress}
 use Rattle.bib_syntax.specs.declared.resolve.abbreviations.Progress.TheVariants.{Begun, Done}
 use Rattle.bib_syntax.specs.Contents.{IsContent, IsUnread}
@@ -29,20 +31,11 @@ use Rattle.bib_syntax.specs.Faults.{out_of_memory}
 use Rattle.bib_syntax.specs.Joined.{AreJoined, ArePlaced}
 use Rattle.bib_syntax.specs.Reading.{Part, Piece}
 use Rattle.bib_syntax.specs.Reading.Piece.{literal, abbreviation}
-use Rattle.bib_syntax.specs.Abbreviations.{Definitions, month, Evaluates, IsOnPath, IsFirstFault, defined_in}
+use Rattle.bib_syntax.specs.Abbreviations.{Definitions, month, Evaluates, IsOnPath, IsFirstFault, definition_among}
 use Rattle.bib_syntax.specs.Abbreviations.{Evaluates as evaluates, IsFirstFault as first_fault}
-use Rattle.bib_syntax.specs.Expanding.{progress, noted, chunks_between, AreWithin, IsValue, IsSound, Expands, Opens}
+use Rattle.bib_syntax.specs.Expanding.{found_in, progress, noted, chunks_between, AreWithin, IsValue, IsSound, Expands, Opens}
 use Rattle.bib_syntax.specs.Views.{piece_of, piece_at}
 use Rattle.bib_syntax.proofs.JoinedFacts.{styled-append, placed_up}
-
--- what a map gives is the definition of a name
-pub defined_by : {S : Type 0} (m : HashMap (Bor (List ℕ)) (Bor (Vec (Spanned RawChunk))) S) (name : List ℕ) (field : Bor (Vec (Spanned RawChunk)))
-    → Some field ≡ get_by (λ key. bytes_eq name key.now) m → defined_in m name ≡ Some (map piece_of field.now.items)
-defined_by m name field is = ap (option_map (λ f. map piece_of f.now.items)) (sym is)
-
-pub not_defined_by : {S : Type 0} (m : HashMap (Bor (List ℕ)) (Bor (Vec (Spanned RawChunk))) S) (name : List ℕ)
-    → None ≡ get_by (λ key. bytes_eq name key.now) m → defined_in m name ≡ None
-not_defined_by m name is = ap (option_map (λ f. map piece_of f.now.items)) (sym is)
 
 module _ {definitions : Definitions} {is_verbatim : Bool} where
   evaluates_as : {pieces : List Piece} {atoms same : List Atom} → atoms ≡ same → Evaluates definitions is_verbatim pieces atoms
@@ -463,6 +456,20 @@ weight (frame ∷ frames) = suc (length frame.rest.now) + weight frames
 abbrev pub Entries : Type 0
 Entries = List (Bor (List ℕ) × Bor (Vec (Spanned RawChunk)))
 
+abbrev pub entries_of : LookUp → Entries
+entries_of (Hashed m) = m.now.entries
+entries_of (Sorted m) = m.now.entries
+
+-- what is looked up stands among the entries
+pub found_among : (l : LookUp) (name : List ℕ) → found_in l name ≡ definition_among (entries_of l) name
+found_among (Hashed m) name = refl
+found_among (Sorted m) name = refl
+
+-- a sorted map's query is a test of the bytes
+pub lookup_sorted : (name : List ℕ) (es : Entries) → lookup (tree.is_at (λ key. slice_cmp nat_cmp name key.now)) es ≡ lookup (λ key. bytes_eq name key.now) es
+lookup_sorted name [] = refl
+lookup_sorted name (e ∷ es) = ap₂ (λ b found. if b then Some e.1 else found) (is_eq-slice_cmp name e.0.now) (lookup_sorted name es)
+
 -- the elements of the definitions that were not met, and one for each
 abbrev pub unmet : (List ℕ → Bool) → Entries → ℕ
 unmet is_met [] = 0
@@ -525,34 +532,34 @@ now_met new old (inl x) = ap is_some x.1
 now_met new old (inr x) = absurd (x.1 refl)
 
 -- an element less is left once it was said
-pub less_said : {S : Type 0} (m : HashMap (Bor (List ℕ)) (Bor (Vec (Spanned RawChunk))) S) (new old : Memo) (left : List (Spanned RawChunk)) (piece : Spanned RawChunk)
+pub less_said : (l : LookUp) (new old : Memo) (left : List (Spanned RawChunk)) (piece : Spanned RawChunk)
     (rest : List (Spanned RawChunk)) (frames : List Frame) → new.names ≡ old.names → left ≡ piece ∷ rest
-    → suc (length rest) + weight frames + unmet (met_in new) m.entries < suc (length left) + weight frames + unmet (met_in old) m.entries
-less_said m new old left piece rest frames names split =
-    omega (arith, ap length split, unmet_falls (met_in old) (met_in new) (met_same new old names) m.entries)
+    → suc (length rest) + weight frames + unmet (met_in new) (entries_of l) < suc (length left) + weight frames + unmet (met_in old) (entries_of l)
+less_said l new old left piece rest frames names split =
+    omega (arith, ap length split, unmet_falls (met_in old) (met_in new) (met_same new old names) (entries_of l))
 
 -- less is left once the expansion of a name begins
-pub less_opened : {S : Type 0} (m : HashMap (Bor (List ℕ)) (Bor (Vec (Spanned RawChunk))) S) (new old : Memo) (left : List (Spanned RawChunk)) (piece : Spanned RawChunk)
-    (frame opened : Frame) (frames waiting : List Frame) (name : List ℕ) → Opens (defined_in m) old new name opened → left ≡ piece ∷ frame.rest.now → waiting ≡ frame ∷ frames
-    → suc (length opened.rest.now) + weight waiting + unmet (met_in new) m.entries < suc (length left) + weight frames + unmet (met_in old) m.entries
-less_opened m new old left piece frame opened frames waiting name opens split waits =
-    let field = field_of_entry _ _ opens.is in
+pub less_opened : (l : LookUp) (new old : Memo) (left : List (Spanned RawChunk)) (piece : Spanned RawChunk)
+    (frame opened : Frame) (frames waiting : List Frame) (name : List ℕ) → Opens (found_in l) old new name opened → left ≡ piece ∷ frame.rest.now → waiting ≡ frame ∷ frames
+    → suc (length opened.rest.now) + weight waiting + unmet (met_in new) (entries_of l) < suc (length left) + weight frames + unmet (met_in old) (entries_of l)
+less_opened l new old left piece frame opened frames waiting name opens split waits =
+    let field = field_of_entry _ _ (sym (found_among l name) ∙ opens.is) in
     let fresh : met_in old name ≡ false = ap is_some opens.fresh in
     let cases = noted_cases name name Begun (progress new) (progress old) opens.names in
     let keeps = λ (q : List ℕ) (met : met_in old q ≡ true). met_noted {name = name} {now = Begun} new old met (noted_cases name q Begun (progress new) (progress old) opens.names) in
     let met : met_in new name ≡ true = now_met new old cases in
-    let less = less_met (met_in old) (met_in new) name field.0 keeps fresh met m.entries field.1 in
+    let less = less_met (met_in old) (met_in new) name field.0 keeps fresh met (entries_of l) field.1 in
     let many : length field.0.now.items ≡ length opened.rest.now
     = sym (length-map field.0.now.items piece_of) ∙ ap length field.2 ∙ length-map opened.rest.now piece_of in
     omega (arith, ap length split, ap weight waits, less, many)
 
 -- less is left once the expansion of a name ends
-pub less_closed : {S : Type 0} (m : HashMap (Bor (List ℕ)) (Bor (Vec (Spanned RawChunk))) S) (new old : Memo) (left : List (Spanned RawChunk))
+pub less_closed : (l : LookUp) (new old : Memo) (left : List (Spanned RawChunk))
     (below : Frame) (frames waiting : List Frame) (name : List ℕ) (now : Progress) → waiting ≡ below ∷ frames → ((other : List ℕ) → progress new other ≡ noted name now (progress old) other)
-    → suc (length below.rest.now) + weight frames + unmet (met_in new) m.entries < suc (length left) + weight waiting + unmet (met_in old) m.entries
-less_closed m new old left below frames waiting name now waits names =
+    → suc (length below.rest.now) + weight frames + unmet (met_in new) (entries_of l) < suc (length left) + weight waiting + unmet (met_in old) (entries_of l)
+less_closed l new old left below frames waiting name now waits names =
     let keeps = λ (q : List ℕ) (met : met_in old q ≡ true). met_noted {name = name} {now = now} new old met (noted_cases name q now (progress new) (progress old) names) in
-    omega (arith, ap weight waits, unmet_falls (met_in old) (met_in new) keeps m.entries)
+    omega (arith, ap weight waits, unmet_falls (met_in old) (met_in new) keeps (entries_of l))
 
 -- a fault of an element, or want of memory, is that of the first name
 pub expanding_refused : {definitions : Definitions} {is_verbatim : Bool} {base : List (Spanned Chunk)} {first : List ℕ} {memo : Memo} {frame : Frame} {frames : List Frame}
@@ -596,6 +603,11 @@ module _ {definitions : Definitions} {is_verbatim : Bool} where
     values = x.values ∙ ap (λ (v : Vec (Spanned Chunk)). v.items ++ x.more) opens.values;
     says = evaluates_as (append-nil (styled x.more)) (evaluates.defined opens.is x.says evaluates.none);
   }
+
+  -- what stands behind the chunks of before
+  pub said_behind : {old new : List (Spanned Chunk)} {pieces : List Piece} (x : Expands definitions is_verbatim old new pieces) (start : ℕ) (shown : List (Spanned Chunk))
+      → start ≡ length old → shown ≡ new → chunks_between start (length shown) shown ≡ x.more
+  said_behind {old} x start shown at same = between_all start shown ∙ ap (λ n. drop n shown) at ∙ ap (drop (length old)) (same ∙ x.values) ∙ all_behind old x.more
 
   pub fault_opened : {old : Memo} (mid : Memo) (p : Part) (frame : Frame) (e : ParseError) → Opens definitions old mid p.text frame
       → (e ≡ out_of_memory) ⊎ IsFirstFault definitions is_verbatim (frame.name.now ∷ []) (map piece_of frame.rest.now) e

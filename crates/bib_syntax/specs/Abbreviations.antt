@@ -6,7 +6,9 @@ use Rattle.std.specs.Option.{option_map}
 use Rattle.std.specs.Borrow.{Bor}
 use Rattle.std.specs.Str.{chars}
 use Rattle.std.specs.Global.{Vec}
-use Rattle.std.specs.HashMap.{HashMap, get_by}
+use Rattle.std.specs.BTreeMap.{BTreeMap}
+use Rattle.std.specs.HashMap.{HashMap}
+use Rattle.std.specs.Map.{lookup}
 use Rattle.bib_chunks.specs.declared.chunk.Spanned.{Spanned}
 use Rattle.bib_chunks.specs.Styled.{Atom}
 use Rattle.bib_syntax.specs.declared.raw.RawChunk.{RawChunk}
@@ -124,6 +126,21 @@ pub data IsFirstFault (definitions : Definitions) (is_verbatim : Bool) : List (L
       → Evaluates definitions is_verbatim (piece ∷ []) atoms → IsFirstFault definitions is_verbatim path rest e
       → IsFirstFault definitions is_verbatim path (piece ∷ rest) e
 
--- the definitions that a map holds
+-- the definition of a name among pairs of a name and a field
+abbrev pub definition_among : List (Bor (List ℕ) × Bor (Vec (Spanned RawChunk))) → Definitions
+definition_among pairs name = option_map (λ field. map piece_of field.now.items) (lookup (λ key. bytes_eq name key.now) pairs)
+
+-- the definitions that a map holds, and those that a sorted one holds
 abbrev pub defined_in : {S : Type 0} → HashMap (Bor (List ℕ)) (Bor (Vec (Spanned RawChunk))) S → Definitions
-defined_in m name = option_map (λ field. map piece_of field.now.items) (get_by (λ key. bytes_eq name key.now) m)
+defined_in m = definition_among m.entries
+
+abbrev pub sorted_in : BTreeMap (Bor (List ℕ)) (Bor (Vec (Spanned RawChunk))) → Definitions
+sorted_in m = definition_among m.entries
+
+-- the names that a sorted map defines, with what stands for them
+abbrev pub pairs_in : BTreeMap (Bor (List ℕ)) (Bor (Vec (Spanned RawChunk))) → List (List ℕ × List Piece)
+pairs_in m = map (λ e. (e.0.now, map piece_of e.1.now.items)) m.entries
+
+-- the definitions that these pairs give
+abbrev pub given_by : List (List ℕ × List Piece) → Definitions
+given_by pairs name = lookup (bytes_eq name) pairs

@@ -12,14 +12,21 @@ use Rattle.bib_syntax.specs.declared.resolve.abbreviations.Memo.{Memo}
 use Rattle.bib_syntax.specs.declared.resolve.abbreviations.Progress.{Progress}
 use Rattle.bib_syntax.specs.declared.resolve.abbreviations.Progress.TheVariants.{Begun, Done}
 use Rattle.bib_syntax.specs.declared.resolve.abbreviations.Source.{Source}
-use Rattle.bib_syntax.specs.Abbreviations.{Definitions, Evaluates, IsOnPath, defined_in}
+use Rattle.bib_syntax.specs.declared.resolve.definitions.LookUp.{LookUp}
+use Rattle.bib_syntax.specs.declared.resolve.definitions.LookUp.TheVariants.{Hashed, Sorted}
+use Rattle.bib_syntax.specs.Abbreviations.{Definitions, Evaluates, IsOnPath, defined_in, sorted_in}
 use Rattle.bib_syntax.specs.Reading.{Part, Piece}
 use Rattle.bib_syntax.specs.Reading.Piece.{abbreviation}
 use Rattle.bib_syntax.specs.Views.{piece_of}
 
+-- the definitions that are looked up
+abbrev pub found_in : LookUp → Definitions
+found_in (Hashed m) = defined_in m.now
+found_in (Sorted m) = sorted_in m.now
+
 -- the definitions that a field is expanded by
 abbrev pub known_to : Source → Definitions
-known_to source = defined_in source.definitions.now
+known_to source = found_in source.definitions
 
 -- how far the expansion of a name is, if it was met
 abbrev pub progress : Memo → List ℕ → Option Progress

@@ -16,13 +16,16 @@ mod characters;
 mod classes;
 mod commands;
 mod contents;
+mod definitions;
 mod growing;
 mod joining;
+mod reader;
 mod units;
 
 use crate::raw::{Field, ParseError};
 use abbreviations::field_contents;
 use bib_chunks::chunk::Chunks;
+pub use reader::FieldReader;
 use std::alloc::Global;
 use std::collections::HashMap;
 

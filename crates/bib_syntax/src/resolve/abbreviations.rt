@@ -15,6 +15,7 @@ ghost use Rattle.bib_syntax.specs.declared.resolve.abbreviations.Progress.TheVar
 
 use crate::raw::{Field, ParseError, ParseErrorKind, RawChunk, is_named};
 use crate::resolve::contents::contents;
+use crate::resolve::definitions::LookUp;
 use crate::resolve::joining::append_copies;
 use bib_chunks::chunk::{Chunk, Chunks, Span, Spanned};
 use bib_chunks::text::Text;
@@ -25,7 +26,7 @@ use std::collections::{BTreeMap, HashMap};
 pub(crate) fn field_contents<'a>(
     alloc: Global,
     is_verbatim: bool,
-    field: &'a Field<'a>,
+    field: &Field<'a>,
     definitions: &'a HashMap<&'a str, &'a Field<'a>>,
 ) -> Result<Chunks, ParseError>
     ensures read { IfOk result (λ chunks. Evaluates (defined_in definitions.now) is_verbatim (map piece_of field.now.items) (styled chunks)) }
@@ -35,22 +36,17 @@ pub(crate) fn field_contents<'a>(
 {
     let source = Source {
         alloc,
-        definitions,
+        definitions: LookUp::Hashed(definitions),
         is_verbatim,
     };
-    let mut memo = Memo::new(alloc);
-    let mut out = Chunks::new(alloc);
-    'pieces: for piece in field {
-        source.expand(&mut memo, &mut out, piece)?;
-    }
-    Ok(out)
+    source.field(&mut Memo::new(alloc), field)
 }
 
 // What a field is expanded by.
 #[derive(Clone, Copy)]
 pub(crate) struct Source<'a> {
     pub(crate) alloc: Global,
-    pub(crate) definitions: &'a HashMap<&'a str, &'a Field<'a>>,
+    pub(crate) definitions: LookUp<'a>,
     pub(crate) is_verbatim: bool,
 }
 
@@ -134,12 +130,44 @@ impl<'a> Memo<'a> {
 }
 
 impl<'a> Source<'a> {
+    // Reads the contents of a field.
+    pub(crate) fn field(self, memo: &mut Memo<'a>, field: &Field<'a>) -> Result<Chunks, ParseError>
+        requires sound { IsSound (known_to self) self.is_verbatim memo.old [] }
+        ensures read { IfOk result (λ chunks. Evaluates (known_to self.entry) self.entry.is_verbatim (map piece_of field.now.items) (styled chunks)) }
+        ensures sound { OnOk result (IsSound (known_to self.entry) self.entry.is_verbatim memo.new []) }
+        ensures refused { IfErr result (λ e. (e ≡ out_of_memory) ⊎ IsFirstFault (known_to self.entry) self.entry.is_verbatim [] (map piece_of field.now.items) e) }
+        ensures joined { IfOk result AreJoined }
+        ensures placed { (p : Part) → map piece_of field.now.items ≡ literal p ∷ [] → p.end ≡ p.start + length p.text → IfOk result (ArePlaced p.start p.end) }
+    {
+        let mut out = Chunks::new(self.alloc);
+        'pieces: for piece in field {
+            self.expand(memo, &mut out, piece)?;
+        }
+        Ok(out)
+    }
+
+    // Reads the contents of a field. At a fault the memo forgets what it has.
+    pub(crate) fn read(self, memo: &mut Memo<'a>, field: &Field<'a>) -> Result<Chunks, ParseError>
+        requires sound { IsSound (known_to self) self.is_verbatim memo.old [] }
+        ensures sound { IsSound (known_to self.entry) self.entry.is_verbatim memo.new [] }
+        ensures read { IfOk result (λ chunks. Evaluates (known_to self.entry) self.entry.is_verbatim (map piece_of field.now.items) (styled chunks)) }
+        ensures refused { IfErr result (λ e. (e ≡ out_of_memory) ⊎ IsFirstFault (known_to self.entry) self.entry.is_verbatim [] (map piece_of field.now.items) e) }
+        ensures joined { IfOk result AreJoined }
+        ensures placed { (p : Part) → map piece_of field.now.items ≡ literal p ∷ [] → p.end ≡ p.start + length p.text → IfOk result (ArePlaced p.start p.end) }
+    {
+        let read = self.field(memo, field);
+        if read.is_err() {
+            *memo = Memo::new(self.alloc);
+        }
+        read
+    }
+
     // Reads an element of a field, and appends what it says.
-    pub(crate) fn expand(
+    fn expand(
         self,
         memo: &mut Memo<'a>,
         out: &mut Chunks,
-        piece: &'a Spanned<RawChunk<'a>>,
+        piece: &Spanned<RawChunk<'a>>,
     ) -> Result<(), ParseError>
         requires sound { IsSound (known_to self) self.is_verbatim memo.old [] }
         ensures said { OnOk result ((atoms : List Atom) × Evaluates (known_to self.entry) self.entry.is_verbatim (piece_of piece.now ∷ []) atoms × (styled out.new ≡ styled out.old ++ atoms)) }
@@ -152,23 +180,30 @@ impl<'a> Source<'a> {
             contents(out, self.alloc, text, piece.span.start, self.is_verbatim)?;
             return Ok(());
         }
-        let start = memo.values.len();
-        self.say(memo, piece)?;
-        append_copies(out, &memo.values[start..])?;
-        Ok(())
+        self.expand_name(memo, out, piece)
     }
 
-    // Says an element of a field: what it says goes behind the chunks.
-    fn say(self, memo: &mut Memo<'a>, piece: &'a Spanned<RawChunk<'a>>) -> Result<(), ParseError>
+    // Appends what a name says. Chunks that stand in the memo already are not kept once more.
+    fn expand_name(
+        self,
+        memo: &mut Memo<'a>,
+        out: &mut Chunks,
+        piece: &Spanned<RawChunk<'a>>,
+    ) -> Result<(), ParseError>
         requires sound { IsSound (known_to self) self.is_verbatim memo.old [] }
-        ensures said { OnOk result (Expands (known_to self.entry) self.entry.is_verbatim memo.old.values.items memo.new.values.items (piece_of piece.now ∷ [])) }
+        ensures said { OnOk result ((atoms : List Atom) × Evaluates (known_to self.entry) self.entry.is_verbatim (piece_of piece.now ∷ []) atoms × (styled out.new ≡ styled out.old ++ atoms)) }
         ensures sound { OnOk result (IsSound (known_to self.entry) self.entry.is_verbatim memo.new []) }
+        ensures joined { OnOk result (AreJoined out.old → AreJoined out.new) }
         ensures refused { IfErr result (λ e. (e ≡ out_of_memory) ⊎ ((rest : List Piece) → IsFirstFault (known_to self.entry) self.entry.is_verbatim [] (piece_of piece.now ∷ rest) e)) }
     {
+        let start = memo.values.len();
         let Some(frame) = self.take(memo, piece)? else {
+            append_copies(out, &memo.values[start..])?;
+            memo.values.truncate(start);
             return Ok(());
         };
         self.run(memo, frame)?;
+        append_copies(out, &memo.values[start..])?;
         Ok(())
     }
 
@@ -204,7 +239,7 @@ impl<'a> Source<'a> {
     fn take(
         self,
         memo: &mut Memo<'a>,
-        piece: &'a Spanned<RawChunk<'a>>,
+        piece: &Spanned<RawChunk<'a>>,
     ) -> Result<Option<Frame<'a>>, ParseError>
         requires within { AreWithin memo.old }
         ensures taken { (path : List (List ℕ)) → IsSound (known_to self.entry) self.entry.is_verbatim memo.old path → IfOk result (Takes (known_to self.entry) self.entry.is_verbatim memo.old memo.new (piece_of piece.now)) }
@@ -268,7 +303,7 @@ impl<'a> Source<'a> {
         ensures refused { IfErr result (λ e. (e ≡ out_of_memory) ⊎ ((path : List (List ℕ)) (rest : List Piece) → IsFirstFault (known_to self.entry) self.entry.is_verbatim path (abbreviation (part_at name.now span.now) ∷ rest) e)) }
     {
         if let Some(definition) = self.definitions.get(name) {
-            return Ok(Some(memo.open(name, *definition)?));
+            return Ok(Some(memo.open(name, definition)?));
         }
         let Some(english) = month(name) else {
             return Err(ParseError {

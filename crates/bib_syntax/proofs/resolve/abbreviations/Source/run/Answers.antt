@@ -21,7 +21,7 @@ returns-in_default-pop-clause-sound c =
 pub frames-smaller-in_default : goal.frames-smaller-in_default
 frames-smaller-in_default c =
     let reversed = reversed_push c.frames.frames.items c.pop.new.self.items c.in-Some-pop.below c.in-Some-pop.ensures.items in
-    less_closed c.args.self.definitions.now c.close.new.self c.frames.memo c.frames.frame.rest.now c.in-Some-pop.below (reverse c.pop.new.self.items)
+    less_closed c.args.self.definitions c.close.new.self c.frames.memo c.frames.frame.rest.now c.in-Some-pop.below (reverse c.pop.new.self.items)
     (reverse c.frames.frames.items) c.frames.frame.name.now _ reversed c.in_ok-close.ensures.names
 
 pub frames-preserved-in_default : goal.frames-preserved-in_default
@@ -43,7 +43,7 @@ pub frames-smaller-in-Some-2 : goal.frames-smaller-in-Some-2
 frames-smaller-in-Some-2 c =
     let taken = rw c.in-Some-2.is at (c.in_ok-above.ensures.taken _ c.frames.invariant.sound) in
     let reversed = reversed_push c.push.new.self.items c.frames.frames.items _ c.in_ok-push.ensures.items in
-    less_opened c.args.self.definitions.now c.take.new.memo c.frames.memo c.frames.frame.rest.now c.in-Some.piece.now _ c.in-Some-2.above
+    less_opened c.args.self.definitions c.take.new.memo c.frames.memo c.frames.frame.rest.now c.in-Some.piece.now _ c.in-Some-2.above
     (reverse c.frames.frames.items) (reverse c.push.new.self.items) taken.0.text taken.2 c.in-Some.ensures.cases.0 reversed
 
 pub frames-preserved-in-Some-2 : goal.frames-preserved-in-Some-2

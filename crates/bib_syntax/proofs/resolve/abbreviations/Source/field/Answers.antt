@@ -1,9 +1,9 @@
 use Rattle.std.proofs.lemmas.Result.{err_from_is_err_and}
-use Rattle.bib_syntax.proofs.ExpansionFacts.{sound_empty, read_none, read_step, read_stop}
-use Rattle.bib_syntax.proofs.resolve.abbreviations.field_contents.Goals as goal
+use Rattle.bib_syntax.proofs.ExpansionFacts.{read_none, read_step, read_stop}
+use Rattle.bib_syntax.proofs.resolve.abbreviations.Source.field.Goals as goal
 
 pub pieces-init : goal.pieces-init
-pieces-init c = record { sound = sound_empty c.new-memo.result c.new-memo.ensures.none; read = rw c.new-out.ensures read_none }
+pieces-init c = record { sound = c.requires.sound; read = rw c.new-out.ensures read_none }
 
 pub pieces-preserved : goal.pieces-preserved
 pieces-preserved c = let x = c.in_ok-expand.ensures in record {
