@@ -1,15 +1,13 @@
 -- Facts on what a file says as a bibliography.
-use Rattle.std.proofs.Common.{◌≡◌, ℕ, ◌+◌, ◌<◌, Bool, true, false, List, [], ◌∷◌, ◌++◌, length, length-append, drop, map, get_or, refl, sym, ap, ◌∙◌, subst, arith, append_assoc, Option, None, Some, MatchOption, cond, ◌||◌, is_some}
+use Rattle.std.proofs.Common.{◌≡◌, ℕ, ◌+◌, Bool, true, false, List, [], ◌∷◌, ◌++◌, length, length-append, map, refl, sym, ap, ◌∙◌, subst, arith, append_assoc, Option, None, Some, MatchOption, cond, ◌||◌, is_some}
 use Rattle.std.specs.Prelude.{bytes_eq, codes}
 use Rattle.std.specs.FinMap as by_name
 use Rattle.std.specs.FinMap.{get-empty, get-insert}
 use Rattle.std.proofs.lemmas.Bool.{both_ways}
 use Rattle.std.proofs.lemmas.Cmp.{nat_list_cmp_total}
-use Rattle.std.proofs.lemmas.List.{append-nil, drop_more, drop-map}
+use Rattle.std.proofs.lemmas.List.{append-nil}
 use Rattle.std.proofs.lemmas.List.Folds.{list_any-append}
 use Rattle.std.proofs.lemmas.Map.Text.{is_eq-slice_cmp}
-use Rattle.bib_syntax.specs.Views.{entry_of}
-use Rattle.bib_syntax.specs.declared.raw.RawEntry.{RawEntry}
 use Rattle.bib_syntax.specs.declared.raw.ParseErrorKind.TheVariants.{DuplicateKey}
 use Rattle.std.specs.Str.{chars}
 use Rattle.std.specs.Option.{option_map_or}
@@ -152,8 +150,3 @@ pub fault_unreadable : {definitions : Definitions} {said : List EntryReading} {o
     → LoadedSoFar definitions said (one ∷ rest) found names → is_some (by_name.get names one.key.text) ≡ false → IsFaultOfFields definitions one.fields e
     → IsFaultOfEntries definitions [] said e
 fault_unreadable {one = one} e loaded absent fault = loaded.faulty e (IsFaultOfEntries.unreadable (sym (loaded.same one.key.text) ∙ absent) fault)
-
--- the entries that are left at an index
-pub entries_left : (raws : List (Spanned RawEntry)) (i : ℕ) (x : Spanned RawEntry) → i < length raws → x ≡ get_or raws i x → drop i (map entry_of raws) ≡ entry_of x ∷ drop (i + 1) (map entry_of raws)
-entries_left raws i x within is =
-    drop-map entry_of i raws ∙ ap (map entry_of) (drop_more raws i x within ∙ ap (λ y. y ∷ drop (i + 1) raws) (sym is)) ∙ ap (λ rest. entry_of x ∷ rest) (sym (drop-map entry_of (i + 1) raws))

@@ -125,7 +125,7 @@ impl Bibliography {
         ensures loaded { IfOk result (IsLoaded (file_of raw.entry)) }
         ensures refused { IfErr result (λ e. (e ≡ out_of_memory) ⊎ (IsFaultOf (file_of raw.entry) e × (IsAccepted (file_of raw.entry) → ⊥))) }
     {
-        let (entries, names) = load(alloc, &raw)?;
+        let (entries, names) = load(alloc, raw)?;
         Ok(Self::from_names(entries, names))
     }
 

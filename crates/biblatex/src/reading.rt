@@ -29,21 +29,26 @@ fn duplicate(alloc: Global, raw: &Spanned<RawEntry<'_>>) -> Result<ParseError, A
     })
 }
 
-// The entries of a file, and the names that they claim.
+// The entries of a file, and the names that they claim. The memory of each raw entry is free once it is read.
 pub(crate) fn load(
     alloc: Global,
-    raw: &RawBibliography<'_>,
+    raw: RawBibliography<'_>,
 ) -> Result<(Vec<Entry>, Names), ParseError>
-    ensures loaded { IfOk result (λ all. IsLoadedSoFar (file_of raw.now) all.0.items all.1) }
+    ensures loaded { IfOk result (λ all. IsLoadedSoFar (file_of raw.entry) all.0.items all.1) }
     ensures below { IfOk result (λ all. ArePlacesBelow (length all.0.items) all.1) }
-    ensures refused { IfErr result (λ e. (e ≡ out_of_memory) ⊎ IsFaultOf (file_of raw.now) e) }
+    ensures refused { IfErr result (λ e. (e ≡ out_of_memory) ⊎ IsFaultOf (file_of raw.entry) e) }
 {
-    let definitions = definitions(alloc, raw.abbreviations.as_slice())?;
-    let mut entries = Vec::with_capacity(alloc, raw.entries.len())?;
+    let RawBibliography {
+        preamble: _,
+        entries: raw_entries,
+        abbreviations,
+    } = raw;
+    let definitions = definitions(alloc, abbreviations.as_slice())?;
+    let mut entries = Vec::with_capacity(alloc, raw_entries.len())?;
     let mut names = Claims::new(alloc);
-    'entries: for said in &raw.entries {
+    'entries: for said in raw_entries {
         if names.get(said.v.key.v).is_some() {
-            return Err(duplicate(alloc, said)?);
+            return Err(duplicate(alloc, &said)?);
         }
         let entry = read_entry(alloc, &said.v, &definitions)?;
         names.claim_all(claims(alloc, &entry)?, entries.len())?;
