@@ -1,3 +1,4 @@
+pub mod ClaimsFacts
 pub mod CopyFacts
 pub mod EntryFacts
 pub mod LibraryFacts

@@ -1,9 +1,8 @@
 -- Facts on libraries: every name points to a place.
-use Rattle.std.proofs.Common.{All, ◌≡◌, ℕ, ◌-◌, ◌<◌, ◌≤◌, Bool, true, false, cond, List, [], ◌∷◌, length, get_or, Option, Some, None, refl, sym, ap, subst, ◌∙◌, arith, slice_get, option_and_then, is_some, unwrap_or, nat_lt, ◌==◌, if◌then◌else◌}
+use Rattle.std.proofs.Common.{◌≡◌, ℕ, ◌-◌, ◌<◌, ◌≤◌, Bool, true, false, cond, List, [], ◌∷◌, length, get_or, Option, Some, None, refl, sym, ap, subst, ◌∙◌, arith, slice_get, option_and_then, is_some, unwrap_or, nat_lt, ◌==◌, if◌then◌else◌}
 use Rattle.std.specs.Ordering.{eq_by_cmp}
 use Rattle.std.proofs.lemmas.Bool.{false≢true}
 use Rattle.std.proofs.lemmas.Bool.Decides.{nat_tests}
-use Rattle.std.proofs.lemmas.List.Elements.{All-head, All-tail}
 use Rattle.std.proofs.lemmas.Option.{slice_get-get_or}
 use Rattle.std.proofs.lemmas.Cmp.{nat_list_cmp_total}
 use Rattle.std.specs.FinMap as map
@@ -62,9 +61,3 @@ found_at l name place e is lt here =
 -- all names point below a greater number too
 pub below_more : (n more : ℕ) (m : ByText ℕ) → ArePlacesBelow n m → n ≤ more → ArePlacesBelow more m
 below_more n more m below le q p is = omega (arith, below q p is)
-
--- names whose claims all say a place below
-pub below_claims : (n : ℕ) (claims : List (List ℕ × ℕ)) (m : ByText ℕ) → All (λ claim. claim.1 < n) claims → ArePlacesBelow n m → ArePlacesBelow n (claimed m claims)
-below_claims n [] m all below = below
-below_claims n (c ∷ claims) m all below =
-    below_claims n claims (map.insert m c.0 c.1) (All-tail (λ claim. claim.1 < n) c claims all) (below_insert n m c.0 c.1 below (All-head (λ claim. claim.1 < n) c claims all))

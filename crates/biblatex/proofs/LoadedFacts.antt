@@ -1,13 +1,14 @@
 -- Facts on what a file says as a bibliography.
-use Rattle.std.proofs.Common.{◌≡◌, ℕ, ◌+◌, ◌<◌, ◌≤◌, Bool, true, false, List, [], ◌∷◌, ◌++◌, length, drop, map, get_or, refl, sym, ap, ◌∙◌, subst, arith, append_assoc, inl, inr, Option, None, Some, MatchOption, cond, ◌&&◌}
-use Rattle.std.specs.Prelude.{bytes_eq, codes, ◌==◌, All}
+use Rattle.std.proofs.Common.{◌≡◌, ℕ, ◌+◌, Bool, true, false, List, [], ◌∷◌, ◌++◌, length, length-append, map, refl, sym, ap, ◌∙◌, subst, arith, append_assoc, Option, None, Some, MatchOption, cond, ◌||◌, is_some}
+use Rattle.std.specs.Prelude.{bytes_eq, codes}
 use Rattle.std.specs.FinMap as by_name
-use Rattle.std.proofs.lemmas.Bool.{both_ways, cases_Bool, cases_eq, ne_eqb}
-use Rattle.std.proofs.lemmas.List.{map-append, append-nil, drop_more, drop-map}
-use Rattle.std.proofs.lemmas.List.Elements.{All-append, All-from_recursion}
-use Rattle.std.specs.List.{AllByRecursion}
-use Rattle.bib_syntax.specs.Views.{entry_of}
-use Rattle.bib_syntax.specs.declared.raw.RawEntry.{RawEntry}
+use Rattle.std.specs.FinMap.{get-empty, get-insert}
+use Rattle.std.proofs.lemmas.Bool.{both_ways}
+use Rattle.std.proofs.lemmas.Cmp.{nat_list_cmp_total}
+use Rattle.std.proofs.lemmas.List.{append-nil}
+use Rattle.std.proofs.lemmas.List.Folds.{list_any-append}
+use Rattle.std.proofs.lemmas.Map.Text.{is_eq-slice_cmp}
+use Rattle.bib_syntax.specs.declared.raw.ParseErrorKind.TheVariants.{DuplicateKey}
 use Rattle.std.specs.Str.{chars}
 use Rattle.std.specs.Option.{option_map_or}
 use Rattle.bib_syntax.specs.declared.raw.ParseError.{ParseError}
@@ -21,9 +22,9 @@ use Rattle.biblatex.specs.declared.entry.Entry.{Entry}
 use Rattle.biblatex.specs.Library.{Library, claims, aliases, appended, nothing}
 use Rattle.biblatex.specs.Lists.{comma_texts}
 use Rattle.biblatex.specs.Loaded.{AllCanBeRead, IsEntry, AreEntries, IsFaultOfFields, IsFaultOfEntries, Says, field_in, is_claimed, loaded_behind}
-use Rattle.biblatex.specs.Names.{claimed, claims_for}
-use Rattle.biblatex.specs.Sorted.{ByText}
-use Rattle.biblatex.specs.Claiming.{claimed_names}
+use Rattle.biblatex.specs.Names.{ArePlacesBelow, claimed, claims_for}
+use Rattle.biblatex.specs.Sorted.{ByText, by_bytes}
+use Rattle.biblatex.proofs.LibraryFacts.{below_empty, below_claimed, below_more}
 
 some_same : {A : Type 0} {x y : A} → Some x ≡ Some y → x ≡ y
 some_same same = cc
@@ -71,95 +72,81 @@ no_entries (IsFaultOfEntries.unreadable fresh fault) (AreEntries.next fresh' rea
 no_entries {definitions} {claimed} (IsFaultOfEntries.behind {rest = more} {entry = one} fresh read fault) (AreEntries.next {entry = two} {entries = others} fresh' read' rest) =
     no_entries fault (subst (λ names. AreEntries definitions (claimed ++ names) more others) (claims_same two one read' read) rest)
 
-eq_turned : (c d : ℕ) → (c == d) ≡ (d == c)
-eq_turned c d =
-    elim (cases_eq c d) [
-      | inl same ↦ rw same refl
-      | inr apart ↦ rw (ne_eqb c d apart, ne_eqb d c (λ same. apart (sym same))) refl
-    ]
-
-turned_pair : (a b x y answer : Bool) → a ≡ b → y ≡ x → (a && x) ≡ answer → (b && y) ≡ answer
-turned_pair a b x y answer one two is = rw (← one, two) is
-
--- comparing texts goes both ways
-bytes_turned : (first second : List ℕ) (answer : Bool) → bytes_eq first second ≡ answer → bytes_eq second first ≡ answer
-bytes_turned [] [] answer is = is
-bytes_turned [] (d ∷ ds) answer is = is
-bytes_turned (c ∷ cs) [] answer is = is
-bytes_turned (c ∷ cs) (d ∷ ds) answer is = turned_pair (c == d) (d == c) _ _ answer (eq_turned c d) (bytes_turned cs ds _ refl) is
-
-cond_true : (test had : Bool) → had ≡ true → cond test true had ≡ true
-cond_true true had is = refl
-cond_true false had is = is
-
 -- entries behind others
 pub loaded_more : (library : Library) (first second : List Entry) → loaded_behind library (first ++ second) ≡ loaded_behind (loaded_behind library first) second
 loaded_more library [] second = refl
 loaded_more library (entry ∷ first) second = loaded_more (appended library entry) first second
 
-pub claimed_more : (names : ByText ℕ) (first second : List (List ℕ × ℕ)) → claimed names (first ++ second) ≡ claimed (claimed names first) second
-claimed_more names [] second = refl
-claimed_more names (claim ∷ first) second = claimed_more (by_name.insert names claim.0 claim.1) first second
+or_false : (b : Bool) → (b || false) ≡ b
+or_false true = refl
+or_false false = refl
 
-pub names_claimed : (place : ℕ) (names : List (List ℕ)) → claimed_names (claims_for place names) ≡ names
-names_claimed place [] = refl
-names_claimed place (name ∷ names) = ap (λ xs. name ∷ xs) (names_claimed place names)
+one_more : (test : Bool) (place : ℕ) (had : Option ℕ) (later : Bool) → (is_some (cond test (Some place) had) || later) ≡ (is_some had || (test || later))
+one_more true place None later = refl
+one_more true place (Some p) later = refl
+one_more false place had later = refl
 
--- entries were read so far: what is read of the rest is read of the whole behind them, and a fault of the rest is one of
--- the whole
-pub record LoadedSoFar (definitions : Definitions) (said rest : List EntryReading) (found : List Entry) (pairs : List (List ℕ × ℕ)) : Type 0 where
-  pub onward : (more : List Entry) → AreEntries definitions (claimed_names pairs) rest more → AreEntries definitions [] said (found ++ more)
-  pub faulty : (e : ParseError) → IsFaultOfEntries definitions (claimed_names pairs) rest e → IsFaultOfEntries definitions [] said e
-  pub library : loaded_behind nothing found ≡ record { entries = found; names = claimed by_name.empty pairs }
+-- a name is there once names were claimed for a place if it was there, or is one of them
+pub names_claimed : (place : ℕ) (more : List (List ℕ)) (names : ByText ℕ) (name : List ℕ)
+    → is_some (by_name.get (claimed names (claims_for place more)) name) ≡ (is_some (by_name.get names name) || is_claimed more name)
+names_claimed place [] names name = sym (or_false (is_some (by_name.get names name)))
+names_claimed place (one ∷ more) names name =
+    names_claimed place more (by_name.insert names one place) name
+    ∙ ap (λ o. is_some o || is_claimed more name) (get-insert nat_list_cmp_total names one place name ∙ ap (λ b. cond b (Some place) (by_name.get names name)) (is_eq-slice_cmp name one))
+    ∙ one_more (bytes_eq name one) place (by_name.get names name) (is_claimed more name)
 
-pub loaded_none : (definitions : Definitions) (said : List EntryReading) → LoadedSoFar definitions said said [] []
-loaded_none definitions said = record { onward = λ more read. read; faulty = λ e fault. fault; library = refl }
+-- entries were read so far, which claimed these names: what is read of the rest is read of the whole behind them, and a
+-- fault of the rest is one of the whole
+pub record LoadedSoFar (definitions : Definitions) (said rest : List EntryReading) (found : List Entry) (names : ByText ℕ) : Type 0 where
+  pub earlier : List (List ℕ)
+  pub same : (name : List ℕ) → is_some (by_name.get names name) ≡ is_claimed earlier name
+  pub onward : (more : List Entry) → AreEntries definitions earlier rest more → AreEntries definitions [] said (found ++ more)
+  pub faulty : (e : ParseError) → IsFaultOfEntries definitions earlier rest e → IsFaultOfEntries definitions [] said e
+  pub library : loaded_behind nothing found ≡ record { entries = found; names = names }
+  pub below : ArePlacesBelow (length found) names
 
-pub loaded_next : {definitions : Definitions} {said : List EntryReading} {one : EntryReading} {rest : List EntryReading} {found : List Entry} {pairs more : List (List ℕ × ℕ)} (entry : Entry)
-    → LoadedSoFar definitions said (one ∷ rest) found pairs → is_claimed (claimed_names pairs) one.key.text ≡ false → IsEntry definitions one entry
-    → more ≡ pairs ++ claims_for (length found) (claims entry) → LoadedSoFar definitions said rest (found ++ entry ∷ []) more
-loaded_next {definitions} {said} {one} {rest} {found} {pairs} {more} entry loaded fresh read is =
-    let names : claimed_names more ≡ claimed_names pairs ++ claims entry =
-    ap claimed_names is ∙ map-append (λ claim. claim.0) pairs (claims_for (length found) (claims entry)) ∙ ap (λ xs. claimed_names pairs ++ xs) (names_claimed (length found) (claims entry)) in
+pub loaded_none : (definitions : Definitions) (said : List EntryReading) → LoadedSoFar definitions said said [] by_name.empty
+loaded_none definitions said = record {
+  earlier = [];
+  same = λ name. ap is_some (get-empty by_bytes name);
+  onward = λ more read. read;
+  faulty = λ e fault. fault;
+  library = refl;
+  below = below_empty 0;
+}
+
+pub loaded_next : {definitions : Definitions} {said : List EntryReading} {one : EntryReading} {rest : List EntryReading} {found : List Entry} {names : ByText ℕ} (entry : Entry)
+    → LoadedSoFar definitions said (one ∷ rest) found names → is_some (by_name.get names one.key.text) ≡ false → IsEntry definitions one entry
+    → LoadedSoFar definitions said rest (found ++ entry ∷ []) (claimed names (claims_for (length found) (claims entry)))
+loaded_next {definitions} {said} {one} {rest} {found} {names} entry loaded absent read =
+    let fresh : is_claimed loaded.earlier one.key.text ≡ false = sym (loaded.same one.key.text) ∙ absent in
+    let count : length (found ++ entry ∷ []) ≡ length found + 1 = length-append found (entry ∷ []) in
     record {
-      onward = λ others behind. subst (AreEntries definitions [] said) (sym (append_assoc found (entry ∷ []) others)) (loaded.onward (entry ∷ others) (AreEntries.next fresh read (subst (λ xs. AreEntries definitions xs rest others) names behind)));
-      faulty = λ e fault. loaded.faulty e (IsFaultOfEntries.behind fresh read (subst (λ xs. IsFaultOfEntries definitions xs rest e) names fault));
-      library =
-          loaded_more nothing found (entry ∷ [])
-          ∙ ap (λ library. appended library entry) loaded.library
-          ∙ ap (λ all. record { entries = found ++ entry ∷ []; names = all }) (sym (claimed_more by_name.empty pairs (claims_for (length found) (claims entry))) ∙ ap (claimed by_name.empty) (sym is));
+      earlier = loaded.earlier ++ claims entry;
+      same = λ name.
+          names_claimed (length found) (claims entry) names name
+          ∙ ap (λ b. b || is_claimed (claims entry) name) (loaded.same name)
+          ∙ sym (list_any-append (bytes_eq name) loaded.earlier (claims entry));
+      onward = λ others behind. subst (AreEntries definitions [] said) (sym (append_assoc found (entry ∷ []) others)) (loaded.onward (entry ∷ others) (AreEntries.next fresh read behind));
+      faulty = λ e fault. loaded.faulty e (IsFaultOfEntries.behind fresh read fault);
+      library = loaded_more nothing found (entry ∷ []) ∙ ap (λ library. appended library entry) loaded.library;
+      below =
+          below_claimed (length (found ++ entry ∷ [])) (claims entry) names (length found)
+          (below_more (length found) (length (found ++ entry ∷ [])) names loaded.below (omega (arith, count))) (omega (arith, count));
     }
 
 -- all were read
-pub loaded_all : {definitions : Definitions} {said : List EntryReading} {found : List Entry} {pairs : List (List ℕ × ℕ)} → LoadedSoFar definitions said [] found pairs → AreEntries definitions [] said found
+pub loaded_all : {definitions : Definitions} {said : List EntryReading} {found : List Entry} {names : ByText ℕ} → LoadedSoFar definitions said [] found names → AreEntries definitions [] said found
 loaded_all {definitions} {said} {found} loaded = subst (AreEntries definitions [] said) (append-nil found) (loaded.onward [] AreEntries.none)
 
--- one more name is claimed
-pub faithful_more : (had : Bool) (pairs : List (List ℕ × ℕ)) (name other : List ℕ) (place : ℕ) → had ≡ is_claimed (claimed_names pairs) other
-    → cond (bytes_eq name other) true had ≡ is_claimed (claimed_names (pairs ++ (name, place) ∷ [])) other
-faithful_more had [] name other place is =
-    elim (cases_Bool (bytes_eq name other)) [
-      | inl same ↦ rw (same, bytes_turned name other true same) refl
-      | inr apart ↦ rw (apart, bytes_turned name other false apart) is
-    ]
-faithful_more had (pair ∷ pairs) name other place is =
-    elim (cases_Bool (bytes_eq other pair.0)) [
-      | inl same ↦ rw same (cond_true (bytes_eq name other) had (is ∙ rw same refl))
-      | inr apart ↦ rw apart (faithful_more had pairs name other place (rw apart at is))
-    ]
+-- a key that was claimed is the first fault
+pub fault_duplicate : {definitions : Definitions} {said : List EntryReading} {one : EntryReading} {rest : List EntryReading} {found : List Entry} {names : ByText ℕ} (e : ParseError)
+    → LoadedSoFar definitions said (one ∷ rest) found names → is_some (by_name.get names one.key.text) ≡ true
+    → e ≡ record { span = record { start = one.start; end = one.end }; kind = DuplicateKey one.key.text } → IsFaultOfEntries definitions [] said e
+fault_duplicate {one = one} e loaded had is = loaded.faulty e (IsFaultOfEntries.duplicate (sym (loaded.same one.key.text) ∙ had) is)
 
--- the entries that are left at an index
-pub entries_left : (raws : List (Spanned RawEntry)) (i : ℕ) (x : Spanned RawEntry) → i < length raws → x ≡ get_or raws i x → drop i (map entry_of raws) ≡ entry_of x ∷ drop (i + 1) (map entry_of raws)
-entries_left raws i x within is =
-    drop-map entry_of i raws ∙ ap (map entry_of) (drop_more raws i x within ∙ ap (λ y. y ∷ drop (i + 1) raws) (sym is)) ∙ ap (λ rest. entry_of x ∷ rest) (sym (drop-map entry_of (i + 1) raws))
-
-each_for : (next place : ℕ) (names : List (List ℕ)) → place < next → AllByRecursion (λ claim. claim.1 < next) (claims_for place names)
-each_for next place [] within = tt
-each_for next place (name ∷ names) within = (within, each_for next place names within)
-
-all_for : (next place : ℕ) (names : List (List ℕ)) → place < next → All (λ claim. claim.1 < next) (claims_for place names)
-all_for next place names within = All-from_recursion (λ claim. claim.1 < next) (claims_for place names) (each_for next place names within)
-
--- claims for the last entry are for one of the entries
-pub claims_below : (count next place : ℕ) (pairs : List (List ℕ × ℕ)) (names : List (List ℕ)) → count ≤ next → place < next → All (λ claim. claim.1 < count) pairs → All (λ claim. claim.1 < next) (pairs ++ claims_for place names)
-claims_below count next place pairs names more within below = All-append (λ claim. claim.1 < next) pairs (claims_for place names) (λ k d inside. omega (arith, below k d inside, more)) (all_for next place names within)
+-- and else a field that can't be read
+pub fault_unreadable : {definitions : Definitions} {said : List EntryReading} {one : EntryReading} {rest : List EntryReading} {found : List Entry} {names : ByText ℕ} (e : ParseError)
+    → LoadedSoFar definitions said (one ∷ rest) found names → is_some (by_name.get names one.key.text) ≡ false → IsFaultOfFields definitions one.fields e
+    → IsFaultOfEntries definitions [] said e
+fault_unreadable {one = one} e loaded absent fault = loaded.faulty e (IsFaultOfEntries.unreadable (sym (loaded.same one.key.text) ∙ absent) fault)

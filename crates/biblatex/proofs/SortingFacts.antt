@@ -1,17 +1,15 @@
 -- Facts on pairs that are sorted once, where the first of one name stands.
-use Rattle.std.proofs.Common.{◌≡◌, ℕ, Bool, true, false, cond, not, ◌&&◌, T, List, [], ◌∷◌, ◌++◌, reverse, Option, Some, None, refl, sym, ap, subst, ◌∙◌, Ordering, Less, Equal, Greater, is_lt, is_eq, filter, IsSortedBy}
+use Rattle.std.proofs.Common.{◌≡◌, ℕ, Bool, true, false, cond, not, ◌&&◌, T, List, [], ◌∷◌, reverse, Option, Some, None, refl, sym, ap, subst, ◌∙◌, Ordering, Less, Equal, Greater, is_lt, is_eq, filter, IsSortedBy}
 use Rattle.std.specs.List.{dedup, dedup_from, AllByRecursion}
 use Rattle.std.specs.List.Sorted.{ties, IsStableBy, IsStrictlySortedBy}
 use Rattle.std.specs.Cmp.{IsTotalOrder}
 use Rattle.std.specs.Ordering.{ordering_reverse, eq_by_cmp}
 use Rattle.std.proofs.lemmas.Cmp.{nat_list_cmp_total, on_total, alike_right}
-use Rattle.std.proofs.lemmas.List.{reverse-append}
 use Rattle.std.proofs.lemmas.List.Kept.{IsStrictlySortedBy-dedup}
 use Rattle.std.specs.FinMap as map
 use Rattle.std.specs.FinMap.{find, is_sorted, get-from_sorted, get-from_entries, same_map}
 use Rattle.std.specs.FinMap.Entries.{below_all}
-use Rattle.biblatex.specs.Sorted.{ByText, by_bytes, IsSorted, map_of}
-use Rattle.biblatex.specs.Names.{claimed}
+use Rattle.biblatex.specs.Sorted.{by_bytes, IsSorted, map_of}
 use Rattle.biblatex.proofs.SortedFacts.{both, tied, holds, is_true, by_bytes-IsAntisymmetric}
 
 -- whether the key of the first pair is below that of the second
@@ -101,27 +99,3 @@ module _ {V : Type 0} (pairs sorted : List (List ℕ × V)) (rising : IsSortedBy
       ∙ find-dedup nat_list_cmp_total q sorted
       ∙ find-stable nat_list_cmp_total q (reverse pairs) sorted stable
       ∙ sym (get-from_entries nat_list_cmp_total (reverse pairs) q))
-
--- names with these claims, the first of them made last
-claimed_from : ByText ℕ → List (List ℕ × ℕ) → ByText ℕ
-claimed_from m [] = m
-claimed_from m (claim ∷ claims) = map.insert (claimed_from m claims) claim.0 claim.1
-
-claimed_from-push : (m : ByText ℕ) (claims : List (List ℕ × ℕ)) (claim : List ℕ × ℕ) → claimed_from m (claims ++ claim ∷ []) ≡ claimed_from (map.insert m claim.0 claim.1) claims
-unfolding claimed_from
-claimed_from-push m [] claim = refl
-claimed_from-push m (c ∷ claims) claim = ap (λ n. map.insert n c.0 c.1) (claimed_from-push m claims claim)
-
-claimed-reverse : (m : ByText ℕ) (claims : List (List ℕ × ℕ)) → claimed m claims ≡ claimed_from m (reverse claims)
-unfolding claimed_from
-claimed-reverse m [] = refl
-claimed-reverse m (c ∷ claims) = claimed-reverse (map.insert m c.0 c.1) claims ∙ sym (ap (claimed_from m) (reverse-append (c ∷ []) claims) ∙ claimed_from-push m (reverse claims) c)
-
-from_entries_are : (claims : List (List ℕ × ℕ)) → map.from_entries claims ≡ claimed_from map.empty claims
-unfolding claimed_from
-from_entries_are [] = refl
-from_entries_are (c ∷ claims) = ap (λ n. map.insert n c.0 c.1) (from_entries_are claims)
-
--- where the last pair of a name stands, names are claimed one after another
-pub claimed-from_entries : (claims : List (List ℕ × ℕ)) → map.from_entries (reverse claims) ≡ claimed map.empty claims
-claimed-from_entries claims = from_entries_are (reverse claims) ∙ sym (claimed-reverse map.empty claims)

@@ -1,4 +1,5 @@
 pub mod Claiming
+pub mod Claims
 pub mod Joining
 pub mod Keys
 pub mod Lending

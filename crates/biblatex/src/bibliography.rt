@@ -1,8 +1,7 @@
 //! Bibliographies: entries in order, with names that point to them.
 
-ghost use Rattle.std.specs.Prelude.{All, ◌≡◌, ◌⊎◌, ◌==◌, ◌<◌, ◌++◌, ◌∷◌, [], length, vec_len, vec_capacity, codes, map, Some, IsSome, IsNone, IsOk, OnOk, OnErr, IfOk, IfErr};
+ghost use Rattle.std.specs.Prelude.{◌≡◌, ◌⊎◌, ◌==◌, ◌<◌, ◌++◌, ◌∷◌, [], length, vec_len, vec_capacity, codes, map, Some, IsSome, IsNone, IsOk, OnOk, OnErr, IfOk, IfErr};
 ghost use Rattle.std.specs.Borrow.{sem};
-ghost use Rattle.std.specs.FinMap as by_name;
 ghost use Rattle.std.specs.Option.{option_copied, option_copied_mut};
 ghost use Rattle.std.specs.Slice.Iter.{iter_rest, iter_mut_rest};
 ghost use Rattle.std.specs.Vec.Iter.{into_iter_items};
@@ -126,21 +125,16 @@ impl Bibliography {
         ensures loaded { IfOk result (IsLoaded (file_of raw.entry)) }
         ensures refused { IfErr result (λ e. (e ≡ out_of_memory) ⊎ (IsFaultOf (file_of raw.entry) e × (IsAccepted (file_of raw.entry) → ⊥))) }
     {
-        let (entries, claims) = load(alloc, &raw)?;
-        Ok(Self::from_claims(entries, claims)?)
+        let (entries, names) = load(alloc, raw)?;
+        Ok(Self::from_names(entries, names))
     }
 
-    // These entries, with names claimed one after another: a name points where its last claim says.
-    pub(crate) fn from_claims(
-        entries: Vec<Entry>,
-        claims: Vec<(Text, usize)>,
-    ) -> Result<Self, AllocError>
-        requires { All (λ claim. claim.1 < length entries.items) claims.items }
-        ensures { IfOk result (λ library. library ≡ record
-            { entries = entries.items; names = claimed by_name.empty claims.items }) }
+    // These entries and names. Takes no memory.
+    pub(crate) fn from_names(entries: Vec<Entry>, names: Names) -> Self
+        requires { ArePlacesBelow (length entries.items) names }
+        ensures { result ≡ record { entries = entries.items; names = names } }
     {
-        let names = Names::from_claims(claims)?;
-        Ok(Bibliography { entries, names })
+        Bibliography { entries, names }
     }
 
     /// How many entries there are. Each name points below this.

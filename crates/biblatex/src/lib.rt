@@ -2,6 +2,7 @@
 #![tactic(auto)]
 
 pub mod bibliography;
+mod claims;
 pub mod entry;
 mod lists;
 mod loading;

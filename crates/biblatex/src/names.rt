@@ -1,13 +1,13 @@
 //! The names of a bibliography, each pointing to the place of an entry.
 
-ghost use Rattle.std.specs.Prelude.{nat_eq, ◌≡◌, ◌+◌, ◌<◌, ◌≤◌, ◌∷◌, [], IfOk, OnOk, OnErr, vec_len, vec_capacity};
+ghost use Rattle.std.specs.Prelude.{nat_eq, ◌≡◌, ◌+◌, ◌<◌, ◌≤◌, ◌∷◌, [], OnOk, OnErr, vec_len, vec_capacity};
 ghost use Rattle.std.specs.FinMap as map;
 ghost use Rattle.std.specs.Cmp.{nat_eq_equiv, partial_equiv_from_equiv};
 ghost use Rattle.biblatex.specs.Sorted.{IsSorted, map_of};
 ghost use Rattle.biblatex.specs.TextMap.{same_pairs, same_pairs_per, same_pairs_equiv};
 ghost use Rattle.biblatex.specs.Names.{claimed, claims_for, moved_pair, without_place, IsMoved};
 
-use crate::sorted::{search, sorted};
+use crate::sorted::search;
 use bib_chunks::text::Text;
 use std::alloc::{AllocError, Global};
 use std::marker::Model;
@@ -61,12 +61,12 @@ impl Names {
         }
     }
 
-    // The names with these claims, one after another: a name points where its last claim says. Sorts once.
-    pub fn from_claims(claims: Vec<(Text, usize)>) -> Result<Self, AllocError>
-        ensures { IfOk result (λ names. names ≡ claimed map.empty claims.items) }
+    // The names of sorted pairs. Takes no memory.
+    pub fn from_sorted(pairs: Vec<(Text, usize)>) -> Self
+        requires { IsSorted pairs.items }
+        ensures { result ≡ map_of pairs.items }
     {
-        let pairs = sorted(claims)?;
-        Ok(Names { pairs })
+        Names { pairs }
     }
 
     // The place that a name points to, found by halving.

@@ -1,0 +1,7 @@
+-- The names of a bibliography while it is read.
+use Rattle.std.specs.Prelude.{ℕ, List, map, String, string_bytes}
+use Rattle.std.specs.Global.{Global}
+
+-- pairs with the texts of their strings
+abbrev pub texts : List (String Global × ℕ) → List (List ℕ × ℕ)
+texts = map (λ e. (string_bytes e.0, e.1))
