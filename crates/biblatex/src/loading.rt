@@ -1,7 +1,7 @@
 //! A file's entries as entries of a bibliography.
 
 ghost use Rattle.std.specs.Prelude.{◌≡◌, ◌⊎◌, OnOk, IfOk, IfErr, List, ℕ};
-ghost use Rattle.bib_syntax.specs.Abbreviations.{defined_in};
+ghost use Rattle.bib_syntax.specs.Abbreviations.{given_by, sorted_in};
 ghost use Rattle.bib_syntax.specs.Faults.{out_of_memory};
 ghost use Rattle.biblatex.specs.Loading.{IsEntryOf, IsFieldOf, IsFieldReadable, IsFieldsFault, field_name, last_definition};
 ghost use Rattle.biblatex.specs.Reading.{IsFieldFault};
@@ -11,19 +11,19 @@ use crate::text_map::TextMap;
 use bib_chunks::chunk::Chunks;
 use bib_chunks::text::Text;
 use bib_syntax::raw::{Field, Pair, ParseError, RawEntry};
-use bib_syntax::resolve::parse_field;
+use bib_syntax::resolve::FieldReader;
 use bib_tables::mechanics::EntryType;
 use std::alloc::{AllocError, Global};
-use std::collections::HashMap;
+use std::collections::BTreeMap;
 
 // The definitions of abbreviations: of two for one name the last stands.
-pub(crate) fn definitions<'a>(
+pub(crate) fn definitions<'f, 's>(
     alloc: Global,
-    pairs: &'a [Pair<'a>],
-) -> Result<HashMap<&'a str, &'a Field<'a>>, AllocError>
-    ensures { IfOk result (λ definitions. (name : List ℕ) → defined_in definitions name ≡ last_definition pairs.now name) }
+    pairs: &'f [Pair<'s>],
+) -> Result<BTreeMap<&'s str, &'f Field<'s>>, AllocError>
+    ensures { IfOk result (λ definitions. (name : List ℕ) → sorted_in definitions name ≡ last_definition pairs.now name) }
 {
-    let mut definitions = HashMap::new(alloc);
+    let mut definitions = BTreeMap::new(alloc);
     'definitions: for pair in pairs {
         definitions.insert(pair.key.v, &pair.value.v)?;
     }
@@ -31,17 +31,18 @@ pub(crate) fn definitions<'a>(
 }
 
 // Reads an entry: its fields in order, with names in small letters; of two with one name the last stands.
-pub(crate) fn read_entry(
+pub(crate) fn read_entry<'f, 's>(
     alloc: Global,
-    raw: &RawEntry<'_>,
-    definitions: &HashMap<&str, &Field<'_>>,
+    raw: &RawEntry<'s>,
+    reader: &mut FieldReader<'f, 's>,
 ) -> Result<Entry, ParseError>
-    ensures read { IfOk result (λ entry. IsEntryOf (defined_in definitions.now) raw.now entry) }
-    ensures refused { IfErr result (λ e. (e ≡ out_of_memory) ⊎ IsFieldsFault (defined_in definitions.now) raw.now.fields.items e) }
+    ensures same { reader.new ≡ reader.old }
+    ensures read { IfOk result (λ entry. IsEntryOf (given_by reader.old) raw.now entry) }
+    ensures refused { IfErr result (λ e. (e ≡ out_of_memory) ⊎ IsFieldsFault (given_by reader.old) raw.now.fields.items e) }
 {
     let mut pairs = Vec::with_capacity(alloc, raw.fields.len())?;
     'fields: for field in &raw.fields {
-        pairs.push(read_field(alloc, field, definitions)?)?;
+        pairs.push(read_field(alloc, field, reader)?)?;
     }
     let key = Text::from_str(alloc, raw.key.v)?;
     let entry_type = EntryType::new(alloc, raw.kind.v)?;
@@ -54,17 +55,18 @@ pub(crate) fn read_entry(
 }
 
 // Reads a field: its name in small letters, and what its value says.
-fn read_field(
+fn read_field<'f, 's>(
     alloc: Global,
-    field: &Pair<'_>,
-    definitions: &HashMap<&str, &Field<'_>>,
+    field: &Pair<'s>,
+    reader: &mut FieldReader<'f, 's>,
 ) -> Result<(Text, Chunks), ParseError>
+    ensures same { reader.new ≡ reader.old }
     ensures name { IfOk result (λ read. read.0 ≡ field_name field.now) }
-    ensures value { IfOk result (λ read. IsFieldOf (defined_in definitions.now) field.now read.1) }
-    ensures readable { OnOk result (IsFieldReadable (defined_in definitions.now) field.now) }
-    ensures refused { IfErr result (λ e. (e ≡ out_of_memory) ⊎ IsFieldFault (defined_in definitions.now) field.now e) }
+    ensures value { IfOk result (λ read. IsFieldOf (given_by reader.old) field.now read.1) }
+    ensures readable { OnOk result (IsFieldReadable (given_by reader.old) field.now) }
+    ensures refused { IfErr result (λ e. (e ≡ out_of_memory) ⊎ IsFieldFault (given_by reader.old) field.now e) }
 {
     let name = field.key.v.to_ascii_lowercase(alloc)?;
-    let chunks = parse_field(alloc, name.as_str(), &field.value.v, definitions)?;
+    let chunks = reader.read(name.as_str(), &field.value.v)?;
     Ok((Text::from_string(name), chunks))
 }

@@ -1,11 +1,12 @@
 //! A file's entries with the names that they claim.
 
-ghost use Rattle.std.specs.Prelude.{◌≡◌, ◌⊎◌, length, IfOk, IfErr};
+ghost use Rattle.std.specs.Prelude.{◌≡◌, ◌⊎◌, [], map, length, IfOk, IfErr};
+ghost use Rattle.bib_syntax.specs.Abbreviations.{sorted_in};
 ghost use Rattle.bib_syntax.specs.Faults.{out_of_memory};
-ghost use Rattle.bib_syntax.specs.Views.{file_of};
+ghost use Rattle.bib_syntax.specs.Views.{entry_of, file_of};
 ghost use Rattle.bib_syntax.specs.declared.raw.ParseErrorKind.TheVariants.{DuplicateKey};
 ghost use Rattle.biblatex.specs.Claiming.{IsLoadedSoFar};
-ghost use Rattle.biblatex.specs.Loaded.{IsFaultOf};
+ghost use Rattle.biblatex.specs.Loaded.{IsFaultOf, IsFaultOfEntries, definition_in};
 ghost use Rattle.biblatex.specs.Names.{ArePlacesBelow};
 
 use crate::bibliography::claims;
@@ -15,8 +16,10 @@ use crate::loading::{definitions, read_entry};
 use crate::names::Names;
 use bib_chunks::chunk::Spanned;
 use bib_chunks::text::Text;
-use bib_syntax::raw::{ParseError, ParseErrorKind, RawBibliography, RawEntry};
+use bib_syntax::raw::{Field, ParseError, ParseErrorKind, RawBibliography, RawEntry};
+use bib_syntax::resolve::FieldReader;
 use std::alloc::{AllocError, Global};
+use std::collections::BTreeMap;
 
 // The fault of a key that an earlier entry claimed.
 fn duplicate(alloc: Global, raw: &Spanned<RawEntry<'_>>) -> Result<ParseError, AllocError>
@@ -29,30 +32,45 @@ fn duplicate(alloc: Global, raw: &Spanned<RawEntry<'_>>) -> Result<ParseError, A
     })
 }
 
-// The entries of a file, and the names that they claim. The memory of each raw entry is free once it is read.
+// What a file's entries are with these definitions of abbreviations, and the names that they claim. The memory of each
+// raw entry is free once it is read.
+fn load_entries<'f, 's>(
+    alloc: Global,
+    raw: Vec<Spanned<RawEntry<'s>>>,
+    definitions: BTreeMap<&'s str, &'f Field<'s>>,
+) -> Result<(Vec<Entry>, Names), ParseError>
+    ensures loaded { IfOk result (λ all. IsLoadedSoFar (sorted_in definitions.entry) (map entry_of raw.entry.items) all.0.items all.1) }
+    ensures below { IfOk result (λ all. ArePlacesBelow (length all.0.items) all.1) }
+    ensures refused { IfErr result (λ e. (e ≡ out_of_memory) ⊎ IsFaultOfEntries (sorted_in definitions.entry) [] (map entry_of raw.entry.items) e) }
+{
+    let mut reader = FieldReader::new(alloc, definitions);
+    let mut entries = Vec::with_capacity(alloc, raw.len())?;
+    let mut names = Claims::new(alloc);
+    'entries: for said in raw {
+        if names.get(said.v.key.v).is_some() {
+            return Err(duplicate(alloc, &said)?);
+        }
+        let entry = read_entry(alloc, &said.v, &mut reader)?;
+        names.claim_all(claims(alloc, &entry)?, entries.len())?;
+        entries.push(entry)?;
+    }
+    Ok((entries, names.into_names(alloc)?))
+}
+
+// The entries of a file, and the names that they claim.
 pub(crate) fn load(
     alloc: Global,
     raw: RawBibliography<'_>,
 ) -> Result<(Vec<Entry>, Names), ParseError>
-    ensures loaded { IfOk result (λ all. IsLoadedSoFar (file_of raw.entry) all.0.items all.1) }
+    ensures loaded { IfOk result (λ all. IsLoadedSoFar (definition_in (file_of raw.entry).abbreviations) (file_of raw.entry).entries all.0.items all.1) }
     ensures below { IfOk result (λ all. ArePlacesBelow (length all.0.items) all.1) }
     ensures refused { IfErr result (λ e. (e ≡ out_of_memory) ⊎ IsFaultOf (file_of raw.entry) e) }
 {
     let RawBibliography {
         preamble: _,
-        entries: raw_entries,
+        entries,
         abbreviations,
     } = raw;
     let definitions = definitions(alloc, abbreviations.as_slice())?;
-    let mut entries = Vec::with_capacity(alloc, raw_entries.len())?;
-    let mut names = Claims::new(alloc);
-    'entries: for said in raw_entries {
-        if names.get(said.v.key.v).is_some() {
-            return Err(duplicate(alloc, &said)?);
-        }
-        let entry = read_entry(alloc, &said.v, &definitions)?;
-        names.claim_all(claims(alloc, &entry)?, entries.len())?;
-        entries.push(entry)?;
-    }
-    Ok((entries, names.into_names(alloc)?))
+    load_entries(alloc, entries, definitions)
 }

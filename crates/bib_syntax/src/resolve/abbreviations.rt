@@ -44,17 +44,17 @@ pub(crate) fn field_contents<'a>(
 
 // What a field is expanded by.
 #[derive(Clone, Copy)]
-pub(crate) struct Source<'a> {
+pub(crate) struct Source<'m, 'f, 's> {
     pub(crate) alloc: Global,
-    pub(crate) definitions: LookUp<'a>,
+    pub(crate) definitions: LookUp<'m, 'f, 's>,
     pub(crate) is_verbatim: bool,
 }
 
 // The names that were met, and what they say. The chunks of a name stand together, and those of the names in its
 // definition stand among them; neighbours are not joined over the borders of elements.
 #[derive(Drop)]
-pub(crate) struct Memo<'a> {
-    names: BTreeMap<&'a str, Progress>,
+pub(crate) struct Memo<'s> {
+    names: BTreeMap<&'s str, Progress>,
     values: Vec<Spanned<Chunk>>,
 }
 
@@ -69,13 +69,13 @@ enum Progress {
 
 // A name that is being expanded: the elements of its definition that are left, and where its chunks begin.
 #[derive(Drop)]
-struct Frame<'a> {
-    name: &'a str,
-    rest: &'a [Spanned<RawChunk<'a>>],
+struct Frame<'f, 's> {
+    name: &'s str,
+    rest: &'f [Spanned<RawChunk<'s>>],
     start: usize,
 }
 
-impl<'a> Memo<'a> {
+impl<'s> Memo<'s> {
     // No name was met.
     pub(crate) fn new(alloc: Global) -> Self
         ensures none { (name : List ℕ) → progress result name ≡ None }
@@ -88,7 +88,11 @@ impl<'a> Memo<'a> {
     }
 
     // Begins the expansion of a name.
-    fn open(&mut self, name: &'a str, definition: &'a Field<'a>) -> Result<Frame<'a>, ParseError>
+    fn open<'f>(
+        &mut self,
+        name: &'s str,
+        definition: &'f Field<'s>,
+    ) -> Result<Frame<'f, 's>, ParseError>
         ensures opened { (definitions : Definitions) → definitions name.now ≡ Some (map piece_of definition.now.items) → progress self.old name.now ≡ None → IfOk result (λ frame. Opens definitions self.old self.new name.now frame) }
         ensures err { IfErr result (λ e. e ≡ out_of_memory) }
     {
@@ -101,7 +105,7 @@ impl<'a> Memo<'a> {
     }
 
     // Ends the expansion of a name.
-    fn close(&mut self, frame: &Frame<'a>) -> Result<(), ParseError>
+    fn close(&mut self, frame: &Frame<'_, 's>) -> Result<(), ParseError>
         ensures values { self.new.values ≡ self.old.values }
         ensures names { OnOk result ((other : List ℕ) → progress self.new other ≡ noted frame.now.name.now (Done frame.now.start (length self.old.values.items)) (progress self.old) other) }
         ensures err { IfErr result (λ e. e ≡ out_of_memory) }
@@ -129,9 +133,9 @@ impl<'a> Memo<'a> {
     }
 }
 
-impl<'a> Source<'a> {
+impl<'m, 'f, 's> Source<'m, 'f, 's> {
     // Reads the contents of a field.
-    pub(crate) fn field(self, memo: &mut Memo<'a>, field: &Field<'a>) -> Result<Chunks, ParseError>
+    pub(crate) fn field(self, memo: &mut Memo<'s>, field: &Field<'s>) -> Result<Chunks, ParseError>
         requires sound { IsSound (known_to self) self.is_verbatim memo.old [] }
         ensures read { IfOk result (λ chunks. Evaluates (known_to self.entry) self.entry.is_verbatim (map piece_of field.now.items) (styled chunks)) }
         ensures sound { OnOk result (IsSound (known_to self.entry) self.entry.is_verbatim memo.new []) }
@@ -147,7 +151,7 @@ impl<'a> Source<'a> {
     }
 
     // Reads the contents of a field. At a fault the memo forgets what it has.
-    pub(crate) fn read(self, memo: &mut Memo<'a>, field: &Field<'a>) -> Result<Chunks, ParseError>
+    pub(crate) fn read(self, memo: &mut Memo<'s>, field: &Field<'s>) -> Result<Chunks, ParseError>
         requires sound { IsSound (known_to self) self.is_verbatim memo.old [] }
         ensures sound { IsSound (known_to self.entry) self.entry.is_verbatim memo.new [] }
         ensures read { IfOk result (λ chunks. Evaluates (known_to self.entry) self.entry.is_verbatim (map piece_of field.now.items) (styled chunks)) }
@@ -165,9 +169,9 @@ impl<'a> Source<'a> {
     // Reads an element of a field, and appends what it says.
     fn expand(
         self,
-        memo: &mut Memo<'a>,
+        memo: &mut Memo<'s>,
         out: &mut Chunks,
-        piece: &Spanned<RawChunk<'a>>,
+        piece: &Spanned<RawChunk<'s>>,
     ) -> Result<(), ParseError>
         requires sound { IsSound (known_to self) self.is_verbatim memo.old [] }
         ensures said { OnOk result ((atoms : List Atom) × Evaluates (known_to self.entry) self.entry.is_verbatim (piece_of piece.now ∷ []) atoms × (styled out.new ≡ styled out.old ++ atoms)) }
@@ -186,9 +190,9 @@ impl<'a> Source<'a> {
     // Appends what a name says. Chunks that stand in the memo already are not kept once more.
     fn expand_name(
         self,
-        memo: &mut Memo<'a>,
+        memo: &mut Memo<'s>,
         out: &mut Chunks,
-        piece: &Spanned<RawChunk<'a>>,
+        piece: &Spanned<RawChunk<'s>>,
     ) -> Result<(), ParseError>
         requires sound { IsSound (known_to self) self.is_verbatim memo.old [] }
         ensures said { OnOk result ((atoms : List Atom) × Evaluates (known_to self.entry) self.entry.is_verbatim (piece_of piece.now ∷ []) atoms × (styled out.new ≡ styled out.old ++ atoms)) }
@@ -208,7 +212,7 @@ impl<'a> Source<'a> {
     }
 
     // Expands the name of a frame.
-    fn run(self, memo: &mut Memo<'a>, first: Frame<'a>) -> Result<(), ParseError>
+    fn run(self, memo: &mut Memo<'s>, first: Frame<'f, 's>) -> Result<(), ParseError>
         requires sound { IsSound (known_to self) self.is_verbatim memo.old (first.name.now ∷ []) }
         requires defined { known_to self first.name.now ≡ Some (map piece_of first.rest.now) }
         requires start { first.start ≡ length memo.old.values.items }
@@ -216,7 +220,7 @@ impl<'a> Source<'a> {
         ensures sound { OnOk result (IsSound (known_to self.entry) self.entry.is_verbatim memo.new []) }
         ensures refused { IfErr result (λ e. (e ≡ out_of_memory) ⊎ IsFirstFault (known_to self.entry) self.entry.is_verbatim (first.entry.name.now ∷ []) (map piece_of first.entry.rest.now) e) }
     {
-        let mut frames: Vec<Frame<'a>> = Vec::new(self.alloc);
+        let mut frames: Vec<Frame<'f, 's>> = Vec::new(self.alloc);
         let mut frame = first;
         'frames: loop {
             let Some((piece, rest)) = frame.rest.split_first() else {
@@ -238,9 +242,9 @@ impl<'a> Source<'a> {
     // Takes an element: what it says goes behind the chunks, or the expansion of its name begins.
     fn take(
         self,
-        memo: &mut Memo<'a>,
-        piece: &Spanned<RawChunk<'a>>,
-    ) -> Result<Option<Frame<'a>>, ParseError>
+        memo: &mut Memo<'s>,
+        piece: &Spanned<RawChunk<'s>>,
+    ) -> Result<Option<Frame<'f, 's>>, ParseError>
         requires within { AreWithin memo.old }
         ensures taken { (path : List (List ℕ)) → IsSound (known_to self.entry) self.entry.is_verbatim memo.old path → IfOk result (Takes (known_to self.entry) self.entry.is_verbatim memo.old memo.new (piece_of piece.now)) }
         ensures refused { (path : List (List ℕ)) → IsSound (known_to self.entry) self.entry.is_verbatim memo.old path → IfErr result (λ e. (e ≡ out_of_memory) ⊎ ((rest : List Piece) → IsFirstFault (known_to self.entry) self.entry.is_verbatim path (piece_of piece.now ∷ rest) e)) }
@@ -255,7 +259,7 @@ impl<'a> Source<'a> {
     }
 
     // A text.
-    fn text(self, memo: &mut Memo<'a>, text: &str, offset: usize) -> Result<(), ParseError>
+    fn text(self, memo: &mut Memo<'s>, text: &str, offset: usize) -> Result<(), ParseError>
         ensures names { memo.new.names ≡ memo.old.names }
         ensures said { OnOk result ((p : Part) → p.text ≡ text.now → Expands (known_to self.entry) self.entry.is_verbatim memo.old.values.items memo.new.values.items (literal p ∷ [])) }
         ensures refused { IfErr result (λ e. (e ≡ out_of_memory) ⊎ ((p : Part) (path : List (List ℕ)) (rest : List Piece) → p.text ≡ text.now → IsFirstFault (known_to self.entry) self.entry.is_verbatim path (literal p ∷ rest) e)) }
@@ -269,10 +273,10 @@ impl<'a> Source<'a> {
     // A name.
     fn name(
         self,
-        memo: &mut Memo<'a>,
-        name: &'a str,
+        memo: &mut Memo<'s>,
+        name: &'s str,
         span: &Span,
-    ) -> Result<Option<Frame<'a>>, ParseError>
+    ) -> Result<Option<Frame<'f, 's>>, ParseError>
         requires within { AreWithin memo.old }
         ensures taken { (path : List (List ℕ)) → IsSound (known_to self.entry) self.entry.is_verbatim memo.old path → IfOk result (Takes (known_to self.entry) self.entry.is_verbatim memo.old memo.new (abbreviation (part_at name.now span.now))) }
         ensures refused { (path : List (List ℕ)) → IsSound (known_to self.entry) self.entry.is_verbatim memo.old path → IfErr result (λ e. (e ≡ out_of_memory) ⊎ ((rest : List Piece) → IsFirstFault (known_to self.entry) self.entry.is_verbatim path (abbreviation (part_at name.now span.now) ∷ rest) e)) }
@@ -294,10 +298,10 @@ impl<'a> Source<'a> {
     // A name that is met for the first time, or a month's.
     fn new_name(
         self,
-        memo: &mut Memo<'a>,
-        name: &'a str,
+        memo: &mut Memo<'s>,
+        name: &'s str,
         span: &Span,
-    ) -> Result<Option<Frame<'a>>, ParseError>
+    ) -> Result<Option<Frame<'f, 's>>, ParseError>
         requires fresh { progress memo.old name.now ≡ None }
         ensures taken { IfOk result (Takes (known_to self.entry) self.entry.is_verbatim memo.old memo.new (abbreviation (part_at name.now span.now))) }
         ensures refused { IfErr result (λ e. (e ≡ out_of_memory) ⊎ ((path : List (List ℕ)) (rest : List Piece) → IsFirstFault (known_to self.entry) self.entry.is_verbatim path (abbreviation (part_at name.now span.now) ∷ rest) e)) }

@@ -10,16 +10,16 @@ use std::collections::{BTreeMap, HashMap};
 
 // A caller's map, or one whose look-ups no choice of names makes slow.
 #[derive(Clone, Copy)]
-pub(crate) enum LookUp<'a> {
+pub(crate) enum LookUp<'m, 'f, 's> {
     // By the names' hashes.
-    Hashed(&'a HashMap<&'a str, &'a Field<'a>>),
+    Hashed(&'m HashMap<&'s str, &'f Field<'s>>),
     // By the names' order.
-    Sorted(&'a BTreeMap<&'a str, &'a Field<'a>>),
+    Sorted(&'m BTreeMap<&'s str, &'f Field<'s>>),
 }
 
-impl<'a> LookUp<'a> {
+impl<'m, 'f, 's> LookUp<'m, 'f, 's> {
     // The definition of a name.
-    pub(crate) fn get(self, name: &str) -> Option<&'a Field<'a>>
+    pub(crate) fn get(self, name: &str) -> Option<&'f Field<'s>>
         ensures { option_map (λ field. map piece_of field.now.items) result ≡ found_in self.entry name.now }
     {
         match self {

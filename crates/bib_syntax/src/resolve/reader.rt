@@ -23,14 +23,14 @@ use std::marker::Model;
 /// is read once for verbatim fields and once for others, however many fields use it. Contracts see the names that are
 /// defined, each with its definition.
 #[derive(Drop)]
-pub struct FieldReader<'a> {
+pub struct FieldReader<'f, 's> {
     alloc: Global,
-    definitions: &'a BTreeMap<&'a str, &'a Field<'a>>,
-    verbatim: Memo<'a>,
-    others: Memo<'a>,
+    definitions: BTreeMap<&'s str, &'f Field<'s>>,
+    verbatim: Memo<'s>,
+    others: Memo<'s>,
 }
 
-impl<'a> Model for FieldReader<'a> {
+impl<'f, 's> Model for FieldReader<'f, 's> {
     ghost use Rattle.std.specs.Prelude.{ℕ, List, true, false, []};
     ghost use Rattle.bib_syntax.specs.Abbreviations.{pairs_in, sorted_in};
     ghost use Rattle.bib_syntax.specs.Expanding.{IsSound};
@@ -38,15 +38,15 @@ impl<'a> Model for FieldReader<'a> {
 
     ghost Value = { List (List ℕ × List Piece) };
 
-    ghost view = { λ a. pairs_in a.definitions.now };
+    ghost view = { λ a. pairs_in a.definitions };
 
-    ghost invariant = { λ a. IsSound (sorted_in a.definitions.now) true a.verbatim [] × IsSound (sorted_in a.definitions.now) false a.others [] };
+    ghost invariant = { λ a. IsSound (sorted_in a.definitions) true a.verbatim [] × IsSound (sorted_in a.definitions) false a.others [] };
 }
 
-impl<'a> FieldReader<'a> {
+impl<'f, 's> FieldReader<'f, 's> {
     /// No field was read yet. Takes no memory.
-    pub fn new(alloc: Global, definitions: &'a BTreeMap<&'a str, &'a Field<'a>>) -> Self
-        ensures { result ≡ pairs_in definitions.now }
+    pub fn new(alloc: Global, definitions: BTreeMap<&'s str, &'f Field<'s>>) -> Self
+        ensures { result ≡ pairs_in definitions.entry }
     {
         FieldReader {
             alloc,
@@ -57,7 +57,7 @@ impl<'a> FieldReader<'a> {
     }
 
     /// Reads the contents of a field with this name, as `parse_field` does.
-    pub fn read(&mut self, key: &str, field: &Field<'a>) -> Result<Chunks, ParseError>
+    pub fn read(&mut self, key: &str, field: &Field<'s>) -> Result<Chunks, ParseError>
         ensures same { self.new ≡ self.old }
         ensures read { IfOk result (λ chunks. Evaluates (given_by self.old) (abbreviation.is_verbatim_field key.now) (map piece_of field.now.items) (styled chunks)) }
         ensures readable { OnOk result (IsReadable (given_by self.old) (abbreviation.is_verbatim_field key.now) (map piece_of field.now.items)) }
@@ -68,7 +68,7 @@ impl<'a> FieldReader<'a> {
         let is_verbatim = is_verbatim_field(key);
         let source = Source {
             alloc: self.alloc,
-            definitions: LookUp::Sorted(self.definitions),
+            definitions: LookUp::Sorted(&self.definitions),
             is_verbatim,
         };
         if is_verbatim {

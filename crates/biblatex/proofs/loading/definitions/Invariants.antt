@@ -1,8 +1,8 @@
 use Rattle.std.proofs.Common.{◌≡◌, List, ℕ, take}
-use Rattle.bib_syntax.specs.Abbreviations.{defined_in}
+use Rattle.bib_syntax.specs.Abbreviations.{sorted_in}
 use Rattle.biblatex.specs.Loading.{last_definition}
 use Rattle.biblatex.proofs.loading.definitions.Given as goal
 
 -- the pairs so far are defined
 abbrev pub invariant-definitions : goal.invariant-definitions
-invariant-definitions l = (name : List ℕ) → defined_in l.definitions name ≡ last_definition (take l.pair-index l.pairs) name
+invariant-definitions l = (name : List ℕ) → sorted_in l.definitions name ≡ last_definition (take l.pair-index l.pairs) name

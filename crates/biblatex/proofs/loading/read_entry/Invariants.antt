@@ -1,6 +1,6 @@
 use Rattle.std.proofs.Common.{◌≡◌, take}
 use Rattle.std.specs.List.{AllZip}
-use Rattle.bib_syntax.specs.Abbreviations.{defined_in}
+use Rattle.bib_syntax.specs.Abbreviations.{given_by}
 use Rattle.biblatex.proofs.LoadingFacts.{IsRead}
 use Rattle.biblatex.proofs.loading.read_entry.Given as goal
 
@@ -8,5 +8,6 @@ use Rattle.biblatex.proofs.loading.read_entry.Given as goal
 abbrev pub invariant-fields : goal.invariant-fields
 invariant-fields l = record {
   fields : l.field-items ≡ l.raw.fields.items;
-  read : AllZip (IsRead (defined_in l.definitions)) (take l.field-index l.field-items) l.pairs.items;
+  same : l.reader ≡ l.fn.reader;
+  read : AllZip (IsRead (given_by l.fn.reader)) (take l.field-index l.field-items) l.pairs.items;
 }
