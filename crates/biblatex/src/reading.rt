@@ -14,8 +14,8 @@ use crate::bibliography::claims;
 use crate::entry::Entry;
 use crate::loading::{definitions, read_entry};
 use bib_chunks::chunk::Spanned;
-use bib_chunks::text::Text;
 use bib_syntax::raw::{ParseError, ParseErrorKind, RawBibliography, RawEntry};
+use bib_text::text::Text;
 use std::alloc::{AllocError, Global};
 use std::collections::BTreeSet;
 

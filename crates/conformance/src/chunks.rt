@@ -1,8 +1,8 @@
 //! Chunks: formatting, writing, settled values and cuts.
 
 use bib_chunks::chunk::{Chunk, Chunks, ChunksExt, ChunksRef, Spanned, cuts, is_settled};
-use bib_chunks::items::Items;
-use bib_chunks::text::Text;
+use bib_text::items::Items;
+use bib_text::text::Text;
 use std::alloc::{AllocError, Global};
 use std::process::Abort;
 use std::test::Fail;
