@@ -11,10 +11,10 @@ use Rattle.bib_chunks.specs.declared.chunk.Chunk.{Chunk}
 use Rattle.bib_chunks.specs.declared.chunk.Spanned.{Spanned}
 use Rattle.bib_chunks.specs.declared.chunk.cuts.Parts.{Parts}
 use Rattle.bib_chunks.specs.declared.chunk.Chunk.TheVariants.{Normal}
-use Rattle.bib_chunks.specs.Places.{place, CharAt}
+use Rattle.bib_text.specs.Places.{place, CharAt}
 use Rattle.bib_chunks.specs.Cuts.{further, placed, joined, begins_with_space, is_and, prepend, between_ands, placed_between_ands, trimmed, trimmed_from}
 use Rattle.bib_chunks.specs.Cutting.{all_parts, Reads, IsAnd, NoAnd, IsFirstAnd}
-use Rattle.bib_chunks.proofs.TextFacts.{Passed, passed_char, passed_append, chars_past, chars_whole}
+use Rattle.bib_text.proofs.TextFacts.{Passed, passed_char, passed_append, chars_past, chars_whole}
 use Rattle.bib_chunks.proofs.CutFacts.{read_one, read_end}
 
 -- whether the word stands at the start of these characters, with white space round it

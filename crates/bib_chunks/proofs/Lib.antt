@@ -1,11 +1,7 @@
 pub mod AndFacts
 pub mod BraceFacts
 pub mod CutFacts
-pub mod EnumFacts
 pub mod FormattedFacts
-pub mod LanguageFacts
-pub mod PlaceFacts
 pub mod SettledFacts
 pub mod SpanFacts
-pub mod TextFacts
 pub mod WrittenFacts

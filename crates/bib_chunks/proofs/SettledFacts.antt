@@ -10,11 +10,11 @@ use Rattle.bib_chunks.specs.declared.chunk.Chunk.TheVariants.{Normal as NormalCh
 use Rattle.bib_chunks.specs.declared.chunk.settling.Before.{Before}
 use Rattle.bib_chunks.specs.declared.chunk.settling.Before.TheVariants.{Nothing, Normal, Verbatim}
 use Rattle.bib_chunks.specs.Braces.{IsParts}
-use Rattle.bib_chunks.specs.Places.{Place, CharAt, Longest, AtEnd}
+use Rattle.bib_text.specs.Places.{Place, CharAt, Longest, AtEnd}
 use Rattle.bib_chunks.specs.Styled.{Atom, atoms_of}
 use Rattle.bib_chunks.specs.Settled.{IsSettledAtom, runs_together, AreApart, IsSettled}
 use Rattle.bib_chunks.specs.Settling.{character_atom, text_atoms, behind, runs_into, MayFollow, AreSettledBehind, Continues, ContinuesIn, IsStuck, IsStuckIn, IsSettledMath}
-use Rattle.bib_chunks.proofs.TextFacts.{ahead, Passed, passed_char, passed_run, chars_at_end}
+use Rattle.bib_text.proofs.TextFacts.{ahead, Passed, passed_char, passed_run, chars_at_end}
 
 -- a character is settled in verbatim fields and in others alike
 settled_anywhere : (v b : Bool) (c : ℕ) → IsSettledAtom true (character_atom b c) → IsSettledAtom v (character_atom b c)

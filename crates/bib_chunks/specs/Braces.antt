@@ -1,7 +1,7 @@
 -- Texts in which the braces balance, as they stand between two braces in a file: a backslash hides the
 -- character behind it, and each brace that opens is closed.
 use Rattle.std.specs.Prelude.{◌≡◌, ℕ, Bool, true, not, ◌&&◌, ◌==◌, List, length}
-use Rattle.bib_chunks.specs.Places.{Place, CharAt, place}
+use Rattle.bib_text.specs.Places.{Place, CharAt, place}
 
 -- a character that is neither a brace nor a backslash
 abbrev pub is_plain : ℕ → Bool

@@ -4,7 +4,7 @@ use Rattle.std.specs.Borrow.{Lends, MutBor, Fml}
 use Rattle.bib_chunks.specs.declared.chunk.Chunk.{Chunk}
 use Rattle.bib_chunks.specs.declared.chunk.Chunk.TheVariants.{Normal, Verbatim, Math}
 use Rattle.bib_chunks.specs.contracts.chunk.Chunk.{the_row as chunk_row}
-use Rattle.bib_chunks.specs.contracts.text.Text.{the_row as text_row}
+use Rattle.bib_text.specs.contracts.text.Text.{the_row as text_row}
 
 -- the chunk of the same kind with this text
 abbrev pub with_text : Chunk → List ℕ → Chunk

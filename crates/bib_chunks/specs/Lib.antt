@@ -1,14 +1,8 @@
 pub mod Braces
 pub mod Cuts
 pub mod Cutting
-pub mod EditorType
-pub mod Enums
 pub mod Formatted
-pub mod Gender
-pub mod Language
 pub mod Lending
-pub mod Pagination
-pub mod Places
 pub mod Settled
 pub mod Settling
 pub mod Styled

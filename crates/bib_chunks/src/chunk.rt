@@ -12,8 +12,8 @@ mod formatting;
 mod settling;
 mod writing;
 
-use crate::items::Items;
-use crate::text::Text;
+use bib_text::items::Items;
+use bib_text::text::Text;
 pub use ext::ChunksExt;
 pub use settling::is_settled;
 use std::alloc::{AllocError, Global};

@@ -8,8 +8,8 @@ use Rattle.std.proofs.lemmas.List.{append-nil, take_at}
 use Rattle.std.proofs.lemmas.Str.{encodes-chars, length-encode, len_utf8_bounds}
 use Rattle.std.specs.Char.{len_utf8}
 use Rattle.std.specs.Prelude.{encode_utf8}
-use Rattle.bib_chunks.specs.Places.{Place, place, between}
-use Rattle.bib_chunks.proofs.TextFacts.{chars_whole, encode_one}
+use Rattle.bib_text.specs.Places.{Place, place, between}
+use Rattle.bib_text.proofs.TextFacts.{chars_whole, encode_one}
 use Rattle.bib_syntax.specs.Contents.{ContentUnit, Argument, begins, balances, unit_spelling, fits, IsNext}
 use Rattle.bib_syntax.specs.Passing.{left, Passes}
 use Rattle.bib_syntax.proofs.UnitFacts.{prefix, first_unit, unit_first}

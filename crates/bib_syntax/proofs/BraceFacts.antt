@@ -1,10 +1,10 @@
 -- How the parts of a braced text are passed one after another, with a count of the braces that are open.
 use Rattle.std.proofs.Common.{◌≡◌, ◌-◌, arith, ℕ, zero, suc, Bool, true, false, refl, sym, subst, MatchOption, Option, None, Some}
-use Rattle.bib_chunks.specs.Places.{Place, CharAt, Run, Stops, AtEnd}
-use Rattle.bib_chunks.specs.Places.Run.{stop, step}
+use Rattle.bib_text.specs.Places.{Place, CharAt, Run, Stops, AtEnd}
+use Rattle.bib_text.specs.Places.Run.{stop, step}
 use Rattle.bib_chunks.specs.Braces.{Parts, is_plain}
 use Rattle.bib_chunks.specs.Braces.Parts.{none, plain, hidden, nested}
-use Rattle.bib_chunks.proofs.PlaceFacts.{same_char, char_clash, pass_clash, no_char_at_end}
+use Rattle.bib_text.proofs.PlaceFacts.{same_char, char_clash, pass_clash, no_char_at_end}
 
 -- from u, parts and a closing brace for each brace that is open, and then parts up to v
 pub data Closes : ℕ → Place → Place → Type 0 where

@@ -10,8 +10,8 @@ use Rattle.std.proofs.lemmas.Bool.Decides.{same_from_decides}
 use Rattle.std.proofs.lemmas.List.{append-nil}
 use Rattle.std.proofs.lemmas.Slice.Eq.{bytes_eq-Decides}
 use Rattle.std.proofs.lemmas.Str.{encodes_same, encodes-chars, chars_past_char, chars-nil, IsUtf8-past_char}
-use Rattle.bib_chunks.specs.Enums.{named}
-use Rattle.bib_chunks.proofs.TextFacts.{chars_past}
+use Rattle.bib_text.specs.Enums.{named}
+use Rattle.bib_text.proofs.TextFacts.{chars_past}
 use Rattle.bib_syntax.specs.declared.resolve.commands.TheConstants.{SYMBOLS}
 use Rattle.bib_syntax.specs.Commands.{accents, symbols, stroke, letter, marked, accented, other, given}
 use Rattle.unicode_normalization.specs.Compose.{primary_composite, compose, compose_after}

@@ -6,7 +6,7 @@ use Rattle.std.specs.Str.{chars, IsUtf8}
 use Rattle.std.proofs.lemmas.Bool.{and_parts, and_from, cases_Bool, both_ways, not-true, not-false, ne_eqb, eqb-true}
 use Rattle.std.proofs.lemmas.List.{append_cancel_left}
 use Rattle.std.proofs.lemmas.Str.{encodes-chars, chars-nil}
-use Rattle.bib_chunks.specs.Places.{Place}
+use Rattle.bib_text.specs.Places.{Place}
 use Rattle.bib_chunks.specs.Written.{is_grouping}
 use Rattle.bib_syntax.specs.Contents.{ContentUnit, is_ordinary, Argument, is_escaped, is_space, is_blank, is_named, is_sign, is_mark, is_accent_letter, begins, is_empty, argument_spelling, unit_spelling, is_name, is_whole_name, takes_next, is_argument, fits, IsNext}
 use Rattle.bib_syntax.specs.Passing.{left, Passes}

@@ -2,8 +2,8 @@
 use Rattle.std.proofs.Common.{◌≡◌, ℕ, Bool, true, false, List, [], ◌∷◌, ◌++◌, refl, sym, ap, ◌∙◌, subst, append_assoc, append-nil, inl, inr}
 use Rattle.std.specs.Prelude.{not, ◌==◌, ◌⊎◌}
 use Rattle.std.specs.Char.{is_whitespace}
-use Rattle.bib_chunks.specs.Places.{Place, CharAt, Run, Stops, Longest, AtEnd}
-use Rattle.bib_chunks.proofs.PlaceFacts.{same_char, char_clash, pass_clash, longest_same, test_clash, stops_at, stops_without, Ahead, ahead_here, ahead_then, ahead_char, ahead_run}
+use Rattle.bib_text.specs.Places.{Place, CharAt, Run, Stops, Longest, AtEnd}
+use Rattle.bib_text.proofs.PlaceFacts.{same_char, char_clash, pass_clash, longest_same, test_clash, stops_at, stops_without, Ahead, ahead_here, ahead_then, ahead_char, ahead_run}
 use Rattle.bib_chunks.specs.Braces.{Parts}
 use Rattle.bib_chunks.specs.Braces.{Parts as parts}
 use Rattle.bib_syntax.proofs.WordFacts.{ahead_number}

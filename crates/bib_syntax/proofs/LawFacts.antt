@@ -3,11 +3,11 @@ use Rattle.std.proofs.Common.{◌≡◌, ℕ, Bool, true, false, List, [], ◌�
 use Rattle.std.specs.Prelude.{not, ◌&&◌, ◌||◌, ◌==◌}
 use Rattle.std.proofs.lemmas.Bool.{and_parts, not-true}
 use Rattle.std.specs.Char.{is_whitespace, is_control, is_ascii_digit}
-use Rattle.bib_chunks.specs.Places.{Place, CharAt, Run, Stops, Longest, AtEnd}
-use Rattle.bib_chunks.specs.Places.Run.{stop}
+use Rattle.bib_text.specs.Places.{Place, CharAt, Run, Stops, Longest, AtEnd}
+use Rattle.bib_text.specs.Places.Run.{stop}
 use Rattle.bib_chunks.specs.Braces.{Parts, is_plain}
 use Rattle.bib_chunks.specs.Braces.{Parts as parts}
-use Rattle.bib_chunks.proofs.PlaceFacts.{same_char, char_clash, pass_clash, longest_same, test_clash, no_char_at_end, stops_at}
+use Rattle.bib_text.proofs.PlaceFacts.{same_char, char_clash, pass_clash, longest_same, test_clash, no_char_at_end, stops_at}
 use Rattle.bib_syntax.specs.Characters.{is_id_start, is_id_continue, is_delimiter, is_key}
 use Rattle.bib_syntax.specs.Reading.{Part, part, Piece, Value, FieldReading}
 use Rattle.bib_syntax.specs.Reading.Piece.{literal, abbreviation}

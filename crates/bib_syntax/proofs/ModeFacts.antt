@@ -4,9 +4,9 @@ use Rattle.std.specs.Prelude.{not, ◌&&◌, ◌||◌, ◌==◌}
 use Rattle.std.specs.Char.{is_whitespace, is_control, is_ascii_digit}
 use Rattle.std.proofs.lemmas.Bool.{and_parts, not-true, cases_Bool, or_from, eqb-true, eqb-false, ne_eqb, and_right, not_from_true}
 use Rattle.std.proofs.lemmas.Bool.Decides.{nat_tests}
-use Rattle.bib_chunks.specs.Places.{Place, CharAt, Run, Stops, Longest, AtEnd}
-use Rattle.bib_chunks.specs.Places.Run.{stop, step}
-use Rattle.bib_chunks.proofs.PlaceFacts.{same_char, run_append, run_push, stops_at, test_clash}
+use Rattle.bib_text.specs.Places.{Place, CharAt, Run, Stops, Longest, AtEnd}
+use Rattle.bib_text.specs.Places.Run.{stop, step}
+use Rattle.bib_text.proofs.PlaceFacts.{same_char, run_append, run_push, stops_at, test_clash}
 use Rattle.bib_syntax.specs.Characters.{is_id_start, is_id_continue, is_delimiter, is_key}
 use Rattle.bib_syntax.specs.Reading.{Part, part, Piece, FieldReading, FileReading, nothing, then}
 use Rattle.bib_syntax.specs.Grammar.{Chars, White, Identifier, Number, Quoted, Braced, Element, Elements, Field, Remark, Gap, Fields, Head, Body, Block, File, block_kind, any, longest}

@@ -5,9 +5,9 @@ use Rattle.std.specs.List.{list_all}
 use Rattle.std.specs.Str.{chars, IsUtf8}
 use Rattle.std.proofs.lemmas.Bool.{cases_Bool, eqb-true, false_from_ne_true}
 use Rattle.std.proofs.lemmas.Str.{encodes-append, encodes-chars}
-use Rattle.bib_chunks.specs.Places.{Place, place, CharAt, Longest, Stops, AtEnd, between}
-use Rattle.bib_chunks.proofs.PlaceFacts.{char_here, same_place}
-use Rattle.bib_chunks.proofs.TextFacts.{ahead, Passed, passed_char, passed_run, passed_between, chars_at_end, chars_whole}
+use Rattle.bib_text.specs.Places.{Place, place, CharAt, Longest, Stops, AtEnd, between}
+use Rattle.bib_text.proofs.PlaceFacts.{char_here, same_place}
+use Rattle.bib_text.proofs.TextFacts.{ahead, Passed, passed_char, passed_run, passed_between, chars_at_end, chars_whole}
 use Rattle.bib_syntax.specs.Contents.{begins}
 use Rattle.bib_syntax.specs.Passing.{left, Passes}
 

@@ -1,9 +1,9 @@
 -- How the parts of a quoted text are passed one after another.
 use Rattle.std.proofs.Common.{◌≡◌, ℕ, Bool, true, false, refl, sym, subst, MatchOption, Option, None, Some}
 use Rattle.std.specs.Prelude.{not, ◌&&◌, ◌==◌}
-use Rattle.bib_chunks.specs.Places.{Place, CharAt, Run, Stops, AtEnd}
-use Rattle.bib_chunks.specs.Places.Run.{stop, step}
-use Rattle.bib_chunks.proofs.PlaceFacts.{same_char, char_clash, pass_clash, no_char_at_end}
+use Rattle.bib_text.specs.Places.{Place, CharAt, Run, Stops, AtEnd}
+use Rattle.bib_text.specs.Places.Run.{stop, step}
+use Rattle.bib_text.proofs.PlaceFacts.{same_char, char_clash, pass_clash, no_char_at_end}
 use Rattle.bib_syntax.specs.Grammar.{QuotedParts}
 use Rattle.bib_syntax.specs.Grammar.QuotedParts.{none, plain, hidden}
 

@@ -9,7 +9,7 @@ use Rattle.bib_chunks.specs.Styled.{Atom, styled}
 use Rattle.bib_chunks.specs.Writing.{Writes}
 use Rattle.bib_chunks.specs.declared.chunk.Chunk.{Chunk}
 use Rattle.bib_chunks.specs.declared.chunk.Spanned.{Spanned}
-use Rattle.bib_chunks.proofs.TextFacts.{chars_whole}
+use Rattle.bib_text.proofs.TextFacts.{chars_whole}
 use Rattle.bib_syntax.specs.Contents.{ContentUnit, Argument, Reads, character, meaning, is_closable, depth_after, held, unit_text, unit_spelling}
 use Rattle.bib_syntax.specs.Joined.{ArePlaced}
 use Rattle.bib_syntax.specs.Passing.{Took, so_far, saturated}

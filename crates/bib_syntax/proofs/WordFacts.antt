@@ -3,8 +3,8 @@ use Rattle.std.proofs.Common.{List, ◌≡◌, ℕ, Bool, true, false, refl, sym
 use Rattle.std.specs.Prelude.{not, ◌&&◌, ◌||◌, ◌==◌}
 use Rattle.std.proofs.lemmas.Bool.{and_parts}
 use Rattle.std.specs.Char.{is_ascii_digit}
-use Rattle.bib_chunks.specs.Places.{Place, CharAt, Run, Stops, Longest}
-use Rattle.bib_chunks.proofs.PlaceFacts.{same_char, char_clash, pass_clash, longest_rest, longest_same, stops_without, test_clash, Ahead, ahead_then, ahead_char, ahead_run}
+use Rattle.bib_text.specs.Places.{Place, CharAt, Run, Stops, Longest}
+use Rattle.bib_text.proofs.PlaceFacts.{same_char, char_clash, pass_clash, longest_rest, longest_same, stops_without, test_clash, Ahead, ahead_then, ahead_char, ahead_run}
 use Rattle.std.specs.Borrow.{Bor}
 use Rattle.bib_chunks.specs.declared.chunk.Spanned.{Spanned}
 use Rattle.bib_syntax.specs.declared.raw.RawChunk.{RawChunk}

@@ -1,7 +1,7 @@
 -- What a command of LaTeX stands for, as the Rust crate `biblatex` has it. A text is given by its characters.
 use Rattle.std.specs.Prelude.{ℕ, List, [], ◌∷◌, ◌++◌, Option, Some, None, codes, bytes_eq, if◌then◌else◌, ◌==◌}
 use Prim.Native.String.{String}
-use Rattle.bib_chunks.specs.Enums.{named}
+use Rattle.bib_text.specs.Enums.{named}
 use Rattle.unicode_normalization.specs.Forms.{nfc}
 
 -- an accent: its name, and the combining character that it puts on a letter

@@ -1,7 +1,7 @@
 -- Words of private contracts: characters that a cursor passes, and how far contents were read.
 use Rattle.std.specs.Prelude.{◌≡◌, ◌⊎◌, ℕ, ◌+◌, ◌-◌, ◌^◌, ◌≤◌, min, Bool, true, false, not, List, ◌++◌, length, drop, map, Some, string_bytes, encode_utf8_all}
 use Rattle.std.specs.Str.{chars}
-use Rattle.bib_chunks.specs.Places.{Place}
+use Rattle.bib_text.specs.Places.{Place}
 use Rattle.bib_chunks.specs.Styled.{Atom, styled}
 use Rattle.bib_chunks.specs.declared.chunk.Chunk.{Chunk}
 use Rattle.bib_chunks.specs.declared.chunk.Chunk.TheVariants.{Normal, Verbatim, Math}

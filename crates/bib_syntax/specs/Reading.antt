@@ -1,6 +1,6 @@
 -- What a bibliography file says: its entries, abbreviations and preamble, each part with the bytes where it stands.
 use Rattle.std.specs.Prelude.{ℕ, List, [], ◌∷◌, ◌++◌, codes}
-use Rattle.bib_chunks.specs.Places.{Place, between}
+use Rattle.bib_text.specs.Places.{Place, between}
 
 -- a part of the text: its bytes, and where they begin and end
 pub record Part : Type 0 where

@@ -11,8 +11,8 @@ mod file;
 mod words;
 
 use bib_chunks::chunk::{Span, Spanned};
-use bib_chunks::scanner::Scanner;
-use bib_chunks::text::Text;
+use bib_text::scanner::Scanner;
+use bib_text::text::Text;
 use file::blocks;
 pub(crate) use file::is_named;
 use std::alloc::{AllocError, AllocFailed, Global};

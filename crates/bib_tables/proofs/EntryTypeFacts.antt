@@ -5,8 +5,8 @@ use Rattle.std.specs.Char.{to_ascii_lowercase}
 use Rattle.std.specs.List.{list_all}
 use Rattle.std.proofs.lemmas.Slice.Eq.{bytes_eq-Decides}
 use Rattle.std.proofs.lemmas.Bool.{and_parts, cases_Bool}
-use Rattle.bib_chunks.specs.Enums.{named}
-use Rattle.bib_chunks.proofs.EnumFacts.{named-append-some}
+use Rattle.bib_text.specs.Enums.{named}
+use Rattle.bib_text.proofs.EnumFacts.{named-append-some}
 use Rattle.bib_tables.specs.declared.mechanics.EntryType.{EntryType}
 use Rattle.bib_tables.specs.declared.mechanics.EntryType.TheVariants.{Article, Book, Booklet, InBook, InCollection, InProceedings, Manual, MastersThesis, PhdThesis, Misc, Proceedings, TechReport, Unpublished, MvBook, BookInBook, SuppBook, Periodical, SuppPeriodical, Collection, MvCollection, SuppCollection, Reference, MvReference, InReference, MvProceedings, Report, Patent, Thesis, Online, Software, Dataset, Set, XData, Unknown}
 use Rattle.bib_tables.specs.EntryType.{entry_type_named, named_or_alias, entry_type_of, bibtex_names, volume_names, other_names, alias_names, entry_type_name, biblatex_type}

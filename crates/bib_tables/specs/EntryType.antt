@@ -1,7 +1,7 @@
 -- The types of entries, by the lists of BibTeX and of the BibLaTeX manual.
 use Rattle.std.specs.Prelude.{ℕ, Bool, true, false, List, [], ◌∷◌, ◌++◌, Option, codes, map, unwrap_or}
 use Rattle.std.specs.Char.{to_ascii_lowercase}
-use Rattle.bib_chunks.specs.Enums.{named, by_name}
+use Rattle.bib_text.specs.Enums.{named, by_name}
 use Rattle.bib_tables.specs.declared.mechanics.EntryType.{EntryType}
 use Rattle.bib_tables.specs.declared.mechanics.EntryType.TheVariants.{Article, Book, Booklet, InBook, InCollection, InProceedings, Manual, MastersThesis, PhdThesis, Misc, Proceedings, TechReport, Unpublished, MvBook, BookInBook, SuppBook, Periodical, SuppPeriodical, Collection, MvCollection, SuppCollection, Reference, MvReference, InReference, MvProceedings, Report, Patent, Thesis, Online, Software, Dataset, Set, XData, Unknown}
 

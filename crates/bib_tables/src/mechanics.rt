@@ -2,13 +2,13 @@
 
 ghost use Rattle.std.specs.Prelude.{◌≡◌, Some, IsOk, IsSome, IfOk};
 ghost use Rattle.std.specs.Option.{ok_or};
-ghost use Rattle.bib_chunks.specs.Enums.{named};
+ghost use Rattle.bib_text.specs.Enums.{named};
 ghost use Rattle.bib_tables.specs.EntryType.{entry_type_name, entry_type_named, bibtex_names, volume_names, other_names, alias_names, named_or_alias, entry_type_of, known_type, biblatex_type, bibtex_type, is_multi_volume, is_collection};
 
 mod requirements;
 
-use bib_chunks::text::Text;
-use bib_chunks::types::NameError;
+use bib_text::text::Text;
+use bib_types::types::NameError;
 pub use requirements::{AuthorMode, PagesChapterMode, Requirements};
 use std::alloc::{AllocError, Global};
 use std::fmt;
@@ -351,7 +351,7 @@ impl fmt::Display for EntryType {
 
 /// Reads the name of a named type, exactly as it is written.
 impl FromStr for EntryType {
-    ghost use Rattle.bib_chunks.specs.declared.types.NameError.{NameError};
+    ghost use Rattle.bib_types.specs.declared.types.NameError.{NameError};
 
     type Err = NameError;
 

@@ -5,7 +5,7 @@ ghost use Rattle.std.specs.FinMap as map;
 ghost use Rattle.biblatex.specs.Names.{claimed, claims_for};
 
 use crate::names::Names;
-use bib_chunks::text::Text;
+use bib_text::text::Text;
 use std::alloc::{AllocError, Global};
 use std::collections::BTreeMap;
 use std::marker::Model;

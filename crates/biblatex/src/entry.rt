@@ -7,8 +7,8 @@ ghost use Rattle.std.specs.FinMap as by_name;
 
 use crate::text_map::TextMap;
 use bib_chunks::chunk::{Chunks, ChunksRef};
-use bib_chunks::text::Text;
 use bib_tables::mechanics::EntryType;
+use bib_text::text::Text;
 use std::alloc::{AllocError, Global};
 use std::error::Error;
 use std::fmt;

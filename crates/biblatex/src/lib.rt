@@ -13,17 +13,17 @@ mod sorted;
 pub mod text_map;
 
 pub use bib_chunks::chunk::{Chunk, Chunks, ChunksExt, ChunksRef, Span, Spanned, is_settled};
-pub use bib_chunks::items::Items;
-pub use bib_chunks::scanner::Scanner;
-pub use bib_chunks::text::Text;
-pub use bib_chunks::types::lang::Language;
-pub use bib_chunks::types::{EditorType, Gender, NameError, Pagination};
 pub use bib_syntax::raw::{
     BiblatexParser, Field, Pair, ParseError, ParseErrorKind, RawBibliography, RawChunk, RawEntry,
     Token, is_id_continue, is_id_start, is_key,
 };
 pub use bib_syntax::resolve::{is_escapable, is_verbatim_field, parse_field};
 pub use bib_tables::mechanics::{AuthorMode, EntryType, PagesChapterMode, Requirements};
+pub use bib_text::items::Items;
+pub use bib_text::scanner::Scanner;
+pub use bib_text::text::Text;
+pub use bib_types::types::lang::Language;
+pub use bib_types::types::{EditorType, Gender, NameError, Pagination};
 pub use bibliography::{Bibliography, InsertError, Keys};
 pub use entry::{Entry, SetError};
 pub use sink::Sink;

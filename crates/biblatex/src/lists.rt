@@ -8,8 +8,8 @@ ghost use Rattle.biblatex.specs.Joining.{behind, shows};
 
 use bib_chunks::chunk::cuts::comma_list;
 use bib_chunks::chunk::{Chunk, Chunks, ChunksExt, ChunksRef, Spanned};
-use bib_chunks::items::Items;
-use bib_chunks::text::Text;
+use bib_text::items::Items;
+use bib_text::text::Text;
 use std::alloc::{AllocError, Global};
 
 // Adds the text of a chunk at the end of one of its kind, and says whether it is one.

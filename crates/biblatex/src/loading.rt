@@ -9,10 +9,10 @@ ghost use Rattle.biblatex.specs.Reading.{IsFieldFault};
 use crate::entry::Entry;
 use crate::text_map::TextMap;
 use bib_chunks::chunk::Chunks;
-use bib_chunks::text::Text;
 use bib_syntax::raw::{Field, Pair, ParseError, RawEntry};
 use bib_syntax::resolve::FieldReader;
 use bib_tables::mechanics::EntryType;
+use bib_text::text::Text;
 use std::alloc::{AllocError, Global};
 use std::collections::BTreeMap;
 

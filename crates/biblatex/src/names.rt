@@ -8,7 +8,7 @@ ghost use Rattle.biblatex.specs.TextMap.{same_pairs, same_pairs_per, same_pairs_
 ghost use Rattle.biblatex.specs.Names.{claimed, claims_for, moved_pair, without_place, IsMoved};
 
 use crate::sorted::search;
-use bib_chunks::text::Text;
+use bib_text::text::Text;
 use std::alloc::{AllocError, Global};
 use std::marker::Model;
 

@@ -15,9 +15,9 @@ use crate::entry::Entry;
 use crate::loading::{definitions, read_entry};
 use crate::names::Names;
 use bib_chunks::chunk::Spanned;
-use bib_chunks::text::Text;
 use bib_syntax::raw::{Field, ParseError, ParseErrorKind, RawBibliography, RawEntry};
 use bib_syntax::resolve::FieldReader;
+use bib_text::text::Text;
 use std::alloc::{AllocError, Global};
 use std::collections::BTreeMap;
 

@@ -4,7 +4,7 @@ ghost use Rattle.std.specs.Prelude.{◌≡◌, MatchResult, IfOk, reverse};
 ghost use Rattle.std.specs.FinMap as map;
 ghost use Rattle.biblatex.specs.Sorted.{IsSorted, IsPlaceOf, IsGapFor, map_of};
 
-use bib_chunks::text::Text;
+use bib_text::text::Text;
 use std::alloc::AllocError;
 
 // Where the pair of a name stands, or where it would; found by halving.

@@ -9,7 +9,7 @@ ghost use Rattle.biblatex.specs.TextMapLending.{LendsValue};
 ghost use Rattle.biblatex.specs.TextMap.{AreClones, same_pairs, same_pairs_per, same_pairs_equiv};
 
 use crate::sorted::{search, sorted};
-use bib_chunks::text::Text;
+use bib_text::text::Text;
 use std::alloc::{AllocError, AllocFailed, Global};
 use std::marker::Model;
 use std::mem;

@@ -1,10 +1,9 @@
 //! Chunks: formatting, writing, settled values and cuts.
 
 use bib_chunks::chunk::{Chunk, Chunks, ChunksExt, ChunksRef, Spanned, cuts, is_settled};
-use bib_chunks::items::Items;
-use bib_chunks::text::Text;
+use bib_text::items::Items;
+use bib_text::text::Text;
 use std::alloc::{AllocError, Global};
-use std::process::Abort;
 use std::test::Fail;
 
 // Chunks from their kinds (`n` normal, `v` verbatim, `m` math) and texts, one behind another.
@@ -25,83 +24,45 @@ fn chunks(alloc: Global, parts: &[(char, &str)]) -> Result<Chunks, AllocError> {
     Ok(all)
 }
 
-// What each of these lists of chunks must be written as, in verbatim fields or others.
-fn check_written(
-    rt: &impl Abort,
-    alloc: Global,
-    is_verbatim: bool,
-    parts: &[(char, &str)],
-    written: &str,
-) -> Result<(), Fail> {
-    let all = chunks(alloc, parts)?;
-    let text = all.as_slice().to_biblatex_string(alloc, is_verbatim)?;
-    assert_eq!(rt; text.as_str(), written);
-    Ok(())
-}
-
 #[test]
 fn writes_values(rt: HostRuntime) -> Result<(), Fail> {
     let alloc = rt.alloc();
-    check_written(&rt, alloc, false, &[], "{}")?;
-    check_written(
-        &rt,
-        alloc,
-        false,
-        &[('v', "a"), ('m', "x"), ('v', "b")],
-        "{{a$x$b}}",
-    )?;
-    check_written(
-        &rt,
-        alloc,
-        false,
-        &[('v', "a"), ('m', "x"), ('n', "b")],
-        "{{a$x$}b}",
-    )?;
-    check_written(&rt, alloc, false, &[('n', "a~b")], "{a\\textasciitilde{}b}")?;
-    check_written(
-        &rt,
-        alloc,
-        false,
-        &[('v', "x^y"), ('n', " z")],
-        "{{x\\textasciicircum{}y} z}",
-    )?;
-    check_written(&rt, alloc, true, &[('n', "x~y^z")], "{x~y^z}")?;
-    check_written(&rt, alloc, false, &[('m', "x^2")], "{$x^2$}")?;
-    check_written(
-        &rt,
-        alloc,
-        false,
-        &[('m', "\\frac{a}{b}")],
-        "{$\\frac{a}{b}$}",
-    )?;
-    check_written(
-        &rt,
-        alloc,
-        false,
-        &[('n', "a"), ('v', "{$}$b}")],
-        "{a{\\{\\$\\}\\$b\\}}}",
-    )?;
-    check_written(
-        &rt,
-        alloc,
-        false,
-        &[('n', "a & b \\ {c} #1 50% $5 x_y é")],
-        "{a \\& b \\\\ \\{c\\} \\#1 50\\% \\$5 x\\_y é}",
-    )?;
-    check_written(
-        &rt,
-        alloc,
-        true,
-        &[('n', "a & b \\ {c} $5"), ('m', "{x}")],
-        "{a & b \\\\ \\{c\\} $5$\\{x\\}$}",
-    )?;
-    check_written(
-        &rt,
-        alloc,
-        false,
-        &[('n', "a"), ('v', ""), ('n', "b")],
-        "{a{}b}",
-    )
+    let rows: [(bool, &[(char, &str)], &str); 12] = [
+        (false, &[], "{}"),
+        (false, &[('v', "a"), ('m', "x"), ('v', "b")], "{{a$x$b}}"),
+        (false, &[('v', "a"), ('m', "x"), ('n', "b")], "{{a$x$}b}"),
+        (false, &[('n', "a~b")], "{a\\textasciitilde{}b}"),
+        (
+            false,
+            &[('v', "x^y"), ('n', " z")],
+            "{{x\\textasciicircum{}y} z}",
+        ),
+        (true, &[('n', "x~y^z")], "{x~y^z}"),
+        (false, &[('m', "x^2")], "{$x^2$}"),
+        (false, &[('m', "\\frac{a}{b}")], "{$\\frac{a}{b}$}"),
+        (
+            false,
+            &[('n', "a"), ('v', "{$}$b}")],
+            "{a{\\{\\$\\}\\$b\\}}}",
+        ),
+        (
+            false,
+            &[('n', "a & b \\ {c} #1 50% $5 x_y é")],
+            "{a \\& b \\\\ \\{c\\} \\#1 50\\% \\$5 x\\_y é}",
+        ),
+        (
+            true,
+            &[('n', "a & b \\ {c} $5"), ('m', "{x}")],
+            "{a & b \\\\ \\{c\\} $5$\\{x\\}$}",
+        ),
+        (false, &[('n', "a"), ('v', ""), ('n', "b")], "{a{}b}"),
+    ];
+    for (is_verbatim, parts, written) in rows {
+        let all = chunks(alloc, parts)?;
+        let text = all.as_slice().to_biblatex_string(alloc, is_verbatim)?;
+        assert_eq!(rt; text.as_str(), written);
+    }
+    Ok(())
 }
 
 #[test]

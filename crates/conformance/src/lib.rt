@@ -1,14 +1,8 @@
-//! Tests of the libraries: worked examples, and what no contract says.
+//! Tests of texts, chunks and tables: worked examples, and what no contract says.
 #![tactic(auto)]
 
 #[cfg(test)]
 mod chunks;
-#[cfg(test)]
-mod contents;
-#[cfg(test)]
-mod library;
-#[cfg(test)]
-mod raw;
 #[cfg(test)]
 mod scanner;
 #[cfg(test)]

@@ -1,7 +1,7 @@
 //! The cursor over a text, and values that know where they stand: each call once.
 
 use bib_chunks::chunk::Spanned;
-use bib_chunks::scanner::Scanner;
+use bib_text::scanner::Scanner;
 use std::test::Fail;
 
 #[test]

@@ -1,8 +1,8 @@
 //! Entry types, what they ask for, languages and the small enumerations: every row of their tables.
 
-use bib_chunks::types::lang::Language;
-use bib_chunks::types::{EditorType, Gender, NameError, Pagination};
 use bib_tables::mechanics::{AuthorMode, EntryType, PagesChapterMode, Requirements};
+use bib_types::types::lang::Language;
+use bib_types::types::{EditorType, Gender, NameError, Pagination};
 use std::alloc::{AllocError, Global};
 use std::process::Abort;
 use std::str::FromStr;

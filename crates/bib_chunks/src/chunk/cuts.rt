@@ -7,8 +7,8 @@ ghost use Rattle.bib_chunks.specs.Cuts.{behind_separator, placed, between_commas
 ghost use Rattle.bib_chunks.specs.Cutting.{Reads, NoAnd, IsAnd, IsFirstAnd};
 
 use super::{Chunk, Chunks, ChunksRef, Span, Spanned};
-use crate::items::Items;
-use crate::text::Text;
+use bib_text::items::Items;
+use bib_text::text::Text;
 use std::alloc::{AllocError, Global};
 use std::mem;
 

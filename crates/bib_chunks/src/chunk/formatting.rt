@@ -7,7 +7,7 @@ ghost use Rattle.bib_chunks.specs.Formatted.{is_break, ends_in_space, unbroken, 
 ghost use Rattle.bib_chunks.specs.Writing.{Writes};
 
 use super::{Chunk, ChunksRef};
-use crate::scanner::Scanner;
+use bib_text::scanner::Scanner;
 use std::alloc::{AllocError, Global};
 use std::char::ToLowercase;
 

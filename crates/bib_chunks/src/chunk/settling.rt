@@ -9,7 +9,7 @@ ghost use Rattle.bib_chunks.specs.Settling.{MayFollow, behind, character_atom, t
 ghost use Rattle.bib_chunks.specs.Styled.{atoms_of, styled};
 
 use super::{Chunk, ChunksRef};
-use crate::scanner::Scanner;
+use bib_text::scanner::Scanner;
 
 // What stands before an atom: a normal or a verbatim character, or nothing that could run together with it.
 #[derive(Clone, Copy)]

@@ -6,7 +6,7 @@ ghost use Rattle.bib_chunks.specs.Written.{is_grouping, is_reserved, is_bare, sp
 ghost use Rattle.bib_chunks.specs.Writing.{Writes};
 
 use super::{Chunk, ChunksRef};
-use crate::scanner::Scanner;
+use bib_text::scanner::Scanner;
 use std::alloc::{AllocError, Global};
 
 // Whether a backslash takes its meaning from the character in every field.

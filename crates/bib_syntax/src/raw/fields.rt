@@ -2,7 +2,7 @@
 
 ghost use Rattle.std.specs.Prelude.{◌≡◌, List, map, IfOk, IfErr, OnOk, OnErr};
 ghost use Rattle.std.specs.Char.{is_whitespace};
-ghost use Rattle.bib_chunks.specs.Places.{Place, CharAt, Longest};
+ghost use Rattle.bib_text.specs.Places.{Place, CharAt, Longest};
 ghost use Rattle.bib_syntax.specs.Faults.{IsSyntaxFault, Refuses};
 ghost use Rattle.bib_syntax.specs.Grammar.{Elements, Field, Fields, Gap, Remark, longest};
 ghost use Rattle.bib_syntax.specs.Reading.{Piece, FieldReading};
@@ -11,7 +11,7 @@ ghost use Rattle.bib_syntax.specs.Views.{piece_of, field_of};
 use crate::raw::words::{begins_identifier, element, expect, fault, identifier};
 use crate::raw::{Field, Pair, ParseError, ParseErrorKind, Token};
 use bib_chunks::chunk::Spanned;
-use bib_chunks::scanner::Scanner;
+use bib_text::scanner::Scanner;
 use std::alloc::Global;
 
 // A percent sign and the rest of its line.

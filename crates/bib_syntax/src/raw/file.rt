@@ -1,7 +1,7 @@
 //! Blocks, and the file that they make.
 
 ghost use Rattle.std.specs.Prelude.{◌≡◌, ℕ, List, [], ◌∷◌, ◌==◌, ◌&&◌, ◌||◌, not, true, IfOk, IfErr, OnOk, OnErr};
-ghost use Rattle.bib_chunks.specs.Places.{Place, CharAt, place};
+ghost use Rattle.bib_text.specs.Places.{Place, CharAt, place};
 ghost use Rattle.bib_syntax.specs.Grammar as grammar;
 ghost use Rattle.bib_syntax.specs.Grammar.{Head, Body, Block, Remark, File, Quoted, longest};
 ghost use Rattle.bib_syntax.specs.Reading.{Part, FileReading, nothing, then};
@@ -12,7 +12,7 @@ use crate::raw::fields::{fields, gap, remark};
 use crate::raw::words::{brace, expect, identifier, key, quoted};
 use crate::raw::{Pair, ParseError, RawBibliography, RawEntry, Token};
 use bib_chunks::chunk::Spanned;
-use bib_chunks::scanner::Scanner;
+use bib_text::scanner::Scanner;
 use std::alloc::{AllocError, Global};
 
 // What a block of a file is, by its name.

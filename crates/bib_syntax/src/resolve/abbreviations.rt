@@ -18,7 +18,7 @@ use crate::resolve::contents::contents;
 use crate::resolve::definitions::LookUp;
 use crate::resolve::joining::append_copies;
 use bib_chunks::chunk::{Chunk, Chunks, Span, Spanned};
-use bib_chunks::text::Text;
+use bib_text::text::Text;
 use std::alloc::{AllocError, Global};
 use std::collections::{BTreeMap, HashMap};
 

@@ -3,11 +3,11 @@
 ghost use Rattle.std.specs.Prelude.{◌≡◌, ℕ, ◌≤◌, ◌<◌, ◌==◌, ◌^◌, Bool, true, false, List, [], ◌∷◌, length, drop, MatchOption, MatchBool};
 ghost use Rattle.std.specs.List.{list_all};
 ghost use Rattle.std.specs.Str.{chars, IsCharBoundary, IsUtf8};
-ghost use Rattle.bib_chunks.specs.Places.{Place, place, Answers, between};
+ghost use Rattle.bib_text.specs.Places.{Place, place, Answers, between};
 ghost use Rattle.bib_syntax.specs.Contents.{begins, is_space};
 ghost use Rattle.bib_syntax.specs.Passing.{left, Passes};
 
-use bib_chunks::scanner::Scanner;
+use bib_text::scanner::Scanner;
 use std::marker::Model;
 
 // A text and a place in it. Contracts speak of the characters that are left.
@@ -19,7 +19,7 @@ pub(crate) struct Characters<'s> {
 impl<'s> Model for Characters<'s> {
     ghost use Rattle.std.specs.Prelude.{drop};
     ghost use Rattle.std.specs.Str.{IsUtf8};
-    ghost use Rattle.bib_chunks.specs.Places.{Place};
+    ghost use Rattle.bib_text.specs.Places.{Place};
 
     ghost Value = { Place };
 

@@ -3,7 +3,7 @@
 ghost use Rattle.std.specs.Prelude.{◌≡◌, ◌∷◌, [], ◌++◌, OnOk, IsTrue, Some, None, map, string_bytes, encode_utf8_all};
 ghost use Rattle.std.specs.Option.{option_map};
 ghost use Rattle.std.specs.Str.{chars};
-ghost use Rattle.bib_chunks.specs.Enums.{named};
+ghost use Rattle.bib_text.specs.Enums.{named};
 ghost use Rattle.bib_chunks.specs.Writing.{Writes};
 ghost use Rattle.bib_syntax.specs.Commands.{accents, symbols, letter, bare, marked, accented, other, given};
 ghost use Rattle.unicode_normalization.specs.Forms.{Nfd, nfc, is_in_form};

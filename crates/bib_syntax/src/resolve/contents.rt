@@ -18,7 +18,7 @@ use crate::resolve::commands::write_command;
 use crate::resolve::growing::{Open, finish, turn, turn_at_math};
 use crate::resolve::units::{Argument, TextUnit, Unit, eat_unit};
 use bib_chunks::chunk::{Chunk, Chunks, ChunksExt, Span};
-use bib_chunks::items::Items;
+use bib_text::items::Items;
 use std::alloc::{AllocError, Global};
 
 // Writes so many hyphens, cut from the left: threes, then two or one.

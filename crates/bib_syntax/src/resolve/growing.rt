@@ -9,7 +9,7 @@ ghost use Rattle.bib_syntax.specs.Passing.{so_far};
 
 use crate::resolve::joining::append;
 use bib_chunks::chunk::{Chunk, Chunks, Span, Spanned};
-use bib_chunks::text::Text;
+use bib_text::text::Text;
 use std::alloc::AllocError;
 
 // A chunk that grows: its text, how many braces are open in it, and where it begins.

@@ -6,7 +6,7 @@ ghost use Rattle.bib_chunks.specs.Styled.{atoms_of, styled};
 ghost use Rattle.bib_syntax.specs.Joined.{AreJoined, ArePlaced, AreNeighbours};
 
 use bib_chunks::chunk::{Chunk, Chunks, Spanned};
-use bib_chunks::text::Text;
+use bib_text::text::Text;
 use std::alloc::AllocError;
 
 // Appends a chunk. A normal chunk behind a normal one, and a verbatim one behind a verbatim one, becomes a part of it.

@@ -3,8 +3,8 @@ use native.Mathlib.Numerals.{unary_clauses}
 use Rattle.std.proofs.lemmas.List.{drop_all}
 use Rattle.std.proofs.lemmas.Str.{IsCharBoundary-from_drop}
 use Rattle.std.specs.Str.{chars}
-use Rattle.bib_chunks.specs.Places.{place, CharAt}
-use Rattle.bib_chunks.proofs.PlaceFacts.{char_here}
+use Rattle.bib_text.specs.Places.{place, CharAt}
+use Rattle.bib_text.proofs.PlaceFacts.{char_here}
 use Rattle.bib_chunks.proofs.AndFacts.{searched_none, searched_char, searched_word, searched_all, no_word, not_spaced, word_here}
 use Rattle.bib_chunks.proofs.chunk.cuts.first_and.Goals as goal
 use Rattle.bib_chunks.proofs.chunk.cuts.first_and.Goals.{then-space+in_default, else-space}

@@ -1,7 +1,7 @@
 use Rattle.std.proofs.Common.{sym}
 use Rattle.std.proofs.lemmas.Str.{encodes-chars}
 use Rattle.bib_chunks.specs.Formatted.{formatted_chunk}
-use Rattle.bib_chunks.proofs.TextFacts.{pushed_chars}
+use Rattle.bib_text.proofs.TextFacts.{pushed_chars}
 use Rattle.bib_chunks.proofs.FormattedFacts.{formatted_verbatim}
 use Rattle.bib_chunks.proofs.chunk.formatting.write_chunk.Goals as goal
 

@@ -1,7 +1,7 @@
 use Rattle.std.proofs.Common.{◌∙◌, refl, rules}
 use Rattle.std.specs.Prelude.{string_bytes}
-use Rattle.bib_chunks.specs.Places.{Longest}
-use Rattle.bib_chunks.proofs.TextFacts.{less_left, pushed_part}
+use Rattle.bib_text.specs.Places.{Longest}
+use Rattle.bib_text.proofs.TextFacts.{less_left, pushed_part}
 use Rattle.bib_chunks.proofs.FormattedFacts.{goes_on, flowing_step, flowing_end}
 use Rattle.bib_chunks.proofs.chunk.formatting.write_flowing.Goals as goal
 

@@ -1,7 +1,7 @@
 use Rattle.std.proofs.Common.{◌∷◌, [], sym}
 use Rattle.std.specs.Str.{chars}
 use Rattle.std.proofs.lemmas.Str.{encodes-chars}
-use Rattle.bib_chunks.proofs.TextFacts.{pushed_chars, encode_one, three_parts}
+use Rattle.bib_text.proofs.TextFacts.{pushed_chars, encode_one, three_parts}
 use Rattle.bib_chunks.proofs.chunk.formatting.write_math.Goals as goal
 
 pub returns : goal.returns

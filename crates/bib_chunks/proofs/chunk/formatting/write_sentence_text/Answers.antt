@@ -1,6 +1,6 @@
 use Rattle.std.proofs.Common.{◌∙◌, refl}
 use Rattle.std.specs.Prelude.{string_bytes}
-use Rattle.bib_chunks.proofs.TextFacts.{less_behind}
+use Rattle.bib_text.proofs.TextFacts.{less_behind}
 use Rattle.bib_chunks.proofs.FormattedFacts.{sentence_skip, sentence_step, sentence_end}
 use Rattle.bib_chunks.proofs.chunk.formatting.write_sentence_text.Goals as goal
 

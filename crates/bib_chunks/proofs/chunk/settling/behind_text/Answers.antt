@@ -1,6 +1,6 @@
 use Rattle.std.proofs.Common.{◌∙◌, refl}
 use Rattle.std.specs.Str.{chars}
-use Rattle.bib_chunks.proofs.TextFacts.{ahead, passed_char, chars_at_end, less_behind}
+use Rattle.bib_text.proofs.TextFacts.{ahead, passed_char, chars_at_end, less_behind}
 use Rattle.bib_chunks.proofs.SettledFacts.{settled_step, settled_stuck, settled_end}
 use Rattle.bib_chunks.proofs.chunk.settling.behind_text.Goals as goal
 

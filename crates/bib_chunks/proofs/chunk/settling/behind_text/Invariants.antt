@@ -1,7 +1,7 @@
 use Rattle.std.proofs.Common.{◌≡◌, ◌-◌, length}
 use Rattle.std.specs.Str.{chars, IsUtf8}
 use Rattle.bib_chunks.specs.Settling.{text_atoms, Continues}
-use Rattle.bib_chunks.proofs.TextFacts.{ahead}
+use Rattle.bib_text.proofs.TextFacts.{ahead}
 use Rattle.bib_chunks.proofs.chunk.settling.behind_text.Given as goal
 
 -- the text is settled where the rest of it is, behind what was passed

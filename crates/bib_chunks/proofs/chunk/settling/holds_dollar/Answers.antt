@@ -1,8 +1,8 @@
 use Rattle.std.proofs.Common.{not, rules}
 use Rattle.std.specs.Prelude.{◌==◌}
 use Rattle.std.specs.Str.{IsUtf8}
-use Rattle.bib_chunks.specs.Places.{Longest}
-use Rattle.bib_chunks.proofs.TextFacts.{ahead}
+use Rattle.bib_text.specs.Places.{Longest}
+use Rattle.bib_text.proofs.TextFacts.{ahead}
 use Rattle.bib_chunks.proofs.SettledFacts.{dollar_found}
 use Rattle.bib_chunks.proofs.chunk.settling.holds_dollar.Goals as goal
 

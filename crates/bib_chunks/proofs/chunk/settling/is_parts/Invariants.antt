@@ -1,6 +1,6 @@
 use Rattle.std.proofs.Common.{◌≡◌, ◌≤◌, ◌-◌, length}
 use Rattle.bib_chunks.specs.Braces.{IsParts}
-use Rattle.bib_chunks.specs.Places.{place}
+use Rattle.bib_text.specs.Places.{place}
 use Rattle.bib_chunks.proofs.BraceFacts.{Closes}
 use Rattle.std.specs.Prelude.{◌↔◌}
 use Rattle.bib_chunks.proofs.chunk.settling.is_parts.Given as goal

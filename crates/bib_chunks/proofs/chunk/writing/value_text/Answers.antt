@@ -1,6 +1,6 @@
 use Rattle.std.proofs.Common.{◌∷◌, [], false}
 use Rattle.bib_chunks.specs.Written.{written_chunks}
-use Rattle.bib_chunks.proofs.TextFacts.{pushed_chars, encode_one}
+use Rattle.bib_text.proofs.TextFacts.{pushed_chars, encode_one}
 use Rattle.bib_chunks.proofs.WrittenFacts.{written_braces}
 use Rattle.bib_chunks.proofs.chunk.writing.value_text.Goals as goal
 

@@ -1,6 +1,6 @@
 use Rattle.std.proofs.Common.{◌∙◌, sym, ◌∷◌, []}
 use Rattle.std.specs.Prelude.{codes}
-use Rattle.bib_chunks.proofs.TextFacts.{pushed_chars, encode_one}
+use Rattle.bib_text.proofs.TextFacts.{pushed_chars, encode_one}
 use Rattle.bib_chunks.proofs.WrittenFacts.{spelled_grouping, spelled_verbatim, spelled_reserved, spelled_tilde, spelled_circumflex, spelled_other, tilde_bytes, circumflex_bytes}
 use Rattle.bib_chunks.proofs.chunk.writing.write_char.Goals as goal
 

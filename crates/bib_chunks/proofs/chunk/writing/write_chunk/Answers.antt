@@ -1,7 +1,7 @@
 use Rattle.std.proofs.Common.{sym}
 use Rattle.std.specs.Str.{chars}
 use Rattle.std.proofs.lemmas.Str.{encodes-chars}
-use Rattle.bib_chunks.proofs.TextFacts.{pushed_chars}
+use Rattle.bib_text.proofs.TextFacts.{pushed_chars}
 use Rattle.bib_chunks.proofs.WrittenFacts.{written_math}
 use Rattle.bib_chunks.proofs.chunk.writing.write_chunk.Goals as goal
 

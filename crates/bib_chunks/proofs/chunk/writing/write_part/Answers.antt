@@ -1,6 +1,6 @@
 use Rattle.std.proofs.Common.{◌∙◌}
 use Rattle.bib_chunks.specs.Written.{lead, written_chunk, trail}
-use Rattle.bib_chunks.proofs.TextFacts.{pushed_chars, three_parts}
+use Rattle.bib_text.proofs.TextFacts.{pushed_chars, three_parts}
 use Rattle.bib_chunks.proofs.WrittenFacts.{lead_bytes, trail_bytes}
 use Rattle.bib_chunks.proofs.chunk.writing.write_part.Goals as goal
 

@@ -2,7 +2,7 @@ use Rattle.std.proofs.Common.{◌≡◌, ◌++◌, ◌-◌, length}
 use Rattle.std.specs.Prelude.{string_bytes, encode_utf8_all}
 use Rattle.std.specs.Str.{chars, IsUtf8}
 use Rattle.bib_chunks.specs.Written.{spelling}
-use Rattle.bib_chunks.proofs.TextFacts.{ahead}
+use Rattle.bib_text.proofs.TextFacts.{ahead}
 use Rattle.bib_chunks.proofs.chunk.writing.write_text.Given as goal
 
 -- what was written and what is still to come make up the spelling of the whole text

@@ -1,7 +1,7 @@
 use Rattle.std.proofs.Common.{◌≡◌, ℕ, List, subst, sym}
 use Rattle.std.proofs.lemmas.Result.{err_from_is_err_and}
-use Rattle.bib_chunks.specs.Places.{Place, place}
-use Rattle.bib_chunks.proofs.PlaceFacts.{same_place, ahead_same}
+use Rattle.bib_text.specs.Places.{Place, place}
+use Rattle.bib_text.proofs.PlaceFacts.{same_place, ahead_same}
 use Rattle.bib_syntax.specs.Grammar.{File, longest}
 use Rattle.bib_syntax.specs.Views.{file_of}
 use Rattle.bib_syntax.proofs.FieldFacts.{refuses_from}

@@ -1,7 +1,7 @@
 use Rattle.std.proofs.Common.{inr, ap, sym, subst, map, ◌∙◌, ◌++◌, ◌∷◌, []}
 use Rattle.std.proofs.lemmas.List.{map-append}
 use Rattle.std.proofs.lemmas.Result.{err_from_is_err_and}
-use Rattle.bib_chunks.proofs.PlaceFacts.{ahead_then, ahead_run, ahead_char, ahead_here, ahead_same, left_smaller}
+use Rattle.bib_text.proofs.PlaceFacts.{ahead_then, ahead_run, ahead_char, ahead_here, ahead_same, left_smaller}
 use Rattle.bib_syntax.specs.Grammar.{Fields, longest}
 use Rattle.bib_syntax.specs.Views.{field_of}
 use Rattle.bib_syntax.proofs.FieldFacts.{field_read, fields_last, no_fields_last, fields_end, no_fields_end, no_field, no_fields_read, ahead_field, ahead_gap, refuses_from}

@@ -1,5 +1,5 @@
 use Rattle.std.proofs.Common.{length, ◌-◌, map}
-use Rattle.bib_chunks.proofs.PlaceFacts.{Ahead}
+use Rattle.bib_text.proofs.PlaceFacts.{Ahead}
 use Rattle.bib_syntax.specs.Views.{field_of}
 use Rattle.bib_syntax.proofs.FieldFacts.{FieldsRead}
 use Rattle.bib_syntax.proofs.raw.fields.fields.Given as goal

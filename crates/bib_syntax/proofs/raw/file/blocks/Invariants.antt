@@ -1,5 +1,5 @@
 use Rattle.std.proofs.Common.{length, ◌-◌}
-use Rattle.bib_chunks.proofs.PlaceFacts.{Ahead}
+use Rattle.bib_text.proofs.PlaceFacts.{Ahead}
 use Rattle.bib_syntax.specs.Views.{file_of}
 use Rattle.bib_syntax.proofs.FileFacts.{FileRead}
 use Rattle.bib_syntax.proofs.raw.file.blocks.Given as goal

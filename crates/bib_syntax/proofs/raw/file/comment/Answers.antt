@@ -1,8 +1,8 @@
 use Rattle.std.proofs.Common.{rules}
 use Rattle.std.specs.Prelude.{◌==◌, not}
 use Rattle.std.proofs.lemmas.Result.{err_from_is_err_and}
-use Rattle.bib_chunks.specs.Places.{Longest}
-use Rattle.bib_chunks.proofs.PlaceFacts.{ahead_run}
+use Rattle.bib_text.specs.Places.{Longest}
+use Rattle.bib_text.proofs.PlaceFacts.{ahead_run}
 use Rattle.bib_syntax.specs.Grammar.{Body as body}
 use Rattle.bib_syntax.proofs.FileFacts.{no_comment, not_close}
 use Rattle.bib_syntax.proofs.ReadingFacts.{fault_back, on_err}

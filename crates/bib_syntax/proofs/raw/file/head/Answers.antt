@@ -1,12 +1,12 @@
 use Rattle.std.proofs.Common.{inr}
 use Rattle.std.proofs.lemmas.Result.{err_from_is_err_and}
-use Rattle.bib_chunks.proofs.PlaceFacts.{ahead_then, ahead_run, ahead_char, ahead_here}
+use Rattle.bib_text.proofs.PlaceFacts.{ahead_then, ahead_run, ahead_char, ahead_here}
 use Rattle.bib_syntax.proofs.FieldFacts.{ahead_identifier}
 use Rattle.bib_syntax.proofs.FileFacts.{no_head_name, no_head_brace}
 use Rattle.bib_syntax.proofs.ReadingFacts.{fault_back, on_err, taken_if}
 use Rattle.bib_syntax.proofs.raw.file.head.Goals as goal
 use Rattle.bib_syntax.proofs.raw.file.head.Goals.{After-eat_if}
-use Rattle.bib_chunks.specs.Places.{CharAt}
+use Rattle.bib_text.specs.Places.{CharAt}
 
 sign : (c : After-eat_if) → CharAt c.args.s.now 64 c.eat_if.new.self
 sign c = taken_if 64 _ c.eat_if.ensures c.requires

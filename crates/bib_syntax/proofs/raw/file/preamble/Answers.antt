@@ -1,6 +1,6 @@
 use Rattle.std.proofs.Common.{refl, ap}
 use Rattle.std.proofs.lemmas.Result.{err_from_is_err_and}
-use Rattle.bib_chunks.proofs.PlaceFacts.{ahead_run, ahead_then, boundary_ahead}
+use Rattle.bib_text.proofs.PlaceFacts.{ahead_run, ahead_then, boundary_ahead}
 use Rattle.bib_syntax.specs.Grammar.{Body as body}
 use Rattle.bib_syntax.proofs.FieldFacts.{ahead_quoted}
 use Rattle.bib_syntax.proofs.FileFacts.{no_preamble, no_preamble_close}

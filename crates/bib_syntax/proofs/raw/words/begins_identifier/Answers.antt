@@ -1,4 +1,4 @@
-use Rattle.bib_chunks.proofs.PlaceFacts.{no_char_at_end}
+use Rattle.bib_text.proofs.PlaceFacts.{no_char_at_end}
 use Rattle.bib_syntax.specs.Characters.{is_id_start}
 use Rattle.bib_syntax.proofs.WordFacts.{passes_cases}
 use Rattle.bib_syntax.proofs.raw.words.begins_identifier.Goals as goal

@@ -1,5 +1,5 @@
 use Rattle.std.proofs.Common.{length, ◌-◌, ◌≤◌, zero}
-use Rattle.bib_chunks.proofs.PlaceFacts.{Ahead}
+use Rattle.bib_text.proofs.PlaceFacts.{Ahead}
 use Rattle.bib_syntax.proofs.BraceFacts.{SameBraced}
 use Rattle.bib_syntax.proofs.raw.words.braced_parts.Given as goal
 

@@ -1,4 +1,4 @@
-use Rattle.bib_chunks.proofs.PlaceFacts.{boundary_ahead}
+use Rattle.bib_text.proofs.PlaceFacts.{boundary_ahead}
 use Rattle.bib_syntax.proofs.WordFacts.{ahead_number}
 use Rattle.bib_syntax.proofs.ReadingFacts.{not_behind, part_from}
 use Rattle.bib_syntax.proofs.raw.words.number.Goals as goal

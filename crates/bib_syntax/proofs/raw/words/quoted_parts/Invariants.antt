@@ -1,5 +1,5 @@
 use Rattle.std.proofs.Common.{length, ◌-◌}
-use Rattle.bib_chunks.proofs.PlaceFacts.{Ahead}
+use Rattle.bib_text.proofs.PlaceFacts.{Ahead}
 use Rattle.bib_syntax.proofs.QuoteFacts.{SameQuoted}
 use Rattle.bib_syntax.proofs.raw.words.quoted_parts.Given as goal
 

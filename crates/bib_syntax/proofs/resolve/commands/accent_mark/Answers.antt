@@ -1,6 +1,6 @@
 use Rattle.std.proofs.Common.{◌∙◌, ◌++◌, sym, ap}
 use Rattle.std.specs.Char.{encode_utf8}
-use Rattle.bib_chunks.specs.Enums.{named}
+use Rattle.bib_text.specs.Enums.{named}
 use Rattle.bib_syntax.specs.Commands.{accents}
 use Rattle.bib_syntax.proofs.CommandFacts.{accents_empty, accents_longer, accents_one}
 use Rattle.bib_syntax.proofs.resolve.commands.accent_mark.Goals as goal

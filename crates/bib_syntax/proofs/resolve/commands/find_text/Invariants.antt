@@ -1,5 +1,5 @@
 use Rattle.std.proofs.Common.{◌≡◌, map, drop}
-use Rattle.bib_chunks.specs.Enums.{named}
+use Rattle.bib_text.specs.Enums.{named}
 use Rattle.bib_syntax.proofs.resolve.commands.find_text.Given as goal
 
 -- no row before this one has the name

@@ -1,5 +1,5 @@
 use Rattle.std.proofs.Common.{◌∙◌, ap}
-use Rattle.bib_chunks.specs.Enums.{named}
+use Rattle.bib_text.specs.Enums.{named}
 use Rattle.bib_syntax.specs.Commands.{symbols}
 use Rattle.bib_syntax.proofs.CommandFacts.{symbols_are, named_encoded}
 use Rattle.bib_syntax.proofs.resolve.commands.symbol.Goals as goal

@@ -1,6 +1,6 @@
 use Rattle.std.proofs.Common.{◌∙◌, sym}
 use Rattle.std.specs.Str.{chars}
-use Rattle.bib_chunks.proofs.TextFacts.{pushed_chars}
+use Rattle.bib_text.proofs.TextFacts.{pushed_chars}
 use Rattle.bib_syntax.proofs.CommandFacts.{mark_stays, given_accent, given_symbol, given_other, symbol_text, symbol_none}
 use Rattle.bib_syntax.proofs.resolve.commands.write_command.Goals as goal
 

@@ -1,7 +1,7 @@
 use Rattle.std.proofs.Common.{◌≡◌, ◌∙◌, ◌∷◌, [], ◌++◌, ap, encode_utf8_all}
 use Rattle.std.specs.Str.{chars}
 use Rattle.unicode_normalization.specs.Forms.{nfc}
-use Rattle.bib_chunks.proofs.TextFacts.{pushed_chars, encode_one, two_parts, chars_whole}
+use Rattle.bib_text.proofs.TextFacts.{pushed_chars, encode_one, two_parts, chars_whole}
 use Rattle.bib_syntax.proofs.resolve.commands.write_composed.Goals as goal
 
 pub returns : goal.returns

@@ -3,7 +3,7 @@ use Rattle.std.specs.Char.{encode_utf8}
 use Rattle.std.specs.Str.{chars}
 use Rattle.std.proofs.lemmas.Str.{encodes-chars}
 use Rattle.unicode_normalization.specs.Forms.{nfc}
-use Rattle.bib_chunks.proofs.TextFacts.{pushed_chars, encode_one, two_parts}
+use Rattle.bib_text.proofs.TextFacts.{pushed_chars, encode_one, two_parts}
 use Rattle.bib_syntax.specs.Commands.{letter, marked}
 use Rattle.bib_syntax.proofs.CommandFacts.{marked-push, chars_last, chars_none}
 use Rattle.bib_syntax.proofs.resolve.commands.write_marked.Goals as goal

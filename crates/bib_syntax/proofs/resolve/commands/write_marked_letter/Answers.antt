@@ -1,6 +1,6 @@
 use Rattle.std.proofs.Common.{◌∙◌, ◌<◌, ◌∷◌, [], sym}
 use borrow.Author.Tests.{ltb-true}
-use Rattle.bib_chunks.proofs.TextFacts.{pushed_chars, encode_one, two_parts}
+use Rattle.bib_text.proofs.TextFacts.{pushed_chars, encode_one, two_parts}
 use Rattle.bib_syntax.proofs.CommandFacts.{composes, stays_apart}
 use Rattle.bib_syntax.proofs.resolve.commands.write_marked_letter.Goals as goal
 

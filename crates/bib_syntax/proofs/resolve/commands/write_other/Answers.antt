@@ -1,7 +1,7 @@
 use Rattle.std.proofs.Common.{◌∷◌, [], ◌++◌, sym}
 use Rattle.std.specs.Str.{chars}
 use Rattle.std.proofs.lemmas.Str.{encodes-chars}
-use Rattle.bib_chunks.proofs.TextFacts.{pushed_chars, encode_one, two_parts, three_parts}
+use Rattle.bib_text.proofs.TextFacts.{pushed_chars, encode_one, two_parts, three_parts}
 use Rattle.bib_syntax.proofs.CommandFacts.{stroke_stays, other_o_with, other_copyright_with, other_unknown_with}
 use Rattle.bib_syntax.proofs.resolve.commands.write_other.Goals as goal
 

@@ -4,7 +4,7 @@ use Rattle.std.specs.Str.{chars}
 use Rattle.std.specs.List.{list_all}
 use Rattle.std.proofs.lemmas.Result.{err_from_is_err_and}
 use Rattle.std.proofs.lemmas.Str.{IsUtf8-string_bytes, chars-nil}
-use Rattle.bib_chunks.proofs.TextFacts.{pushed_part, pushed_chars, encode_one, two_parts, chars_whole}
+use Rattle.bib_text.proofs.TextFacts.{pushed_part, pushed_chars, encode_one, two_parts, chars_whole}
 use Rattle.bib_syntax.specs.Contents.{Reads, atoms_text, is_ordinary, unit_spelling, held}
 use Rattle.bib_syntax.specs.Passing.{left, so_far}
 use Rattle.bib_syntax.specs.UnitViews.{unit_of, text_unit_of}

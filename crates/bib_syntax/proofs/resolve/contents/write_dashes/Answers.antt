@@ -1,7 +1,7 @@
 use Rattle.std.proofs.Common.{◌≡◌, ap, sym, ◌∙◌, ◌++◌, ◌∷◌, [], ◌+◌, ◌/◌, replicate, arith, refl, subst}
 use Rattle.std.specs.Prelude.{string_bytes, encode_utf8_all}
 use Rattle.std.proofs.lemmas.List.{replicate_more}
-use Rattle.bib_chunks.proofs.TextFacts.{pushed_chars, encode_one, two_parts}
+use Rattle.bib_text.proofs.TextFacts.{pushed_chars, encode_one, two_parts}
 use Rattle.bib_syntax.proofs.resolve.contents.write_dashes.Goals as goal
 
 pub threes-preserved : goal.threes-preserved

@@ -1,6 +1,6 @@
 use Rattle.std.proofs.Common.{◌≡◌, ap, sym, ◌∙◌, ◌∷◌, []}
 use Rattle.std.specs.Str.{chars}
-use Rattle.bib_chunks.proofs.TextFacts.{chars_whole, encode_one}
+use Rattle.bib_text.proofs.TextFacts.{chars_whole, encode_one}
 use Rattle.bib_syntax.proofs.resolve.contents.write_single.Goals as goal
 
 pub returns : goal.returns

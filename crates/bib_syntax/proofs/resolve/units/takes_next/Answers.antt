@@ -2,7 +2,7 @@ use Rattle.std.proofs.Common.{◌≡◌, refl, sym, ap, ◌∙◌, ◌∷◌, Li
 use Rattle.std.specs.Str.{chars}
 use Rattle.bib_syntax.specs.Contents.{is_mark, is_accent_letter, is_empty, takes_next}
 use Rattle.bib_syntax.specs.Passing.{left, Passes}
-use Rattle.bib_chunks.specs.Places.{Place, place}
+use Rattle.bib_text.specs.Places.{Place, place}
 use Rattle.bib_syntax.proofs.CommandUnitFacts.{takes_one, takes_none, takes_nothing}
 use Rattle.bib_syntax.proofs.resolve.units.takes_next.Goals as goal
 

@@ -1,5 +1,5 @@
 use Rattle.std.proofs.Common.{sym, ◌∙◌, ◌++◌}
-use Rattle.bib_chunks.proofs.EnumFacts.{named-append-some, named-append-none}
+use Rattle.bib_text.proofs.EnumFacts.{named-append-some, named-append-none}
 use Rattle.bib_tables.specs.EntryType.{entry_type_named, bibtex_names, volume_names, other_names}
 use Rattle.bib_tables.proofs.mechanics.EntryType.named.Goals as goal
 

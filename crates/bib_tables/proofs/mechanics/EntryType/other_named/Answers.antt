@@ -1,5 +1,5 @@
 use Rattle.std.proofs.Common.{sym}
-use Rattle.bib_chunks.proofs.EnumFacts.{named_none}
+use Rattle.bib_text.proofs.EnumFacts.{named_none}
 use Rattle.bib_tables.specs.EntryType.{other_names}
 use Rattle.bib_tables.proofs.mechanics.EntryType.other_named.Goals as goal
 

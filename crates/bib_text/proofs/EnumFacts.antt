@@ -1,0 +1,35 @@
+-- Facts on tables of names.
+use Rattle.std.proofs.Common.{◌≡◌, ℕ, Bool, true, false, List, [], ◌∷◌, ◌++◌, Option, None, Some, refl, map, arith, cond, bytes_eq}
+use Rattle.std.proofs.lemmas.Slice.Eq.{bytes_eq-Decides}
+use Rattle.bib_text.specs.Enums.{named}
+
+-- a text that is none of these names
+abbrev pub IsNoneOf : List (List ℕ) → List ℕ → Type 0
+IsNoneOf [] text = Unit {0}
+IsNoneOf (name ∷ names) text = (text ≡ name → ⊥) × IsNoneOf names text
+
+-- a table gives nothing at a text that is none of its names
+pub named_none : {A : Type 0} (rows : List (List ℕ × A)) (text : List ℕ) → IsNoneOf (map (λ row. row.0) rows) text → named rows text ≡ None
+named_none [] text none = refl
+named_none (row ∷ rows) text none = search (arith, none.0, named_none rows text none.1, bytes_eq-Decides)
+
+-- a table is looked through before the one behind it
+pub named-append-some : {A : Type 0} (rows more : List (List ℕ × A)) (text : List ℕ) (value : A) → named rows text ≡ Some value → named (rows ++ more) text ≡ Some value
+named-append-some [] more text value found = cc
+named-append-some (row ∷ rows) more text value found =
+    here (bytes_eq row.0 text) (named rows text) (named (rows ++ more) text) row.1 value (named-append-some rows more text value) found
+  where
+    here : {A : Type 0} (is_here : Bool) (first all : Option A) (this value : A) → (first ≡ Some value → all ≡ Some value)
+        → cond is_here (Some this) first ≡ Some value → cond is_here (Some this) all ≡ Some value
+    here true first all this value behind found = found
+    here false first all this value behind found = behind found
+
+pub named-append-none : {A : Type 0} (rows more : List (List ℕ × A)) (text : List ℕ) → named rows text ≡ None → named (rows ++ more) text ≡ named more text
+named-append-none [] more text none = refl
+named-append-none (row ∷ rows) more text none =
+    here (bytes_eq row.0 text) (named rows text) (named (rows ++ more) text) (named more text) row.1 (named-append-none rows more text) none
+  where
+    here : {A : Type 0} (is_here : Bool) (first all rest : Option A) (this : A) → (first ≡ None → all ≡ rest)
+        → cond is_here (Some this) first ≡ None → cond is_here (Some this) all ≡ rest
+    here true first all rest this behind none = cc
+    here false first all rest this behind none = behind none

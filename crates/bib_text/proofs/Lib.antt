@@ -1,0 +1,3 @@
+pub mod EnumFacts
+pub mod PlaceFacts
+pub mod TextFacts

@@ -1,0 +1,193 @@
+-- Facts on places and the characters between them.
+use Rattle.std.proofs.Common.{◌≡◌, ℕ, ◌+◌, ◌-◌, ◌<◌, ◌≤◌, Bool, true, false, List, ◌++◌, length, drop, get_or, refl, sym, ap, ◌∙◌, subst, arith, length-append, length-drop, inl, inr, nat_eq, MatchBool, MatchOption, Option, None, Some}
+use Rattle.std.specs.Prelude.{encode_utf8, ◌==◌}
+use Rattle.std.specs.Char.{len_utf8}
+use Rattle.std.specs.Str.{IsUtf8, IsCharBoundary}
+use Rattle.std.proofs.lemmas.Str.{encode_same, drop_past_char, length-encode, len_utf8_bounds, len_utf8_ascii, encode_ascii, IsUtf8-drop, IsCharBoundary-past_char}
+use Rattle.std.proofs.lemmas.List.{drop_more}
+use Rattle.std.proofs.lemmas.Bool.{cases_eq, eq-eqb, ne_eqb, eqb-false}
+use Rattle.bib_text.specs.Places.{Place, place, CharAt, Run, Stops, Longest, AtEnd, between}
+use Rattle.bib_text.specs.Places.Run.{stop, step}
+
+-- two places of one text are one where they are as far from its start
+pub same_place : {u v : Place} → u.text ≡ v.text → u.at ≡ v.at → u ≡ v
+same_place {u} {v} texts places = ap (λ t. place t u.at) texts ∙ ap (place v.text) places
+
+-- a character stands where its bytes begin what is left
+pub char_here : (text rest : List ℕ) (at c : ℕ) → drop at text ≡ encode_utf8 c ++ rest → CharAt (place text at) c (place text (at + len_utf8 c))
+char_here text rest at c here = record {
+  same = refl;
+  here = here ∙ ap (λ r. encode_utf8 c ++ r) (sym (drop_past_char text rest at c here));
+  next = refl;
+}
+
+-- a byte of ASCII is a character
+pub ascii_here : (text : List ℕ) (at : ℕ) → at < length text → get_or text at 0 < 128 → CharAt (place text at) (get_or text at 0) (place text (at + 1))
+ascii_here text at within ascii =
+    let width : len_utf8 (get_or text at 0) ≡ 1 = len_utf8_ascii _ ascii in
+    let here : drop at text ≡ encode_utf8 (get_or text at 0) ++ drop (at + 1) text = rw (encode_ascii (get_or text at 0) ascii) (drop_more text at 0 within) in
+    subst (λ n. CharAt (place text at) (get_or text at 0) (place text (at + n))) width (char_here text (drop (at + 1) text) at _ here)
+
+-- one character stands at a place
+pub same_char : {u v w : Place} {c d : ℕ} → CharAt u c v → CharAt u d w → (c ≡ d) × (v ≡ w)
+same_char {u} {v} {w} {c} {d} first second =
+    let same : c ≡ d = (encode_same c d _ _ (sym first.here ∙ second.here)).0 in
+    (same, same_place (first.same ∙ sym second.same) (first.next ∙ ap (λ x. u.at + len_utf8 x) same ∙ sym second.next))
+
+-- at least its bytes are left where a character stands
+pub char_left : {u v : Place} {c : ℕ} → CharAt u c v → u.at + len_utf8 c ≤ length u.text
+char_left {u} {v} {c} char =
+    let sizes : length u.text - u.at ≡ len_utf8 c + (length u.text - v.at) = sym (length-drop u.at u.text) ∙ ap length char.here ∙ length-append (encode_utf8 c) _ ∙ ap (λ n. n + length (drop v.at u.text)) (length-encode c) ∙ ap (λ n. len_utf8 c + n) (length-drop v.at u.text) in
+    let width : 1 ≤ len_utf8 c = (len_utf8_bounds c).0 in
+    let next : v.at ≡ u.at + len_utf8 c = char.next in
+    omega arith
+
+-- no character stands at the end of a text
+pub no_char_at_end : {u v : Place} {c : ℕ} → AtEnd u → CharAt u c v → ⊥
+no_char_at_end {u} {v} {c} end char =
+    let left : u.at + len_utf8 c ≤ length u.text = char_left char in
+    let width : 1 ≤ len_utf8 c = (len_utf8_bounds c).0 in
+    omega arith
+
+-- a text may be cut behind a character that stands where it may be cut
+pub boundary_behind : {u v : Place} {c : ℕ} → IsUtf8 u.text → IsCharBoundary u.text u.at → CharAt u c v → IsCharBoundary u.text v.at
+boundary_behind {u} {v} {c} utf8 boundary char =
+    rw char.next (IsCharBoundary-past_char u.text (drop v.at u.text) u.at c boundary.0 (IsUtf8-drop u.text u.at utf8 boundary) char.here)
+
+-- where one character stands, no other does
+pub no_other_char : {u v : Place} {c : ℕ} (d : ℕ) → CharAt u c v → (c ≡ d → ⊥) → (w : Place) → CharAt u d w → ⊥
+no_other_char d char differs w other = differs (same_char char other).0
+
+-- the place behind a character
+pub place_behind : {u v : Place} {c : ℕ} → CharAt u c v → v ≡ place u.text (u.at + len_utf8 c)
+place_behind {u} {v} {c} char = same_place {u = v} {v = place u.text (u.at + len_utf8 c)} char.same char.next
+
+-- runs one after another
+pub run_append : {test : ℕ → Bool} {u v w : Place} → Run test u v → Run test v w → Run test u w
+run_append stop more = more
+run_append (step char passes rest) more = step char passes (run_append rest more)
+
+-- a run of one character
+pub run_one : {test : ℕ → Bool} {u v : Place} {c : ℕ} → CharAt u c v → test c ≡ true → Run test u v
+run_one char passes = step char passes stop
+
+pub stops_at_end : (test : ℕ → Bool) {u : Place} → AtEnd u → Stops test u
+stops_at_end test end c v char = absurd (no_char_at_end end char)
+
+pub stops_at : (test : ℕ → Bool) {u v : Place} {c : ℕ} → CharAt u c v → test c ≡ false → Stops test u
+stops_at test {u} {v} {c} char fails d w other = subst (λ x. test x ≡ false) (same_char char other).0 fails
+
+-- a text may be cut behind a character
+pub boundary_after : (text : List ℕ) (at : ℕ) {u v : Place} {c : ℕ} → place text at ≡ u → IsUtf8 text → IsCharBoundary text at → CharAt u c v → IsCharBoundary text (at + len_utf8 c)
+boundary_after text at {u} {v} {c} here utf8 boundary char =
+    let at_place : CharAt (place text at) c v = subst (λ p. CharAt p c v) (sym here) char in
+    IsCharBoundary-past_char text (drop v.at text) at c boundary.0 (IsUtf8-drop text at utf8 boundary) at_place.here
+
+-- one character more
+pub run_push : {test : ℕ → Bool} {u v w : Place} {c : ℕ} → Run test u v → CharAt v c w → test c ≡ true → Run test u w
+run_push run char passes = run_append run (run_one char passes)
+
+-- a byte of ASCII more
+pub run_push_ascii : {test : ℕ → Bool} {u : Place} (text : List ℕ) (at : ℕ) → Run test u (place text at) → at < length text → get_or text at 0 < 128 → test (get_or text at 0) ≡ true → Run test u (place text (at + 1))
+run_push_ascii text at run within ascii passes = run_push run (ascii_here text at within ascii) passes
+
+-- any character more
+pub run_push_char : {test : ℕ → Bool} {u v : Place} {c : ℕ} (text : List ℕ) (at : ℕ) → Run test u (place text at) → CharAt (place text at) c v → test c ≡ true → Run test u (place text (at + len_utf8 c))
+run_push_char {test} {u} {v} {c} text at run char passes = subst (λ p. Run test u p) (place_behind char) (run_push run char passes)
+
+-- whether the character that stands here is this one
+pub stands_cases : {u v : Place} (c d : ℕ) → CharAt u c v → MatchBool (nat_eq c d) ((w : Place) × CharAt u d w) ((w : Place) → CharAt u d w → ⊥)
+stands_cases {u} {v} c d char =
+    elim (cases_eq c d) [
+      | inl same ↦ rw (eq-eqb c d same) (v, rw (← same) char)
+      | inr differs ↦ rw (ne_eqb c d differs) (no_other_char d char differs)
+    ]
+
+-- what a step over the characters of the text from a place gives
+pub char_at_front : (B : Type 0) (text : List ℕ) (at : ℕ) → at ≤ length text → (found : Option ℕ) (now behind : List ℕ) → now ≡ drop at text
+    → MatchOption found ((length now ≡ 0) × B) (λ c. now ≡ encode_utf8 c ++ behind)
+    → MatchOption found (AtEnd (place text at)) (λ c. (v : Place) × CharAt (place text at) c v)
+char_at_front B text at within None now behind rest none =
+    let left : length text - at ≡ 0 = sym (length-drop at text) ∙ ap length (sym rest) ∙ none.0 in
+    omega arith
+char_at_front B text at within (Some c) now behind rest some = (_, char_here text behind at c (sym rest ∙ some))
+
+-- the same character passes or fails, and not both
+pub test_clash : (b : Bool) → b ≡ true → b ≡ false → ⊥
+test_clash b passes fails = cc
+
+-- two runs from one place that both end where the test fails end at one place
+pub runs_same : {test : ℕ → Bool} {u v w : Place} → Run test u v → Stops test v → Run test u w → Stops test w → v ≡ w
+runs_same stop ends stop ends' = refl
+runs_same stop ends (step char passes rest) ends' = absurd (test_clash _ passes (ends _ _ char))
+runs_same (step char passes rest) ends stop ends' = absurd (test_clash _ passes (ends' _ _ char))
+runs_same {test} {u} {v} {w} (step char passes rest) ends (step char' passes' rest') ends' =
+    runs_same rest ends (subst (λ p. Run test p w) (sym (same_char char char').1) rest') ends'
+
+-- what is left of a run behind its first character
+pub run_rest : {test : ℕ → Bool} {u v w : Place} {c : ℕ} → Run test u w → Stops test w → CharAt u c v → test c ≡ true → Run test v w
+run_rest stop ends char passes = absurd (test_clash _ passes (ends _ _ char))
+run_rest {test} {u} {v} {w} (step char' passes' rest) ends char passes = subst (λ p. Run test p w) (same_char char' char).1 rest
+
+-- a later place of the same text
+pub record Ahead (u v : Place) : Type 0 where
+  pub text : v.text ≡ u.text
+  pub at : u.at ≤ v.at
+
+pub ahead_here : (u : Place) → Ahead u u
+ahead_here u = record { text = refl; at = omega arith }
+
+pub ahead_then : {u v w : Place} → Ahead u v → Ahead v w → Ahead u w
+ahead_then first second = record { text = second.text ∙ first.text; at = omega (arith, first.at, second.at) }
+
+pub ahead_char : {u v : Place} {c : ℕ} → CharAt u c v → Ahead u v
+ahead_char {u} {v} {c} char = record { text = char.same; at = omega (arith, char.next) }
+
+pub ahead_run : {test : ℕ → Bool} {u v : Place} → Run test u v → Ahead u v
+ahead_run stop = ahead_here _
+ahead_run (step char passes rest) = ahead_then (ahead_char char) (ahead_run rest)
+
+-- where a text may be cut, it may be cut from later places too
+pub boundary_ahead : {u v : Place} (at : ℕ) → Ahead u v → IsCharBoundary u.text at → IsCharBoundary v.text at
+boundary_ahead {u} {v} at ahead boundary = subst (λ t. IsCharBoundary t at) (sym ahead.text) boundary
+
+-- a longest run ends at one place
+pub longest_same : {test : ℕ → Bool} {u v w : Place} → Longest test u v → Longest test u w → v ≡ w
+longest_same first second = runs_same first.run first.stops second.run second.stops
+
+-- a longest run goes on behind its first character
+pub longest_rest : {test : ℕ → Bool} {u v w : Place} {c : ℕ} → Longest test u w → CharAt u c v → test c ≡ true → Longest test v w
+longest_rest longest char passes = record { run = run_rest longest.run longest.stops char passes; stops = longest.stops }
+
+-- two characters that differ do not stand at one place
+pub char_clash : {u v w : Place} {c d : ℕ} → CharAt u c v → CharAt u d w → nat_eq c d ≡ false → ⊥
+char_clash {u} {v} {w} {c} {d} first second differ = eqb-false c d differ (same_char first second).0
+
+-- a character that passes and one that fails do not stand at one place
+pub pass_clash : (test : ℕ → Bool) {u v w : Place} {c d : ℕ} → CharAt u c v → test c ≡ true → CharAt u d w → test d ≡ false → ⊥
+pass_clash test {u} {v} {w} {c} {d} first passes second fails = test_clash (test d) (subst (λ x. test x ≡ true) (same_char first second).0 passes) fails
+
+-- where one character doesn't stand, only others do
+pub stops_without : (k : ℕ) {u : Place} → ((v : Place) → CharAt u k v → ⊥) → Stops (λ c. c == k) u
+stops_without k {u} absent c v char = ne_eqb c k (λ same. absent v (subst (λ x. CharAt u x v) same char))
+
+-- what is left behind a character and more is less
+pub left_smaller : {u v w x : Place} {c : ℕ} → Ahead u v → CharAt v c w → Ahead w x → length x.text - x.at < length u.text - u.at
+left_smaller {u} {v} {w} {x} {c} before char behind =
+    let left : v.at + len_utf8 c ≤ length v.text = char_left char in
+    let width : 1 ≤ len_utf8 c = (len_utf8_bounds c).0 in
+    let text : length v.text ≡ length u.text = ap length before.text in
+    let text' : length w.text ≡ length v.text = ap length char.same in
+    let text'' : length x.text ≡ length w.text = ap length behind.text in
+    let start : u.at ≤ v.at = before.at in
+    let next : w.at ≡ v.at + len_utf8 c = char.next in
+    let end : w.at ≤ x.at = behind.at in
+    omega arith
+
+-- over a character, if one stands there
+pub ahead_taken : {u v : Place} (taken : Option ℕ) → MatchOption taken (AtEnd u × (v ≡ u)) (λ c. CharAt u c v) → Ahead u v
+ahead_taken {u} {v} None ended = subst (λ p. Ahead u p) (sym ended.1) (ahead_here u)
+ahead_taken (Some c) char = ahead_char char
+
+pub ahead_same : {u v : Place} → v ≡ u → Ahead u v
+ahead_same {u} {v} same = subst (λ p. Ahead u p) (sym same) (ahead_here u)

@@ -1,0 +1,4 @@
+pub mod EditorType
+pub mod Gender
+pub mod Language
+pub mod Pagination

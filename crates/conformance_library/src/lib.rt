@@ -1,0 +1,5 @@
+//! Tests of the bibliography: worked examples, and what no contract says.
+#![tactic(auto)]
+
+#[cfg(test)]
+mod library;
