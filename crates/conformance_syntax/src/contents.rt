@@ -2,9 +2,9 @@
 
 use bib_chunks::chunk::{Chunk, ChunksRef};
 use bib_syntax::raw::RawBibliography;
-use bib_syntax::resolve::{is_escapable, is_verbatim_field, parse_field};
+use bib_syntax::resolve::{FieldReader, is_escapable, is_verbatim_field, parse_field};
 use std::alloc::Global;
-use std::collections::HashMap;
+use std::collections::{BTreeMap, HashMap};
 use std::test::Fail;
 
 // The chunks, each in brackets behind the first letter of its kind.
@@ -326,6 +326,40 @@ fn reads_a_long_chain_of_names(rt: HostRuntime) -> Result<(), Fail> {
     file.push_str("@misc{k, title = a20000}")?;
     let found = said(alloc, file.as_str())?;
     assert_eq!(rt; found.as_str(), "N[end]");
+    Ok(())
+}
+
+#[test]
+fn reads_fields_one_after_another(rt: HostRuntime) -> Result<(), Fail> {
+    let alloc = rt.alloc();
+    let file = "@string{d = {a--b\\&c}} @string{o = d # { } # d} @string{r = r} \
+        @misc{k, title = o, url = o, note = d # jan, file = o # jan, editor = r, author = o, doi = d}";
+    let Ok(raw) = RawBibliography::parse(alloc, file) else {
+        return Err("the file is not read")?;
+    };
+    let mut names = BTreeMap::new(alloc);
+    for pair in &raw.abbreviations {
+        names.insert(pair.key.v, &pair.value.v)?;
+    }
+    let mut reader = FieldReader::new(alloc, names);
+    let entry = raw.entries.last().ok_or("an entry")?;
+    let wanted = [
+        "N[a\u{2013}b&c a\u{2013}b&c]",
+        "N[a\u{2013}b\\&c a\u{2013}b\\&c]",
+        "N[a\u{2013}b&cJanuary]",
+        "N[a\u{2013}b\\&c a\u{2013}b\\&cJanuary]",
+        "circular abbreviation \"r\": 60-61",
+        "N[a\u{2013}b&c a\u{2013}b&c]",
+        "N[a\u{2013}b\\&c]",
+    ];
+    for (field, want) in entry.v.fields.iter().zip(wanted) {
+        let found = match reader.read(field.key.v, &field.value.v) {
+            Ok(chunks) => shown(alloc, chunks.as_slice())?,
+            Err(error) => format!(in alloc; "{error}")?,
+        };
+        assert_eq!(rt; found.as_str(), want, "{}", field.key.v);
+    }
+    assert_eq!(rt; entry.v.fields.len(), wanted.len());
     Ok(())
 }
 
