@@ -1,5 +1,5 @@
 -- How the parts of a braced text are passed one after another, with a count of the braces that are open.
-use Rattle.std.proofs.Common.{◌≡◌, ◌-◌, arith, ℕ, zero, suc, Bool, true, false, refl, sym, subst, MatchOption, Option, None, Some}
+use Rattle.std.proofs.Common.{◌≡◌, ◌-◌, arith, ℕ, zero, suc, true, refl, sym, subst, MatchOption, Option, None, Some}
 use Rattle.bib_text.specs.Places.{Place, CharAt, Run, Stops, AtEnd}
 use Rattle.bib_text.specs.Places.Run.{stop, step}
 use Rattle.bib_chunks.specs.Braces.{Parts, is_plain}

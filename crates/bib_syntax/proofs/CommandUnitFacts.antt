@@ -1,16 +1,16 @@
 -- Facts on the commands that a cursor takes.
-use Rattle.std.proofs.Common.{◌≡◌, ℕ, ◌+◌, Bool, true, false, not, ◌&&◌, ◌||◌, if◌then◌else◌, List, [], ◌∷◌, ◌++◌, length, drop, refl, sym, ap, ◌∙◌, subst, arith, append_assoc, inl, inr, Option, None, Some, MatchOption}
+use Rattle.std.proofs.Common.{◌≡◌, ℕ, Bool, true, false, not, ◌&&◌, ◌||◌, List, [], ◌∷◌, ◌++◌, length, refl, sym, ap, ◌∙◌, subst, arith, append_assoc, Option, None, Some, MatchOption}
 use Rattle.std.specs.Prelude.{◌==◌, encode_utf8_all}
 use Rattle.std.specs.List.{list_all}
 use Rattle.std.specs.Str.{chars, IsUtf8}
-use Rattle.std.proofs.lemmas.Bool.{and_parts, and_from, cases_Bool, both_ways, not-true, not-false, ne_eqb, eqb-true}
+use Rattle.std.proofs.lemmas.Bool.{and_parts, both_ways, not-true, not-false, ne_eqb, eqb-true}
 use Rattle.std.proofs.lemmas.List.{append_cancel_left}
 use Rattle.std.proofs.lemmas.Str.{encodes-chars, chars-nil}
 use Rattle.bib_text.specs.Places.{Place}
 use Rattle.bib_chunks.specs.Written.{is_grouping}
-use Rattle.bib_syntax.specs.Contents.{ContentUnit, is_ordinary, Argument, is_escaped, is_space, is_blank, is_named, is_sign, is_mark, is_accent_letter, begins, is_empty, argument_spelling, unit_spelling, is_name, is_whole_name, takes_next, is_argument, fits, IsNext}
+use Rattle.bib_syntax.specs.Contents.{ContentUnit, is_ordinary, Argument, is_escaped, is_space, is_blank, is_named, is_sign, is_mark, is_accent_letter, begins, is_empty, argument_spelling, is_name, is_whole_name, takes_next, is_argument, IsNext}
 use Rattle.bib_syntax.specs.Passing.{left, Passes}
-use Rattle.bib_syntax.proofs.UnitFacts.{first_unit, first_argument, command_of, unit_first, escape_first, prefix, behind, prefix_run, behind_run, command_parts}
+use Rattle.bib_syntax.proofs.UnitFacts.{first_unit, first_argument, command_of, unit_first, escape_first, behind, prefix_run, behind_run, command_parts}
 use Rattle.bib_syntax.proofs.ArgumentFacts.{behind_first}
 
 first_same : {c d : ℕ} {xs ys : List ℕ} → c ∷ xs ≡ d ∷ ys → c ≡ d

@@ -1,9 +1,9 @@
 -- Contents are read in one way.
-use Rattle.std.proofs.Common.{◌≡◌, ℕ, zero, suc, ◌-◌, Bool, true, false, List, [], ◌∷◌, ◌++◌, map, refl, sym, ap, ◌∙◌, subst, Option, None, Some}
+use Rattle.std.proofs.Common.{◌≡◌, ℕ, zero, suc, Bool, true, false, List, [], ◌∷◌, ◌++◌, refl, sym, ap, ◌∙◌, Some}
 use Rattle.std.proofs.lemmas.Bool.{both_ways}
 use Rattle.std.proofs.lemmas.List.{append_cancel_left}
 use Rattle.bib_chunks.specs.Styled.{Atom}
-use Rattle.bib_syntax.specs.Contents.{ContentUnit, Argument, unit_spelling, unit_text, fits, IsNext, character, meaning, is_closable, depth_after, held, Reads}
+use Rattle.bib_syntax.specs.Contents.{ContentUnit, Argument, unit_spelling, fits, IsNext, meaning, depth_after, held, Reads}
 use Rattle.bib_syntax.specs.Contents.Reads.{end, next}
 use Rattle.bib_syntax.proofs.UnitFacts.{first_unit, unit_first}
 

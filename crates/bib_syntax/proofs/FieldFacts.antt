@@ -1,24 +1,23 @@
 -- How elements and fields are read one after another.
-use Rattle.std.proofs.Common.{◌≡◌, ℕ, Bool, true, false, List, [], ◌∷◌, ◌++◌, refl, sym, ap, ◌∙◌, subst, append_assoc, append-nil, inl, inr}
-use Rattle.std.specs.Prelude.{not, ◌==◌, ◌⊎◌}
+use Rattle.std.proofs.Common.{◌≡◌, ℕ, true, false, List, [], ◌∷◌, ◌++◌, refl, sym, subst, append_assoc, append-nil, inl, inr}
 use Rattle.std.specs.Char.{is_whitespace}
-use Rattle.bib_text.specs.Places.{Place, CharAt, Run, Stops, Longest, AtEnd}
+use Rattle.bib_text.specs.Places.{Place, CharAt, Run, Stops, Longest}
 use Rattle.bib_text.proofs.PlaceFacts.{same_char, char_clash, pass_clash, longest_same, test_clash, stops_at, stops_without, Ahead, ahead_here, ahead_then, ahead_char, ahead_run}
 use Rattle.bib_chunks.specs.Braces.{Parts}
 use Rattle.bib_chunks.specs.Braces.{Parts as parts}
 use Rattle.bib_syntax.proofs.WordFacts.{ahead_number}
 use Rattle.bib_syntax.proofs.ReadingFacts.{fault_back}
 use Rattle.bib_syntax.specs.Characters.{is_id_start}
-use Rattle.bib_syntax.specs.Reading.{Part, part, Piece, FieldReading}
-use Rattle.bib_syntax.specs.Grammar.{Identifier, Number, Quoted, QuotedParts, Braced, Element, Elements, Field, Remark, Gap, Fields, longest}
+use Rattle.bib_syntax.specs.Reading.{Part, Piece, FieldReading}
+use Rattle.bib_syntax.specs.Grammar.{Identifier, Quoted, QuotedParts, Element, Elements, Field, Gap, Fields, longest}
 use Rattle.bib_syntax.specs.Grammar.{QuotedParts as quotes}
 use Rattle.bib_syntax.specs.Grammar.{Element as element}
 use Rattle.bib_syntax.specs.Grammar.{Elements as elements}
 use Rattle.bib_syntax.specs.Grammar.{Gap as gap}
 use Rattle.bib_syntax.specs.Grammar.{Fields as fields}
-use Rattle.bib_syntax.specs.Faults.{Refuses, IsSyntaxFault, out_of_memory}
+use Rattle.bib_syntax.specs.Faults.{Refuses}
 use Rattle.bib_syntax.specs.declared.raw.ParseError.{ParseError}
-use Rattle.bib_syntax.proofs.LawFacts.{moved, identifier_same, element_same, elements_same, field_same, gap_same, fields_same, no_field_closes, start_not_white}
+use Rattle.bib_syntax.proofs.LawFacts.{moved, identifier_same, element_same, field_same, gap_same, no_field_closes, start_not_white}
 
 pub gap_without : {u a : Place} → Longest is_whitespace u a → ((x : Place) → CharAt a 37 x → ⊥) → Gap longest u a
 gap_without white none = gap.white white (stops_without 37 none)

@@ -1,9 +1,9 @@
 -- How blocks are read one after another.
-use Rattle.std.proofs.Common.{◌≡◌, ℕ, ◌-◌, ◌<◌, length, Bool, true, false, List, [], ◌∷◌, ◌++◌, refl, sym, ap, ◌∙◌, subst, append_assoc, append-nil, codes}
+use Rattle.std.proofs.Common.{◌≡◌, ℕ, ◌-◌, ◌<◌, length, Bool, true, List, [], ◌∷◌, ◌++◌, refl, sym, ap, ◌∙◌, subst, append_assoc, append-nil, codes}
 use Rattle.std.proofs.lemmas.Bool.{ne_eqb}
 use Rattle.std.specs.Prelude.{not, ◌==◌, ◌&&◌, ◌||◌}
 use Rattle.std.specs.Char.{is_whitespace}
-use Rattle.bib_text.specs.Places.{Place, CharAt, Run, Stops, Longest, AtEnd, between}
+use Rattle.bib_text.specs.Places.{Place, CharAt, Run, Longest, AtEnd, between}
 use Rattle.bib_text.specs.Places.Run.{stop, step}
 use Rattle.bib_text.proofs.PlaceFacts.{same_char, char_clash, pass_clash, longest_same, longest_rest, left_smaller, Ahead, ahead_here, ahead_then, ahead_char, ahead_run, no_char_at_end}
 use Rattle.bib_syntax.specs.Characters.{is_key}

@@ -1,17 +1,17 @@
 -- A text has one raw reading: from one place each rule, taken with the longest runs, ends at one place with one reading.
-use Rattle.std.proofs.Common.{◌≡◌, ℕ, Bool, true, false, List, [], ◌∷◌, refl, sym, ap, ◌∙◌, subst, inl, inr, nat_eq}
+use Rattle.std.proofs.Common.{◌≡◌, ℕ, true, false, List, [], ◌∷◌, refl, sym, ap, ◌∙◌, subst}
 use Rattle.std.specs.Prelude.{not, ◌&&◌, ◌||◌, ◌==◌}
 use Rattle.std.proofs.lemmas.Bool.{and_parts, not-true}
 use Rattle.std.specs.Char.{is_whitespace, is_control, is_ascii_digit}
-use Rattle.bib_text.specs.Places.{Place, CharAt, Run, Stops, Longest, AtEnd}
+use Rattle.bib_text.specs.Places.{Place, CharAt, Longest}
 use Rattle.bib_text.specs.Places.Run.{stop}
-use Rattle.bib_chunks.specs.Braces.{Parts, is_plain}
+use Rattle.bib_chunks.specs.Braces.{Parts}
 use Rattle.bib_chunks.specs.Braces.{Parts as parts}
-use Rattle.bib_text.proofs.PlaceFacts.{same_char, char_clash, pass_clash, longest_same, test_clash, no_char_at_end, stops_at}
-use Rattle.bib_syntax.specs.Characters.{is_id_start, is_id_continue, is_delimiter, is_key}
-use Rattle.bib_syntax.specs.Reading.{Part, part, Piece, Value, FieldReading}
+use Rattle.bib_text.proofs.PlaceFacts.{same_char, char_clash, pass_clash, longest_same, test_clash, stops_at}
+use Rattle.bib_syntax.specs.Characters.{is_id_start, is_id_continue, is_delimiter}
+use Rattle.bib_syntax.specs.Reading.{Part, part, Piece, FieldReading}
 use Rattle.bib_syntax.specs.Reading.Piece.{literal, abbreviation}
-use Rattle.bib_syntax.specs.Grammar.{Identifier, Number, QuotedParts, Quoted, Braced, Element, Elements, Field, Remark, Gap, Fields, NoDigit, longest}
+use Rattle.bib_syntax.specs.Grammar.{Identifier, Number, QuotedParts, Quoted, Braced, Element, Elements, Field, Remark, Gap, Fields, longest}
 use Rattle.bib_syntax.specs.Grammar.Number.{whole, broken}
 use Rattle.bib_syntax.specs.Grammar.{QuotedParts as quotes}
 use Rattle.bib_syntax.specs.Grammar.{Element as element}
@@ -20,7 +20,7 @@ use Rattle.bib_syntax.specs.Grammar.{Gap as gap}
 use Rattle.bib_syntax.specs.Grammar.{Fields as fields}
 use Rattle.bib_syntax.proofs.BraceFacts as brace
 use Rattle.bib_syntax.proofs.QuoteFacts as quote
-use Rattle.bib_syntax.proofs.WordFacts.{not_number, not_name, not_braced, not_quoted}
+use Rattle.bib_syntax.proofs.WordFacts.{not_number, not_name}
 
 -- what stands from one place to another, moved to an equal place
 module _ (P : Place → Place → Type 0) where

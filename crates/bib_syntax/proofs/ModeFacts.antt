@@ -1,15 +1,15 @@
 -- The file grammar and the raw reading take the same texts: where runs may end anywhere they may also be longest.
-use Rattle.std.proofs.Common.{◌≡◌, ℕ, Bool, true, false, List, [], ◌∷◌, refl, sym, ap, ◌∙◌, subst, inl, inr, nat_eq, arith}
+use Rattle.std.proofs.Common.{◌≡◌, ℕ, Bool, true, false, List, [], ◌∷◌, refl, subst, inl, inr, arith}
 use Rattle.std.specs.Prelude.{not, ◌&&◌, ◌||◌, ◌==◌}
 use Rattle.std.specs.Char.{is_whitespace, is_control, is_ascii_digit}
-use Rattle.std.proofs.lemmas.Bool.{and_parts, not-true, cases_Bool, or_from, eqb-true, eqb-false, ne_eqb, and_right, not_from_true}
+use Rattle.std.proofs.lemmas.Bool.{and_parts, not-true, cases_Bool, ne_eqb, and_right, not_from_true}
 use Rattle.std.proofs.lemmas.Bool.Decides.{nat_tests}
-use Rattle.bib_text.specs.Places.{Place, CharAt, Run, Stops, Longest, AtEnd}
+use Rattle.bib_text.specs.Places.{Place, CharAt, Run, Stops, Longest}
 use Rattle.bib_text.specs.Places.Run.{stop, step}
-use Rattle.bib_text.proofs.PlaceFacts.{same_char, run_append, run_push, stops_at, test_clash}
+use Rattle.bib_text.proofs.PlaceFacts.{run_append, run_push, stops_at, test_clash}
 use Rattle.bib_syntax.specs.Characters.{is_id_start, is_id_continue, is_delimiter, is_key}
-use Rattle.bib_syntax.specs.Reading.{Part, part, Piece, FieldReading, FileReading, nothing, then}
-use Rattle.bib_syntax.specs.Grammar.{Chars, White, Identifier, Number, Quoted, Braced, Element, Elements, Field, Remark, Gap, Fields, Head, Body, Block, File, block_kind, any, longest}
+use Rattle.bib_syntax.specs.Reading.{Part, Piece, FieldReading, FileReading, nothing}
+use Rattle.bib_syntax.specs.Grammar.{Identifier, Number, Element, Elements, Field, Gap, Fields, Head, Body, File, any, longest}
 use Rattle.bib_syntax.specs.Grammar.{Number as number}
 use Rattle.bib_syntax.specs.Grammar.{Element as element}
 use Rattle.bib_syntax.specs.Grammar.{Elements as elements}
@@ -18,8 +18,7 @@ use Rattle.bib_syntax.specs.Grammar.{Fields as fields}
 use Rattle.bib_syntax.specs.Grammar.{Body as body}
 use Rattle.bib_syntax.specs.Grammar.{File as file}
 use Rattle.bib_syntax.specs.declared.raw.file.BlockKind.{BlockKind}
-use Rattle.bib_syntax.specs.declared.raw.file.BlockKind.TheVariants.{Comment, Preamble, Strings, Entry}
-use Rattle.bib_syntax.proofs.LawFacts.{moved, start_not_white}
+use Rattle.bib_syntax.proofs.LawFacts.{start_not_white}
 
 -- with longest runs, and so with any
 

@@ -1,12 +1,12 @@
 -- Facts on the characters that a cursor passes.
-use Rattle.std.proofs.Common.{◌≡◌, ℕ, ◌+◌, ◌-◌, ◌<◌, ◌≤◌, Bool, true, false, List, [], ◌∷◌, ◌++◌, length, drop, refl, sym, ap, ◌∙◌, subst, arith, append_assoc, length-append, inl, inr, Option, None, Some, MatchOption, MatchBool}
-use Rattle.std.specs.Prelude.{◌==◌, encode_utf8, encode_utf8_all}
+use Rattle.std.proofs.Common.{◌≡◌, ℕ, ◌+◌, Bool, true, false, List, [], ◌∷◌, ◌++◌, length, refl, sym, ap, ◌∙◌, subst, arith, append_assoc, length-append, Option, None, Some, MatchOption, MatchBool}
+use Rattle.std.specs.Prelude.{◌==◌, encode_utf8_all}
 use Rattle.std.specs.List.{list_all}
 use Rattle.std.specs.Str.{chars, IsUtf8}
-use Rattle.std.proofs.lemmas.Bool.{cases_Bool, eqb-true, false_from_ne_true}
+use Rattle.std.proofs.lemmas.Bool.{eqb-true, false_from_ne_true}
 use Rattle.std.proofs.lemmas.Str.{encodes-append, encodes-chars}
-use Rattle.bib_text.specs.Places.{Place, place, CharAt, Longest, Stops, AtEnd, between}
-use Rattle.bib_text.proofs.PlaceFacts.{char_here, same_place}
+use Rattle.bib_text.specs.Places.{Place, CharAt, Longest, Stops, AtEnd, between}
+use Rattle.bib_text.proofs.PlaceFacts.{char_here}
 use Rattle.bib_text.proofs.TextFacts.{ahead, Passed, passed_char, passed_run, passed_between, chars_at_end, chars_whole}
 use Rattle.bib_syntax.specs.Contents.{begins}
 use Rattle.bib_syntax.specs.Passing.{left, Passes}

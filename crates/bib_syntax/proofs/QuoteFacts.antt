@@ -1,5 +1,5 @@
 -- How the parts of a quoted text are passed one after another.
-use Rattle.std.proofs.Common.{◌≡◌, ℕ, Bool, true, false, refl, sym, subst, MatchOption, Option, None, Some}
+use Rattle.std.proofs.Common.{◌≡◌, ℕ, Bool, true, refl, subst, MatchOption, Option, None, Some}
 use Rattle.std.specs.Prelude.{not, ◌&&◌, ◌==◌}
 use Rattle.bib_text.specs.Places.{Place, CharAt, Run, Stops, AtEnd}
 use Rattle.bib_text.specs.Places.Run.{stop, step}

@@ -1,10 +1,10 @@
 -- Facts on reading contents unit by unit.
-use Rattle.std.proofs.Common.{◌≡◌, ℕ, zero, suc, ◌+◌, ◌-◌, ◌<◌, ◌≤◌, ◌^◌, Bool, true, false, not, ◌&&◌, List, [], ◌∷◌, ◌++◌, length, map, min, replicate, refl, sym, ap, ◌∙◌, subst, arith, append_assoc, inl, inr, Option, None, Some, ◌⊎◌, length-append, add-one}
-use Rattle.std.specs.Prelude.{encode_utf8_all, string_bytes, filter}
+use Rattle.std.proofs.Common.{◌≡◌, ℕ, zero, suc, ◌+◌, ◌<◌, ◌≤◌, Bool, true, false, not, List, [], ◌∷◌, ◌++◌, length, map, refl, sym, ap, ◌∙◌, subst, arith, append_assoc, inl, inr, None, Some, length-append, add-one}
+use Rattle.std.specs.Prelude.{string_bytes, filter}
 use Rattle.std.specs.List.{list_all}
 use Rattle.std.specs.Str.{chars}
-use Rattle.std.proofs.lemmas.Bool.{and_parts, both_ways, cases_Bool, not-true}
-use Rattle.std.proofs.lemmas.List.{append-nil, map-append}
+use Rattle.std.proofs.lemmas.Bool.{and_parts, both_ways, cases_Bool}
+use Rattle.std.proofs.lemmas.List.{append-nil}
 use Rattle.bib_chunks.specs.Styled.{Atom, styled, atoms_of}
 use Rattle.bib_chunks.specs.Formatted.{flowing, unbroken, ends_in_space, space_behind, formatted_chunk, formatted_behind}
 use Rattle.bib_chunks.specs.declared.chunk.Chunk.{Chunk}

@@ -1,21 +1,20 @@
 -- The loop that reads contents: what holds at each unit.
-use Rattle.std.proofs.Common.{◌≡◌, ℕ, zero, suc, ◌+◌, ◌-◌, ◌*◌, ◌<◌, ◌≤◌, ◌^◌, Bool, true, false, List, [], ◌∷◌, ◌++◌, length, drop, map, min, refl, sym, ap, ◌∙◌, subst, arith, append_assoc, length-append, length-drop, add-one, ◌⊎◌, inl, inr}
+use Rattle.std.proofs.Common.{◌≡◌, ℕ, ◌+◌, ◌-◌, ◌<◌, ◌≤◌, ◌^◌, Bool, true, List, [], ◌++◌, length, drop, map, refl, sym, ap, ◌∙◌, subst, arith, append_assoc, length-append, length-drop}
 use Rattle.std.specs.Prelude.{encode_utf8_all, string_bytes}
-use Rattle.std.specs.declared.string.String.{String}
 use Rattle.std.specs.List.{list_all}
 use Rattle.std.specs.Str.{chars, IsUtf8}
 use Rattle.std.proofs.lemmas.List.{map-append, append-nil}
-use Rattle.std.proofs.lemmas.Str.{chars-append, chars-nil, encodes-append, encodes-chars, IsUtf8-string_bytes, length-le-encodes}
+use Rattle.std.proofs.lemmas.Str.{chars-append, chars-nil, encodes-append, encodes-chars, length-le-encodes}
 use Rattle.bib_text.specs.Places.{Place}
 use Rattle.bib_chunks.specs.Styled.{Atom, styled}
 use Rattle.bib_chunks.specs.declared.chunk.Chunk.{Chunk}
 use Rattle.bib_chunks.specs.declared.chunk.Spanned.{Spanned}
-use Rattle.bib_syntax.specs.Contents.{ContentUnit, IsNext, Reads, is_ordinary, character, meaning, depth_after, unit_spelling}
+use Rattle.bib_syntax.specs.Contents.{ContentUnit, IsNext, Reads, is_ordinary, character, depth_after, unit_spelling}
 use Rattle.bib_syntax.specs.Joined.{AreJoined, ArePlaced}
-use Rattle.bib_syntax.specs.Passing.{left, Passes, Took, IsMoved, IsStuck, IsUntaken, so_far, saturated}
+use Rattle.bib_syntax.specs.Passing.{left, Passes, Took, IsMoved, so_far, saturated}
 use Rattle.bib_syntax.specs.declared.resolve.growing.Open.{Open}
 use Rattle.bib_syntax.proofs.ArgumentFacts.{passes_within, passes_ahead}
-use Rattle.bib_syntax.proofs.ReaderFacts.{ReadSoFar, read_none, read_run, read_unit, read_all, stuck_unit, stuck_taken, nothing_grows, held_length, unit_shorter}
+use Rattle.bib_syntax.proofs.ReaderFacts.{ReadSoFar, read_none, read_run, read_unit, read_all, unit_shorter}
 
 -- contents were read up to a place: what the chunks say is what was read, they are joined and in order
 pub record Reading (is_verbatim : Bool) (text : List ℕ) (offset : ℕ) (start : List (Spanned Chunk)) (s : Place) (growing : Open) (out : List (Spanned Chunk)) : Type 0 where

@@ -1,6 +1,6 @@
 -- Facts on what a unit adds to the chunks.
-use Rattle.std.proofs.Common.{◌≡◌, ℕ, suc, ◌+◌, ◌-◌, ◌<◌, ◌≤◌, ◌^◌, Bool, true, false, List, [], ◌∷◌, ◌++◌, length, map, min, refl, sym, ap, ◌∙◌, subst, arith, append_assoc, length-append, add-one, Option, Some, None}
-use Rattle.std.specs.Prelude.{encode_utf8_all, string_bytes, nat_lt}
+use Rattle.std.proofs.Common.{◌≡◌, ℕ, ◌+◌, ◌-◌, ◌≤◌, true, false, List, [], ◌∷◌, ◌++◌, length, map, refl, sym, ap, ◌∙◌, arith, append_assoc, length-append, add-one, Some}
+use Rattle.std.specs.Prelude.{encode_utf8_all, string_bytes}
 use Rattle.std.specs.Str.{chars, IsUtf8}
 use Rattle.std.proofs.lemmas.Bool.{lt-ltb}
 use Rattle.std.proofs.lemmas.List.{map-append, append-nil}
@@ -10,10 +10,10 @@ use Rattle.bib_chunks.specs.Writing.{Writes}
 use Rattle.bib_chunks.specs.declared.chunk.Chunk.{Chunk}
 use Rattle.bib_chunks.specs.declared.chunk.Spanned.{Spanned}
 use Rattle.bib_text.proofs.TextFacts.{chars_whole}
-use Rattle.bib_syntax.specs.Contents.{ContentUnit, Argument, Reads, character, meaning, is_closable, depth_after, held, unit_text, unit_spelling}
+use Rattle.bib_syntax.specs.Contents.{ContentUnit, Reads, character, meaning, is_closable, depth_after, held, unit_text}
 use Rattle.bib_syntax.specs.Joined.{ArePlaced}
-use Rattle.bib_syntax.specs.Passing.{Took, so_far, saturated}
-use Rattle.bib_syntax.specs.UnitViews.{text_unit_of, unit_of, argument_of}
+use Rattle.bib_syntax.specs.Passing.{Took, so_far}
+use Rattle.bib_syntax.specs.UnitViews.{text_unit_of, argument_of}
 use Rattle.bib_syntax.specs.declared.resolve.growing.Open.{Open}
 use Rattle.std.specs.Borrow.{Bor}
 use Rattle.bib_syntax.specs.declared.resolve.units.Argument as units

@@ -1,11 +1,11 @@
 -- The first unit of a text: there is one at most.
-use Rattle.std.proofs.Common.{◌≡◌, ℕ, zero, suc, ◌+◌, ◌-◌, Bool, true, false, not, ◌&&◌, ◌||◌, if◌then◌else◌, List, [], ◌∷◌, ◌++◌, length, replicate, refl, sym, ap, ◌∙◌, subst, arith, append_assoc, inl, inr, nat_eq, Option, None, Some}
+use Rattle.std.proofs.Common.{◌≡◌, ℕ, zero, suc, ◌-◌, Bool, true, false, not, ◌&&◌, if◌then◌else◌, List, [], ◌∷◌, ◌++◌, length, replicate, refl, ap, ◌∙◌, arith, append_assoc, inl, inr}
 use Rattle.std.specs.Prelude.{◌==◌, nat_lt}
 use Rattle.std.specs.List.{list_all, list_any}
-use Rattle.std.proofs.lemmas.Bool.{and_parts, not-true, not-false, cases_eq, eq-eqb, ne_eqb, eqb-true, both_ways, or_parts, cases_Bool}
-use Rattle.std.proofs.lemmas.List.{append_cancel_left, length-replicate}
+use Rattle.std.proofs.lemmas.Bool.{and_parts, not-true, ne_eqb, eqb-true, both_ways, or_parts, cases_Bool}
+use Rattle.std.proofs.lemmas.List.{length-replicate}
 use Rattle.bib_chunks.specs.Written.{is_grouping, is_reserved}
-use Rattle.bib_syntax.specs.Contents.{is_escapable, ContentUnit, Argument, is_escaped, is_space, is_blank, is_named, is_mark, is_accent_letter, is_sign, is_ordinary, begins, is_empty, balances, argument_spelling, unit_spelling, is_name, is_whole_name, takes_next, is_argument, fits, IsNext}
+use Rattle.bib_syntax.specs.Contents.{is_escapable, ContentUnit, Argument, is_escaped, is_space, is_blank, is_named, is_sign, is_ordinary, begins, is_empty, balances, argument_spelling, unit_spelling, is_name, is_whole_name, takes_next, is_argument, fits}
 
 -- the characters up to the first that fails, and what stands from there on
 abbrev pub prefix : (ℕ → Bool) → List ℕ → List ℕ

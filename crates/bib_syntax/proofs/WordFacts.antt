@@ -1,9 +1,9 @@
 -- Facts on names and numbers.
-use Rattle.std.proofs.Common.{List, ◌≡◌, ℕ, Bool, true, false, refl, sym, ap, ◌∙◌, subst, MatchBool, MatchOption, nat_eq}
-use Rattle.std.specs.Prelude.{not, ◌&&◌, ◌||◌, ◌==◌}
+use Rattle.std.proofs.Common.{List, ◌≡◌, ℕ, Bool, true, false, refl, sym, subst, MatchBool, nat_eq}
+use Rattle.std.specs.Prelude.{not, ◌||◌, ◌==◌}
 use Rattle.std.proofs.lemmas.Bool.{and_parts}
 use Rattle.std.specs.Char.{is_ascii_digit}
-use Rattle.bib_text.specs.Places.{Place, CharAt, Run, Stops, Longest}
+use Rattle.bib_text.specs.Places.{Place, CharAt, Longest}
 use Rattle.bib_text.proofs.PlaceFacts.{same_char, char_clash, pass_clash, longest_rest, longest_same, stops_without, test_clash, Ahead, ahead_then, ahead_char, ahead_run}
 use Rattle.std.specs.Borrow.{Bor}
 use Rattle.bib_chunks.specs.declared.chunk.Spanned.{Spanned}

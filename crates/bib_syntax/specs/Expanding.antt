@@ -1,12 +1,13 @@
 -- Words of the private contracts on the expansion of abbreviations.
-use Rattle.std.specs.Prelude.{◌≡◌, ℕ, ◌-◌, ◌≤◌, Bool, List, [], ◌∷◌, ◌++◌, map, length, take, drop, Option, Some, None, if◌then◌else◌, bytes_eq}
+use Rattle.std.specs.Prelude.{◌≡◌, ◌⊎◌, ℕ, ◌-◌, ◌≤◌, Bool, List, [], ◌∷◌, ◌++◌, map, length, take, drop, Option, Some, None, if◌then◌else◌, bytes_eq}
 use Rattle.std.specs.BTreeMap.{get_by}
 use Rattle.std.specs.Cmp.Lexicographic.{slice_cmp}
 use Rattle.std.specs.Ordering.{nat_cmp}
 use Rattle.std.specs.declared.ops.Range.{Range}
 use Rattle.bib_chunks.specs.declared.chunk.Chunk.{Chunk}
 use Rattle.bib_chunks.specs.declared.chunk.Spanned.{Spanned}
-use Rattle.bib_chunks.specs.Styled.{styled}
+use Rattle.bib_chunks.specs.Styled.{Atom, styled}
+use Rattle.bib_syntax.specs.declared.raw.ParseError.{ParseError}
 use Rattle.bib_syntax.specs.declared.resolve.abbreviations.Frame.{Frame}
 use Rattle.bib_syntax.specs.declared.resolve.abbreviations.Memo.{Memo}
 use Rattle.bib_syntax.specs.declared.resolve.abbreviations.Progress.{Progress}
@@ -14,7 +15,8 @@ use Rattle.bib_syntax.specs.declared.resolve.abbreviations.Progress.TheVariants.
 use Rattle.bib_syntax.specs.declared.resolve.abbreviations.Source.{Source}
 use Rattle.bib_syntax.specs.declared.resolve.definitions.LookUp.{LookUp}
 use Rattle.bib_syntax.specs.declared.resolve.definitions.LookUp.TheVariants.{Hashed, Sorted}
-use Rattle.bib_syntax.specs.Abbreviations.{Definitions, Evaluates, IsOnPath, defined_in, sorted_in}
+use Rattle.bib_syntax.specs.Abbreviations.{Definitions, Evaluates, IsFirstFault, IsOnPath, defined_in, sorted_in}
+use Rattle.bib_syntax.specs.Faults.{out_of_memory}
 use Rattle.bib_syntax.specs.Reading.{Part, Piece}
 use Rattle.bib_syntax.specs.Reading.Piece.{abbreviation}
 use Rattle.bib_syntax.specs.Views.{piece_of}
@@ -82,3 +84,29 @@ abbrev pub Takes : Definitions → Bool → Memo → Memo → Piece → Option F
 Takes definitions is_verbatim old new piece None =
     Expands definitions is_verbatim old.values.items new.values.items (piece ∷ []) × (new.names ≡ old.names)
 Takes definitions is_verbatim old new piece (Some frame) = (p : Part) × (piece ≡ abbreviation p) × Opens definitions old new p.text frame
+
+-- ---- of a source
+
+-- what is noted of each name is right
+abbrev pub IsSoundFor : Source → Memo → List (List ℕ) → Type 0
+IsSoundFor source memo path = IsSound (known_to source) source.is_verbatim memo path
+
+-- pieces say these atoms
+abbrev pub Says : Source → List Piece → List Atom → Type 0
+Says source pieces atoms = Evaluates (known_to source) source.is_verbatim pieces atoms
+
+-- what pieces say was added to the memo's chunks
+abbrev pub Adds : Source → Memo → Memo → List Piece → Type 0
+Adds source old new pieces = Expands (known_to source) source.is_verbatim old.values.items new.values.items pieces
+
+-- an element was taken
+abbrev pub IsTaken : Source → Memo → Memo → Piece → Option Frame → Type 0
+IsTaken source old new piece frame = Takes (known_to source) source.is_verbatim old new piece frame
+
+-- want of memory, or the first fault of pieces
+abbrev pub Stops : Source → List (List ℕ) → List Piece → ParseError → Type 0
+Stops source path pieces e = (e ≡ out_of_memory) ⊎ IsFirstFault (known_to source) source.is_verbatim path pieces e
+
+-- want of memory, or the fault of an element, whatever stands behind it
+abbrev pub StopsAt : Source → List (List ℕ) → Piece → ParseError → Type 0
+StopsAt source path piece e = (e ≡ out_of_memory) ⊎ ((rest : List Piece) → IsFirstFault (known_to source) source.is_verbatim path (piece ∷ rest) e)

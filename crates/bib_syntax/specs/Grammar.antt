@@ -12,7 +12,7 @@ use Rattle.bib_chunks.specs.Braces.{Parts}
 use Rattle.bib_syntax.specs.declared.raw.file.BlockKind.{BlockKind}
 use Rattle.bib_syntax.specs.declared.raw.file.BlockKind.TheVariants.{Comment, Preamble, Strings, Entry}
 use Rattle.bib_syntax.specs.Characters.{is_key, is_id_start, is_id_continue}
-use Rattle.bib_syntax.specs.Reading.{Part, part, Piece, Value, FieldReading, EntryReading, FileReading, nothing, joined, then}
+use Rattle.bib_syntax.specs.Reading.{Part, part, Piece, FieldReading, FileReading, nothing, then}
 use Rattle.bib_syntax.specs.Reading.Piece.{literal, abbreviation}
 
 -- how far a run of characters goes

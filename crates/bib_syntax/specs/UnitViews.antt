@@ -1,5 +1,4 @@
 -- What the program's units of contents are.
-use Rattle.std.specs.Prelude.{ℕ, get_or}
 use Rattle.std.specs.Str.{chars}
 use Rattle.bib_syntax.specs.Contents as contents
 use Rattle.bib_syntax.specs.declared.resolve.units.Argument.{Argument}

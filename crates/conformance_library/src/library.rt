@@ -108,19 +108,39 @@ fn tells_faults_of_libraries(rt: HostRuntime) -> Result<(), Fail> {
     Ok(())
 }
 
+// Two entries, of which the second takes the key of the first over.
+fn taken_over(alloc: Global) -> Result<Bibliography, Fail> {
+    let file = "@misc{a, title={A}} @misc{b, ids={a}, title={B}}";
+    Ok(Bibliography::parse(alloc, file)?)
+}
+
+#[test]
+fn takes_a_key_over(rt: HostRuntime) -> Result<(), Fail> {
+    let alloc = rt.alloc();
+    let library = taken_over(alloc)?;
+    assert_eq!(rt; key_of(&library, "a"), "b");
+    assert_eq!(rt; keys(alloc, &library)?.as_str(), "|a|b");
+    Ok(())
+}
+
 #[test]
 fn removes_an_entry_with_its_names(rt: HostRuntime) -> Result<(), Fail> {
     let alloc = rt.alloc();
-    let file = "@misc{a, title={A}} @misc{b, ids={a}, title={B}}";
-    let mut library = Bibliography::parse(alloc, file)?;
-    assert_eq!(rt; key_of(&library, "a"), "b");
-    assert_eq!(rt; keys(alloc, &library)?.as_str(), "|a|b");
+    let mut library = taken_over(alloc)?;
     let removed = library.remove("a").ok_or("an entry")?;
     assert_eq!(rt; removed.key.as_str(), "b");
     assert_eq!(rt; field(alloc, &removed, "title")?.as_str(), "B");
     assert!(rt; library.get("a").is_none() && library.get("b").is_none());
     assert_eq!(rt; library.len(), 1);
     assert_eq!(rt; keys(alloc, &library)?.as_str(), "|a");
+    Ok(())
+}
+
+#[test]
+fn changes_what_a_removal_left(rt: HostRuntime) -> Result<(), Fail> {
+    let alloc = rt.alloc();
+    let mut library = taken_over(alloc)?;
+    assert!(rt; library.remove("a").is_some());
     library.alias("a", "z")?;
     assert!(rt; library.get("z").is_none() && library.get("a").is_none());
     assert_eq!(rt; keys(alloc, &library)?.as_str(), "|a");

@@ -5,7 +5,7 @@ ghost use Rattle.std.specs.Option.{option_map};
 ghost use Rattle.bib_chunks.specs.Styled.{Atom, styled};
 ghost use Rattle.bib_syntax.specs.Abbreviations as abbreviations;
 ghost use Rattle.bib_syntax.specs.Abbreviations.{Definitions, Evaluates, IsFirstFault, defined_in};
-ghost use Rattle.bib_syntax.specs.Expanding.{known_to, progress, noted, part_at, chunks_between, AreWithin, IsSound, Expands, Opens, Takes};
+ghost use Rattle.bib_syntax.specs.Expanding.{known_to, progress, noted, part_at, chunks_between, Adds, AreWithin, IsSoundFor, IsTaken, Opens, Says, Stops, StopsAt};
 ghost use Rattle.bib_syntax.specs.Faults.{out_of_memory};
 ghost use Rattle.bib_syntax.specs.Joined.{AreJoined, ArePlaced};
 ghost use Rattle.bib_syntax.specs.Reading.{Part, Piece};
@@ -136,10 +136,10 @@ impl<'s> Memo<'s> {
 impl<'m, 'f, 's> Source<'m, 'f, 's> {
     // Reads the contents of a field.
     pub(crate) fn field(self, memo: &mut Memo<'s>, field: &Field<'s>) -> Result<Chunks, ParseError>
-        requires sound { IsSound (known_to self) self.is_verbatim memo.old [] }
-        ensures read { IfOk result (λ chunks. Evaluates (known_to self.entry) self.entry.is_verbatim (map piece_of field.now.items) (styled chunks)) }
-        ensures sound { OnOk result (IsSound (known_to self.entry) self.entry.is_verbatim memo.new []) }
-        ensures refused { IfErr result (λ e. (e ≡ out_of_memory) ⊎ IsFirstFault (known_to self.entry) self.entry.is_verbatim [] (map piece_of field.now.items) e) }
+        requires sound { IsSoundFor self memo.old [] }
+        ensures read { IfOk result (λ chunks. Says self.entry (map piece_of field.now.items) (styled chunks)) }
+        ensures sound { OnOk result (IsSoundFor self.entry memo.new []) }
+        ensures refused { IfErr result (λ e. Stops self.entry [] (map piece_of field.now.items) e) }
         ensures joined { IfOk result AreJoined }
         ensures placed { (p : Part) → map piece_of field.now.items ≡ literal p ∷ [] → p.end ≡ p.start + length p.text → IfOk result (ArePlaced p.start p.end) }
     {
@@ -152,10 +152,10 @@ impl<'m, 'f, 's> Source<'m, 'f, 's> {
 
     // Reads the contents of a field. At a fault the memo forgets what it has.
     pub(crate) fn read(self, memo: &mut Memo<'s>, field: &Field<'s>) -> Result<Chunks, ParseError>
-        requires sound { IsSound (known_to self) self.is_verbatim memo.old [] }
-        ensures sound { IsSound (known_to self.entry) self.entry.is_verbatim memo.new [] }
-        ensures read { IfOk result (λ chunks. Evaluates (known_to self.entry) self.entry.is_verbatim (map piece_of field.now.items) (styled chunks)) }
-        ensures refused { IfErr result (λ e. (e ≡ out_of_memory) ⊎ IsFirstFault (known_to self.entry) self.entry.is_verbatim [] (map piece_of field.now.items) e) }
+        requires sound { IsSoundFor self memo.old [] }
+        ensures sound { IsSoundFor self.entry memo.new [] }
+        ensures read { IfOk result (λ chunks. Says self.entry (map piece_of field.now.items) (styled chunks)) }
+        ensures refused { IfErr result (λ e. Stops self.entry [] (map piece_of field.now.items) e) }
         ensures joined { IfOk result AreJoined }
         ensures placed { (p : Part) → map piece_of field.now.items ≡ literal p ∷ [] → p.end ≡ p.start + length p.text → IfOk result (ArePlaced p.start p.end) }
     {
@@ -173,12 +173,12 @@ impl<'m, 'f, 's> Source<'m, 'f, 's> {
         out: &mut Chunks,
         piece: &Spanned<RawChunk<'s>>,
     ) -> Result<(), ParseError>
-        requires sound { IsSound (known_to self) self.is_verbatim memo.old [] }
-        ensures said { OnOk result ((atoms : List Atom) × Evaluates (known_to self.entry) self.entry.is_verbatim (piece_of piece.now ∷ []) atoms × (styled out.new ≡ styled out.old ++ atoms)) }
-        ensures sound { OnOk result (IsSound (known_to self.entry) self.entry.is_verbatim memo.new []) }
+        requires sound { IsSoundFor self memo.old [] }
+        ensures said { OnOk result ((atoms : List Atom) × Says self.entry (piece_of piece.now ∷ []) atoms × (styled out.new ≡ styled out.old ++ atoms)) }
+        ensures sound { OnOk result (IsSoundFor self.entry memo.new []) }
         ensures joined { OnOk result (AreJoined out.old → AreJoined out.new) }
         ensures placed { OnOk result ((p : Part) → piece_of piece.now ≡ literal p → p.end ≡ p.start + length p.text → (low : ℕ) → ArePlaced low p.start out.old → ArePlaced low p.end out.new) }
-        ensures refused { IfErr result (λ e. (e ≡ out_of_memory) ⊎ ((rest : List Piece) → IsFirstFault (known_to self.entry) self.entry.is_verbatim [] (piece_of piece.now ∷ rest) e)) }
+        ensures refused { IfErr result (λ e. StopsAt self.entry [] (piece_of piece.now) e) }
     {
         if let RawChunk::Normal(text) = piece.v {
             contents(out, self.alloc, text, piece.span.start, self.is_verbatim)?;
@@ -194,11 +194,11 @@ impl<'m, 'f, 's> Source<'m, 'f, 's> {
         out: &mut Chunks,
         piece: &Spanned<RawChunk<'s>>,
     ) -> Result<(), ParseError>
-        requires sound { IsSound (known_to self) self.is_verbatim memo.old [] }
-        ensures said { OnOk result ((atoms : List Atom) × Evaluates (known_to self.entry) self.entry.is_verbatim (piece_of piece.now ∷ []) atoms × (styled out.new ≡ styled out.old ++ atoms)) }
-        ensures sound { OnOk result (IsSound (known_to self.entry) self.entry.is_verbatim memo.new []) }
+        requires sound { IsSoundFor self memo.old [] }
+        ensures said { OnOk result ((atoms : List Atom) × Says self.entry (piece_of piece.now ∷ []) atoms × (styled out.new ≡ styled out.old ++ atoms)) }
+        ensures sound { OnOk result (IsSoundFor self.entry memo.new []) }
         ensures joined { OnOk result (AreJoined out.old → AreJoined out.new) }
-        ensures refused { IfErr result (λ e. (e ≡ out_of_memory) ⊎ ((rest : List Piece) → IsFirstFault (known_to self.entry) self.entry.is_verbatim [] (piece_of piece.now ∷ rest) e)) }
+        ensures refused { IfErr result (λ e. StopsAt self.entry [] (piece_of piece.now) e) }
     {
         let start = memo.values.len();
         let Some(frame) = self.take(memo, piece)? else {
@@ -213,12 +213,12 @@ impl<'m, 'f, 's> Source<'m, 'f, 's> {
 
     // Expands the name of a frame.
     fn run(self, memo: &mut Memo<'s>, first: Frame<'f, 's>) -> Result<(), ParseError>
-        requires sound { IsSound (known_to self) self.is_verbatim memo.old (first.name.now ∷ []) }
+        requires sound { IsSoundFor self memo.old (first.name.now ∷ []) }
         requires defined { known_to self first.name.now ≡ Some (map piece_of first.rest.now) }
         requires start { first.start ≡ length memo.old.values.items }
-        ensures said { OnOk result (Expands (known_to self.entry) self.entry.is_verbatim memo.old.values.items memo.new.values.items (map piece_of first.entry.rest.now)) }
-        ensures sound { OnOk result (IsSound (known_to self.entry) self.entry.is_verbatim memo.new []) }
-        ensures refused { IfErr result (λ e. (e ≡ out_of_memory) ⊎ IsFirstFault (known_to self.entry) self.entry.is_verbatim (first.entry.name.now ∷ []) (map piece_of first.entry.rest.now) e) }
+        ensures said { OnOk result (Adds self.entry memo.old memo.new (map piece_of first.entry.rest.now)) }
+        ensures sound { OnOk result (IsSoundFor self.entry memo.new []) }
+        ensures refused { IfErr result (λ e. Stops self.entry (first.entry.name.now ∷ []) (map piece_of first.entry.rest.now) e) }
     {
         let mut frames: Vec<Frame<'f, 's>> = Vec::new(self.alloc);
         let mut frame = first;
@@ -246,8 +246,8 @@ impl<'m, 'f, 's> Source<'m, 'f, 's> {
         piece: &Spanned<RawChunk<'s>>,
     ) -> Result<Option<Frame<'f, 's>>, ParseError>
         requires within { AreWithin memo.old }
-        ensures taken { (path : List (List ℕ)) → IsSound (known_to self.entry) self.entry.is_verbatim memo.old path → IfOk result (Takes (known_to self.entry) self.entry.is_verbatim memo.old memo.new (piece_of piece.now)) }
-        ensures refused { (path : List (List ℕ)) → IsSound (known_to self.entry) self.entry.is_verbatim memo.old path → IfErr result (λ e. (e ≡ out_of_memory) ⊎ ((rest : List Piece) → IsFirstFault (known_to self.entry) self.entry.is_verbatim path (piece_of piece.now ∷ rest) e)) }
+        ensures taken { (path : List (List ℕ)) → IsSoundFor self.entry memo.old path → IfOk result (IsTaken self.entry memo.old memo.new (piece_of piece.now)) }
+        ensures refused { (path : List (List ℕ)) → IsSoundFor self.entry memo.old path → IfErr result (λ e. StopsAt self.entry path (piece_of piece.now) e) }
     {
         match piece.v {
             RawChunk::Normal(text) => {
@@ -261,7 +261,7 @@ impl<'m, 'f, 's> Source<'m, 'f, 's> {
     // A text.
     fn text(self, memo: &mut Memo<'s>, text: &str, offset: usize) -> Result<(), ParseError>
         ensures names { memo.new.names ≡ memo.old.names }
-        ensures said { OnOk result ((p : Part) → p.text ≡ text.now → Expands (known_to self.entry) self.entry.is_verbatim memo.old.values.items memo.new.values.items (literal p ∷ [])) }
+        ensures said { OnOk result ((p : Part) → p.text ≡ text.now → Adds self.entry memo.old memo.new (literal p ∷ [])) }
         ensures refused { IfErr result (λ e. (e ≡ out_of_memory) ⊎ ((p : Part) (path : List (List ℕ)) (rest : List Piece) → p.text ≡ text.now → IsFirstFault (known_to self.entry) self.entry.is_verbatim path (literal p ∷ rest) e)) }
     {
         let mut part = Chunks::new(self.alloc);
@@ -278,8 +278,8 @@ impl<'m, 'f, 's> Source<'m, 'f, 's> {
         span: &Span,
     ) -> Result<Option<Frame<'f, 's>>, ParseError>
         requires within { AreWithin memo.old }
-        ensures taken { (path : List (List ℕ)) → IsSound (known_to self.entry) self.entry.is_verbatim memo.old path → IfOk result (Takes (known_to self.entry) self.entry.is_verbatim memo.old memo.new (abbreviation (part_at name.now span.now))) }
-        ensures refused { (path : List (List ℕ)) → IsSound (known_to self.entry) self.entry.is_verbatim memo.old path → IfErr result (λ e. (e ≡ out_of_memory) ⊎ ((rest : List Piece) → IsFirstFault (known_to self.entry) self.entry.is_verbatim path (abbreviation (part_at name.now span.now) ∷ rest) e)) }
+        ensures taken { (path : List (List ℕ)) → IsSoundFor self.entry memo.old path → IfOk result (IsTaken self.entry memo.old memo.new (abbreviation (part_at name.now span.now))) }
+        ensures refused { (path : List (List ℕ)) → IsSoundFor self.entry memo.old path → IfErr result (λ e. StopsAt self.entry path (abbreviation (part_at name.now span.now)) e) }
     {
         match memo.names.get(name) {
             Some(Progress::Begun) => Err(ParseError {
@@ -303,7 +303,7 @@ impl<'m, 'f, 's> Source<'m, 'f, 's> {
         span: &Span,
     ) -> Result<Option<Frame<'f, 's>>, ParseError>
         requires fresh { progress memo.old name.now ≡ None }
-        ensures taken { IfOk result (Takes (known_to self.entry) self.entry.is_verbatim memo.old memo.new (abbreviation (part_at name.now span.now))) }
+        ensures taken { IfOk result (IsTaken self.entry memo.old memo.new (abbreviation (part_at name.now span.now))) }
         ensures refused { IfErr result (λ e. (e ≡ out_of_memory) ⊎ ((path : List (List ℕ)) (rest : List Piece) → IsFirstFault (known_to self.entry) self.entry.is_verbatim path (abbreviation (part_at name.now span.now) ∷ rest) e)) }
     {
         if let Some(definition) = self.definitions.get(name) {

@@ -1,4 +1,4 @@
-use Rattle.bib_text.proofs.PlaceFacts.{ahead_run, longest_same}
+use Rattle.bib_text.proofs.PlaceFacts.{ahead_run}
 use Rattle.bib_syntax.proofs.FieldFacts.{no_brace}
 use Rattle.bib_syntax.proofs.ReadingFacts.{fault_back}
 use Rattle.bib_syntax.proofs.raw.fields.closed.Goals as goal

@@ -1,7 +1,7 @@
 use Rattle.std.proofs.Common.{inr}
 use Rattle.std.proofs.lemmas.List.{map-append}
 use Rattle.std.proofs.lemmas.Result.{err_from_is_err_and}
-use Rattle.bib_text.proofs.PlaceFacts.{ahead_then, ahead_run, ahead_char, ahead_here, left_smaller}
+use Rattle.bib_text.proofs.PlaceFacts.{ahead_then, ahead_run, ahead_char, left_smaller}
 use Rattle.bib_syntax.specs.Views.{piece_of}
 use Rattle.bib_syntax.proofs.FieldFacts.{element_read, elements_found, no_elements, ahead_element}
 use Rattle.bib_syntax.proofs.ReadingFacts.{fault_back}

@@ -1,6 +1,6 @@
 use Rattle.std.proofs.Common.{inr}
 use Rattle.std.proofs.lemmas.Result.{err_from_is_err_and}
-use Rattle.bib_text.proofs.PlaceFacts.{ahead_then, ahead_run, ahead_char, ahead_here}
+use Rattle.bib_text.proofs.PlaceFacts.{ahead_then, ahead_run, ahead_char}
 use Rattle.bib_syntax.proofs.FieldFacts.{no_field_name, no_field_sign, no_field_value, ahead_identifier, refuses_from}
 use Rattle.bib_syntax.proofs.ReadingFacts.{fault_back}
 use Rattle.bib_syntax.proofs.raw.fields.field.Goals as goal

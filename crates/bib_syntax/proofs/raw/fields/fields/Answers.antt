@@ -1,11 +1,10 @@
-use Rattle.std.proofs.Common.{inr, ap, sym, subst, map, ◌∙◌, ◌++◌, ◌∷◌, []}
+use Rattle.std.proofs.Common.{inr}
 use Rattle.std.proofs.lemmas.List.{map-append}
 use Rattle.std.proofs.lemmas.Result.{err_from_is_err_and}
-use Rattle.bib_text.proofs.PlaceFacts.{ahead_then, ahead_run, ahead_char, ahead_here, ahead_same, left_smaller}
-use Rattle.bib_syntax.specs.Grammar.{Fields, longest}
+use Rattle.bib_text.proofs.PlaceFacts.{ahead_then, ahead_char, ahead_same, left_smaller}
 use Rattle.bib_syntax.specs.Views.{field_of}
-use Rattle.bib_syntax.proofs.FieldFacts.{field_read, fields_last, no_fields_last, fields_end, no_fields_end, no_field, no_fields_read, ahead_field, ahead_gap, refuses_from}
-use Rattle.bib_syntax.proofs.ReadingFacts.{fault_back, ok_both, err_both}
+use Rattle.bib_syntax.proofs.FieldFacts.{field_read, fields_last, no_fields_last, fields_end, no_fields_end, no_field, ahead_field, ahead_gap, refuses_from}
+use Rattle.bib_syntax.proofs.ReadingFacts.{fault_back}
 use Rattle.bib_syntax.proofs.raw.fields.fields.Goals as goal
 
 pub fields-smaller : goal.fields-smaller

@@ -1,4 +1,4 @@
-use Rattle.std.proofs.Common.{inl, inr, refl, ap, sym}
+use Rattle.std.proofs.Common.{inr}
 use Rattle.std.proofs.lemmas.Result.{err_from_is_err_and}
 use Rattle.bib_syntax.proofs.FieldFacts.{refuses_from}
 use Rattle.bib_syntax.proofs.FileFacts.{ahead_head, no_block_head, no_block_body}

@@ -1,9 +1,8 @@
-use Rattle.std.proofs.Common.{◌≡◌, true, sym}
 use Rattle.std.proofs.lemmas.Result.{err_from_is_err_and}
 use Rattle.bib_text.specs.Places.{Longest}
 use Rattle.bib_text.proofs.PlaceFacts.{ahead_then, ahead_run}
 use Rattle.bib_syntax.proofs.FieldFacts.{refuses_from}
-use Rattle.bib_syntax.proofs.FileFacts.{file_found, no_file_block, block_read, remark_read, skip_read, no_file_read, ahead_block, ahead_remark, block_smaller, remark_smaller, skip_smaller, is_skipped, is_skipped_from}
+use Rattle.bib_syntax.proofs.FileFacts.{file_found, no_file_block, block_read, remark_read, skip_read, ahead_block, ahead_remark, block_smaller, remark_smaller, skip_smaller, is_skipped, is_skipped_from}
 use Rattle.bib_syntax.proofs.raw.file.blocks.Goals as goal
 
 pub returns-in_err-item-clause-refused : goal.returns-in_err-item-clause-refused

@@ -1,8 +1,6 @@
-use Rattle.std.proofs.Common.{inr, refl, ap, sym, ◌∙◌, ◌≡◌, subst}
+use Rattle.std.proofs.Common.{inr}
 use Rattle.std.proofs.lemmas.Result.{err_from_is_err_and}
 use Rattle.bib_text.proofs.PlaceFacts.{ahead_run, ahead_then, ahead_char}
-use Rattle.bib_syntax.specs.Grammar.{Body as body}
-use Rattle.bib_syntax.specs.Characters.{is_key}
 use Rattle.bib_syntax.proofs.FieldFacts.{ahead_gap, refuses_from}
 use Rattle.bib_syntax.proofs.FileFacts.{no_entry_comma, no_entry_fields, entry_found}
 use Rattle.bib_syntax.proofs.ReadingFacts.{fault_back, taken_if}

@@ -1,6 +1,5 @@
-use Rattle.std.proofs.Common.{inr}
 use Rattle.std.proofs.lemmas.Result.{err_from_is_err_and}
-use Rattle.bib_text.proofs.PlaceFacts.{ahead_then, ahead_run, ahead_char, ahead_here}
+use Rattle.bib_text.proofs.PlaceFacts.{ahead_then, ahead_run, ahead_char}
 use Rattle.bib_syntax.proofs.FieldFacts.{ahead_identifier}
 use Rattle.bib_syntax.proofs.FileFacts.{no_head_name, no_head_brace}
 use Rattle.bib_syntax.proofs.ReadingFacts.{fault_back, on_err, taken_if}

@@ -1,5 +1,4 @@
 use Rattle.std.specs.Char.{is_ascii_digit}
-use Rattle.bib_text.proofs.PlaceFacts.{no_char_at_end}
 use Rattle.bib_syntax.proofs.WordFacts.{passes_cases}
 use Rattle.bib_syntax.proofs.raw.words.begins_number.Goals as goal
 

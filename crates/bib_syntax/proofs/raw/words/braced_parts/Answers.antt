@@ -1,10 +1,10 @@
-use Rattle.std.proofs.Common.{rules, ℕ, ◌≡◌, ◌≤◌, ◌<◌, ◌^◌, ◌+◌, ◌-◌, suc, zero, length, arith, refl, subst, ap, add-one}
+use Rattle.std.proofs.Common.{ℕ, ◌≡◌, ◌≤◌, ◌<◌, ◌^◌, ◌+◌, zero, length, arith, ap, add-one}
 use Rattle.std.specs.Char.{len_utf8}
 use Rattle.std.proofs.lemmas.Str.{len_utf8_bounds}
-use Rattle.bib_text.specs.Places.{Place, CharAt, Longest, AtEnd}
+use Rattle.bib_text.specs.Places.{Place, CharAt, Longest}
 use Rattle.bib_chunks.specs.Braces.{is_plain}
 use Rattle.bib_text.proofs.PlaceFacts.{Ahead, ahead_here, ahead_then, ahead_char, ahead_run, ahead_same, ahead_taken, boundary_ahead, left_smaller, char_left}
-use Rattle.bib_syntax.proofs.BraceFacts.{SameBraced, same_braced, braced_then, braced_run, braced_open, braced_close, braced_hidden, braced_same, braced_less, braced_stuck, found_parts, Closes}
+use Rattle.bib_syntax.proofs.BraceFacts.{SameBraced, braced_then, braced_run, braced_open, braced_hidden, braced_same, braced_less, braced_stuck, found_parts}
 use Rattle.bib_syntax.proofs.BraceFacts.Closes.{last}
 use Rattle.bib_syntax.proofs.ReadingFacts.{fault_back, taken_if, part_from, not_behind}
 use Rattle.bib_syntax.proofs.raw.words.braced_parts.Goals as goal

@@ -1,6 +1,6 @@
 use Rattle.std.specs.Char.{is_ascii_digit}
 use Rattle.bib_text.specs.Places.{Longest}
-use Rattle.bib_text.proofs.PlaceFacts.{Ahead, ahead_then, ahead_char, ahead_run, ahead_same}
+use Rattle.bib_text.proofs.PlaceFacts.{ahead_then, ahead_char, ahead_run}
 use Rattle.bib_syntax.proofs.WordFacts.{number_whole, number_broken, number_points}
 use Rattle.bib_syntax.proofs.ReadingFacts.{fault_back}
 use Rattle.bib_syntax.proofs.raw.words.digits.Goals as goal

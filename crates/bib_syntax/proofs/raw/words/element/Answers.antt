@@ -1,5 +1,4 @@
-use Rattle.std.proofs.Common.{refl, rules}
-use Rattle.bib_syntax.specs.Grammar.Element.{number, named, braced, quoted}
+use Rattle.std.proofs.Common.{refl}
 use Rattle.bib_syntax.proofs.WordFacts.{no_element, not_number, not_name, not_braced, not_quoted, no_number_without, no_name_without, no_braced_without, no_quoted_without, braced_element, quoted_element, number_piece, named_piece, no_digit_without}
 use Rattle.bib_syntax.proofs.ReadingFacts.{on_err}
 use Rattle.bib_syntax.proofs.raw.words.element.Goals as goal

@@ -1,8 +1,7 @@
-use Rattle.std.proofs.Common.{rules, ◌≡◌}
 use Rattle.bib_text.specs.Places.{Longest}
-use Rattle.bib_text.proofs.PlaceFacts.{Ahead, ahead_here, ahead_then, ahead_char, ahead_run, ahead_same, ahead_taken, boundary_ahead, left_smaller}
+use Rattle.bib_text.proofs.PlaceFacts.{Ahead, ahead_then, ahead_char, ahead_run, ahead_same, ahead_taken, boundary_ahead, left_smaller}
 use Rattle.bib_syntax.specs.Grammar.QuotedParts.{none}
-use Rattle.bib_syntax.proofs.QuoteFacts.{is_quotable, same_quoted, quoted_then, quoted_run, quoted_hidden, quoted_stuck}
+use Rattle.bib_syntax.proofs.QuoteFacts.{is_quotable, quoted_then, quoted_run, quoted_hidden, quoted_stuck}
 use Rattle.bib_syntax.proofs.ReadingFacts.{fault_back, part_from, not_behind}
 use Rattle.bib_syntax.proofs.raw.words.quoted_parts.Goals as goal
 use Rattle.bib_syntax.proofs.raw.words.quoted_parts.Goals.{After-eat_while}

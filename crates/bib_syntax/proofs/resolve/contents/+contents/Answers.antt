@@ -1,13 +1,12 @@
-use Rattle.std.proofs.Common.{◌≡◌, ◌∷◌, [], ◌++◌, ◌+◌, ◌*◌, ◌<◌, ◌≤◌, ◌^◌, ap, sym, ◌∙◌, refl, inl, inr, subst, false, arith, rules, length, length-append, List, ℕ, true}
-use Rattle.std.specs.Prelude.{string_bytes, encode_utf8_all}
+use Rattle.std.proofs.Common.{◌≡◌, ◌∷◌, [], ◌++◌, ◌+◌, ◌<◌, ◌≤◌, ◌^◌, ap, sym, ◌∙◌, refl, inl, inr, subst, false, arith, rules, length, length-append}
+use Rattle.std.specs.Prelude.{encode_utf8_all}
 use Rattle.std.specs.Str.{chars}
-use Rattle.std.specs.List.{list_all}
 use Rattle.std.proofs.lemmas.Result.{err_from_is_err_and}
 use Rattle.std.proofs.lemmas.Str.{IsUtf8-string_bytes, chars-nil}
 use Rattle.bib_text.proofs.TextFacts.{pushed_part, pushed_chars, encode_one, two_parts, chars_whole}
-use Rattle.bib_syntax.specs.Contents.{Reads, atoms_text, is_ordinary, unit_spelling, held}
-use Rattle.bib_syntax.specs.Passing.{left, so_far}
-use Rattle.bib_syntax.specs.UnitViews.{unit_of, text_unit_of}
+use Rattle.bib_syntax.specs.Contents.{Reads, atoms_text, is_ordinary, unit_spelling}
+use Rattle.bib_syntax.specs.Passing.{left}
+use Rattle.bib_syntax.specs.UnitViews.{unit_of}
 use Rattle.bib_syntax.specs.declared.resolve.growing.Open.{Open}
 use Rattle.bib_syntax.proofs.ReaderFacts.{unit_shorter, held_length, stuck_unit, stuck_taken, no_argument}
 use Rattle.bib_syntax.proofs.TakingFacts.{took_text, took_formula, took_opening, took_closing, formula_wide, placed_behind, held_is, command_is}

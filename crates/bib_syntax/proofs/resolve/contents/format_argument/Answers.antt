@@ -1,5 +1,5 @@
-use Rattle.std.proofs.Common.{◌≡◌, ap, sym, ◌∙◌, false, rules}
-use Rattle.std.specs.Prelude.{string_bytes, encode_utf8_all, filter}
+use Rattle.std.proofs.Common.{◌≡◌, ap, ◌∙◌, false, rules}
+use Rattle.std.specs.Prelude.{filter}
 use Rattle.bib_chunks.specs.Styled.{styled}
 use Rattle.bib_chunks.specs.Formatted.{formatted_behind}
 use Rattle.bib_syntax.specs.Contents.{atoms_text}

@@ -1,4 +1,4 @@
-use Rattle.std.proofs.Common.{◌≡◌, ap, sym, ◌∙◌, not}
+use Rattle.std.proofs.Common.{ap, sym, ◌∙◌, not}
 use Rattle.std.specs.Str.{chars}
 use Rattle.bib_syntax.specs.Contents.{is_empty}
 use Rattle.bib_syntax.specs.Passing.{is_shown}

@@ -1,4 +1,4 @@
-use Rattle.std.proofs.Common.{◌≡◌, ap, sym, ◌∙◌, ◌++◌, ◌∷◌, [], ◌+◌, ◌/◌, replicate, arith, refl, subst}
+use Rattle.std.proofs.Common.{◌≡◌, ap, ◌∙◌, ◌++◌, ◌∷◌, [], ◌/◌, replicate, arith}
 use Rattle.std.specs.Prelude.{string_bytes, encode_utf8_all}
 use Rattle.std.proofs.lemmas.List.{replicate_more}
 use Rattle.bib_text.proofs.TextFacts.{pushed_chars, encode_one, two_parts}

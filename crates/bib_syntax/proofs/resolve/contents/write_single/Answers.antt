@@ -1,4 +1,4 @@
-use Rattle.std.proofs.Common.{◌≡◌, ap, sym, ◌∙◌, ◌∷◌, []}
+use Rattle.std.proofs.Common.{◌≡◌, ◌∙◌, ◌∷◌, []}
 use Rattle.std.specs.Str.{chars}
 use Rattle.bib_text.proofs.TextFacts.{chars_whole, encode_one}
 use Rattle.bib_syntax.proofs.resolve.contents.write_single.Goals as goal

@@ -1,11 +1,5 @@
-use Rattle.std.proofs.Common.{◌≡◌, ap, sym, ◌∙◌, ◌++◌, map, [], length}
-use Rattle.std.specs.Prelude.{string_bytes}
-use Rattle.std.specs.Str.{chars}
-use Rattle.std.proofs.lemmas.List.{append-nil}
-use Rattle.std.proofs.lemmas.Str.{chars-nil}
+use Rattle.std.proofs.Common.{sym, ◌∙◌}
 use Rattle.std.proofs.lemmas.Bool.{eqb-true}
-use Rattle.bib_chunks.specs.Styled.{styled}
-use Rattle.bib_syntax.specs.Contents.{character}
 use Rattle.bib_syntax.proofs.ReaderFacts.{placed_wider, nothing_grows, no_bytes}
 use Rattle.bib_syntax.proofs.resolve.growing.finish.Goals as goal
 

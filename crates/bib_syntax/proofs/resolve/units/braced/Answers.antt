@@ -1,10 +1,4 @@
-use Rattle.std.proofs.Common.{rules, ap, sym, ◌∙◌, ◌++◌, ◌∷◌, [], not, ◌&&◌, ◌≡◌, ◌≤◌, ◌+◌, ◌-◌, ◌<◌, ℕ, List, length, arith, true, false}
-use Rattle.std.specs.Prelude.{◌==◌, nat_lt, encode_utf8_all}
-use Rattle.std.specs.Str.{chars}
-use Rattle.std.proofs.lemmas.Bool.{lt-ltb}
-use Rattle.bib_text.specs.Places.{place, between}
-use Rattle.bib_text.proofs.TextFacts.{chars_whole}
-use Rattle.bib_syntax.specs.Passing.{left, Passes}
+use Rattle.std.proofs.Common.{rules, arith}
 use Rattle.bib_syntax.proofs.ArgumentFacts.{is_no_brace, braced_never, braced_opened, braced_closed, braced_text, braced_bound}
 use Rattle.bib_syntax.proofs.resolve.units.braced.Goals as goal
 

@@ -1,4 +1,4 @@
-use Rattle.std.proofs.Common.{◌≡◌, refl, sym, ap, ◌∙◌, not}
+use Rattle.std.proofs.Common.{◌≡◌, ap, ◌∙◌, not}
 use Rattle.std.specs.Str.{chars}
 use Rattle.bib_syntax.specs.Contents.{is_space, is_empty}
 use Rattle.bib_syntax.specs.Passing.{left}

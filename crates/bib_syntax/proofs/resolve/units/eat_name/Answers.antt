@@ -1,4 +1,4 @@
-use Rattle.std.proofs.Common.{◌≡◌, ◌∷◌, ◌++◌, [], List, ℕ, refl, sym, ap, ◌∙◌}
+use Rattle.std.proofs.Common.{◌≡◌, ◌∷◌, [], sym}
 use Rattle.std.specs.Str.{chars}
 use Rattle.bib_syntax.specs.Contents.{is_named}
 use Rattle.bib_syntax.specs.Passing.{Passes}

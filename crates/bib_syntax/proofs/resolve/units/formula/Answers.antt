@@ -1,4 +1,4 @@
-use Rattle.std.proofs.Common.{ap, sym, ◌∙◌, ◌++◌, ◌∷◌, not, rules, ◌≡◌, subst, ℕ, List, []}
+use Rattle.std.proofs.Common.{ap, ◌∙◌, ◌++◌, not, rules, ◌≡◌, []}
 use Rattle.std.specs.Prelude.{◌==◌}
 use Rattle.std.specs.Str.{chars}
 use Rattle.std.proofs.lemmas.List.{append-nil}

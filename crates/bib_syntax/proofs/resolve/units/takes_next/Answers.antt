@@ -1,6 +1,5 @@
-use Rattle.std.proofs.Common.{◌≡◌, refl, sym, ap, ◌∙◌, ◌∷◌, List, ℕ, ◌||◌, ◌&&◌, not, subst, []}
+use Rattle.std.proofs.Common.{◌≡◌, refl, sym, ap, ◌∙◌, ◌∷◌, List, ℕ, []}
 use Rattle.std.specs.Str.{chars}
-use Rattle.bib_syntax.specs.Contents.{is_mark, is_accent_letter, is_empty, takes_next}
 use Rattle.bib_syntax.specs.Passing.{left, Passes}
 use Rattle.bib_text.specs.Places.{Place, place}
 use Rattle.bib_syntax.proofs.CommandUnitFacts.{takes_one, takes_none, takes_nothing}
