@@ -1,11 +1,5 @@
-pub mod ClaimsFacts
-pub mod CopyFacts
 pub mod EntryFacts
 pub mod LibraryFacts
-pub mod ListFacts
 pub mod LoadedFacts
 pub mod LoadingFacts
-pub mod NamesFacts
 pub mod RawFacts
-pub mod SortedFacts
-pub mod SortingFacts

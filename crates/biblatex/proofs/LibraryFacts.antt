@@ -8,10 +8,10 @@ use Rattle.std.proofs.lemmas.Cmp.{nat_list_cmp_total}
 use Rattle.std.specs.FinMap as map
 use Rattle.std.specs.FinMap.{get-empty, get-insert}
 use Rattle.biblatex.specs.declared.entry.Entry.{Entry}
-use Rattle.biblatex.specs.Sorted.{ByText, by_bytes}
-use Rattle.biblatex.specs.Names.{claimed, claims_for, moved, without_place, ArePlacesBelow}
+use Rattle.bib_maps.specs.Sorted.{ByText, by_bytes}
+use Rattle.bib_maps.specs.Names.{claimed, claims_for, moved, without_place, ArePlacesBelow}
 use Rattle.biblatex.specs.Library.{Library, place_of, entry_of}
-use Rattle.biblatex.proofs.NamesFacts.{get-without_place}
+use Rattle.bib_maps.proofs.NamesFacts.{get-without_place}
 
 same_value : {A : Type 0} (x y : A) → Some x ≡ Some y → x ≡ y
 same_value x y e = ap (λ o. unwrap_or o x) e

@@ -20,10 +20,10 @@ use Rattle.bib_syntax.specs.Reading.{Piece, FieldReading, EntryReading}
 use Rattle.bib_syntax.proofs.ContentFacts.{read_same}
 use Rattle.biblatex.specs.declared.entry.Entry.{Entry}
 use Rattle.biblatex.specs.Library.{Library, claims, aliases, appended, nothing}
-use Rattle.biblatex.specs.Lists.{comma_texts}
+use Rattle.bib_maps.specs.Lists.{comma_texts}
 use Rattle.biblatex.specs.Loaded.{AllCanBeRead, IsEntry, AreEntries, IsFaultOfFields, IsFaultOfEntries, Says, field_in, is_claimed, loaded_behind}
-use Rattle.biblatex.specs.Names.{ArePlacesBelow, claimed, claims_for}
-use Rattle.biblatex.specs.Sorted.{ByText, by_bytes}
+use Rattle.bib_maps.specs.Names.{ArePlacesBelow, claimed, claims_for}
+use Rattle.bib_maps.specs.Sorted.{ByText, by_bytes}
 use Rattle.biblatex.proofs.LibraryFacts.{below_empty, below_claimed, below_more}
 
 some_same : {A : Type 0} {x y : A} → Some x ≡ Some y → x ≡ y

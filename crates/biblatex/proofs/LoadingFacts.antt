@@ -20,7 +20,7 @@ use Rattle.bib_syntax.specs.declared.raw.Pair.{Pair}
 use Rattle.bib_syntax.specs.declared.raw.ParseError.{ParseError}
 use Rattle.biblatex.specs.Loading.{AreReadable, IsFieldOf, IsFieldReadable, IsFieldsFault, field_name, last_definition, last_field, pieces_of}
 use Rattle.biblatex.specs.Reading.{IsFieldFault}
-use Rattle.biblatex.specs.Sorted.{by_bytes}
+use Rattle.bib_maps.specs.Sorted.{by_bytes}
 
 -- of definitions with one more behind them, that one stands for its name
 pub last_definition-push : (pairs : List Pair) (p : Pair) (name : List ℕ)

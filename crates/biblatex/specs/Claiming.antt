@@ -5,7 +5,7 @@ use Rattle.bib_syntax.specs.Reading.{EntryReading}
 use Rattle.biblatex.specs.declared.entry.Entry.{Entry}
 use Rattle.biblatex.specs.Loaded.{AreEntries, loaded_behind}
 use Rattle.biblatex.specs.Library.{nothing}
-use Rattle.biblatex.specs.Sorted.{ByText}
+use Rattle.bib_maps.specs.Sorted.{ByText}
 
 -- the entries are what a file says, and each name points where it was last claimed
 pub record IsLoadedSoFar (definitions : Definitions) (said : List EntryReading) (all : List Entry) (names : ByText ℕ) : Type 0 where

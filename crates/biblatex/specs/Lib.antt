@@ -1,16 +1,9 @@
 pub mod Claiming
-pub mod Claims
-pub mod Joining
 pub mod Keys
 pub mod Lending
 pub mod Library
-pub mod Lists
 pub mod Loaded
 pub mod Loading
-pub mod Names
 pub mod Reading
 pub mod SameLibrary
-pub mod Sorted
 pub mod Syntax
-pub mod TextMap
-pub mod TextMapLending

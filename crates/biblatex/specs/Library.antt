@@ -7,9 +7,9 @@ use Rattle.std.specs.Coded.{Coded, code_by, coded×, coded_list, coded_ℕ}
 use Rattle.bib_chunks.specs.Styled.{styled}
 use Rattle.biblatex.specs.declared.entry.Entry.{Entry}
 use Rattle.biblatex.specs.contracts.entry.Entry as entry
-use Rattle.biblatex.specs.Sorted.{ByText}
-use Rattle.biblatex.specs.Names.{claimed, claims_for, without_place}
-use Rattle.biblatex.specs.Lists.{comma_texts}
+use Rattle.bib_maps.specs.Sorted.{ByText}
+use Rattle.bib_maps.specs.Names.{claimed, claims_for, without_place}
+use Rattle.bib_maps.specs.Lists.{comma_texts}
 
 -- entries in order, and the places of names
 pub record Library : Type 0 where

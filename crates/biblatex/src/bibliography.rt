@@ -13,14 +13,14 @@ ghost use Rattle.bib_syntax.specs.Views.{file_of};
 ghost use Rattle.biblatex.specs.Keys.{keys_left};
 ghost use Rattle.biblatex.specs.Loaded.{IsAccepted, IsFaultOf, IsLoaded};
 ghost use Rattle.biblatex.specs.Lending.{LendsEntry, LendsEntries};
-ghost use Rattle.biblatex.specs.Names.{ArePlacesBelow, claimed, claims_for};
+ghost use Rattle.bib_maps.specs.Names.{ArePlacesBelow, claimed, claims_for};
 ghost use Rattle.biblatex.specs.Library.{aliased, aliases, claims, entry_of, inserted, nothing, place_of, removed};
 ghost use Rattle.biblatex.specs.SameLibrary.{same_library, same_library_per, same_library_equiv};
 
 use crate::entry::Entry;
-use crate::lists::comma_texts;
-use crate::names::Names;
 use crate::reading::load;
+use bib_maps::lists::comma_texts;
+use bib_maps::names::Names;
 use bib_syntax::raw::{ParseError, RawBibliography};
 use bib_text::text::Text;
 use std::alloc::{AllocError, Global};
@@ -39,7 +39,7 @@ pub struct Bibliography {
 
 impl Model for Bibliography {
     ghost use Rattle.biblatex.specs.Library.{Library, library_code};
-    ghost use Rattle.biblatex.specs.Names.{ArePlacesBelow};
+    ghost use Rattle.bib_maps.specs.Names.{ArePlacesBelow};
     ghost use Rattle.std.specs.Prelude.{length};
 
     ghost Value = { Library };

@@ -5,8 +5,8 @@ ghost use Rattle.std.specs.Char.{to_ascii_lowercase};
 ghost use Rattle.std.specs.Option.{option_copied};
 ghost use Rattle.std.specs.FinMap as by_name;
 
-use crate::text_map::TextMap;
 use bib_chunks::chunk::{Chunks, ChunksRef};
+use bib_maps::text_map::TextMap;
 use bib_tables::mechanics::EntryType;
 use bib_text::text::Text;
 use std::alloc::{AllocError, Global};

@@ -2,17 +2,13 @@
 #![tactic(auto)]
 
 pub mod bibliography;
-mod claims;
 pub mod entry;
-mod lists;
 mod loading;
-mod names;
 mod reading;
 pub mod sink;
-mod sorted;
-pub mod text_map;
 
 pub use bib_chunks::chunk::{Chunk, Chunks, ChunksExt, ChunksRef, Span, Spanned, is_settled};
+pub use bib_maps::text_map::TextMap;
 pub use bib_syntax::raw::{
     BiblatexParser, Field, Pair, ParseError, ParseErrorKind, RawBibliography, RawChunk, RawEntry,
     Token, is_id_continue, is_id_start, is_key,
@@ -27,4 +23,3 @@ pub use bib_types::types::{EditorType, Gender, NameError, Pagination};
 pub use bibliography::{Bibliography, InsertError, Keys};
 pub use entry::{Entry, SetError};
 pub use sink::Sink;
-pub use text_map::TextMap;

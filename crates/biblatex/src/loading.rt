@@ -7,8 +7,8 @@ ghost use Rattle.biblatex.specs.Loading.{IsEntryOf, IsFieldOf, IsFieldReadable, 
 ghost use Rattle.biblatex.specs.Reading.{IsFieldFault};
 
 use crate::entry::Entry;
-use crate::text_map::TextMap;
 use bib_chunks::chunk::Chunks;
+use bib_maps::text_map::TextMap;
 use bib_syntax::raw::{Field, Pair, ParseError, RawEntry};
 use bib_syntax::resolve::FieldReader;
 use bib_tables::mechanics::EntryType;

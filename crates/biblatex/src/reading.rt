@@ -7,14 +7,14 @@ ghost use Rattle.bib_syntax.specs.Views.{entry_of, file_of};
 ghost use Rattle.bib_syntax.specs.declared.raw.ParseErrorKind.TheVariants.{DuplicateKey};
 ghost use Rattle.biblatex.specs.Claiming.{IsLoadedSoFar};
 ghost use Rattle.biblatex.specs.Loaded.{IsFaultOf, IsFaultOfEntries, definition_in};
-ghost use Rattle.biblatex.specs.Names.{ArePlacesBelow};
+ghost use Rattle.bib_maps.specs.Names.{ArePlacesBelow};
 
 use crate::bibliography::claims;
-use crate::claims::Claims;
 use crate::entry::Entry;
 use crate::loading::{definitions, read_entry};
-use crate::names::Names;
 use bib_chunks::chunk::Spanned;
+use bib_maps::claims::Claims;
+use bib_maps::names::Names;
 use bib_syntax::raw::{Field, ParseError, ParseErrorKind, RawBibliography, RawEntry};
 use bib_syntax::resolve::FieldReader;
 use bib_text::text::Text;

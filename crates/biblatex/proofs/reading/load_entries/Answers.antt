@@ -6,7 +6,7 @@ use Rattle.std.proofs.lemmas.Result.{err_from_is_err_and}
 use Rattle.bib_syntax.specs.Abbreviations.{given_by, sorted_in}
 use Rattle.bib_syntax.proofs.AbbreviationFacts.{sorted_given}
 use Rattle.biblatex.specs.Library.{claims}
-use Rattle.biblatex.specs.Names.{claimed, claims_for}
+use Rattle.bib_maps.specs.Names.{claimed, claims_for}
 use Rattle.biblatex.proofs.LoadedFacts.{loaded_none, loaded_next, loaded_all, fault_duplicate, fault_unreadable}
 use Rattle.biblatex.proofs.RawFacts.{entry_same, fault_same}
 use Rattle.biblatex.proofs.reading.load_entries.Goals as goal

@@ -1,5 +1,5 @@
 use Rattle.std.proofs.Common.{◌++◌, ◌∷◌, [], ◌+◌, ap, arith, length, length-append, ◌∙◌}
-use Rattle.biblatex.specs.Names.{ArePlacesBelow}
+use Rattle.bib_maps.specs.Names.{ArePlacesBelow}
 use Rattle.biblatex.specs.Library.{claims}
 use Rattle.biblatex.proofs.LibraryFacts.{below_claimed, below_more}
 use Rattle.biblatex.proofs.bibliography.Bibliography.insert.Goals as goal

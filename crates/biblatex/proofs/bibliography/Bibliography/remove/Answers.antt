@@ -1,5 +1,5 @@
 use Rattle.std.proofs.Common.{◌≡◌, ◌<◌, ◌-◌, arith, Some, length, sym, subst}
-use Rattle.biblatex.specs.Names.{ArePlacesBelow}
+use Rattle.bib_maps.specs.Names.{ArePlacesBelow}
 use Rattle.biblatex.specs.Library.{entry_of}
 use Rattle.biblatex.proofs.LibraryFacts.{below_more, below_without_place, found_at}
 use Rattle.biblatex.proofs.bibliography.Bibliography.remove.Goals as goal

@@ -1,6 +1,6 @@
 use Rattle.std.proofs.Common.{◌≡◌, rules}
 use Rattle.std.proofs.lemmas.List.Elements.{same_from_all_zip}
-use Rattle.biblatex.proofs.CopyFacts.{same_copy}
+use Rattle.bib_maps.proofs.CopyFacts.{same_copy}
 use Rattle.biblatex.proofs.EntryFacts.{same_type}
 use Rattle.biblatex.proofs.entry.EntryClone.clone.Goals as goal
 

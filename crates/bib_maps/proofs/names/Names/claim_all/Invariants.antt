@@ -1,0 +1,15 @@
+use Rattle.std.proofs.Common.{◌≡◌, ◌+◌, ◌≤◌, vec_len, vec_capacity, length}
+use Rattle.std.specs.Vec.Iter.{into_iter_items}
+use Rattle.bib_maps.specs.Sorted.{IsSorted, map_of}
+use Rattle.bib_maps.specs.Names.{claimed, claims_for}
+use Rattle.bib_maps.proofs.names.Names.claim_all.Given as goal
+
+-- the names so far are claimed, with those that are left all are, and there is room for each of those
+abbrev pub invariant-names : goal.invariant-names
+invariant-names l = record {
+  can_next : (goal.iterator-names).can_next l.name-iterator;
+  is_finite : (goal.iterator-names).is_finite l.name-iterator;
+  sorted : IsSorted l.self-inside.pairs.items;
+  claims : claimed (map_of l.self-inside.pairs.items) (claims_for l.place (into_iter_items l.name-iterator)) ≡ claimed l.fn.self (claims_for l.place l.fn.names.items);
+  room : vec_len l.self-inside.pairs + length (into_iter_items l.name-iterator) ≤ vec_capacity l.self-inside.pairs;
+}

@@ -1,0 +1,10 @@
+-- Maps by text whose values are lent out to be changed.
+use Rattle.std.specs.Prelude.{ℕ, List, Option}
+use Rattle.std.specs.Borrow.{LendsIf, MutBor, Fml, RattleType}
+use Rattle.std.specs.FinMap.{insert}
+use Rattle.bib_maps.specs.Sorted.{ByText}
+use Rattle.bib_maps.specs.contracts.text_map.TextMap.{the_row}
+
+-- the map ends with what is left behind the reference as the value of the name; without that name, it stays as it is
+abbrev pub LendsValue : (V : RattleType) → MutBor (ByText V.Denot) → List ℕ → Option (MutBor V.Denot) → Fml
+LendsValue V map name value = LendsIf (the_row V) V map value (insert map.now name) map.now

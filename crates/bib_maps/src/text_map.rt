@@ -1,0 +1,178 @@
+//! Maps by text.
+
+ghost use Rattle.std.specs.Prelude.{◌≡◌, ◌==◌, OnOk, OnErr, IfOk, IfErr, IsSome, IsOk, reverse};
+ghost use Rattle.std.specs.Option.{option_copied, option_copied_mut};
+ghost use Rattle.std.specs.Borrow.{sem};
+ghost use Rattle.std.specs.FinMap as map;
+ghost use Rattle.std.specs.Slice.Iter.{iter_rest};
+ghost use Rattle.bib_maps.specs.TextMapLending.{LendsValue};
+ghost use Rattle.bib_maps.specs.TextMap.{AreClones, same_pairs, same_pairs_per, same_pairs_equiv};
+
+use crate::sorted::{search, sorted};
+use bib_text::text::Text;
+use std::alloc::{AllocError, AllocFailed, Global};
+use std::marker::Model;
+use std::mem;
+use std::slice::Iter;
+
+/// A map by text. Contracts see it as a finite map from the bytes of texts, in their order.
+#[derive(Debug, Drop)]
+pub struct TextMap<V> {
+    pairs: Vec<(Text, V)>,
+}
+
+impl<V> Model for TextMap<V> {
+    ghost use Rattle.std.specs.FinMap as map;
+    ghost use Rattle.std.specs.Coded.{coded_list, coded_ℕ};
+    ghost use Rattle.bib_maps.specs.Sorted.{ByText, IsSorted, map_of};
+
+    ghost Value = { ByText V };
+
+    ghost coded = { map.code (coded_list coded_ℕ) V.code };
+
+    ghost view = { λ a. map_of a.pairs.items };
+
+    ghost invariant = { λ a. IsSorted a.pairs.items };
+}
+
+impl<V> TextMap<V> {
+    /// The empty map. Takes no memory.
+    pub fn new(alloc: Global) -> Self
+        ensures { result ≡ map.empty }
+    {
+        TextMap {
+            pairs: Vec::new(alloc),
+        }
+    }
+
+    /// The pairs of a name and its value, in the order of the names' bytes. Takes no memory.
+    pub fn into_pairs(self) -> Vec<(Text, V)>
+        ensures { result.items ≡ map.entries self }
+    {
+        let TextMap { pairs } = self;
+        pairs
+    }
+
+    // The allocator that the map takes memory from.
+    pub fn allocator(&self) -> Global {
+        *self.pairs.allocator()
+    }
+
+    /// How many names there are.
+    pub fn len(&self) -> usize
+        ensures { result ≡ map.len self.now }
+    {
+        self.pairs.len()
+    }
+
+    /// Whether there is no name.
+    pub fn is_empty(&self) -> bool
+        ensures { result ≡ (map.len self.now == 0) }
+    {
+        self.pairs.is_empty()
+    }
+
+    /// The value of a name, if it has one.
+    pub fn get(&self, name: &str) -> Option<&V>
+        ensures { option_copied result ≡ map.get self.now name.now }
+    {
+        match search(self.pairs.as_slice(), name) {
+            Ok(place) => Some(&self.pairs[place].1),
+            Err(_) => None,
+        }
+    }
+
+    /// The value of a name, if it has one, to be changed.
+    pub fn get_mut(&mut self, name: &str) -> Option<&mut V>
+        ensures* writes_back { sem 𝓛 (LendsValue V.row self.entry name.now result) }
+        ensures value { option_copied_mut result ≡ map.get self.old name.now }
+    {
+        match search(self.pairs.as_slice(), name) {
+            Ok(place) => Some(&mut self.pairs[place].1),
+            Err(_) => None,
+        }
+    }
+
+    /// The pairs of a name and its value, in the order of the names' bytes.
+    pub fn iter(&self) -> Iter<'_, (Text, V)>
+        ensures { iter_rest result ≡ map.entries self.now }
+    {
+        self.pairs.iter()
+    }
+
+    /// Gives a name a value, and hands back the one that it had. A refusal changes nothing, and gives both back.
+    pub fn insert(&mut self, name: Text, value: V) -> Result<Option<V>, AllocFailed<(Text, V)>>
+        ensures had { IfOk result (λ had. had ≡ map.get self.old name) }
+        ensures inserted { OnOk result (self.new ≡ map.insert self.old name value) }
+        ensures refused { OnErr result (self.new ≡ self.old) }
+        ensures returned { IfErr result (λ e. e.value ≡ (name, value)) }
+        ensures present { IsSome (map.get self.old name) → IsOk result }
+    {
+        match search(self.pairs.as_slice(), name.as_str()) {
+            Ok(place) => Ok(Some(mem::replace(&mut self.pairs[place].1, value))),
+            Err(place) => {
+                self.pairs.insert(place, (name, value))?;
+                Ok(None)
+            }
+        }
+    }
+
+    /// Takes a name out, and hands back its value. Takes no memory.
+    pub fn remove(&mut self, name: &str) -> Option<V>
+        ensures had { result ≡ map.get self.old name.now }
+        ensures removed { self.new ≡ map.remove self.old name.now }
+    {
+        match search(self.pairs.as_slice(), name) {
+            Ok(place) => {
+                let (_, value) = self.pairs.remove(place);
+                Some(value)
+            }
+            Err(_) => None,
+        }
+    }
+}
+
+impl<V: Drop> TextMap<V> {
+    /// The map of these pairs. Of pairs with one name the last stands. Sorts once.
+    pub fn from_pairs(pairs: Vec<(Text, V)>) -> Result<Self, AllocError>
+        ensures { IfOk result (λ m. m ≡ map.from_entries (reverse pairs.items)) }
+    {
+        let pairs = sorted(pairs)?;
+        Ok(TextMap { pairs })
+    }
+}
+
+impl<'a, V> IntoIterator for &'a TextMap<V> {
+    type Item = &'a (Text, V);
+
+    type IntoIter = Iter<'a, (Text, V)>;
+
+    ghost into_iter_gives = { λ m it. iter_rest it ≡ map.entries m.now };
+
+    fn into_iter(self) -> Self::IntoIter {
+        self.iter()
+    }
+}
+
+impl<V: Clone> Clone for TextMap<V> {
+    ghost is_clone = { λ m copy. AreClones V.is_clone m copy };
+
+    fn clone(&self) -> Result<Self, AllocError> {
+        let pairs = self.pairs.clone()?;
+        Ok(TextMap { pairs })
+    }
+}
+
+impl<V: PartialEq> PartialEq for TextMap<V> {
+    ghost eq = { λ m n. same_pairs V.eq m n };
+
+    ghost laws = { same_pairs_per V.laws };
+
+    fn eq(&self, other: &Self) -> bool {
+        self.pairs == other.pairs
+    }
+}
+
+impl<V: Eq> Eq for TextMap<V> {
+    ghost laws = { same_pairs_equiv V.Eq.laws };
+}
