@@ -1,12 +1,5 @@
-pub mod Abbreviations
 pub mod Characters
-pub mod Commands
-pub mod Contents
-pub mod Expanding
 pub mod Faults
 pub mod Grammar
-pub mod Joined
-pub mod Passing
-pub mod UnitViews
 pub mod Views
 pub mod Reading

@@ -1,9 +1,6 @@
-//! Laws of the file grammar and of contents. These functions do nothing: what they ensure is proved of the definitions
-//! alone.
+//! Laws of the file grammar. These functions do nothing: what they ensure is proved of the definitions alone.
 
-ghost use Rattle.std.specs.Prelude.{◌≡◌, ◌↔◌, ℕ, Bool, List};
-ghost use Rattle.bib_chunks.specs.Styled.{Atom};
-ghost use Rattle.bib_syntax.specs.Contents.{IsContent};
+ghost use Rattle.std.specs.Prelude.{◌≡◌, ◌↔◌, ℕ, List};
 ghost use Rattle.bib_syntax.specs.Grammar.{IsFile, IsRawReading};
 ghost use Rattle.bib_syntax.specs.Reading.{FileReading};
 
@@ -16,9 +13,4 @@ pub fn one_reading()
 /// run is as long as it can be.
 pub fn same_texts()
     ensures { (text : List ℕ) → IsFile text ↔ ((says : FileReading) × IsRawReading text says) }
-{}
-
-/// A text has at most one reading as the contents of a field.
-pub fn one_content()
-    ensures { (is_verbatim : Bool) (text : List ℕ) (first second : List Atom) → IsContent is_verbatim text first → IsContent is_verbatim text second → first ≡ second }
 {}

@@ -1,6 +1,5 @@
-//! The grammar of bibliography files, and the contents of their fields.
+//! The grammar of bibliography files.
 #![tactic(auto)]
 
 pub mod laws;
 pub mod raw;
-pub mod resolve;

@@ -14,7 +14,7 @@ use bib_chunks::chunk::{Span, Spanned};
 use bib_text::scanner::Scanner;
 use bib_text::text::Text;
 use file::blocks;
-pub(crate) use file::is_named;
+pub use file::is_named;
 use std::alloc::{AllocError, AllocFailed, Global};
 use std::error::Error;
 use std::fmt;

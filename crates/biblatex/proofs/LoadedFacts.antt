@@ -15,9 +15,9 @@ use Rattle.bib_syntax.specs.declared.raw.ParseError.{ParseError}
 use Rattle.bib_chunks.specs.Styled.{Atom, styled}
 use Rattle.bib_chunks.specs.declared.chunk.Chunk.{Chunk}
 use Rattle.bib_chunks.specs.declared.chunk.Spanned.{Spanned}
-use Rattle.bib_syntax.specs.Abbreviations.{Definitions, Evaluates}
+use Rattle.bib_contents.specs.Abbreviations.{Definitions, Evaluates}
 use Rattle.bib_syntax.specs.Reading.{Piece, FieldReading, EntryReading}
-use Rattle.bib_syntax.proofs.ContentFacts.{read_same}
+use Rattle.bib_contents.proofs.ContentFacts.{read_same}
 use Rattle.biblatex.specs.declared.entry.Entry.{Entry}
 use Rattle.biblatex.specs.Library.{Library, claims, aliases, appended, nothing}
 use Rattle.bib_maps.specs.Lists.{comma_texts}

@@ -1,6 +1,6 @@
 -- Entries as they are read, with the names that they claim: words of private contracts.
 use Rattle.std.specs.Prelude.{◌≡◌, ℕ, List, []}
-use Rattle.bib_syntax.specs.Abbreviations.{Definitions}
+use Rattle.bib_contents.specs.Abbreviations.{Definitions}
 use Rattle.bib_syntax.specs.Reading.{EntryReading}
 use Rattle.biblatex.specs.declared.entry.Entry.{Entry}
 use Rattle.biblatex.specs.Loaded.{AreEntries, loaded_behind}

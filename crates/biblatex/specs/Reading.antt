@@ -1,6 +1,6 @@
 -- Reading one field.
 use Rattle.std.specs.Prelude.{[]}
-use Rattle.bib_syntax.specs.Abbreviations.{Definitions, IsFirstFault, is_verbatim_field}
+use Rattle.bib_contents.specs.Abbreviations.{Definitions, IsFirstFault, is_verbatim_field}
 use Rattle.bib_syntax.specs.declared.raw.Pair.{Pair}
 use Rattle.bib_syntax.specs.declared.raw.ParseError.{ParseError}
 use Rattle.biblatex.specs.Loading.{IsFieldReadable, field_name, pieces_of}

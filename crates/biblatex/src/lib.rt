@@ -8,12 +8,12 @@ mod reading;
 pub mod sink;
 
 pub use bib_chunks::chunk::{Chunk, Chunks, ChunksExt, ChunksRef, Span, Spanned, is_settled};
+pub use bib_contents::resolve::{is_escapable, is_verbatim_field, parse_field};
 pub use bib_maps::text_map::TextMap;
 pub use bib_syntax::raw::{
     BiblatexParser, Field, Pair, ParseError, ParseErrorKind, RawBibliography, RawChunk, RawEntry,
     Token, is_id_continue, is_id_start, is_key,
 };
-pub use bib_syntax::resolve::{is_escapable, is_verbatim_field, parse_field};
 pub use bib_tables::mechanics::{AuthorMode, EntryType, PagesChapterMode, Requirements};
 pub use bib_text::items::Items;
 pub use bib_text::scanner::Scanner;

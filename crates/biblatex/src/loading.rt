@@ -1,16 +1,16 @@
 //! A file's entries as entries of a bibliography.
 
 ghost use Rattle.std.specs.Prelude.{◌≡◌, ◌⊎◌, OnOk, IfOk, IfErr, List, ℕ};
-ghost use Rattle.bib_syntax.specs.Abbreviations.{given_by, sorted_in};
+ghost use Rattle.bib_contents.specs.Abbreviations.{given_by, sorted_in};
 ghost use Rattle.bib_syntax.specs.Faults.{out_of_memory};
 ghost use Rattle.biblatex.specs.Loading.{IsEntryOf, IsFieldOf, IsFieldReadable, IsFieldsFault, field_name, last_definition};
 ghost use Rattle.biblatex.specs.Reading.{IsFieldFault};
 
 use crate::entry::Entry;
 use bib_chunks::chunk::Chunks;
+use bib_contents::resolve::FieldReader;
 use bib_maps::text_map::TextMap;
 use bib_syntax::raw::{Field, Pair, ParseError, RawEntry};
-use bib_syntax::resolve::FieldReader;
 use bib_tables::mechanics::EntryType;
 use bib_text::text::Text;
 use std::alloc::{AllocError, Global};

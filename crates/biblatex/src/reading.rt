@@ -1,7 +1,7 @@
 //! A file's entries with the names that they claim.
 
 ghost use Rattle.std.specs.Prelude.{◌≡◌, ◌⊎◌, [], map, length, IfOk, IfErr};
-ghost use Rattle.bib_syntax.specs.Abbreviations.{sorted_in};
+ghost use Rattle.bib_contents.specs.Abbreviations.{sorted_in};
 ghost use Rattle.bib_syntax.specs.Faults.{out_of_memory};
 ghost use Rattle.bib_syntax.specs.Views.{entry_of, file_of};
 ghost use Rattle.bib_syntax.specs.declared.raw.ParseErrorKind.TheVariants.{DuplicateKey};
@@ -13,10 +13,10 @@ use crate::bibliography::claims;
 use crate::entry::Entry;
 use crate::loading::{definitions, read_entry};
 use bib_chunks::chunk::Spanned;
+use bib_contents::resolve::FieldReader;
 use bib_maps::claims::Claims;
 use bib_maps::names::Names;
 use bib_syntax::raw::{Field, ParseError, ParseErrorKind, RawBibliography, RawEntry};
-use bib_syntax::resolve::FieldReader;
 use bib_text::text::Text;
 use std::alloc::{AllocError, Global};
 use std::collections::BTreeMap;

@@ -1,8 +1,8 @@
 //! Contents of fields: commands and accents, dashes, chunks, abbreviations, and which fault is told.
 
 use bib_chunks::chunk::{Chunk, ChunksRef};
+use bib_contents::resolve::{FieldReader, is_escapable, is_verbatim_field, parse_field};
 use bib_syntax::raw::RawBibliography;
-use bib_syntax::resolve::{FieldReader, is_escapable, is_verbatim_field, parse_field};
 use std::alloc::Global;
 use std::collections::{BTreeMap, HashMap};
 use std::test::Fail;

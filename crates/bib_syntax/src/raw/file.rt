@@ -23,8 +23,8 @@ enum BlockKind {
     Entry,
 }
 
-// Whether a name is this word in some ASCII case.
-pub(crate) fn is_named(name: &str, word: &str) -> bool
+/// Whether a name is this word in some ASCII case.
+pub fn is_named(name: &str, word: &str) -> bool
     ensures { result ≡ grammar.is_named word.now name.now }
 {
     name.eq_ignore_ascii_case(word)

@@ -1,5 +1,5 @@
 use Rattle.std.proofs.Common.{◌≡◌, List, ℕ, take}
-use Rattle.bib_syntax.specs.Abbreviations.{sorted_in}
+use Rattle.bib_contents.specs.Abbreviations.{sorted_in}
 use Rattle.biblatex.specs.Loading.{last_definition}
 use Rattle.biblatex.proofs.loading.definitions.Given as goal
 

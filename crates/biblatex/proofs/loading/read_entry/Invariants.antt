@@ -1,6 +1,6 @@
 use Rattle.std.proofs.Common.{◌≡◌, take}
 use Rattle.std.specs.List.{AllZip}
-use Rattle.bib_syntax.specs.Abbreviations.{given_by}
+use Rattle.bib_contents.specs.Abbreviations.{given_by}
 use Rattle.biblatex.proofs.LoadingFacts.{IsRead}
 use Rattle.biblatex.proofs.loading.read_entry.Given as goal
 

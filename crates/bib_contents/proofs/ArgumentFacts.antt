@@ -1,0 +1,236 @@
+-- Facts on the units that a cursor takes.
+use Rattle.std.proofs.Common.{◌≡◌, ℕ, suc, ◌+◌, ◌-◌, ◌<◌, ◌≤◌, Bool, true, false, not, ◌&&◌, if◌then◌else◌, List, [], ◌∷◌, ◌++◌, length, drop, replicate, refl, sym, ap, ◌∙◌, subst, arith, append_assoc, length-append, length-drop, take, ◌^◌, inl, inr, add-one}
+use Rattle.std.specs.Prelude.{◌==◌, nat_lt, encode_utf8_all}
+use Rattle.std.specs.List.{list_all, list_any}
+use Rattle.std.specs.Str.{chars, IsUtf8}
+use Rattle.std.proofs.lemmas.Bool.{and_parts, cases_Bool, both_ways, not-true, eqb-true, lt-ltb}
+use Rattle.std.proofs.lemmas.List.{append-nil, take_at}
+use Rattle.std.proofs.lemmas.Str.{encodes-chars, length-encode, len_utf8_bounds}
+use Rattle.std.specs.Char.{len_utf8}
+use Rattle.std.specs.Prelude.{encode_utf8}
+use Rattle.bib_text.specs.Places.{Place, place, between}
+use Rattle.bib_text.proofs.TextFacts.{chars_whole, encode_one}
+use Rattle.bib_contents.specs.Contents.{ContentUnit, begins, balances, unit_spelling, fits, IsNext}
+use Rattle.bib_contents.specs.Passing.{left, Passes}
+use Rattle.bib_contents.proofs.UnitFacts.{prefix, first_unit, unit_first}
+use Rattle.bib_contents.proofs.PassingFacts.{passes_then, passes_none}
+
+-- a place behind what was passed is in the text
+pub passes_within : {u v : Place} {cs : List ℕ} → Passes u cs v → u.at ≤ length u.text → v.at ≤ length v.text
+passes_within {u} {v} {cs} passed within =
+    let sizes : length u.text - u.at ≡ length (encode_utf8_all cs) + length (drop v.at v.text) = sym (length-drop u.at u.text) ∙ ap length passed.here ∙ length-append (encode_utf8_all cs) _ in
+    let texts : length v.text ≡ length u.text = ap length passed.same in
+    let next : v.at ≡ u.at + length (encode_utf8_all cs) = passed.next in
+    omega arith
+
+pub passes_ahead : {u v : Place} {cs : List ℕ} → Passes u cs v → u.at ≤ v.at
+passes_ahead {u} {v} {cs} passed =
+    let next : v.at ≡ u.at + length (encode_utf8_all cs) = passed.next in
+    omega arith
+
+pub passes_one : {u v : Place} {c : ℕ} → Passes u (c ∷ []) v → u.at + 1 ≤ v.at
+passes_one {u} {v} {c} passed =
+    let next : v.at ≡ u.at + length (encode_utf8_all (c ∷ [])) = passed.next in
+    let size : length (encode_utf8_all (c ∷ [])) ≡ len_utf8 c = ap length (sym (encode_one c)) ∙ length-encode c in
+    let width : 1 ≤ len_utf8 c = (len_utf8_bounds c).0 in
+    omega arith
+
+-- the text between the places
+pub passes_text : {u v : Place} {cs : List ℕ} (start : ℕ) (bs : List ℕ) → Passes u cs v → start ≡ u.at → IsUtf8 bs → bs ≡ between (place v.text start) v → chars bs ≡ cs
+passes_text {u} {v} {cs} start bs passed is utf8 taken =
+    let next : v.at ≡ u.at + length (encode_utf8_all cs) = passed.next in
+    let size : length (encode_utf8_all cs) ≡ v.at - u.at = omega arith in
+    let cut : between (place v.text start) v ≡ encode_utf8_all cs =
+    ap (λ n. take (v.at - n) (drop n v.text)) is ∙ ap (λ t. take (v.at - u.at) (drop u.at t)) passed.same ∙ ap (take (v.at - u.at)) passed.here ∙ take_at (encode_utf8_all cs) (drop v.at v.text) (v.at - u.at) size in
+    chars_whole cs bs utf8 (taken ∙ cut)
+
+-- hyphens are their bytes
+pub all_hyphens : (cs : List ℕ) → list_all (λ c. c == 45) cs ≡ true → (cs ≡ replicate (length cs) 45) × (encode_utf8_all cs ≡ cs)
+unfolding lib.Utf8.encode
+all_hyphens [] all = (refl, refl)
+all_hyphens (c ∷ cs) all =
+    let parts = and_parts (c == 45) (list_all (λ c. c == 45) cs) all in
+    let rest = all_hyphens cs parts.1 in
+    rw (eqb-true c 45 parts.0) (ap (λ xs. 45 ∷ xs) rest.0, ap (λ xs. 45 ∷ xs) rest.1)
+
+pub hyphens_bytes : (bs : List ℕ) → IsUtf8 bs → list_all (λ c. c == 45) (chars bs) ≡ true → chars bs ≡ replicate (length bs) 45
+hyphens_bytes bs utf8 all =
+    let both = all_hyphens (chars bs) all in
+    both.0 ∙ ap (λ n. replicate n 45) (ap length (sym both.1 ∙ encodes-chars bs utf8))
+
+-- where neither a character that passes nor one that fails is left, nothing is
+pub nothing_left : (test : ℕ → Bool) (xs : List ℕ) → begins (λ c. not (test c)) xs ≡ false → begins test xs ≡ false → xs ≡ []
+nothing_left test [] one two = refl
+nothing_left test (c ∷ cs) one two = absurd (both_ways (not (test c)) one (rw two refl))
+
+-- a text without dollar signs doesn't end a formula
+without_dollar : (text rest : List ℕ) → list_all (λ c. not (c == 36)) ((text ++ 36 ∷ []) ++ rest) ≡ true → ⊥
+without_dollar [] rest all = both_ways false refl all
+without_dollar (c ∷ cs) rest all = without_dollar cs rest (and_parts (not (c == 36)) _ all).1
+
+pub behind_first : {c d : ℕ} {xs ys : List ℕ} → c ∷ xs ≡ d ∷ ys → xs ≡ ys
+behind_first same = ap (drop 1) same
+
+pub no_formula : (text : List ℕ) → list_all (λ c. not (c == 36)) text ≡ true → (u : ContentUnit) (rest : List ℕ) → IsNext false u (36 ∷ text) rest → ⊥
+no_formula text all u rest one =
+    let is : ContentUnit.formula (prefix (λ d. not (d == 36)) text) ≡ u = ap (first_unit false) one.spells ∙ unit_first false u rest one.fits in
+    let inside = prefix (λ d. not (d == 36)) text in
+    let spelt : text ≡ (inside ++ 36 ∷ []) ++ rest = behind_first (one.spells ∙ ap (λ x. unit_spelling x ++ rest) (sym is)) in
+    without_dollar inside rest (rw spelt at all)
+
+all_none : (text : List ℕ) → list_all (λ d. not (d == 36)) text ≡ true → list_any (λ c. c == 36) text ≡ false
+all_none [] all = refl
+all_none (c ∷ cs) all =
+    let parts = and_parts (not (c == 36)) (list_all (λ d. not (d == 36)) cs) all in
+    rw (not-true (c == 36) parts.0) (all_none cs parts.1)
+
+pub formula_found : (before text after : List ℕ) → list_all (λ d. not (d == 36)) text ≡ true → before ≡ text ++ 36 ∷ after → IsNext false (ContentUnit.formula text) (36 ∷ before) after
+formula_found before text after all is = record {
+  fits = rw (all_none text all) refl;
+  spells = ap (λ xs. 36 ∷ xs) (is ∙ sym (append_assoc text (36 ∷ []) after));
+}
+
+-- whether a brace of the text closes so many open ones and one more
+abbrev pub closes : ℕ → List ℕ → Bool
+closes depth [] = false
+closes depth (c ∷ cs) =
+    if c == 123 then closes (suc depth) cs
+    else if c == 125 then (if nat_lt 0 depth then closes (depth - 1) cs else true)
+    else closes depth cs
+
+-- a character that is no brace
+abbrev pub is_no_brace : ℕ → Bool
+is_no_brace c = not (c == 123) && not (c == 125)
+
+pub balances_run : (depth : ℕ) (cs tail : List ℕ) → list_all is_no_brace cs ≡ true → balances depth (cs ++ tail) ≡ balances depth tail
+balances_run depth [] tail all = refl
+balances_run depth (c ∷ cs) tail all =
+    let parts = and_parts (is_no_brace c) (list_all is_no_brace cs) all in
+    let plain = and_parts (not (c == 123)) (not (c == 125)) parts.0 in
+    rw (not-true (c == 123) plain.0, not-true (c == 125) plain.1) (balances_run depth cs tail parts.1)
+
+pub closes_run : (depth : ℕ) (cs tail : List ℕ) → list_all is_no_brace cs ≡ true → closes depth (cs ++ tail) ≡ closes depth tail
+closes_run depth [] tail all = refl
+closes_run depth (c ∷ cs) tail all =
+    let parts = and_parts (is_no_brace c) (list_all is_no_brace cs) all in
+    let plain = and_parts (not (c == 123)) (not (c == 125)) parts.0 in
+    rw (not-true (c == 123) plain.0, not-true (c == 125) plain.1) (closes_run depth cs tail parts.1)
+
+pub closes_balanced : (depth : ℕ) (text rest : List ℕ) → balances depth text ≡ true → closes depth (text ++ 125 ∷ rest) ≡ true
+closes_balanced depth [] rest balanced = rw (eqb-true depth 0 balanced) refl
+closes_balanced depth (c ∷ cs) rest balanced =
+    elim (cases_Bool (c == 123)) [
+      | inl opens ↦ rw opens (closes_balanced (suc depth) cs rest (rw opens at balanced))
+      | inr opens ↦
+          elim (cases_Bool (c == 125)) [
+            | inl ends ↦
+                let parts = and_parts (nat_lt 0 depth) (balances (depth - 1) cs) (rw (opens, ends) at balanced) in
+                rw (opens, ends, parts.0) (closes_balanced (depth - 1) cs rest parts.1)
+            | inr ends ↦ rw (opens, ends) (closes_balanced depth cs rest (rw (opens, ends) at balanced))
+          ]
+    ]
+
+-- an argument was read so far: these characters were passed, and so many braces are open
+pub record BracedRead (u : Place) (depth : ℕ) (s : Place) : Type 0 where
+  pub characters : List ℕ
+  pub passed : Passes u characters s
+  pub balanced : (tail : List ℕ) → balances 0 (characters ++ tail) ≡ balances depth tail
+  pub closed : closes 0 (left u) ≡ closes depth (left s)
+
+pub braced_none : (u : Place) → BracedRead u 0 u
+braced_none u = record { characters = []; passed = passes_none u; balanced = λ tail. refl; closed = refl }
+
+-- characters that are no braces
+braced_run : {u s t : Place} {depth : ℕ} {run : List ℕ} → BracedRead u depth s → Passes s run t → list_all is_no_brace run ≡ true → BracedRead u depth t
+braced_run {u} {s} {t} {depth} {run} read passed plain = record {
+  characters = read.characters ++ run;
+  passed = passes_then read.passed passed;
+  balanced = λ tail. ap (balances 0) (append_assoc read.characters run tail) ∙ read.balanced (run ++ tail) ∙ balances_run depth run tail plain;
+  closed = read.closed ∙ ap (closes depth) passed.left ∙ closes_run depth run (left t) plain;
+}
+
+-- an opening brace
+braced_open : {u s t : Place} {depth : ℕ} → BracedRead u depth s → Passes s (123 ∷ []) t → BracedRead u (depth + 1) t
+braced_open {u} {s} {t} {depth} read passed = record {
+  characters = read.characters ++ 123 ∷ [];
+  passed = passes_then read.passed passed;
+  balanced = λ tail. ap (balances 0) (append_assoc read.characters (123 ∷ []) tail) ∙ read.balanced (123 ∷ tail) ∙ ap (λ n. balances n tail) (sym (add-one depth));
+  closed = read.closed ∙ ap (closes depth) passed.left ∙ ap (λ n. closes n (left t)) (sym (add-one depth));
+}
+
+-- a closing brace of one that is open
+braced_close : {u s t : Place} {depth : ℕ} → BracedRead u depth s → nat_lt 0 depth ≡ true → Passes s (125 ∷ []) t → BracedRead u (depth - 1) t
+braced_close {u} {s} {t} {depth} read within passed = record {
+  characters = read.characters ++ 125 ∷ [];
+  passed = passes_then read.passed passed;
+  balanced = λ tail. ap (balances 0) (append_assoc read.characters (125 ∷ []) tail) ∙ read.balanced (125 ∷ tail) ∙ rw within refl;
+  closed = read.closed ∙ ap (closes depth) passed.left ∙ rw within refl;
+}
+
+-- where a run of other characters ends, the next one is a brace
+next_brace : (c : ℕ) (xs rest : List ℕ) → begins is_no_brace xs ≡ false → xs ≡ c ∷ rest → is_no_brace c ≡ false
+next_brace c xs rest ends is = rw is at ends
+
+pub braced_opens : {u s t w : Place} {depth : ℕ} {run : List ℕ} → BracedRead u depth s → Passes s run t → list_all is_no_brace run ≡ true → Passes t (123 ∷ []) w → BracedRead u (depth + 1) w
+braced_opens read passed plain brace = braced_open (braced_run read passed plain) brace
+
+-- the brace is one that closes
+is_closing : (c : ℕ) → is_no_brace c ≡ false → (c ≡ 123 → ⊥) → c ≡ 125
+is_closing c brace differs = grind arith
+
+pub braced_closes : {u s t w : Place} {depth : ℕ} {run : List ℕ} {c : ℕ} → BracedRead u depth s → Passes s run t → list_all is_no_brace run ≡ true → begins is_no_brace (left t) ≡ false → Passes t (c ∷ []) w → (c ≡ 123 → ⊥) → nat_lt 0 depth ≡ true
+    → BracedRead u (depth - 1) w
+braced_closes {u} {s} {t} {w} {depth} {run} {c} read passed plain ends brace differs within =
+    let is : c ≡ 125 = is_closing c (next_brace c (left t) (left w) ends brace.left) differs in
+    braced_close (braced_run read passed plain) within (subst (λ x. Passes t (x ∷ []) w) is brace)
+
+-- the argument ends
+pub braced_found : {u s t w : Place} {run : List ℕ} {c : ℕ} → BracedRead u 0 s → Passes s run t → list_all is_no_brace run ≡ true → begins is_no_brace (left t) ≡ false → Passes t (c ∷ []) w → (c ≡ 123 → ⊥)
+    → (cs : List ℕ) × Passes u cs t × (left u ≡ cs ++ 125 ∷ left w) × (balances 0 cs ≡ true)
+braced_found {u} {s} {t} {w} {run} {c} read passed plain ends brace differs =
+    let is : c ≡ 125 = is_closing c (next_brace c (left t) (left w) ends brace.left) differs in
+    let whole = braced_run read passed plain in
+    let last : left t ≡ 125 ∷ left w = brace.left ∙ ap (λ x. x ∷ left w) is in (
+      whole.characters,
+      whole.passed,
+      whole.passed.left ∙ ap (λ xs. whole.characters ++ xs) last,
+      ap (balances 0) (sym (append-nil whole.characters)) ∙ whole.balanced [],
+    )
+
+-- the text ends, and no brace closes the argument
+pub braced_never : {u s t : Place} {depth : ℕ} {run : List ℕ} → BracedRead u depth s → Passes s run t → list_all is_no_brace run ≡ true → left t ≡ []
+    → (text rest : List ℕ) → left u ≡ text ++ 125 ∷ rest → balances 0 text ≡ true → ⊥
+braced_never {u} {s} {t} {depth} {run} read passed plain ended text rest is balanced =
+    let whole = braced_run read passed plain in
+    both_ways (closes 0 (left u)) (whole.closed ∙ ap (closes depth) ended) (ap (closes 0) is ∙ closes_balanced 0 text rest balanced)
+
+-- one more brace is open
+pub braced_opened : {u s t w : Place} {depth : ℕ} {run : List ℕ} {c : ℕ} → BracedRead u depth s → depth ≤ s.at → Passes s run t → list_all is_no_brace run ≡ true → Passes t (c ∷ []) w → c ≡ 123
+    → BracedRead u (depth + 1) w × (depth + 1 ≤ w.at)
+braced_opened {u} {s} {t} {w} {depth} {run} {c} read bound passed plain brace is = (
+  braced_opens read passed plain (subst (λ x. Passes t (x ∷ []) w) is brace),
+  (let one : t.at + 1 ≤ w.at = passes_one brace in let run' : s.at ≤ t.at = passes_ahead passed in omega arith),
+)
+
+-- one less
+pub braced_closed : {u s t w : Place} {depth : ℕ} {run : List ℕ} {c : ℕ} → BracedRead u depth s → depth ≤ s.at → Passes s run t → list_all is_no_brace run ≡ true → begins is_no_brace (left t) ≡ false → Passes t (c ∷ []) w → (c ≡ 123 → ⊥) → (depth ≡ 0 → ⊥)
+    → BracedRead u (depth - 1) w × (depth - 1 ≤ w.at)
+braced_closed {u} {s} {t} {w} {depth} {run} {c} read bound passed plain ends brace differs some =
+    let positive : 0 < depth = omega (arith, some) in (
+      braced_closes read passed plain ends brace differs (lt-ltb 0 depth positive),
+      (let one : t.at + 1 ≤ w.at = passes_one brace in let run' : s.at ≤ t.at = passes_ahead passed in omega arith),
+    )
+
+-- the text of the argument
+pub braced_text : {u s t w : Place} {depth : ℕ} {run : List ℕ} {c : ℕ} (start : ℕ) (bs : List ℕ) → BracedRead u depth s → depth ≡ 0 → Passes s run t → list_all is_no_brace run ≡ true → begins is_no_brace (left t) ≡ false → Passes t (c ∷ []) w → (c ≡ 123 → ⊥)
+    → start ≡ u.at → IsUtf8 bs → bs ≡ between (place t.text start) t → (left u ≡ chars bs ++ 125 ∷ left w) × (balances 0 (chars bs) ≡ true)
+braced_text {u} {s} {t} {w} {depth} {run} {c} start bs read none passed plain ends brace differs is utf8 taken =
+    let found = braced_found (subst (λ d. BracedRead u d s) none read) passed plain ends brace differs in
+    let same : chars bs ≡ found.0 = passes_text start bs found.1 is utf8 taken in
+    rw same (found.2, found.3)
+
+pub braced_bound : {u s : Place} {depth : ℕ} → BracedRead u depth s → u.at ≤ length u.text → length u.text < 2 ^ 63 → depth ≤ s.at → depth < 2 ^ 63
+braced_bound {u} {s} {depth} read within fits bound =
+    let inside : s.at ≤ length s.text = passes_within read.passed within in
+    let same : length s.text ≡ length u.text = ap length read.passed.same in
+    omega arith

@@ -1,0 +1,215 @@
+-- Facts on what commands stand for: the code's table is the definition's, and how a mark is put on a letter.
+use Rattle.std.proofs.Common.{◌≡◌, ℕ, ◌<◌, Bool, true, false, cond, eqb, List, [], ◌∷◌, ◌++◌, length, map, Option, None, Some, refl, sym, ap, ◌∙◌, arith, bytes_eq, encode_utf8_all}
+use Rattle.std.specs.Prelude.{codes}
+use Rattle.std.specs.Char.{encode_utf8}
+use Rattle.std.specs.List.{list_all}
+use Rattle.std.specs.Option.{option_map}
+use Rattle.std.specs.Str.{chars, IsUtf8}
+use Rattle.std.proofs.lemmas.Bool.{and_parts, eqb-true, false≢true}
+use Rattle.std.proofs.lemmas.Bool.Decides.{same_from_decides}
+use Rattle.std.proofs.lemmas.List.{append-nil}
+use Rattle.std.proofs.lemmas.Slice.Eq.{bytes_eq-Decides}
+use Rattle.std.proofs.lemmas.Str.{encodes_same, encodes-chars, chars_past_char, chars-nil, IsUtf8-past_char}
+use Rattle.bib_text.specs.Enums.{named}
+use Rattle.bib_text.proofs.TextFacts.{chars_past}
+use Rattle.bib_contents.specs.declared.resolve.commands.TheConstants.{SYMBOLS}
+use Rattle.bib_contents.specs.Commands.{accents, symbols, stroke, letter, marked, accented, other, given}
+use Rattle.unicode_normalization.specs.Compose.{primary_composite, compose, compose_after}
+use Rattle.unicode_normalization.specs.Forms.{Nfd, nfd, nfc, is_in_form}
+use Rattle.unicode_normalization.specs.Order.{is_starter}
+use Rattle.unicode_normalization.proofs.Computing.{unicode_normalization}
+use Rattle.unicode_normalization.proofs.ComposeLemmas.{joined-free, joined-none, is_blocked-nil, compose-starter, compose_after-nil, compose_after-joined, compose_after-starter, compose_after-kept, is_starter-true, is_starter-false}
+use Rattle.unicode_normalization.proofs.FormsLemmas.{decomposed-passing, is_final-Nfd, class-latin, quick_check-ascii, nfc-by_nfd, normalize-Nfd, is_in_form-true}
+
+-- a command's name, in ASCII
+abbrev pub copyright : List ℕ
+copyright = codes "copyright"
+
+-- row for row
+pub symbols_are : map {B = List ℕ × List ℕ} (λ row. (row.0.now, row.1.now)) SYMBOLS ≡ map {B = List ℕ × List ℕ} (λ row. (encode_utf8_all row.0, encode_utf8_all row.1)) symbols
+unfolding encode_utf8 symbols
+symbols_are = refl
+
+-- a name in UTF-8 is a name
+same_name : (name bytes : List ℕ) → IsUtf8 bytes → bytes_eq (encode_utf8_all name) bytes ≡ bytes_eq name (chars bytes)
+same_name name bytes utf8 =
+    let by_bytes = bytes_eq-Decides (encode_utf8_all name) bytes in
+    let by_chars = bytes_eq-Decides name (chars bytes) in
+    same_from_decides {P = name ≡ chars bytes} _ _
+    (λ h. encodes_same name (chars bytes) (by_bytes.0 h ∙ sym (encodes-chars bytes utf8)), λ e. by_bytes.1 (ap encode_utf8_all e ∙ encodes-chars bytes utf8))
+    by_chars
+
+-- a table of texts in UTF-8
+pub named_encoded : (rows : List (List ℕ × List ℕ)) (bytes : List ℕ) → IsUtf8 bytes → named (map (λ row. (encode_utf8_all row.0, encode_utf8_all row.1)) rows) bytes ≡ option_map encode_utf8_all (named rows (chars bytes))
+named_encoded [] bytes utf8 = refl
+named_encoded (row ∷ rows) bytes utf8 =
+    here (bytes_eq (encode_utf8_all row.0) bytes) (bytes_eq row.0 (chars bytes)) (named (map (λ row. (encode_utf8_all row.0, encode_utf8_all row.1)) rows) bytes) (named rows (chars bytes)) row.1 (same_name row.0 bytes utf8) (named_encoded rows bytes utf8)
+  where
+    here : (is_here is_named : Bool) (first : Option (List ℕ)) (all : Option (List ℕ)) (this : List ℕ) → is_here ≡ is_named → first ≡ option_map encode_utf8_all all
+        → cond is_here (Some (encode_utf8_all this)) first ≡ option_map encode_utf8_all (cond is_named (Some this) all)
+    here true true first all this same behind = refl
+    here true false first all this same behind = cc
+    here false true first all this same behind = cc
+    here false false first all this same behind = behind
+
+-- a text longer than each name of a table
+pub named_longer : {A : Type 0} (rows : List (List ℕ × A)) (c d : ℕ) (cs : List ℕ) → list_all (λ row. eqb (length row.0) 1) rows ≡ true → named rows (c ∷ d ∷ cs) ≡ None
+named_longer [] c d cs short = refl
+named_longer (row ∷ rows) c d cs short =
+    let parts = and_parts (eqb (length row.0) 1) (list_all (λ row. eqb (length row.0) 1) rows) short in
+    let one : length row.0 ≡ 1 = eqb-true _ _ parts.0 in
+    passed (bytes_eq row.0 (c ∷ d ∷ cs)) (named rows (c ∷ d ∷ cs)) row.1
+    (λ same. let longer : length row.0 ≡ length (c ∷ d ∷ cs) = ap length ((bytes_eq-Decides row.0 (c ∷ d ∷ cs)).0 same) in omega arith)
+    (named_longer rows c d cs parts.1)
+  where
+    passed : {A : Type 0} (same : Bool) (rest : Option A) (value : A) → (same ≡ true → ⊥) → rest ≡ None → cond same (Some value) rest ≡ None
+    passed true rest value wrong none = absurd (wrong refl)
+    passed false rest value wrong none = none
+
+-- each accent is named by one character
+pub accents_short : list_all (λ row. eqb (length row.0) 1) accents ≡ true
+unfolding accents
+accents_short = refl
+
+-- no mark decomposes
+marks_stay : list_all (λ row. is_in_form Nfd (row.1 ∷ [])) accents ≡ true
+unfolding accents unicode_normalization
+marks_stay = refl
+
+pub stroke_stays : is_in_form Nfd (stroke ∷ []) ≡ true
+unfolding unicode_normalization
+stroke_stays = refl
+
+-- what holds of each value of a table
+named_passes : {A : Type 0} (test : A → Bool) (rows : List (List ℕ × A)) (name : List ℕ) (value : A) → list_all (λ row. test row.1) rows ≡ true → named rows name ≡ Some value → test value ≡ true
+named_passes {A = A} test [] name value all found = cc
+named_passes {A = A} test (row ∷ rows) name value all found =
+    let parts = and_parts (test row.1) (list_all (λ row. test row.1) rows) all in
+    here (bytes_eq row.0 name) (named rows name) row.1 value parts.0 (named_passes test rows name value parts.1) found
+  where
+    here : (is_here : Bool) (rest : Option A) (this value : A) → test this ≡ true → (rest ≡ Some value → test value ≡ true) → cond is_here (Some this) rest ≡ Some value → test value ≡ true
+    here true rest this value passes behind found = cc
+    here false rest this value passes behind found = behind found
+
+pub mark_stays : (name : List ℕ) (mark : ℕ) → named accents name ≡ Some mark → is_in_form Nfd (mark ∷ []) ≡ true
+mark_stays name mark found = named_passes (λ m. is_in_form Nfd (m ∷ [])) accents name mark marks_stay found
+
+-- a letter of ASCII and a mark that does not decompose
+decomposed_pair : (c mark : ℕ) → c < 128 → is_in_form Nfd (mark ∷ []) ≡ true → nfd (c ∷ mark ∷ []) ≡ c ∷ mark ∷ []
+decomposed_pair c mark ascii stays =
+    let starter = class-latin c (omega arith) in
+    normalize-Nfd (c ∷ mark ∷ [])
+    ∙ decomposed-passing Nfd c (mark ∷ []) (is_final-Nfd c (quick_check-ascii Nfd c ascii)) (omega arith)
+    ∙ ap (λ cs. c ∷ cs) (sym (normalize-Nfd (mark ∷ [])) ∙ is_in_form-true Nfd (mark ∷ []) stays)
+
+composed_pair : (c mark : ℕ) → c < 128 → is_in_form Nfd (mark ∷ []) ≡ true → nfc (c ∷ mark ∷ []) ≡ compose (c ∷ mark ∷ [])
+composed_pair c mark ascii stays = nfc-by_nfd (c ∷ mark ∷ []) ∙ ap compose (decomposed_pair c mark ascii stays)
+
+pub composes : (c mark whole : ℕ) → c < 128 → is_in_form Nfd (mark ∷ []) ≡ true → primary_composite c mark ≡ Some whole → nfc (c ∷ mark ∷ []) ≡ whole ∷ []
+composes c mark whole ascii stays one =
+    let starter = class-latin c (omega arith) in
+    composed_pair c mark ascii stays ∙ compose-starter c (mark ∷ []) (omega arith)
+    ∙ compose_after-joined c [] mark whole [] (joined-free c [] mark (is_blocked-nil mark) ∙ one) ∙ compose_after-nil whole []
+
+pub stays_apart : (c mark : ℕ) → c < 128 → is_in_form Nfd (mark ∷ []) ≡ true → primary_composite c mark ≡ None → nfc (c ∷ mark ∷ []) ≡ c ∷ mark ∷ []
+stays_apart c mark ascii stays none =
+    let starter = class-latin c (omega arith) in
+    composed_pair c mark ascii stays ∙ compose-starter c (mark ∷ []) (omega arith) ∙ behind (is_starter mark) refl
+  where
+    behind : (b : Bool) → is_starter mark ≡ b → compose_after c [] (mark ∷ []) ≡ c ∷ mark ∷ []
+    behind true is = compose_after-starter c [] mark [] (joined-none c [] mark none) (is_starter-true mark is) ∙ ap (λ cs. c ∷ cs) (compose_after-nil mark [])
+    behind false is = compose_after-kept c [] mark [] (joined-none c [] mark none) (is_starter-false mark is) ∙ compose_after-nil c (mark ∷ [])
+
+-- a mark goes on the last character
+pub marked-push : (mark : ℕ) (front : List ℕ) (c : ℕ) → marked mark (front ++ c ∷ []) ≡ front ++ nfc (letter c ∷ mark ∷ [])
+marked-push mark [] c = refl
+marked-push mark (d ∷ []) c = refl
+marked-push mark (d ∷ e ∷ front) c = ap (λ cs. d ∷ cs) (marked-push mark (e ∷ front) c)
+
+-- one character's text
+pub chars_one : (bytes : List ℕ) (c : ℕ) → IsUtf8 bytes → bytes ≡ encode_utf8 c → chars bytes ≡ c ∷ []
+chars_one bytes c utf8 spells = chars_past_char bytes [] c utf8 (spells ∙ sym (append-nil _)) ∙ ap (λ cs. c ∷ cs) chars-nil
+
+-- a text and its last character
+pub chars_last : (bytes front : List ℕ) (c : ℕ) → IsUtf8 bytes → IsUtf8 front → bytes ≡ front ++ encode_utf8 c → chars bytes ≡ chars front ++ c ∷ []
+chars_last bytes front c utf8 front_utf8 ends =
+    let past = chars_past (chars front) bytes (encode_utf8 c) utf8 (ends ∙ ap (λ bs. bs ++ encode_utf8 c) (sym (encodes-chars front front_utf8))) in
+    past.0 ∙ ap (λ cs. chars front ++ cs) (chars_one (encode_utf8 c) c past.1 refl)
+
+-- another text than a name
+pub not_named : (bytes name : List ℕ) → IsUtf8 bytes → (bytes ≡ encode_utf8_all name → ⊥) → bytes_eq (chars bytes) name ≡ false
+not_named bytes name utf8 differs = told (bytes_eq (chars bytes) name) (λ h. differs (sym (encodes-chars bytes utf8) ∙ ap encode_utf8_all ((bytes_eq-Decides _ _).0 h)))
+  where
+    told : (b : Bool) → (b ≡ true → ⊥) → b ≡ false
+    told true wrong = absurd (wrong refl)
+    told false wrong = refl
+
+-- no accent has an empty name, or one of several characters
+pub accents_empty : (bytes : List ℕ) → length bytes ≡ 0 → None ≡ named accents (chars bytes)
+unfolding accents chars
+accents_empty [] none = refl
+accents_empty (b ∷ bytes) none = absurd (omega arith)
+
+pub accents_longer : (bytes rest : List ℕ) (c : ℕ) → IsUtf8 bytes → bytes ≡ encode_utf8 c ++ rest → eqb (length rest) 0 ≡ false → None ≡ named accents (chars bytes)
+accents_longer bytes rest c utf8 spells more =
+    sym (ap (named accents) (chars_past_char bytes rest c utf8 spells) ∙ longer (chars rest) (encodes-chars rest (IsUtf8-past_char bytes rest c utf8 spells)))
+  where
+    longer : (cs : List ℕ) → encode_utf8_all cs ≡ rest → named accents (c ∷ cs) ≡ None
+    longer [] spelt = absurd (false≢true (sym more ∙ ap (λ bs. eqb (length bs) 0) (sym spelt)))
+    longer (d ∷ cs) spelt = named_longer accents c d cs accents_short
+
+pub accents_one : (bytes rest : List ℕ) (c : ℕ) → IsUtf8 bytes → bytes ≡ encode_utf8 c ++ rest → eqb (length rest) 0 ≡ true → chars bytes ≡ c ∷ []
+accents_one bytes [] c utf8 spells none = chars_past_char bytes [] c utf8 spells ∙ ap (λ cs. c ∷ cs) chars-nil
+accents_one bytes (r ∷ rest) c utf8 spells none = let empty : length (r ∷ rest) ≡ 0 = eqb-true _ _ none in absurd (omega arith)
+
+pub chars_none : (bytes : List ℕ) → length bytes ≡ 0 → chars bytes ≡ []
+chars_none [] none = chars-nil
+chars_none (b ∷ bytes) none = absurd (omega arith)
+
+-- the two commands that ask for an argument, by their names in UTF-8
+pub other_o : (name : List ℕ) → name ≡ 111 ∷ [] → other (chars name) None ≡ 248 ∷ []
+unfolding chars
+other_o name is = ap (λ bs. other (chars bs) None) is
+
+pub other_o_with : (name argument : List ℕ) → name ≡ 111 ∷ [] → other (chars name) (Some argument) ≡ marked stroke argument
+unfolding chars
+other_o_with name argument is = ap (λ bs. other (chars bs) (Some argument)) is
+
+pub other_copyright : (name : List ℕ) → name ≡ copyright → other (chars name) None ≡ 169 ∷ []
+unfolding chars
+other_copyright name is = ap (λ bs. other (chars bs) None) is
+
+pub other_copyright_with : (name argument : List ℕ) → name ≡ copyright → other (chars name) (Some argument) ≡ 169 ∷ argument
+unfolding chars
+other_copyright_with name argument is = ap (λ bs. other (chars bs) (Some argument)) is
+
+-- a command that is not known
+pub other_unknown : (name : List ℕ) → IsUtf8 name → (name ≡ 111 ∷ [] → ⊥) → (name ≡ copyright → ⊥) → other (chars name) None ≡ 92 ∷ (chars name ++ 32 ∷ [])
+unfolding encode_utf8
+other_unknown name utf8 not_o not_copyright = rw (not_named name (111 ∷ []) utf8 not_o, not_named name copyright utf8 not_copyright)
+
+pub other_unknown_with : (name argument : List ℕ) → IsUtf8 name → (name ≡ 111 ∷ [] → ⊥) → (name ≡ copyright → ⊥) → other (chars name) (Some argument) ≡ codes "\\" ++ chars name ++ codes "{" ++ argument ++ codes "}"
+unfolding encode_utf8
+other_unknown_with name argument utf8 not_o not_copyright = rw (not_named name (111 ∷ []) utf8 not_o, not_named name copyright utf8 not_copyright)
+
+-- which table has a name
+pub given_accent : (name : List ℕ) (argument : Option (List ℕ)) (mark : ℕ) → named accents name ≡ Some mark → given name argument ≡ accented mark argument
+unfolding given
+given_accent name argument mark is = rw is
+
+pub given_symbol : (name : List ℕ) (argument : Option (List ℕ)) (text : List ℕ) → named accents name ≡ None → named symbols name ≡ Some text → given name argument ≡ text
+unfolding given
+given_symbol name argument text none is = rw (none, is)
+
+pub given_other : (name : List ℕ) (argument : Option (List ℕ)) → named accents name ≡ None → named symbols name ≡ None → given name argument ≡ other name argument
+unfolding given
+given_other name argument none absent = rw (none, absent)
+
+-- what is found of a text in UTF-8
+pub symbol_text : (found : Option (List ℕ)) (bytes : List ℕ) → Some bytes ≡ option_map encode_utf8_all found → (text : List ℕ) × (found ≡ Some text) × (bytes ≡ encode_utf8_all text)
+symbol_text None bytes is = absurd (cc)
+symbol_text (Some text) bytes is = (text, refl, cc)
+
+pub symbol_none : (found : Option (List ℕ)) → None ≡ option_map encode_utf8_all found → found ≡ None
+symbol_none None is = refl
+symbol_none (Some text) is = absurd (cc)

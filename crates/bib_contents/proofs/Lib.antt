@@ -1,0 +1,12 @@
+pub mod AbbreviationFacts
+pub mod ArgumentFacts
+pub mod CommandFacts
+pub mod CommandUnitFacts
+pub mod ContentFacts
+pub mod ExpansionFacts
+pub mod JoinedFacts
+pub mod PassingFacts
+pub mod ReaderFacts
+pub mod ReadingContents
+pub mod TakingFacts
+pub mod UnitFacts

@@ -1,0 +1,211 @@
+-- Facts on reading contents unit by unit.
+use Rattle.std.proofs.Common.{◌≡◌, ℕ, zero, suc, ◌+◌, ◌<◌, ◌≤◌, Bool, true, false, not, List, [], ◌∷◌, ◌++◌, length, map, refl, sym, ap, ◌∙◌, subst, arith, append_assoc, inl, inr, None, Some, length-append, add-one}
+use Rattle.std.specs.Prelude.{string_bytes, filter}
+use Rattle.std.specs.List.{list_all}
+use Rattle.std.specs.Str.{chars}
+use Rattle.std.proofs.lemmas.Bool.{and_parts, both_ways, cases_Bool}
+use Rattle.std.proofs.lemmas.List.{append-nil}
+use Rattle.bib_chunks.specs.Styled.{Atom, styled, atoms_of}
+use Rattle.bib_chunks.specs.Formatted.{flowing, unbroken, ends_in_space, space_behind, formatted_chunk, formatted_behind}
+use Rattle.bib_chunks.specs.declared.chunk.Chunk.{Chunk}
+use Rattle.bib_chunks.specs.declared.chunk.Chunk.TheVariants.{Normal, Verbatim, Math}
+use Rattle.bib_chunks.specs.declared.chunk.Spanned.{Spanned}
+use Rattle.std.specs.Char.{is_whitespace}
+use Rattle.bib_chunks.proofs.FormattedFacts.{ends-append}
+use Rattle.bib_contents.specs.Contents.{ContentUnit, Argument, Reads, IsNext, fits, unit_spelling, is_ordinary, is_empty, character, meaning, is_closable, depth_after, held, atoms_text}
+use Rattle.bib_contents.specs.Contents.Reads.{end, next}
+use Rattle.bib_contents.specs.Joined.{ArePlaced}
+use Rattle.bib_contents.specs.Passing.{Goes, IsStuck, IsUntaken, Took, is_shown, so_far}
+use Rattle.bib_contents.specs.declared.resolve.growing.Open.{Open}
+use Rattle.std.proofs.lemmas.Str.{chars-nil}
+use Rattle.bib_contents.proofs.ContentFacts.{unit_same, rest_same, no_unit_at_end}
+
+pub goes_here : (is_verbatim : Bool) (depth : ℕ) (text : List ℕ) → Goes is_verbatim depth text [] depth text
+goes_here is_verbatim depth text = record { onward = λ more read. read; back = λ whole read. (whole, read) }
+
+pub goes_then : {is_verbatim : Bool} {depth after last : ℕ} {text rest tail : List ℕ} {first second : List Atom} → Goes is_verbatim depth text first after rest → Goes is_verbatim after rest second last tail
+    → Goes is_verbatim depth text (first ++ second) last tail
+goes_then {is_verbatim} {depth} {after} {last} {text} {rest} {tail} {first} {second} one two = record {
+  onward = λ more read. subst (Reads is_verbatim depth text) (sym (append_assoc first second more)) (one.onward (second ++ more) (two.onward more read));
+  back = λ whole read. two.back (one.back whole read).0 (one.back whole read).1;
+}
+
+-- what stands behind the first unit is read, where the whole is
+unit_back : {is_verbatim : Bool} {depth : ℕ} {text rest : List ℕ} {u : ContentUnit} {whole : List Atom} → IsNext is_verbatim u text rest → Reads is_verbatim depth text whole
+    → (is_closable depth u ≡ true) × ((argument : List ℕ) → held u ≡ Some argument → (inner : List Atom) × Reads false 0 argument inner) × ((more : List Atom) × Reads is_verbatim (depth_after depth u) rest more)
+unit_back one end = absurd (no_unit_at_end one)
+unit_back {is_verbatim} {depth} {text} {rest} {u} one (next {u = w} {rest = left} {inner = inner} {atoms = atoms} two closable argument read) =
+    let same : w ≡ u = unit_same two one in
+    let tail : left ≡ rest = rest_same two one in (
+      rw (← same) closable,
+      λ t holds. (inner, argument t (rw same holds)),
+      (atoms, rw (← same, ← tail) read),
+    )
+
+pub goes_unit : {is_verbatim : Bool} {depth after : ℕ} {text rest : List ℕ} {u : ContentUnit} {inner : List Atom} → IsNext is_verbatim u text rest → is_closable depth u ≡ true → ((argument : List ℕ) → held u ≡ Some argument → Reads false 0 argument inner) → after ≡ depth_after depth u
+    → Goes is_verbatim depth text (meaning depth u inner) after rest
+goes_unit one closable argument deep = record {
+  onward = λ more read. next one closable argument (rw (← deep) read);
+  back = λ whole read. rw deep (unit_back one read).2;
+}
+
+pub no_argument : {t : List ℕ} → None ≡ Some t → ⊥
+no_argument same = cc
+
+-- ordinary characters stand for themselves
+pub goes_run : (is_verbatim : Bool) (depth : ℕ) (run rest : List ℕ) → list_all (is_ordinary is_verbatim) run ≡ true → Goes is_verbatim depth (run ++ rest) (map (character depth) run) depth rest
+goes_run is_verbatim depth [] rest all = goes_here is_verbatim depth rest
+goes_run is_verbatim depth (c ∷ cs) rest all =
+    let parts = and_parts (is_ordinary is_verbatim c) (list_all (is_ordinary is_verbatim) cs) all in
+    let one : IsNext is_verbatim (ContentUnit.other c) (c ∷ (cs ++ rest)) (cs ++ rest) = record { fits = parts.0; spells = refl } in
+    goes_then (goes_unit {u = ContentUnit.other c} {inner = []} one refl (λ argument holds. absurd (no_argument holds)) refl) (goes_run is_verbatim depth cs rest parts.1)
+
+-- a text was read so far: behind these atoms, up to here
+pub record ReadSoFar (is_verbatim : Bool) (whole : List ℕ) (start : List Atom) (rest : List ℕ) (depth : ℕ) (now : List Atom) : Type 0 where
+  pub atoms : List Atom
+  pub goes : Goes is_verbatim 0 whole atoms depth rest
+  pub is : now ≡ start ++ atoms
+
+pub read_none : (is_verbatim : Bool) (whole : List ℕ) (start now : List Atom) → now ≡ start → ReadSoFar is_verbatim whole start whole 0 now
+read_none is_verbatim whole start now same = record { atoms = []; goes = goes_here is_verbatim 0 whole; is = same ∙ sym (append-nil start) }
+
+pub read_run : {is_verbatim : Bool} {whole text rest : List ℕ} {start now more : List Atom} {depth : ℕ} (run : List ℕ) → ReadSoFar is_verbatim whole start text depth now → text ≡ run ++ rest → list_all (is_ordinary is_verbatim) run ≡ true
+    → more ≡ now ++ map (character depth) run → ReadSoFar is_verbatim whole start rest depth more
+read_run {is_verbatim} {whole} {text} {rest} {start} {now} {more} {depth} run read front all written = record {
+  atoms = read.atoms ++ map (character depth) run;
+  goes = goes_then read.goes (rw front (goes_run is_verbatim depth run rest all));
+  is = written ∙ ap (λ xs. xs ++ map (character depth) run) read.is ∙ append_assoc start read.atoms (map (character depth) run);
+}
+
+pub read_unit : {is_verbatim : Bool} {whole text rest : List ℕ} {u : ContentUnit} {start now more : List Atom} {depth after : ℕ} → ReadSoFar is_verbatim whole start text depth now → IsNext is_verbatim u text rest
+    → Took u depth now after more → ReadSoFar is_verbatim whole start rest after more
+read_unit {is_verbatim} {whole} {text} {rest} {u} {start} {now} {more} {depth} {after} read one took = record {
+  atoms = read.atoms ++ meaning depth u took.inner;
+  goes = goes_then read.goes (goes_unit one took.closable took.argument took.deep);
+  is = took.atoms ∙ ap (λ xs. xs ++ meaning depth u took.inner) read.is ∙ append_assoc start read.atoms (meaning depth u took.inner);
+}
+
+-- the text ends
+pub read_all : {is_verbatim : Bool} {whole text : List ℕ} {start now : List Atom} {depth : ℕ} → ReadSoFar is_verbatim whole start text depth now → text ≡ []
+    → (atoms : List Atom) × Reads is_verbatim 0 whole atoms × (now ≡ start ++ atoms)
+read_all {is_verbatim} {whole} {text} {start} {now} {depth} read ends =
+    (read.atoms, subst (Reads is_verbatim 0 whole) (append-nil read.atoms) (read.goes.onward [] (rw ends end)), read.is)
+
+-- no unit stands where the text goes on
+no_unit : {is_verbatim : Bool} {depth : ℕ} {text : List ℕ} {atoms : List Atom} → (text ≡ [] → ⊥) → ((u : ContentUnit) (rest : List ℕ) → IsNext is_verbatim u text rest → ⊥) → Reads is_verbatim depth text atoms → ⊥
+no_unit more none end = more refl
+no_unit more none (next {u = u} {rest = rest} one closable argument read) = none u rest one
+
+pub stuck_unit : {is_verbatim : Bool} {whole text : List ℕ} {start now : List Atom} {depth : ℕ} → ReadSoFar is_verbatim whole start text depth now → (text ≡ [] → ⊥) → ((u : ContentUnit) (rest : List ℕ) → IsNext is_verbatim u text rest → ⊥)
+    → IsStuck is_verbatim 0 whole
+stuck_unit read more none atoms whole = no_unit more none (read.goes.back atoms whole).1
+
+pub stuck_taken : {is_verbatim : Bool} {whole text rest : List ℕ} {u : ContentUnit} {start now : List Atom} {depth : ℕ} → ReadSoFar is_verbatim whole start text depth now → IsNext is_verbatim u text rest → IsUntaken u depth → IsStuck is_verbatim 0 whole
+stuck_taken {u = u} {depth = depth} read one (inl closed) atoms whole = both_ways (is_closable depth u) closed (unit_back one (read.goes.back atoms whole).1).0
+stuck_taken {u = u} {depth = depth} read one (inr held_stuck) atoms whole =
+    let inside = (unit_back one (read.goes.back atoms whole).1).1 held_stuck.0 held_stuck.1 in
+    held_stuck.2 inside.0 inside.1
+
+-- normal characters, formatted
+normal_text : (space : Bool) (cs : List ℕ) (more : List Atom) → atoms_text space (map Atom.normal cs ++ more) ≡ flowing space cs ++ atoms_text (ends_in_space space (flowing space cs)) more
+normal_text space [] more = refl
+normal_text space (c ∷ cs) more =
+    let one = unbroken space c in
+    ap (λ xs. one ++ xs) (normal_text (ends_in_space space one) cs more)
+    ∙ sym (append_assoc one (flowing (ends_in_space space one) cs) _)
+    ∙ ap (λ b. (one ++ flowing (ends_in_space space one) cs) ++ atoms_text b more) (sym (ends-append space one (flowing (ends_in_space space one) cs)))
+
+verbatim_text : (space : Bool) (cs : List ℕ) (more : List Atom) → atoms_text space (map Atom.verbatim cs ++ more) ≡ cs ++ atoms_text (ends_in_space space cs) more
+verbatim_text space [] more = refl
+verbatim_text space (c ∷ cs) more = ap (λ xs. c ∷ xs) (verbatim_text (is_whitespace c) cs more)
+
+some_space : (space : Bool) (cs : List ℕ) → not (is_empty cs) ≡ true → ends_in_space space cs ≡ ends_in_space false cs
+some_space space [] shown = absurd (both_ways false refl shown)
+some_space space (c ∷ cs) shown = refl
+
+-- a chunk that shows, formatted as its atoms are
+chunk_text : (space : Bool) (v : Chunk) (more : List Atom) → is_shown v ≡ true → atoms_text space (atoms_of v ++ more) ≡ formatted_chunk (λ cs. cs) space v ++ atoms_text (space_behind space v) more
+chunk_text space (Normal text) more shown = normal_text space (chars text) more
+chunk_text space (Verbatim text) more shown = verbatim_text space (chars text) more ∙ ap (λ b. chars text ++ atoms_text b more) (some_space space (chars text) shown)
+chunk_text space (Math text) more shown = ap (λ xs. 36 ∷ xs) (sym (append_assoc (chars text) (36 ∷ []) _))
+
+none_of : (cs : List ℕ) → not (is_empty cs) ≡ false → cs ≡ []
+none_of [] hidden = refl
+none_of (c ∷ cs) hidden = absurd (both_ways true hidden refl)
+
+-- one that doesn't show
+nothing_shown : (v : Chunk) (more : List Atom) → is_shown v ≡ false → atoms_of v ++ more ≡ more
+nothing_shown (Normal text) more hidden = ap (λ cs. map Atom.normal cs ++ more) (none_of (chars text) hidden)
+nothing_shown (Verbatim text) more hidden = ap (λ cs. map Atom.verbatim cs ++ more) (none_of (chars text) hidden)
+nothing_shown (Math text) more hidden = absurd (both_ways true hidden refl)
+
+-- the chunks that show, formatted, are the atoms formatted
+pub formatted_shown : (space : Bool) (cs : List (Spanned Chunk)) → formatted_behind space (filter (λ c. is_shown c.v) cs) ≡ atoms_text space (styled cs)
+formatted_shown space [] = refl
+formatted_shown space (c ∷ rest) =
+    elim (cases_Bool (is_shown c.v)) [
+      | inl shown ↦ rw shown (ap (λ xs. formatted_chunk (λ ds. ds) space c.v ++ xs) (formatted_shown (space_behind space c.v) rest) ∙ sym (chunk_text space c.v (styled rest) shown))
+      | inr hidden ↦ rw hidden (formatted_shown space rest ∙ ap (atoms_text space) (sym (nothing_shown c.v (styled rest) hidden)))
+    ]
+
+-- chunks that stand before a place stand before a later one
+pub placed_wider : (low high higher : ℕ) (cs : List (Spanned Chunk)) → ArePlaced low high cs → high ≤ higher → ArePlaced low higher cs
+placed_wider low high higher [] placed wider = omega (arith, placed, wider)
+placed_wider low high higher (c ∷ rest) placed wider = (placed.0, placed.1, placed_wider _ high higher rest placed.2 wider)
+
+-- how many characters an argument in braces has
+abbrev pub held_length : ContentUnit → ℕ
+held_length (ContentUnit.command name space (Argument.braced text)) = length text
+held_length u = 0
+
+pub held_length_is : (u : ContentUnit) (text : List ℕ) → held u ≡ Some text → length text ≡ held_length u
+held_length_is (ContentUnit.command name space (Argument.braced inside)) text is = cc
+held_length_is (ContentUnit.command name space Argument.without) text is = absurd (no_argument is)
+held_length_is (ContentUnit.command name space Argument.empty) text is = absurd (no_argument is)
+held_length_is (ContentUnit.command name space (Argument.single c)) text is = absurd (no_argument is)
+held_length_is (ContentUnit.hyphens n) text is = absurd (no_argument is)
+held_length_is (ContentUnit.spaces cs) text is = absurd (no_argument is)
+held_length_is ContentUnit.opening text is = absurd (no_argument is)
+held_length_is ContentUnit.closing text is = absurd (no_argument is)
+held_length_is (ContentUnit.escaped c) text is = absurd (no_argument is)
+held_length_is ContentUnit.backslash text is = absurd (no_argument is)
+held_length_is (ContentUnit.copied c) text is = absurd (no_argument is)
+held_length_is (ContentUnit.formula math) text is = absurd (no_argument is)
+held_length_is (ContentUnit.other c) text is = absurd (no_argument is)
+
+-- a unit is longer than the argument in it
+unit_longer : (is_verbatim : Bool) (u : ContentUnit) (rest : List ℕ) → fits is_verbatim u rest ≡ true → held_length u < length (unit_spelling u)
+unit_longer is_verbatim (ContentUnit.command name space (Argument.braced text)) rest right =
+    let inside : length (text ++ 125 ∷ []) ≡ length text + 1 = length-append text (125 ∷ []) in
+    let spaced : length (space ++ 123 ∷ (text ++ 125 ∷ [])) ≡ length space + (length (text ++ 125 ∷ []) + 1) = length-append space (123 ∷ (text ++ 125 ∷ [])) ∙ ap (λ n. length space + n) (sym (add-one _)) in
+    let named : length (name ++ (space ++ 123 ∷ (text ++ 125 ∷ []))) ≡ length name + length (space ++ 123 ∷ (text ++ 125 ∷ [])) = length-append name _ in
+    omega arith
+unit_longer is_verbatim (ContentUnit.command name space Argument.without) rest right = omega arith
+unit_longer is_verbatim (ContentUnit.command name space Argument.empty) rest right = omega arith
+unit_longer is_verbatim (ContentUnit.command name space (Argument.single c)) rest right = omega arith
+unit_longer is_verbatim (ContentUnit.hyphens zero) rest right = absurd (both_ways false refl right)
+unit_longer is_verbatim (ContentUnit.hyphens (suc n)) rest right = omega arith
+unit_longer is_verbatim (ContentUnit.spaces []) rest right = absurd (both_ways false refl right)
+unit_longer is_verbatim (ContentUnit.spaces (c ∷ cs)) rest right = omega arith
+unit_longer is_verbatim ContentUnit.opening rest right = omega arith
+unit_longer is_verbatim ContentUnit.closing rest right = omega arith
+unit_longer is_verbatim (ContentUnit.escaped c) rest right = omega arith
+unit_longer is_verbatim ContentUnit.backslash rest right = omega arith
+unit_longer is_verbatim (ContentUnit.copied c) rest right = omega arith
+unit_longer is_verbatim (ContentUnit.formula text) rest right = omega arith
+unit_longer is_verbatim (ContentUnit.other c) rest right = omega arith
+
+-- less is left behind a unit, and its argument is shorter than what stood before it
+pub unit_shorter : {is_verbatim : Bool} {u : ContentUnit} {text rest : List ℕ} → IsNext is_verbatim u text rest → (length rest < length text) × (held_length u < length text)
+unit_shorter {is_verbatim} {u} {text} {rest} one =
+    let longer : held_length u < length (unit_spelling u) = unit_longer is_verbatim u rest one.fits in
+    let size : length text ≡ length (unit_spelling u) + length rest = ap length one.spells ∙ length-append (unit_spelling u) rest in
+    (omega arith, omega arith)
+
+-- where the growing chunk is empty, the finished ones say all
+pub nothing_grows : (out : List (Spanned Chunk)) (growing : Open) → string_bytes growing.text ≡ [] → styled out ≡ so_far out growing
+nothing_grows out growing empty = sym (ap (λ cs. styled out ++ map (character growing.depth) cs) (ap chars empty ∙ chars-nil) ∙ append-nil (styled out))
+
+pub no_bytes : (bs : List ℕ) → length bs ≡ 0 → bs ≡ []
+no_bytes [] none = refl
+no_bytes (b ∷ bs) none = absurd (omega (arith, none))

@@ -1,0 +1,115 @@
+-- Facts on what a unit adds to the chunks.
+use Rattle.std.proofs.Common.{◌≡◌, ℕ, ◌+◌, ◌-◌, ◌≤◌, true, false, List, [], ◌∷◌, ◌++◌, length, map, refl, sym, ap, ◌∙◌, arith, append_assoc, length-append, add-one, Some}
+use Rattle.std.specs.Prelude.{encode_utf8_all, string_bytes}
+use Rattle.std.specs.Str.{chars, IsUtf8}
+use Rattle.std.proofs.lemmas.Bool.{lt-ltb}
+use Rattle.std.proofs.lemmas.List.{map-append, append-nil}
+use Rattle.std.proofs.lemmas.Str.{encodes-append, encodes-chars, IsUtf8-string_bytes, length-le-encodes}
+use Rattle.bib_chunks.specs.Styled.{Atom, styled}
+use Rattle.bib_chunks.specs.Writing.{Writes}
+use Rattle.bib_chunks.specs.declared.chunk.Chunk.{Chunk}
+use Rattle.bib_chunks.specs.declared.chunk.Spanned.{Spanned}
+use Rattle.bib_text.proofs.TextFacts.{chars_whole}
+use Rattle.bib_contents.specs.Contents.{ContentUnit, Reads, character, meaning, is_closable, depth_after, held, unit_text}
+use Rattle.bib_contents.specs.Joined.{ArePlaced}
+use Rattle.bib_contents.specs.Passing.{Took, so_far}
+use Rattle.bib_contents.specs.UnitViews.{text_unit_of, argument_of}
+use Rattle.bib_contents.specs.declared.resolve.growing.Open.{Open}
+use Rattle.std.specs.Borrow.{Bor}
+use Rattle.bib_contents.specs.declared.resolve.units.Argument as units
+use Rattle.bib_contents.specs.declared.resolve.units.TextUnit.{TextUnit}
+use Rattle.bib_contents.specs.declared.resolve.units.TextUnit.TheVariants as shown
+use Rattle.bib_contents.proofs.ReaderFacts.{nothing_grows, no_argument, placed_wider}
+
+-- the characters of a text that grew
+pub grown_chars : (bs more cs : List ℕ) → IsUtf8 bs → IsUtf8 more → more ≡ bs ++ encode_utf8_all cs → chars more ≡ chars bs ++ cs
+grown_chars bs more cs utf8 utf8' grew =
+    chars_whole (chars bs ++ cs) more utf8' (grew ∙ ap (λ xs. xs ++ encode_utf8_all cs) (sym (encodes-chars bs utf8)) ∙ sym (encodes-append (chars bs) cs))
+
+-- what a unit of text is: it stands anywhere, leaves the depth, and stands for characters
+record IsTextUnit (depth : ℕ) (u : ContentUnit) : Type 0 where
+  closable : is_closable depth u ≡ true
+  deep : depth ≡ depth_after depth u
+  means : (inner : List Atom) → meaning depth u inner ≡ map (character depth) (unit_text u inner)
+
+text_unit : (depth : ℕ) (u : TextUnit) → IsTextUnit depth (text_unit_of u)
+text_unit depth (shown.Hyphens n) = record { closable = refl; deep = refl; means = λ inner. refl }
+text_unit depth (shown.Spaces text) = record { closable = refl; deep = refl; means = λ inner. refl }
+text_unit depth (shown.Escaped c) = record { closable = refl; deep = refl; means = λ inner. refl }
+text_unit depth shown.Backslash = record { closable = refl; deep = refl; means = λ inner. refl }
+text_unit depth (shown.Copied c) = record { closable = refl; deep = refl; means = λ inner. refl }
+text_unit depth (shown.Command name space argument) = record { closable = refl; deep = refl; means = λ inner. refl }
+text_unit depth (shown.Other c) = record { closable = refl; deep = refl; means = λ inner. refl }
+
+-- characters were added to the growing chunk
+pub took_text : (unit : TextUnit) (growing grown : Open) (out : List (Spanned Chunk)) (inner : List Atom) → ((argument : List ℕ) → held (text_unit_of unit) ≡ Some argument → Reads false 0 argument inner)
+    → Writes growing.text grown.text (unit_text (text_unit_of unit) inner) → grown.depth ≡ growing.depth → Took (text_unit_of unit) growing.depth (so_far out growing) grown.depth (so_far out grown)
+took_text unit growing grown out inner argument written depth =
+    let is : IsTextUnit growing.depth (text_unit_of unit) = text_unit growing.depth unit in
+    let cs = unit_text (text_unit_of unit) inner in
+    let grew : chars (string_bytes grown.text) ≡ chars (string_bytes growing.text) ++ cs = grown_chars (string_bytes growing.text) (string_bytes grown.text) cs (IsUtf8-string_bytes growing.text) (IsUtf8-string_bytes grown.text) written in
+    record {
+      inner = inner;
+      closable = is.closable;
+      argument = argument;
+      deep = depth ∙ is.deep;
+      atoms =
+          ap (λ d. styled out ++ map (character d) (chars (string_bytes grown.text))) depth
+          ∙ ap (λ xs. styled out ++ map (character growing.depth) xs) grew
+          ∙ ap (λ xs. styled out ++ xs) (map-append (character growing.depth) (chars (string_bytes growing.text)) cs)
+          ∙ sym (append_assoc (styled out) _ _)
+          ∙ ap (λ xs. so_far out growing ++ xs) (sym (is.means inner));
+    }
+
+-- math was added
+pub took_formula : (text : List ℕ) (depth : ℕ) (grown : Open) (before : List Atom) (out : List (Spanned Chunk)) → string_bytes grown.text ≡ [] → grown.depth ≡ depth → styled out ≡ before ++ Atom.math text ∷ []
+    → Took (ContentUnit.formula text) depth before grown.depth (so_far out grown)
+took_formula text depth grown before out empty same atoms = record {
+  inner = [];
+  closable = refl;
+  argument = λ argument holds. absurd (no_argument holds);
+  deep = same;
+  atoms = sym (nothing_grows out grown empty) ∙ atoms;
+}
+
+-- a brace was opened, or closed
+pub took_opening : (depth : ℕ) (grown : Open) (before : List Atom) (out : List (Spanned Chunk)) → string_bytes grown.text ≡ [] → grown.depth ≡ depth + 1 → styled out ≡ before
+    → Took ContentUnit.opening depth before grown.depth (so_far out grown)
+took_opening depth grown before out empty same atoms = record {
+  inner = [];
+  closable = refl;
+  argument = λ argument holds. absurd (no_argument holds);
+  deep = same ∙ add-one depth;
+  atoms = sym (nothing_grows out grown empty) ∙ atoms ∙ sym (append-nil before);
+}
+
+pub took_closing : (depth : ℕ) (grown : Open) (before : List Atom) (out : List (Spanned Chunk)) → (depth ≡ 0 → ⊥) → string_bytes grown.text ≡ [] → grown.depth ≡ depth - 1 → styled out ≡ before
+    → Took ContentUnit.closing depth before grown.depth (so_far out grown)
+took_closing depth grown before out some empty same atoms = record {
+  inner = [];
+  closable = lt-ltb 0 depth (omega (arith, some));
+  argument = λ argument holds. absurd (no_argument holds);
+  deep = same;
+  atoms = sym (nothing_grows out grown empty) ∙ atoms ∙ sym (append-nil before);
+}
+
+-- math is spelt by two characters and more
+pub formula_wide : (text : List ℕ) → 2 ≤ length (encode_utf8_all (36 ∷ (text ++ 36 ∷ [])))
+formula_wide text =
+    let characters : length (36 ∷ (text ++ 36 ∷ [])) ≤ length (encode_utf8_all (36 ∷ (text ++ 36 ∷ []))) = length-le-encodes (36 ∷ (text ++ 36 ∷ [])) in
+    let inside : length (text ++ 36 ∷ []) ≡ length text + 1 = length-append text (36 ∷ []) in
+    omega arith
+
+-- the next chunk begins behind the last one
+pub placed_behind : (low end behind start : ℕ) (out : List (Spanned Chunk)) → ArePlaced low end out → end ≤ behind → start ≡ behind → ArePlaced low start out × (start ≤ behind)
+placed_behind low end behind start out placed wider is = (placed_wider low end start out placed (omega (arith, wider, is)), omega (arith, is))
+
+-- the argument that is held
+pub held_is : {text argument : List ℕ} → Some text ≡ Some argument → text ≡ argument
+held_is same = cc
+
+-- a command with this argument
+pub command_is : {unit : TextUnit} {name space : Bor (List ℕ)} {given : units.Argument} (argument : units.Argument) → unit ≡ shown.Command name space given → given ≡ argument
+    → text_unit_of unit ≡ ContentUnit.command (chars name.now) (chars space.now) (argument_of argument)
+command_is {unit} {name} {space} {given} argument is same =
+    ap text_unit_of is ∙ ap (λ a. ContentUnit.command (chars name.now) (chars space.now) (argument_of a)) same

@@ -1,0 +1,146 @@
+-- Abbreviations: what a field says once each name in it is replaced by its definition. Names and texts are given by
+-- their bytes.
+use Rattle.std.specs.Prelude.{◌≡◌, ℕ, Bool, List, [], ◌∷◌, ◌++◌, map, ◌⊎◌, Option, Some, None, codes, if◌then◌else◌, bytes_eq}
+use Rattle.std.specs.List.{list_any}
+use Rattle.std.specs.Option.{option_map}
+use Rattle.std.specs.Borrow.{Bor}
+use Rattle.std.specs.Str.{chars}
+use Rattle.std.specs.Global.{Vec}
+use Rattle.std.specs.BTreeMap.{BTreeMap}
+use Rattle.std.specs.HashMap.{HashMap}
+use Rattle.std.specs.Map.{lookup}
+use Rattle.bib_chunks.specs.declared.chunk.Spanned.{Spanned}
+use Rattle.bib_chunks.specs.Styled.{Atom}
+use Rattle.bib_syntax.specs.declared.raw.RawChunk.{RawChunk}
+use Rattle.bib_syntax.specs.declared.raw.ParseErrorKind.{ParseErrorKind}
+use Rattle.bib_syntax.specs.declared.raw.ParseErrorKind.TheVariants.{UnknownAbbreviation, AbbreviationCycle}
+use Rattle.bib_syntax.specs.declared.raw.ParseError.{ParseError}
+use Rattle.bib_contents.specs.Contents.{IsContent, IsUnread}
+use Rattle.bib_syntax.specs.Grammar.{is_named}
+use Rattle.bib_syntax.specs.Reading.{Part, Piece}
+use Rattle.bib_syntax.specs.Reading.Piece.{literal, abbreviation}
+use Rattle.bib_syntax.specs.Views.{piece_of}
+
+-- the definition of each name that has one
+abbrev pub Definitions : Type 0
+Definitions = List ℕ → Option (List Piece)
+
+-- the fields whose contents are read as they are but for dashes, white space and braces, as BibLaTeX lists them
+abbrev pub verbatim_fields : List (List ℕ)
+verbatim_fields =
+    codes "file" ∷ codes "doi" ∷ codes "uri" ∷ codes "eprint" ∷ codes "verba" ∷ codes "verbb" ∷ codes "verbc" ∷ codes "pdf" ∷ codes "url"
+    ∷ codes "urlraw" ∷ []
+
+abbrev pub is_verbatim_field : List ℕ → Bool
+is_verbatim_field key = list_any (bytes_eq key) verbatim_fields
+
+-- the English name of the month with these first three letters, in any ASCII case
+unfoldable pub month : List ℕ → Option (List ℕ)
+month name =
+    if is_named (codes "jan") name then Some (codes "January")
+    else if is_named (codes "feb") name then Some (codes "February")
+    else if is_named (codes "mar") name then Some (codes "March")
+    else if is_named (codes "apr") name then Some (codes "April")
+    else if is_named (codes "may") name then Some (codes "May")
+    else if is_named (codes "jun") name then Some (codes "June")
+    else if is_named (codes "jul") name then Some (codes "July")
+    else if is_named (codes "aug") name then Some (codes "August")
+    else if is_named (codes "sep") name then Some (codes "September")
+    else if is_named (codes "oct") name then Some (codes "October")
+    else if is_named (codes "nov") name then Some (codes "November")
+    else if is_named (codes "dec") name then Some (codes "December")
+    else None
+
+-- a name stands among these pieces
+abbrev pub HoldsName : List Piece → List ℕ → Type 0
+HoldsName [] name = ⊥
+HoldsName (literal p ∷ rest) name = HoldsName rest name
+HoldsName (abbreviation p ∷ rest) name = (p.text ≡ name) ⊎ HoldsName rest name
+
+-- a text stands among these pieces
+abbrev pub HoldsText : List Piece → List ℕ → Type 0
+HoldsText [] text = ⊥
+HoldsText (literal p ∷ rest) text = (p.text ≡ text) ⊎ HoldsText rest text
+HoldsText (abbreviation p ∷ rest) text = HoldsText rest text
+
+-- a field reaches the names in it, and those that the definitions of reached names hold
+pub data Reaches (definitions : Definitions) (field : List Piece) : List ℕ → Type 0 where
+  held : {name : List ℕ} → HoldsName field name → Reaches definitions field name
+  through : {name next : List ℕ} {definition : List Piece} → Reaches definitions field name
+      → definitions name ≡ Some definition → HoldsName definition next → Reaches definitions field next
+
+-- a name stands for something: it is defined, or the start of a month
+abbrev pub IsKnown : Definitions → List ℕ → Type 0
+IsKnown definitions name = ((definition : List Piece) × (definitions name ≡ Some definition)) ⊎ ((english : List ℕ) × (month name ≡ Some english))
+
+-- each text among these pieces is read
+abbrev pub AreRead : Bool → List Piece → Type 0
+AreRead is_verbatim pieces = (text : List ℕ) → HoldsText pieces text → (atoms : List Atom) × IsContent is_verbatim (chars text) atoms
+
+-- a field can be read: each name that it reaches is known, none reaches itself, and each text in it and in the
+-- definitions of the names that it reaches is read
+pub record IsReadable (definitions : Definitions) (is_verbatim : Bool) (field : List Piece) : Type 0 where
+  pub known : (name : List ℕ) → Reaches definitions field name → IsKnown definitions name
+  pub no_circle : (name : List ℕ) (definition : List Piece) → Reaches definitions field name → definitions name ≡ Some definition
+      → Reaches definitions definition name → ⊥
+  pub texts : AreRead is_verbatim field
+  pub inner_texts : (name : List ℕ) (definition : List Piece) → Reaches definitions field name → definitions name ≡ Some definition
+      → AreRead is_verbatim definition
+
+-- what pieces say: a text what is read in it by itself, a name what its definition says, and where it has none, the
+-- month's name
+pub data Evaluates (definitions : Definitions) (is_verbatim : Bool) : List Piece → List Atom → Type 0 where
+  none : Evaluates definitions is_verbatim [] []
+  text : {p : Part} {rest : List Piece} {first more : List Atom} → IsContent is_verbatim (chars p.text) first
+      → Evaluates definitions is_verbatim rest more → Evaluates definitions is_verbatim (literal p ∷ rest) (first ++ more)
+  defined : {p : Part} {rest definition : List Piece} {first more : List Atom} → definitions p.text ≡ Some definition
+      → Evaluates definitions is_verbatim definition first → Evaluates definitions is_verbatim rest more
+      → Evaluates definitions is_verbatim (abbreviation p ∷ rest) (first ++ more)
+  month_name : {p : Part} {rest : List Piece} {english : List ℕ} {more : List Atom} → definitions p.text ≡ None → month p.text ≡ Some english
+      → Evaluates definitions is_verbatim rest more
+      → Evaluates definitions is_verbatim (abbreviation p ∷ rest) (map Atom.normal (chars english) ++ more)
+
+-- the name is among those that are being expanded
+abbrev pub IsOnPath : List (List ℕ) → List ℕ → Type 0
+IsOnPath [] name = ⊥
+IsOnPath (one ∷ path) name = (one ≡ name) ⊎ IsOnPath path name
+
+-- the fault with this kind, at the place of a name
+abbrev pub fault_at : Part → ParseErrorKind → ParseError
+fault_at p kind = record { span = record { start = p.start; end = p.end }; kind = kind }
+
+-- the first fault of pieces, from left to right and into definitions as they are met, while the names of a path are
+-- being expanded: a text that is not read, a name that stands for nothing, or one that is being expanded
+pub data IsFirstFault (definitions : Definitions) (is_verbatim : Bool) : List (List ℕ) → List Piece → ParseError → Type 0 where
+  unread : {path : List (List ℕ)} {p : Part} {rest : List Piece} {e : ParseError}
+      → ((atoms : List Atom) → IsContent is_verbatim (chars p.text) atoms → ⊥) → IsUnread e.kind
+      → IsFirstFault definitions is_verbatim path (literal p ∷ rest) e
+  unknown : {path : List (List ℕ)} {p : Part} {rest : List Piece} {e : ParseError} → definitions p.text ≡ None → month p.text ≡ None
+      → e ≡ fault_at p (UnknownAbbreviation p.text) → IsFirstFault definitions is_verbatim path (abbreviation p ∷ rest) e
+  circle : {path : List (List ℕ)} {p : Part} {rest : List Piece} {e : ParseError} → IsOnPath path p.text
+      → e ≡ fault_at p (AbbreviationCycle p.text) → IsFirstFault definitions is_verbatim path (abbreviation p ∷ rest) e
+  inside : {path : List (List ℕ)} {p : Part} {rest definition : List Piece} {e : ParseError} → (IsOnPath path p.text → ⊥)
+      → definitions p.text ≡ Some definition → IsFirstFault definitions is_verbatim (p.text ∷ path) definition e
+      → IsFirstFault definitions is_verbatim path (abbreviation p ∷ rest) e
+  behind : {path : List (List ℕ)} {piece : Piece} {rest : List Piece} {atoms : List Atom} {e : ParseError}
+      → Evaluates definitions is_verbatim (piece ∷ []) atoms → IsFirstFault definitions is_verbatim path rest e
+      → IsFirstFault definitions is_verbatim path (piece ∷ rest) e
+
+-- the definition of a name among pairs of a name and a field
+abbrev pub definition_among : List (Bor (List ℕ) × Bor (Vec (Spanned RawChunk))) → Definitions
+definition_among pairs name = option_map (λ field. map piece_of field.now.items) (lookup (λ key. bytes_eq name key.now) pairs)
+
+-- the definitions that a map holds, and those that a sorted one holds
+abbrev pub defined_in : {S : Type 0} → HashMap (Bor (List ℕ)) (Bor (Vec (Spanned RawChunk))) S → Definitions
+defined_in m = definition_among m.entries
+
+abbrev pub sorted_in : BTreeMap (Bor (List ℕ)) (Bor (Vec (Spanned RawChunk))) → Definitions
+sorted_in m = definition_among m.entries
+
+-- the names that a sorted map defines, with what stands for them
+abbrev pub pairs_in : BTreeMap (Bor (List ℕ)) (Bor (Vec (Spanned RawChunk))) → List (List ℕ × List Piece)
+pairs_in m = map (λ e. (e.0.now, map piece_of e.1.now.items)) m.entries
+
+-- the definitions that these pairs give
+abbrev pub given_by : List (List ℕ × List Piece) → Definitions
+given_by pairs name = lookup (bytes_eq name) pairs

@@ -1,0 +1,231 @@
+-- The contents of a field: how the text of a piece is cut into units, and what each unit means. Contents are LaTeX
+-- source, as the Rust crate `biblatex` reads it. A text is given by its characters.
+use Rattle.std.specs.Prelude.{◌≡◌, ℕ, zero, suc, ◌-◌, ◌/◌, ◌%◌, Bool, true, false, not, ◌&&◌, ◌||◌, ◌==◌, nat_lt, ◌⊎◌, if◌then◌else◌, List, [], ◌∷◌, ◌++◌, map, replicate, Option, None, Some}
+use Rattle.std.specs.Char.{is_whitespace, is_control}
+use Rattle.std.specs.List.{list_any, list_all}
+use Rattle.bib_chunks.specs.Formatted.{unbroken, ends_in_space}
+use Rattle.bib_chunks.specs.Styled.{Atom}
+use Rattle.bib_chunks.specs.Written.{is_grouping, is_reserved}
+use Rattle.bib_syntax.specs.Characters.{is_id_continue}
+use Rattle.bib_contents.specs.Commands.{given}
+use Rattle.bib_syntax.specs.declared.raw.Token.TheVariants.{ClosingBrace}
+use Rattle.bib_syntax.specs.declared.raw.ParseErrorKind.{ParseErrorKind}
+use Rattle.bib_syntax.specs.declared.raw.ParseErrorKind.TheVariants.{UnexpectedEof, Unexpected}
+
+-- whether a backslash takes a character its meaning: grouping characters; outside verbatim fields reserved ones, the
+-- tilde and the circumflex too; and the colon where a text is read, since Zotero writes a backslash before it
+unfoldable pub is_escapable : ℕ → Bool → Bool → Bool
+is_escapable c is_verbatim is_read = is_grouping c || (not is_verbatim && (is_reserved c || c == 126 || c == 94)) || (is_read && c == 58)
+
+-- whether a backslash and a character are that character: not the tilde and the circumflex, which name accents
+unfoldable pub is_escaped : Bool → ℕ → Bool
+is_escaped is_verbatim c = is_escapable c is_verbatim true && not (c == 126 || c == 94)
+
+-- white space
+unfoldable pub is_space : ℕ → Bool
+is_space c = is_whitespace c
+
+-- white space and control characters, which begin no command
+unfoldable pub is_blank : ℕ → Bool
+is_blank c = is_whitespace c || is_control c
+
+-- the characters that go on in a command's name
+unfoldable pub is_named : ℕ → Bool
+is_named c = is_id_continue c
+
+-- the characters that name an accent: " ' ^ ~ = . U+00B4 U+0060
+unfoldable pub is_mark : ℕ → Bool
+is_mark c = c == 34 || c == 39 || c == 94 || c == 126 || c == 61 || c == 46 || c == 180 || c == 96
+
+-- the letters that name an accent: b c d H k r u v
+unfoldable pub is_accent_letter : ℕ → Bool
+is_accent_letter c = c == 98 || c == 99 || c == 100 || c == 72 || c == 107 || c == 114 || c == 117 || c == 118
+
+-- the characters that are a command's whole name: the marks of accents, and the hyphen
+unfoldable pub is_sign : ℕ → Bool
+is_sign c = is_mark c || c == 45
+
+-- a character that neither begins nor ends anything: no hyphen, white space, brace or backslash, and outside verbatim
+-- fields no dollar sign
+unfoldable pub is_ordinary : Bool → ℕ → Bool
+is_ordinary is_verbatim c = not (c == 45 || is_space c || is_grouping c || (not is_verbatim && c == 36))
+
+-- whether a text begins with a character that passes the test
+abbrev pub begins : (ℕ → Bool) → List ℕ → Bool
+begins test [] = false
+begins test (c ∷ cs) = test c
+
+abbrev pub is_empty : List ℕ → Bool
+is_empty [] = true
+is_empty (c ∷ cs) = false
+
+-- whether the braces of a text balance behind so many that are open; a backslash hides none of them
+abbrev pub balances : ℕ → List ℕ → Bool
+balances depth [] = depth == 0
+balances depth (c ∷ cs) =
+    if c == 123 then balances (suc depth) cs
+    else if c == 125 then (nat_lt 0 depth && balances (depth - 1) cs)
+    else balances depth cs
+
+-- the argument of a command: none, the empty one at the end of a text, the next character whatever it is, or the text
+-- in a pair of braces
+pub data Argument : Type 0 where
+  without : Argument
+  empty : Argument
+  single : ℕ → Argument
+  braced : List ℕ → Argument
+
+-- a unit of contents
+pub data ContentUnit : Type 0 where
+  hyphens : ℕ → ContentUnit  -- so many hyphens
+  spaces : List ℕ → ContentUnit  -- white space
+  opening : ContentUnit  -- `{`
+  closing : ContentUnit  -- `}`
+  escaped : ℕ → ContentUnit  -- a backslash and a character that it takes the meaning from
+  backslash : ContentUnit  -- a backslash alone
+  copied : ℕ → ContentUnit  -- a backslash, and white space or a control character follows
+  formula : List ℕ → ContentUnit  -- `$`, a text, `$`
+  command : List ℕ → List ℕ → Argument → ContentUnit  -- a backslash, a name, white space, an argument
+  other : ℕ → ContentUnit  -- any other character
+
+abbrev pub argument_spelling : Argument → List ℕ
+argument_spelling Argument.without = []
+argument_spelling Argument.empty = []
+argument_spelling (Argument.single c) = c ∷ []
+argument_spelling (Argument.braced text) = 123 ∷ (text ++ 125 ∷ [])
+
+-- how a unit is spelt
+abbrev pub unit_spelling : ContentUnit → List ℕ
+unit_spelling (ContentUnit.hyphens n) = replicate n 45
+unit_spelling (ContentUnit.spaces cs) = cs
+unit_spelling ContentUnit.opening = 123 ∷ []
+unit_spelling ContentUnit.closing = 125 ∷ []
+unit_spelling (ContentUnit.escaped c) = 92 ∷ c ∷ []
+unit_spelling ContentUnit.backslash = 92 ∷ []
+unit_spelling (ContentUnit.copied c) = 92 ∷ []
+unit_spelling (ContentUnit.formula text) = 36 ∷ (text ++ 36 ∷ [])
+unit_spelling (ContentUnit.command name space argument) = 92 ∷ (name ++ (space ++ argument_spelling argument))
+unit_spelling (ContentUnit.other c) = c ∷ []
+
+-- the name of a command: a sign, or any character that is not escaped and no white space or control character, with
+-- identifier characters behind it
+abbrev pub is_name : List ℕ → Bool
+is_name [] = false
+is_name (c ∷ cs) =
+    not (is_escaped false c) && not (is_blank c) && (if is_sign c then is_empty cs else list_all is_named cs)
+
+-- whether a name can end before a text: a sign always, another name where no identifier character follows
+abbrev pub is_whole_name : List ℕ → List ℕ → Bool
+is_whole_name name rest = begins is_sign name || not (begins is_named rest)
+
+-- whether a command takes the next character: an accent named by a mark, or one named by a letter and white space
+abbrev pub takes_next : List ℕ → List ℕ → Bool
+takes_next [] space = false
+takes_next (c ∷ []) space = is_mark c || (is_accent_letter c && not (is_empty space))
+takes_next (c ∷ d ∷ cs) space = false
+
+-- which argument a command has before the rest of a text, by whether it takes the next character, and whether white
+-- space stands behind its name: a command that takes the next character takes any but a brace; otherwise a pair of
+-- braces right behind the name is the argument
+abbrev pub is_argument : Bool → Bool → Argument → List ℕ → Bool
+is_argument takes spaced Argument.without rest = if begins (λ c. c == 123) rest then spaced else not takes
+is_argument takes spaced Argument.empty rest = takes && is_empty rest
+is_argument takes spaced (Argument.single c) rest = takes && not (c == 123)
+is_argument takes spaced (Argument.braced text) rest = not spaced && balances 0 text
+
+-- whether a unit can stand before the rest of a text, in a verbatim field or another: runs, names and the white space
+-- behind a name are as long as they can be
+abbrev pub fits : Bool → ContentUnit → List ℕ → Bool
+fits is_verbatim (ContentUnit.hyphens n) rest = nat_lt 0 n && not (begins (λ c. c == 45) rest)
+fits is_verbatim (ContentUnit.spaces cs) rest = not (is_empty cs) && list_all is_space cs && not (begins is_space rest)
+fits is_verbatim ContentUnit.opening rest = true
+fits is_verbatim ContentUnit.closing rest = true
+fits is_verbatim (ContentUnit.escaped c) rest = is_escaped is_verbatim c
+fits is_verbatim ContentUnit.backslash rest = is_verbatim && not (begins (is_escaped true) rest)
+fits is_verbatim (ContentUnit.copied c) rest = not is_verbatim && is_blank c && begins (λ d. d == c) rest
+fits is_verbatim (ContentUnit.formula text) rest = not is_verbatim && not (list_any (λ c. c == 36) text)
+fits is_verbatim (ContentUnit.command name space argument) rest =
+    not is_verbatim && is_name name && is_whole_name name (space ++ (argument_spelling argument ++ rest))
+    && list_all is_space space && not (begins is_space (argument_spelling argument ++ rest))
+    && is_argument (takes_next name space) (not (is_empty space)) argument rest
+fits is_verbatim (ContentUnit.other c) rest = is_ordinary is_verbatim c
+
+-- a unit is the first of a text, and this is the rest
+pub record IsNext (is_verbatim : Bool) (u : ContentUnit) (text rest : List ℕ) : Type 0 where
+  pub fits : fits is_verbatim u rest ≡ true
+  pub spells : text ≡ unit_spelling u ++ rest
+
+-- the text of atoms as it is formatted: normal characters on one line, math between dollar signs; the flag says
+-- whether white space stands before them
+abbrev pub atoms_text : Bool → List Atom → List ℕ
+atoms_text space [] = []
+atoms_text space (Atom.normal c ∷ rest) = unbroken space c ++ atoms_text (ends_in_space space (unbroken space c)) rest
+atoms_text space (Atom.verbatim c ∷ rest) = c ∷ atoms_text (is_whitespace c) rest
+atoms_text space (Atom.math text ∷ rest) = 36 ∷ (text ++ 36 ∷ atoms_text space rest)
+
+-- what is given to a command, where its argument in braces was read as these atoms
+abbrev pub argument_text : Argument → List Atom → Option (List ℕ)
+argument_text Argument.without inner = None
+argument_text Argument.empty inner = Some []
+argument_text (Argument.single c) inner = Some (c ∷ [])
+argument_text (Argument.braced text) inner = Some (atoms_text false inner)
+
+-- hyphens, cut from the left: em dashes for threes, then an en dash for two or a hyphen for one
+abbrev pub dashes : ℕ → List ℕ
+dashes n = replicate (n / 3) 8212 ++ (if n % 3 == 2 then 8211 ∷ [] else if n % 3 == 1 then 45 ∷ [] else [])
+
+-- the characters that a unit other than math stands for
+abbrev pub unit_text : ContentUnit → List Atom → List ℕ
+unit_text (ContentUnit.hyphens n) inner = dashes n
+unit_text (ContentUnit.spaces cs) inner = 32 ∷ []
+unit_text ContentUnit.opening inner = []
+unit_text ContentUnit.closing inner = []
+unit_text (ContentUnit.escaped c) inner = c ∷ []
+unit_text ContentUnit.backslash inner = 92 ∷ []
+unit_text (ContentUnit.copied c) inner = 92 ∷ c ∷ []
+unit_text (ContentUnit.formula text) inner = []
+unit_text (ContentUnit.command name space argument) inner = given name (argument_text argument inner)
+unit_text (ContentUnit.other c) inner = c ∷ []
+
+-- characters are normal where no brace is open, and verbatim elsewhere
+abbrev pub character : ℕ → ℕ → Atom
+character zero c = Atom.normal c
+character (suc depth) c = Atom.verbatim c
+
+-- the atoms that a unit stands for, by how many braces are open before it
+abbrev pub meaning : ℕ → ContentUnit → List Atom → List Atom
+meaning depth (ContentUnit.formula text) inner = Atom.math text ∷ []
+meaning depth u inner = map (character depth) (unit_text u inner)
+
+-- whether a unit can stand where so many braces are open: a closing one needs one that is open
+abbrev pub is_closable : ℕ → ContentUnit → Bool
+is_closable depth ContentUnit.closing = nat_lt 0 depth
+is_closable depth u = true
+
+abbrev pub depth_after : ℕ → ContentUnit → ℕ
+depth_after depth ContentUnit.opening = suc depth
+depth_after depth ContentUnit.closing = depth - 1
+depth_after depth u = depth
+
+-- the text of an argument in braces
+abbrev pub held : ContentUnit → Option (List ℕ)
+held (ContentUnit.command name space (Argument.braced text)) = Some text
+held u = None
+
+-- a text is read as these atoms where so many braces are open: it is units one after another, and the arguments in
+-- braces among them are read as contents that are not verbatim. Braces that are open at the end are passed over.
+pub data Reads : Bool → ℕ → List ℕ → List Atom → Type 0 where
+  end : {is_verbatim : Bool} {depth : ℕ} → Reads is_verbatim depth [] []
+  next : {is_verbatim : Bool} {depth : ℕ} {u : ContentUnit} {text rest : List ℕ} {inner atoms : List Atom}
+      → IsNext is_verbatim u text rest → is_closable depth u ≡ true
+      → ((argument : List ℕ) → held u ≡ Some argument → Reads false 0 argument inner)
+      → Reads is_verbatim (depth_after depth u) rest atoms
+      → Reads is_verbatim depth text (meaning depth u inner ++ atoms)
+
+-- the contents of a field are read as these atoms
+abbrev pub IsContent : Bool → List ℕ → List Atom → Type 0
+IsContent is_verbatim text atoms = Reads is_verbatim 0 text atoms
+
+-- a fault of contents: a closing brace that nothing opened, or a text that ends too soon
+abbrev pub IsUnread : ParseErrorKind → Type 0
+IsUnread kind = (kind ≡ UnexpectedEof) ⊎ (kind ≡ Unexpected ClosingBrace)

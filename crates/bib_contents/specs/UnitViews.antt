@@ -1,0 +1,30 @@
+-- What the program's units of contents are.
+use Rattle.std.specs.Str.{chars}
+use Rattle.bib_contents.specs.Contents as contents
+use Rattle.bib_contents.specs.declared.resolve.units.Argument.{Argument}
+use Rattle.bib_contents.specs.declared.resolve.units.Argument.TheVariants.{Without, Empty, Single, Braced}
+use Rattle.bib_contents.specs.declared.resolve.units.TextUnit.{TextUnit}
+use Rattle.bib_contents.specs.declared.resolve.units.TextUnit.TheVariants.{Hyphens, Spaces, Escaped, Backslash, Copied, Command, Other}
+use Rattle.bib_contents.specs.declared.resolve.units.Unit.{Unit}
+use Rattle.bib_contents.specs.declared.resolve.units.Unit.TheVariants.{Shown, Formula, Opening, Closing}
+
+abbrev pub argument_of : Argument → contents.Argument
+argument_of Without = contents.Argument.without
+argument_of Empty = contents.Argument.empty
+argument_of (Single c) = contents.Argument.single c
+argument_of (Braced text) = contents.Argument.braced (chars text.now)
+
+abbrev pub text_unit_of : TextUnit → contents.ContentUnit
+text_unit_of (Hyphens n) = contents.ContentUnit.hyphens n
+text_unit_of (Spaces text) = contents.ContentUnit.spaces (chars text.now)
+text_unit_of (Escaped c) = contents.ContentUnit.escaped c
+text_unit_of Backslash = contents.ContentUnit.backslash
+text_unit_of (Copied c) = contents.ContentUnit.copied c
+text_unit_of (Command name space argument) = contents.ContentUnit.command (chars name.now) (chars space.now) (argument_of argument)
+text_unit_of (Other c) = contents.ContentUnit.other c
+
+abbrev pub unit_of : Unit → contents.ContentUnit
+unit_of (Shown unit) = text_unit_of unit
+unit_of (Formula text) = contents.ContentUnit.formula (chars text.now)
+unit_of Opening = contents.ContentUnit.opening
+unit_of Closing = contents.ContentUnit.closing

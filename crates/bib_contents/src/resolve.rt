@@ -1,0 +1,77 @@
+//! The contents of fields: abbreviations, commands and accents.
+
+ghost use Rattle.std.specs.Prelude.{◌≡◌, ◌+◌, ◌⊎◌, [], ◌∷◌, map, length, OnOk, IfOk, IfErr};
+ghost use Rattle.bib_chunks.specs.Styled.{styled};
+ghost use Rattle.bib_contents.specs.Abbreviations as abbreviation;
+ghost use Rattle.bib_contents.specs.Abbreviations.{Evaluates, IsFirstFault, IsReadable, defined_in};
+ghost use Rattle.bib_contents.specs.Contents as contents;
+ghost use Rattle.bib_syntax.specs.Faults.{out_of_memory};
+ghost use Rattle.bib_contents.specs.Joined.{AreJoined, ArePlaced};
+ghost use Rattle.bib_syntax.specs.Reading.{Part};
+ghost use Rattle.bib_syntax.specs.Reading.Piece.{literal};
+ghost use Rattle.bib_syntax.specs.Views.{piece_of};
+
+mod abbreviations;
+mod characters;
+mod classes;
+mod commands;
+mod contents;
+mod definitions;
+mod growing;
+mod joining;
+mod reader;
+mod units;
+
+use abbreviations::field_contents;
+use bib_chunks::chunk::Chunks;
+use bib_syntax::raw::{Field, ParseError};
+pub use reader::FieldReader;
+use std::alloc::Global;
+use std::collections::HashMap;
+
+/// Reads the contents of a field with this name. Each text in it is read by itself, and an abbreviation is what its
+/// definition says, else the English name of the month that begins with it. Chunks are joined where two neighbours are
+/// both normal or both verbatim.
+///
+/// Refused with the first fault, from left to right and into definitions as they are met: `UnexpectedEof` or
+/// `Unexpected` for a text that can't be read, `UnknownAbbreviation` for a name that is neither defined nor the start of
+/// a month, `AbbreviationCycle` for a name that is met in its own expansion. The latter two have the span of the name,
+/// in bytes of its file.
+pub fn parse_field(
+    alloc: Global,
+    key: &str,
+    field: &Field<'_>,
+    abbreviations: &HashMap<&str, &Field<'_>>,
+) -> Result<Chunks, ParseError>
+    ensures read { IfOk result (λ chunks. Evaluates (defined_in abbreviations.now) (abbreviation.is_verbatim_field key.now) (map piece_of field.now.items) (styled chunks)) }
+    ensures readable { OnOk result (IsReadable (defined_in abbreviations.now) (abbreviation.is_verbatim_field key.now) (map piece_of field.now.items)) }
+    ensures refused { IfErr result (λ e. (e ≡ out_of_memory) ⊎ (IsFirstFault (defined_in abbreviations.now) (abbreviation.is_verbatim_field key.now) [] (map piece_of field.now.items) e × (IsReadable (defined_in abbreviations.now) (abbreviation.is_verbatim_field key.now) (map piece_of field.now.items) → ⊥))) }
+    ensures joined { IfOk result AreJoined }
+    ensures placed { (p : Part) → map piece_of field.now.items ≡ literal p ∷ [] → p.end ≡ p.start + length p.text → IfOk result (ArePlaced p.start p.end) }
+{
+    field_contents(alloc, is_verbatim_field(key), field, abbreviations)
+}
+
+/// Whether the contents of a field with this name are verbatim: commands and math mean nothing in them.
+pub fn is_verbatim_field(key: &str) -> bool
+    ensures { result ≡ abbreviation.is_verbatim_field key.now }
+{
+    matches!(
+        key,
+        "file" | "doi" | "uri" | "eprint" | "verba" | "verbb" | "verbc" | "pdf" | "url" | "urlraw"
+    )
+}
+
+/// Whether a backslash takes a character its meaning, in a verbatim field or another, where a text is read or where it
+/// is written.
+#[tactic(auto, unfolding(crate::specs::Contents::is_escapable, bib_chunks::specs::Written::is_grouping, bib_chunks::specs::Written::is_reserved))]
+pub fn is_escapable(c: char, verb: bool, read_char: bool) -> bool
+    ensures { result ≡ contents.is_escapable c verb read_char }
+{
+    match c {
+        '{' | '}' | '\\' => true,
+        '#' | '&' | '%' | '$' | '_' | '~' | '^' => !verb,
+        ':' => read_char,
+        _ => false,
+    }
+}

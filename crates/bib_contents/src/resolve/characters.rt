@@ -1,0 +1,97 @@
+//! A cursor over the characters of a text.
+
+ghost use Rattle.std.specs.Prelude.{◌≡◌, ℕ, ◌≤◌, ◌<◌, ◌==◌, ◌^◌, Bool, true, false, List, [], ◌∷◌, length, drop, MatchOption, MatchBool};
+ghost use Rattle.std.specs.List.{list_all};
+ghost use Rattle.std.specs.Str.{chars, IsCharBoundary, IsUtf8};
+ghost use Rattle.bib_text.specs.Places.{Place, place, Answers, between};
+ghost use Rattle.bib_contents.specs.Contents.{begins, is_space};
+ghost use Rattle.bib_contents.specs.Passing.{left, Passes};
+
+use bib_text::scanner::Scanner;
+use std::marker::Model;
+
+// A text and a place in it. Contracts speak of the characters that are left.
+#[derive(Drop)]
+pub(crate) struct Characters<'s> {
+    scanner: Scanner<'s>,
+}
+
+impl<'s> Model for Characters<'s> {
+    ghost use Rattle.std.specs.Prelude.{drop};
+    ghost use Rattle.std.specs.Str.{IsUtf8};
+    ghost use Rattle.bib_text.specs.Places.{Place};
+
+    ghost Value = { Place };
+
+    ghost view = { λ c. c.scanner };
+
+    ghost invariant = { λ c. IsUtf8 (drop c.scanner.at c.scanner.text) };
+}
+
+impl<'s> Characters<'s> {
+    // The characters of a text.
+    pub(crate) fn new(text: &'s str) -> Self
+        ensures { result ≡ place text.now 0 }
+    {
+        Characters {
+            scanner: Scanner::new(text),
+        }
+    }
+
+    // The place, in bytes from the start of the text.
+    pub(crate) fn cursor(&self) -> usize
+        ensures place { result ≡ self.now.at }
+        ensures boundary { IsCharBoundary self.now.text result }
+        ensures fits { length self.now.text < 2 ^ 63 }
+        ensures utf8 { IsUtf8 (drop self.now.at self.now.text) }
+    {
+        self.scanner.cursor()
+    }
+
+    // The character that stands here.
+    pub(crate) fn peek(&self) -> Option<char>
+        ensures { MatchOption result (left self.now ≡ []) (λ c. (rest : List ℕ) × (left self.now ≡ c ∷ rest)) }
+    {
+        self.scanner.peek()
+    }
+
+    // Whether the text ends here.
+    pub(crate) fn done(&self) -> bool
+        ensures { MatchBool result (left self.now ≡ []) (left self.now ≡ [] → ⊥) }
+    {
+        self.peek().is_none()
+    }
+
+    // Takes the character that stands here.
+    pub(crate) fn eat(&mut self) -> Option<char>
+        ensures { MatchOption result ((left self.old ≡ []) × (self.new ≡ self.old)) (λ c. Passes self.old (c ∷ []) self.new) }
+    {
+        self.scanner.eat()
+    }
+
+    // Takes this character if it stands here, and says whether it did.
+    pub(crate) fn eat_if(&mut self, c: char) -> bool
+        ensures { MatchBool result (Passes self.old (c ∷ []) self.new) ((self.new ≡ self.old) × (begins (λ d. d == c) (left self.old) ≡ false)) }
+    {
+        self.scanner.eat_if(c)
+    }
+
+    // Takes characters while they pass a test, and gives the text that they are.
+    pub(crate) fn eat_while<F: Fn(char) -> bool>(&mut self, test: F) -> &'s str
+        requires callable { F.IsAlwaysCallable test }
+        requires is_test { (p : ℕ → Bool) × Answers (F.post test) p }
+        ensures passed { Passes self.old (chars result.now) self.new }
+        ensures longest { (p : ℕ → Bool) → Answers (F.post test) p → (list_all p (chars result.now) ≡ true) × (begins p (left self.new) ≡ false) }
+    {
+        self.scanner.eat_while(test)
+    }
+
+    // The text from an earlier place up to here.
+    pub(crate) fn from(&self, start: usize) -> &'s str
+        requires boundary { IsCharBoundary self.now.text start }
+        requires behind { start ≤ self.now.at }
+        ensures { result.now ≡ between (place self.now.text start) self.now }
+    {
+        self.scanner.from(start)
+    }
+}

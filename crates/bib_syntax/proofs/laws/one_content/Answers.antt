@@ -1,5 +1,0 @@
-use Rattle.bib_syntax.proofs.ContentFacts.{read_same}
-use Rattle.bib_syntax.proofs.laws.one_content.Goals as goal
-
-pub returns : goal.returns
-returns c is_verbatim text first second one two = read_same one two

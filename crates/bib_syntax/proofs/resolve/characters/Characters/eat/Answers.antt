@@ -1,8 +1,0 @@
-use Rattle.bib_syntax.proofs.PassingFacts.{taken, taken_utf8}
-use Rattle.bib_syntax.proofs.resolve.characters.Characters.eat.Goals as goal
-
-pub invariant_of-self : goal.invariant_of-self
-invariant_of-self c = taken_utf8 c.self.inside.scanner c.eat.new.self c.eat.result c.self.invariant c.eat.ensures
-
-pub returns : goal.returns
-returns c = rw (← c.self.view_is) (taken c.self.inside.scanner c.eat.new.self c.eat.result c.self.invariant c.eat.ensures)
