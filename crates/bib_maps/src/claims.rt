@@ -10,8 +10,8 @@ use std::alloc::{AllocError, Global};
 use std::collections::BTreeMap;
 use std::marker::Model;
 
-// Names and the places that they point to so far. Claiming a name takes little time, however many there are.
-// Contracts see the finite map.
+/// Names and the places that they point to so far. Claiming a name takes little time, however many there are.
+/// Contracts see the finite map.
 #[derive(Drop)]
 pub struct Claims {
     places: BTreeMap<String, usize>,
@@ -32,7 +32,7 @@ impl Model for Claims {
 }
 
 impl Claims {
-    // No name. Takes no memory.
+    /// No name. Takes no memory.
     pub fn new(alloc: Global) -> Self
         ensures { result ≡ map.empty }
     {
@@ -41,14 +41,14 @@ impl Claims {
         }
     }
 
-    // The place that a name points to.
+    /// The place that a name points to.
     pub fn get(&self, name: &str) -> Option<usize>
         ensures { result ≡ map.get self.now name.now }
     {
         self.places.get(name).copied()
     }
 
-    // Lets a name point to a place. A refusal changes nothing.
+    /// Lets a name point to a place. A refusal changes nothing.
     pub fn claim(&mut self, name: Text, place: usize) -> Result<(), AllocError>
         ensures claimed { OnOk result (self.new ≡ map.insert self.old name place) }
         ensures refused { OnErr result (self.new ≡ self.old) }
@@ -57,7 +57,7 @@ impl Claims {
         Ok(())
     }
 
-    // Lets names point to a place, one after another.
+    /// Lets names point to a place, one after another.
     pub fn claim_all(&mut self, names: Vec<Text>, place: usize) -> Result<(), AllocError>
         ensures claimed { OnOk result (self.new ≡ claimed self.old (claims_for place names.items)) }
     {
@@ -67,7 +67,7 @@ impl Claims {
         Ok(())
     }
 
-    // The names, to be kept.
+    /// The names, to be kept.
     pub fn into_names(self, alloc: Global) -> Result<Names, AllocError>
         ensures { IfOk result (λ names. names ≡ self) }
     {

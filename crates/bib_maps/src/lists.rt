@@ -79,8 +79,8 @@ fn joined(alloc: Global, chunks: ChunksRef<'_>) -> Result<Chunks, AllocError>
     Ok(all)
 }
 
-// The parts of a comma list, each formatted. It is cut in its styled text: empty chunks don't count, and neighbours of
-// one kind are one chunk.
+/// The parts of a comma list, each formatted. It is cut in its styled text: empty chunks don't count, and neighbours of
+/// one kind are one chunk.
 pub fn comma_texts(alloc: Global, chunks: ChunksRef<'_>) -> Result<Vec<Text>, AllocError>
     ensures { IfOk result (λ texts. texts.items ≡ comma_texts (styled chunks.now)) }
 {

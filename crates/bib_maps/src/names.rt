@@ -12,7 +12,7 @@ use bib_text::text::Text;
 use std::alloc::{AllocError, Global};
 use std::marker::Model;
 
-// Names and the places that they point to, sorted by the names' bytes. Contracts see the finite map.
+/// Names and the places that they point to, sorted by the names' bytes. Contracts see the finite map.
 #[derive(Debug, Drop)]
 pub struct Names {
     pairs: Vec<(Text, usize)>,
@@ -52,7 +52,7 @@ fn point(pairs: &mut Vec<(Text, usize)>, name: Text, place: usize)
 }
 
 impl Names {
-    // No name. Takes no memory.
+    /// No name. Takes no memory.
     pub fn new(alloc: Global) -> Self
         ensures { result ≡ map.empty }
     {
@@ -61,7 +61,7 @@ impl Names {
         }
     }
 
-    // The names of sorted pairs. Takes no memory.
+    /// The names of sorted pairs. Takes no memory.
     pub fn from_sorted(pairs: Vec<(Text, usize)>) -> Self
         requires { IsSorted pairs.items }
         ensures { result ≡ map_of pairs.items }
@@ -69,7 +69,7 @@ impl Names {
         Names { pairs }
     }
 
-    // The place that a name points to, found by halving.
+    /// The place that a name points to, found by halving.
     pub fn get(&self, name: &str) -> Option<usize>
         ensures { result ≡ map.get self.now name.now }
     {
@@ -79,7 +79,7 @@ impl Names {
         }
     }
 
-    // Lets a name point to a place. A refusal changes nothing.
+    /// Lets a name point to a place. A refusal changes nothing.
     pub fn claim(&mut self, name: Text, place: usize) -> Result<(), AllocError>
         ensures claimed { OnOk result (self.new ≡ map.insert self.old name place) }
         ensures refused { OnErr result (self.new ≡ self.old) }
@@ -89,7 +89,7 @@ impl Names {
         Ok(())
     }
 
-    // Lets names point to a place, all of them or, at a refusal, none.
+    /// Lets names point to a place, all of them or, at a refusal, none.
     pub fn claim_all(&mut self, names: Vec<Text>, place: usize) -> Result<(), AllocError>
         ensures claimed { OnOk result (self.new ≡ claimed self.old (claims_for place names.items)) }
         ensures refused { OnErr result (self.new ≡ self.old) }
@@ -101,7 +101,7 @@ impl Names {
         Ok(())
     }
 
-    // Takes a place out: drops the names that point to it, and lowers the places behind it. Takes no memory.
+    /// Takes a place out: drops the names that point to it, and lowers the places behind it. Takes no memory.
     pub fn close_gap(&mut self, place: usize)
         ensures { self.new ≡ without_place place self.old }
     {

@@ -53,8 +53,10 @@ impl<V> TextMap<V> {
         pairs
     }
 
-    // The allocator that the map takes memory from.
-    pub fn allocator(&self) -> Global {
+    /// The allocator that the map takes memory from. There is one.
+    pub fn allocator(&self) -> Global
+        ensures { (one : Global) → result ≡ one }
+    {
         *self.pairs.allocator()
     }
 
