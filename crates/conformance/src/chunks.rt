@@ -1,13 +1,17 @@
 //! Chunks: formatting, writing, settled values and cuts.
 
-use bib_chunks::chunk::{Chunk, Chunks, ChunksExt, ChunksRef, Spanned, cuts, is_settled};
+use crate::checks::agrees;
+use bib_chunks::chunk::{Chunk, Chunks, ChunksExt, Spanned, cuts, is_settled};
 use bib_text::items::Items;
 use bib_text::text::Text;
 use std::alloc::{AllocError, Global};
 use std::test::Fail;
 
-// Chunks from their kinds (`n` normal, `v` verbatim, `m` math) and texts, one behind another.
-fn chunks(alloc: Global, parts: &[(char, &str)]) -> Result<Chunks, AllocError> {
+// Chunks as kinds (`n` normal, `v` verbatim, `m` math) and texts.
+type Parts<'a> = &'a [(char, &'a str)];
+
+// The chunks of these parts, one behind another.
+fn chunks(alloc: Global, parts: Parts) -> Result<Chunks, AllocError> {
     let mut all = Items::new(alloc);
     let mut at = 0usize;
     for (kind, text) in parts {
@@ -24,10 +28,16 @@ fn chunks(alloc: Global, parts: &[(char, &str)]) -> Result<Chunks, AllocError> {
     Ok(all)
 }
 
+// The value that is written for chunks of these parts.
+fn written(alloc: Global, parts: Parts, is_verbatim: bool) -> Result<String, AllocError> {
+    let all = chunks(alloc, parts)?;
+    all.as_slice().to_biblatex_string(alloc, is_verbatim)
+}
+
 #[test]
 fn writes_values(rt: HostRuntime) -> Result<(), Fail> {
     let alloc = rt.alloc();
-    let rows: [(bool, &[(char, &str)], &str); 12] = [
+    let rows: [(bool, Parts, &str); 12] = [
         (false, &[], "{}"),
         (false, &[('v', "a"), ('m', "x"), ('v', "b")], "{{a$x$b}}"),
         (false, &[('v', "a"), ('m', "x"), ('n', "b")], "{{a$x$}b}"),
@@ -57,10 +67,8 @@ fn writes_values(rt: HostRuntime) -> Result<(), Fail> {
         ),
         (false, &[('n', "a"), ('v', ""), ('n', "b")], "{a{}b}"),
     ];
-    for (is_verbatim, parts, written) in rows {
-        let all = chunks(alloc, parts)?;
-        let text = all.as_slice().to_biblatex_string(alloc, is_verbatim)?;
-        assert_eq!(rt; text.as_str(), written);
+    for (is_verbatim, parts, text) in rows {
+        agrees(&rt, written(alloc, parts, is_verbatim)?.as_str(), text);
     }
     Ok(())
 }
@@ -68,21 +76,28 @@ fn writes_values(rt: HostRuntime) -> Result<(), Fail> {
 #[test]
 fn writes_a_chunk_by_itself(rt: HostRuntime) -> Result<(), Fail> {
     let alloc = rt.alloc();
-    let verbatim = Chunk::Verbatim(Text::from_str(alloc, "x^2 & {y}")?);
-    assert_eq!(rt;
-        verbatim.to_biblatex_string(alloc, false)?.as_str(),
-        "x\\textasciicircum{}2 \\& \\{y\\}"
-    );
-    let math = Chunk::Math(Text::from_str(alloc, "x^{2}")?);
-    assert_eq!(rt; math.to_biblatex_string(alloc, false)?.as_str(), "x^{2}");
-    assert_eq!(rt; math.to_biblatex_string(alloc, true)?.as_str(), "x^\\{2\\}");
+    let rows: [(bool, Parts, &str); 3] = [
+        (
+            false,
+            &[('v', "x^2 & {y}")],
+            "x\\textasciicircum{}2 \\& \\{y\\}",
+        ),
+        (false, &[('m', "x^{2}")], "x^{2}"),
+        (true, &[('m', "x^{2}")], "x^\\{2\\}"),
+    ];
+    for (is_verbatim, parts, text) in rows {
+        for chunk in chunks(alloc, parts)?.as_slice() {
+            let found = chunk.v.to_biblatex_string(alloc, is_verbatim)?;
+            agrees(&rt, found.as_str(), text);
+        }
+    }
     Ok(())
 }
 
 #[test]
 fn tells_what_is_settled(rt: HostRuntime) -> Result<(), Fail> {
     let alloc = rt.alloc();
-    let rows: [(&[(char, &str)], bool, bool); 15] = [
+    let rows: [(Parts, bool, bool); 15] = [
         (&[], false, true),
         (&[('n', "Foo")], false, true),
         (&[('n', "a-"), ('n', "-b")], false, false),
@@ -101,29 +116,35 @@ fn tells_what_is_settled(rt: HostRuntime) -> Result<(), Fail> {
     ];
     for (parts, is_verbatim, settled) in rows {
         let all = chunks(alloc, parts)?;
-        assert_eq!(rt;
-            is_settled(all.as_slice(), is_verbatim),
-            settled,
-            "at {parts:?}"
+        let value = written(alloc, parts, is_verbatim)?;
+        assert!(rt;
+            is_settled(all.as_slice(), is_verbatim) == settled,
+            "{value}"
         );
     }
     Ok(())
 }
 
 // The formatted texts of the parts of a list, each behind a bar.
-fn joined(alloc: Global, parts: &Items<Chunks>) -> Result<String, AllocError> {
+fn joined(alloc: Global, list: &Items<Chunks>) -> Result<String, AllocError> {
     let mut out = String::new(alloc);
-    for part in parts.as_slice() {
+    for part in list.as_slice() {
         out.push('|')?;
-        out.push_str(part.as_slice().format_verbatim(alloc)?.as_str())?;
+        let text = part.as_slice().format_verbatim(alloc)?;
+        out.push_str(text.as_str())?;
     }
     Ok(out)
+}
+
+// Chunks of these parts, formatted with their letters kept.
+fn verbatim(alloc: Global, parts: Parts) -> Result<String, AllocError> {
+    chunks(alloc, parts)?.as_slice().format_verbatim(alloc)
 }
 
 #[test]
 fn formats_verbatim(rt: HostRuntime) -> Result<(), Fail> {
     let alloc = rt.alloc();
-    let rows: [(&[(char, &str)], &str); 6] = [
+    let rows: [(Parts, &str); 6] = [
         (&[], ""),
         (
             &[('n', "a Big "), ('v', "NASA"), ('m', "x")],
@@ -135,16 +156,20 @@ fn formats_verbatim(rt: HostRuntime) -> Result<(), Fail> {
         (&[('n', "é\u{2003}\nü")], "é\u{2003}ü"),
     ];
     for (parts, text) in rows {
-        let all = chunks(alloc, parts)?;
-        assert_eq!(rt; all.as_slice().format_verbatim(alloc)?.as_str(), text);
+        agrees(&rt, verbatim(alloc, parts)?.as_str(), text);
     }
     Ok(())
+}
+
+// Chunks of these parts, formatted as a sentence.
+fn sentence(alloc: Global, parts: Parts) -> Result<String, AllocError> {
+    chunks(alloc, parts)?.as_slice().format_sentence(alloc)
 }
 
 #[test]
 fn formats_as_sentence(rt: HostRuntime) -> Result<(), Fail> {
     let alloc = rt.alloc();
-    let rows: [(&[(char, &str)], &str); 6] = [
+    let rows: [(Parts, &str); 6] = [
         (&[], ""),
         (&[('n', "a Big "), ('v', "NASA")], "A big NASA"),
         (&[('v', "nASA"), ('n', " In Space")], "nASA in space"),
@@ -153,8 +178,7 @@ fn formats_as_sentence(rt: HostRuntime) -> Result<(), Fail> {
         (&[('n', "éCOLE ÉTÉ")], "École été"),
     ];
     for (parts, text) in rows {
-        let all = chunks(alloc, parts)?;
-        assert_eq!(rt; all.as_slice().format_sentence(alloc)?.as_str(), text);
+        agrees(&rt, sentence(alloc, parts)?.as_str(), text);
     }
     Ok(())
 }
@@ -163,16 +187,22 @@ fn formats_as_sentence(rt: HostRuntime) -> Result<(), Fail> {
 fn spans_chunks(rt: HostRuntime) -> Result<(), Fail> {
     let alloc = rt.alloc();
     let none = chunks(alloc, &[])?;
-    assert_eq!(rt; none.as_slice().span(), 0..0);
+    assert!(rt; none.as_slice().span() == (0..0));
     let some = chunks(alloc, &[('n', "ab"), ('v', "cde"), ('m', "f")])?;
-    assert_eq!(rt; some.as_slice().span(), 0..6);
+    assert!(rt; some.as_slice().span() == (0..6));
     Ok(())
+}
+
+// The parts between the commas.
+fn comma_list(alloc: Global, parts: Parts) -> Result<String, AllocError> {
+    let all = chunks(alloc, parts)?;
+    joined(alloc, &cuts::comma_list(alloc, all.as_slice())?)
 }
 
 #[test]
 fn cuts_at_commas(rt: HostRuntime) -> Result<(), Fail> {
     let alloc = rt.alloc();
-    let rows: [(&[(char, &str)], &str); 6] = [
+    let rows: [(Parts, &str); 6] = [
         (&[], "|"),
         (&[('n', " a , b ")], "| a|b "),
         (&[('n', "a,"), ('v', "b,c"), ('n', ",d")], "|a|b,c|d"),
@@ -184,17 +214,21 @@ fn cuts_at_commas(rt: HostRuntime) -> Result<(), Fail> {
         ),
     ];
     for (parts, text) in rows {
-        let all = chunks(alloc, parts)?;
-        let list = cuts::comma_list(alloc, all.as_slice())?;
-        assert_eq!(rt; joined(alloc, &list)?.as_str(), text);
+        agrees(&rt, comma_list(alloc, parts)?.as_str(), text);
     }
     Ok(())
+}
+
+// The parts between the words `and`.
+fn and_list(alloc: Global, parts: Parts) -> Result<String, AllocError> {
+    let all = chunks(alloc, parts)?;
+    joined(alloc, &cuts::and_list(alloc, all.as_slice())?)
 }
 
 #[test]
 fn cuts_at_words_and(rt: HostRuntime) -> Result<(), Fail> {
     let alloc = rt.alloc();
-    let rows: [(&[(char, &str)], &str); 8] = [
+    let rows: [(Parts, &str); 8] = [
         (&[], "|"),
         (
             &[(
@@ -214,31 +248,37 @@ fn cuts_at_words_and(rt: HostRuntime) -> Result<(), Fail> {
         (&[('n', "a\tand\u{2003}b")], "|a|b"),
     ];
     for (parts, text) in rows {
-        let all = chunks(alloc, parts)?;
-        let list = cuts::and_list(alloc, all.as_slice())?;
-        assert_eq!(rt; joined(alloc, &list)?.as_str(), text);
+        agrees(&rt, and_list(alloc, parts)?.as_str(), text);
     }
     Ok(())
+}
+
+// The two parts at the first equals sign, a bar between them, or a dash.
+fn cut(alloc: Global, parts: Parts) -> Result<String, AllocError> {
+    let all = chunks(alloc, parts)?;
+    let Some((before, behind)) = cuts::cut_at(alloc, all.as_slice(), '=')? else {
+        return String::from_str(alloc, "-");
+    };
+    let mut out = before.as_slice().format_verbatim(alloc)?;
+    out.push('|')?;
+    let rest = behind.as_slice().format_verbatim(alloc)?;
+    out.push_str(rest.as_str())?;
+    Ok(out)
 }
 
 #[test]
 fn cuts_at_the_first_separator(rt: HostRuntime) -> Result<(), Fail> {
     let alloc = rt.alloc();
-    let none = chunks(alloc, &[('v', "a=b"), ('m', "c=d"), ('n', "e")])?;
-    assert!(rt; cuts::cut_at(alloc, none.as_slice(), '=')?.is_none());
-    let some = chunks(
-        alloc,
-        &[('v', "a=b"), ('n', " given = Simon = x"), ('v', "c")],
-    )?;
-    let (before, behind) = cuts::cut_at(alloc, some.as_slice(), '=')?.ok_or("no cut")?;
-    assert_eq!(rt;
-        before.as_slice().format_verbatim(alloc)?.as_str(),
-        "a=b given"
-    );
-    assert_eq!(rt;
-        behind.as_slice().format_verbatim(alloc)?.as_str(),
-        "Simon = xc"
-    );
+    let rows: [(Parts, &str); 2] = [
+        (&[('v', "a=b"), ('m', "c=d"), ('n', "e")], "-"),
+        (
+            &[('v', "a=b"), ('n', " given = Simon = x"), ('v', "c")],
+            "a=b given|Simon = xc",
+        ),
+    ];
+    for (parts, text) in rows {
+        agrees(&rt, cut(alloc, parts)?.as_str(), text);
+    }
     Ok(())
 }
 
@@ -247,10 +287,10 @@ fn gets_and_changes_texts(rt: HostRuntime) -> Result<(), Fail> {
     let alloc = rt.alloc();
     let mut chunk = Chunk::Math(Text::from_str(alloc, "x")?);
     chunk.get_mut().push_str("^2")?;
-    assert_eq!(rt; chunk.get(), "x^2");
-    assert!(rt; chunk == Chunk::Math(Text::from_str(alloc, "x^2")?));
-    assert!(rt; chunk != Chunk::Verbatim(Text::from_str(alloc, "x^2")?));
+    agrees(&rt, chunk.get(), "x^2");
     let copy = chunk.clone()?;
     assert!(rt; copy == chunk);
+    let other = Chunk::Verbatim(Text::from_str(alloc, "x^2")?);
+    assert!(rt; copy != other);
     Ok(())
 }

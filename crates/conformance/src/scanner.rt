@@ -1,5 +1,6 @@
 //! The cursor over a text, and values that know where they stand: each call once.
 
+use crate::checks::agrees;
 use bib_chunks::chunk::Spanned;
 use bib_text::scanner::Scanner;
 use std::test::Fail;
@@ -7,31 +8,31 @@ use std::test::Fail;
 #[test]
 fn moves_over_characters(rt: HostRuntime) -> Result<(), Fail> {
     let mut s = Scanner::new("aé 12x");
-    assert_eq!(rt; s.peek(), Some('a'));
+    assert!(rt; s.peek() == Some('a'));
     assert!(rt; s.at('a'));
-    assert_eq!(rt; s.eat(), Some('a'));
+    assert!(rt; s.eat() == Some('a'));
     assert!(rt; !s.eat_if('e'));
     assert!(rt; s.eat_if('é'));
-    assert_eq!(rt; s.cursor(), 3);
-    assert_eq!(rt; s.eat_whitespace(), " ");
-    assert_eq!(rt; s.eat_while(|c| c.is_ascii_digit()), "12");
-    assert_eq!(rt; s.before(), "aé 12");
-    assert_eq!(rt; s.eat_until(|c| c == 'y'), "x");
+    assert!(rt; s.cursor() == 3);
+    agrees(&rt, s.eat_whitespace(), " ");
+    agrees(&rt, s.eat_while(|c| c.is_ascii_digit()), "12");
+    agrees(&rt, s.before(), "aé 12");
+    agrees(&rt, s.eat_until(|c| c == 'y'), "x");
     assert!(rt; s.done());
-    assert_eq!(rt; s.eat(), None);
+    assert!(rt; s.eat() == None);
     Ok(())
 }
 
 #[test]
 fn jumps_to_places(rt: HostRuntime) -> Result<(), Fail> {
     let mut s = Scanner::new("one two");
-    assert_eq!(rt; s.cursor(), 0);
+    assert!(rt; s.cursor() == 0);
     s.jump(3);
-    assert_eq!(rt; s.cursor(), 3);
-    assert_eq!(rt; s.from(0), "one");
+    assert!(rt; s.cursor() == 3);
+    agrees(&rt, s.from(0), "one");
     s.jump(7);
     assert!(rt; s.done());
-    assert_eq!(rt; s.from(4), "two");
+    agrees(&rt, s.from(4), "two");
     Ok(())
 }
 
@@ -39,12 +40,12 @@ fn jumps_to_places(rt: HostRuntime) -> Result<(), Fail> {
 fn values_know_where_they_stand(rt: HostRuntime) -> Result<(), Fail> {
     let value = Spanned::new(7u8, 2..4);
     assert!(rt; !value.is_detached());
-    assert_eq!(rt; *value.as_ref().v, 7);
+    assert!(rt; *value.as_ref().v == 7);
     let doubled = value.map(|n| u16::from(n) * 2);
-    assert_eq!(rt; doubled.v, 14);
-    assert_eq!(rt; doubled.span, 2..4);
-    assert_eq!(rt; Spanned::zero('a').span, 0..0);
+    assert!(rt; doubled.v == 14);
+    assert!(rt; doubled.span == (2..4));
+    assert!(rt; Spanned::zero('a').span == (0..0));
     assert!(rt; Spanned::detached('a').is_detached());
-    assert_eq!(rt; doubled.clone()?, doubled);
+    assert!(rt; doubled.clone()? == doubled);
     Ok(())
 }

@@ -1,6 +1,8 @@
 //! Entry types, what they ask for, languages and the small enumerations: every row of their tables.
 
+use crate::checks::agrees;
 use bib_tables::mechanics::{AuthorMode, EntryType, PagesChapterMode, Requirements};
+use bib_text::text::Text;
 use bib_types::types::lang::Language;
 use bib_types::types::{EditorType, Gender, NameError, Pagination};
 use std::alloc::{AllocError, Global};
@@ -70,12 +72,12 @@ static TYPES: [(&str, &str, &str, bool, bool); 33] = [
 ];
 
 fn is_type(rt: &impl Abort, alloc: Global, name: &str, kind: &EntryType) -> Result<(), Fail> {
-    assert_eq!(rt; &EntryType::new(alloc, name)?, kind, "{name}");
+    assert!(rt; EntryType::new(alloc, name)? == *kind, "{name}");
     Ok(())
 }
 
 fn is_written(rt: &impl Abort, alloc: Global, kind: &EntryType, name: &str) -> Result<(), Fail> {
-    assert_eq!(rt; format!(in alloc; "{kind}")?.as_str(), name);
+    agrees(rt, format!(in alloc; "{kind}")?.as_str(), name);
     Ok(())
 }
 
@@ -87,8 +89,8 @@ fn entry_types(rt: HostRuntime) -> Result<(), Fail> {
         is_written(&rt, alloc, &kind, name)?;
         is_written(&rt, alloc, &kind.to_biblatex(), biblatex)?;
         is_written(&rt, alloc, &kind.to_bibtex(), bibtex)?;
-        assert_eq!(rt; kind.is_multi_volume(), *several);
-        assert_eq!(rt; kind.is_collection(), *holds);
+        assert!(rt; kind.is_multi_volume() == *several, "{name}");
+        assert!(rt; kind.is_collection() == *holds, "{name}");
         is_type(&rt, alloc, name, &kind)?;
         is_type(&rt, alloc, name.to_ascii_uppercase(alloc)?.as_str(), &kind)?;
     }
@@ -100,12 +102,11 @@ fn is_unknown(rt: &impl Abort, alloc: Global, name: &str, lowered: &str) -> Resu
     let EntryType::Unknown(kept) = &kind else {
         return Err(Fail::from(NameError::Unknown));
     };
-    assert_eq!(rt; kept.as_str(), lowered);
+    agrees(rt, kept.as_str(), lowered);
     is_written(rt, alloc, &kind, "unknown")?;
-    assert_eq!(rt; kind.to_biblatex(), EntryType::Misc);
-    assert_eq!(rt; kind.to_bibtex(), EntryType::Misc);
-    assert!(rt; !kind.is_multi_volume());
-    assert!(rt; !kind.is_collection());
+    is_written(rt, alloc, &kind.to_biblatex(), "misc")?;
+    is_written(rt, alloc, &kind.to_bibtex(), "misc")?;
+    assert!(rt; !kind.is_multi_volume() && !kind.is_collection());
     Ok(())
 }
 
@@ -122,10 +123,8 @@ fn names_of_entry_types(rt: HostRuntime) -> Result<(), Fail> {
     for name in ["conference", "electronic", "www", "unknown", "Article", ""] {
         assert!(rt; EntryType::from_str(name).is_err(), "{name}");
     }
-    assert_eq!(rt;
-        EntryType::from_str("conference").err(),
-        Some(NameError::Unknown)
-    );
+    let unknown = EntryType::from_str("conference").err();
+    assert!(rt; unknown == Some(NameError::Unknown));
     Ok(())
 }
 
@@ -456,7 +455,7 @@ fn are_names(
     names: &[&'static str],
     expected: &str,
 ) -> Result<(), Fail> {
-    assert_eq!(rt; joined(alloc, names)?.as_str(), expected);
+    agrees(rt, joined(alloc, names)?.as_str(), expected);
     Ok(())
 }
 
@@ -466,9 +465,9 @@ fn asks_for(rt: &impl Abort, alloc: Global, row: &Row) -> Result<(), Fail> {
     are_names(rt, alloc, asked.required.as_slice(), required)?;
     are_names(rt, alloc, asked.optional.as_slice(), optional)?;
     are_names(rt, alloc, asked.forbidden.as_slice(), forbidden)?;
-    assert_eq!(rt; asked.author_eds_field, *author);
-    assert_eq!(rt; asked.page_chapter_field, *pages);
-    assert_eq!(rt; asked.needs_date, *needs_date);
+    assert!(rt; asked.author_eds_field == *author, "{name}");
+    assert!(rt; asked.page_chapter_field == *pages, "{name}");
+    assert!(rt; asked.needs_date == *needs_date, "{name}");
     Ok(())
 }
 
@@ -483,12 +482,10 @@ fn requirements(rt: HostRuntime) -> Result<(), Fail> {
 #[test]
 fn no_requirements(rt: HostRuntime) {
     let none = Requirements::new(rt.alloc());
-    assert_eq!(rt; none.required.len(), 0);
-    assert_eq!(rt; none.optional.len(), 0);
-    assert_eq!(rt; none.forbidden.len(), 0);
-    assert_eq!(rt; none.author_eds_field, AuthorMode::AuthorRequired);
-    assert_eq!(rt; none.page_chapter_field, PagesChapterMode::None);
-    assert!(rt; !none.needs_date);
+    assert!(rt; none.required.is_empty() && none.optional.is_empty());
+    assert!(rt; none.forbidden.is_empty() && !none.needs_date);
+    assert!(rt; none.author_eds_field == AuthorMode::AuthorRequired);
+    assert!(rt; none.page_chapter_field == PagesChapterMode::None);
 }
 
 #[test]
@@ -620,7 +617,7 @@ static LANGUAGES: [(Language, &str, &str, &str); 43] = [
 ];
 
 fn is_language(rt: &impl Abort, name: &str, language: Language) -> Result<(), Fail> {
-    assert_eq!(rt; Language::from_str(name)?, language, "{name}");
+    assert!(rt; Language::from_str(name)? == language, "{name}");
     Ok(())
 }
 
@@ -632,8 +629,8 @@ fn has_names(
     others: &str,
     tag: &str,
 ) -> Result<(), Fail> {
-    assert_eq!(rt; format!(in alloc; "{language}")?.as_str(), name);
-    assert_eq!(rt; language.tag(), tag, "{name}");
+    agrees(rt, format!(in alloc; "{language}")?.as_str(), name);
+    agrees(rt, language.tag(), tag);
     is_language(rt, name, language)?;
     for other in others.split(' ') {
         is_language(rt, other, language)?;
@@ -658,10 +655,8 @@ fn languages(rt: HostRuntime) -> Result<(), Fail> {
     ] {
         assert!(rt; Language::from_str(name).is_err(), "{name}");
     }
-    assert_eq!(rt;
-        Language::from_str("English").err(),
-        Some(NameError::Unknown)
-    );
+    let unknown = Language::from_str("English").err();
+    assert!(rt; unknown == Some(NameError::Unknown));
     Ok(())
 }
 
@@ -676,17 +671,21 @@ fn paginations(rt: HostRuntime) -> Result<(), Fail> {
         (Pagination::Section, "section"),
         (Pagination::Paragraph, "paragraph"),
     ] {
-        assert_eq!(rt; scheme.as_ref(), name);
-        assert_eq!(rt; format!(in alloc; "{scheme}")?.as_str(), name);
-        assert_eq!(rt; Pagination::from_str(name)?, scheme);
+        agrees(&rt, scheme.as_ref(), name);
+        agrees(&rt, format!(in alloc; "{scheme}")?.as_str(), name);
+        assert!(rt; Pagination::from_str(name)? == scheme, "{name}");
     }
     for name in ["Page", "pages", "", "page "] {
-        assert_eq!(rt;
-            Pagination::from_str(name).err(),
-            Some(NameError::Unknown),
-            "{name}"
-        );
+        let unknown = Pagination::from_str(name).err();
+        assert!(rt; unknown == Some(NameError::Unknown), "{name}");
     }
+    Ok(())
+}
+
+fn is_role(rt: &impl Abort, alloc: Global, role: &EditorType, name: &str) -> Result<(), Fail> {
+    agrees(rt, role.as_ref(), name);
+    agrees(rt, format!(in alloc; "{role}")?.as_str(), name);
+    assert!(rt; EditorType::from_str(alloc, name)? == *role, "{name}");
     Ok(())
 }
 
@@ -704,18 +703,11 @@ fn editor_types(rt: HostRuntime) -> Result<(), Fail> {
         (EditorType::Organizer, "organizer"),
         (EditorType::Director, "director"),
     ] {
-        assert_eq!(rt; role.as_ref(), name);
-        assert_eq!(rt; format!(in alloc; "{role}")?.as_str(), name);
-        assert_eq!(rt; EditorType::from_str(alloc, name)?, role);
+        is_role(&rt, alloc, &role, name)?;
     }
     for name in ["Editor", "none", ""] {
-        let role = EditorType::from_str(alloc, name)?;
-        let EditorType::Unknown(kept) = &role else {
-            return Err(Fail::from(NameError::Unknown));
-        };
-        assert_eq!(rt; kept.as_str(), name);
-        assert_eq!(rt; role.as_ref(), name);
-        assert_eq!(rt; format!(in alloc; "{role}")?.as_str(), name);
+        let unknown = EditorType::Unknown(Text::from_str(alloc, name)?);
+        is_role(&rt, alloc, &unknown, name)?;
     }
     Ok(())
 }
@@ -742,34 +734,32 @@ fn genders(rt: HostRuntime) -> Result<(), Fail> {
         (PluralMale, "PluralMale", PluralMale, SingularMale),
         (PluralNeuter, "PluralNeuter", PluralNeuter, SingularNeuter),
     ] {
-        assert_eq!(rt; gender.as_ref(), name);
-        assert_eq!(rt; format!(in alloc; "{gender}")?.as_str(), name);
-        assert_eq!(rt; gender.plural(), plural, "{name}");
-        assert_eq!(rt; gender.singular(), singular, "{name}");
-        assert_eq!(rt; Gender::coalesce(&[gender]), Some(gender), "{name}");
+        agrees(&rt, gender.as_ref(), name);
+        agrees(&rt, format!(in alloc; "{gender}")?.as_str(), name);
+        assert!(rt; gender.plural() == plural, "{name}");
+        assert!(rt; gender.singular() == singular, "{name}");
+        assert!(rt; Gender::coalesce(&[gender]) == Some(gender), "{name}");
     }
-    assert_eq!(rt; Gender::coalesce(&[]), None);
-    assert_eq!(rt;
-        Gender::coalesce(&[SingularMale, SingularMale]),
-        Some(PluralMale)
-    );
-    assert_eq!(rt;
-        Gender::coalesce(&[SingularFemale, PluralFemale, SingularFemale]),
-        Some(PluralFemale)
-    );
-    assert_eq!(rt;
-        Gender::coalesce(&[SingularFemale, SingularMale]),
-        Some(PluralNeuter)
-    );
-    assert_eq!(rt;
-        Gender::coalesce(&[PluralMale, SingularNeuter]),
-        Some(PluralNeuter)
-    );
-    assert_eq!(rt;
-        Gender::coalesce(&[SingularNeuter, SingularNeuter]),
-        Some(PluralNeuter)
-    );
     Ok(())
+}
+
+#[test]
+fn genders_of_many(rt: HostRuntime) {
+    use Gender::*;
+    let rows: [(&[Gender], Option<Gender>); 6] = [
+        (&[], None),
+        (&[SingularMale, SingularMale], Some(PluralMale)),
+        (
+            &[SingularFemale, PluralFemale, SingularFemale],
+            Some(PluralFemale),
+        ),
+        (&[SingularFemale, SingularMale], Some(PluralNeuter)),
+        (&[PluralMale, SingularNeuter], Some(PluralNeuter)),
+        (&[SingularNeuter, SingularNeuter], Some(PluralNeuter)),
+    ];
+    for (genders, want) in rows {
+        assert!(rt; Gender::coalesce(genders) == want, "{genders:?}");
+    }
 }
 
 #[test]
@@ -779,7 +769,7 @@ fn texts_of_faults(rt: HostRuntime) -> Result<(), Fail> {
         (NameError::Unknown, "unknown name"),
         (NameError::OutOfMemory, "out of memory"),
     ] {
-        assert_eq!(rt; format!(in alloc; "{fault}")?.as_str(), text);
+        agrees(&rt, format!(in alloc; "{fault}")?.as_str(), text);
     }
     Ok(())
 }

@@ -1,5 +1,12 @@
-//! Tests of the bibliography: worked examples, and what no contract says.
+//! Tests of bibliographies, read and changed: worked examples, what no contract says, and a long run of changes
+//! against a plain list.
 #![tactic(auto)]
 
 #[cfg(test)]
+mod changes;
+#[cfg(test)]
+mod checks;
+#[cfg(test)]
 mod library;
+#[cfg(test)]
+mod plain;

@@ -1,43 +1,70 @@
 //! Contents of fields: commands and accents, dashes, chunks, abbreviations, and which fault is told.
 
-use bib_chunks::chunk::{Chunk, ChunksRef};
+use crate::checks::{agrees, parsed};
+use bib_chunks::chunk::{Chunk, Chunks, ChunksRef};
 use bib_contents::resolve::{FieldReader, is_escapable, is_verbatim_field, parse_field};
-use bib_syntax::raw::RawBibliography;
-use std::alloc::Global;
+use bib_syntax::raw::{Field, Pair, ParseError, RawBibliography};
+use std::alloc::{AllocError, Global};
 use std::collections::{BTreeMap, HashMap};
 use std::test::Fail;
 
 // The chunks, each in brackets behind the first letter of its kind.
-fn shown(alloc: Global, chunks: ChunksRef<'_>) -> Result<String, Fail> {
+fn shown(alloc: Global, chunks: ChunksRef<'_>) -> Result<String, AllocError> {
     let mut out = String::new(alloc);
     for chunk in chunks {
-        out.push(match chunk.v {
-            Chunk::Normal(_) => 'N',
-            Chunk::Verbatim(_) => 'V',
-            Chunk::Math(_) => 'M',
+        out.push_str(match chunk.v {
+            Chunk::Normal(_) => "N[",
+            Chunk::Verbatim(_) => "V[",
+            Chunk::Math(_) => "M[",
         })?;
-        out.push('[')?;
         out.push_str(chunk.v.get())?;
         out.push(']')?;
     }
     Ok(out)
 }
 
-// What the last field of a file's last entry says, or its fault.
-fn said(alloc: Global, file: &str) -> Result<String, Fail> {
-    let Ok(raw) = RawBibliography::parse(alloc, file) else {
-        return Err("the file is not read")?;
-    };
+// What a field says, or its fault.
+fn told(alloc: Global, read: Result<Chunks, ParseError>) -> Result<String, Fail> {
+    match read {
+        Ok(chunks) => Ok(shown(alloc, chunks.as_slice())?),
+        Err(error) => Ok(format!(in alloc; "{error}")?),
+    }
+}
+
+type Definitions<'r, 's> = HashMap<&'r str, &'r Field<'s>>;
+
+// The definitions of a file by their names.
+fn definitions<'r, 's>(
+    alloc: Global,
+    raw: &'r RawBibliography<'s>,
+) -> Result<Definitions<'r, 's>, AllocError> {
     let mut names = HashMap::new(alloc);
     for pair in &raw.abbreviations {
         names.insert(pair.key.v, &pair.value.v)?;
     }
+    Ok(names)
+}
+
+// The last field of the last entry.
+fn last_field<'r, 's>(raw: &'r RawBibliography<'s>) -> Result<&'r Pair<'s>, &'static str> {
     let entry = raw.entries.last().ok_or("an entry")?;
-    let field = entry.v.fields.last().ok_or("a field")?;
-    match parse_field(alloc, field.key.v, &field.value.v, &names) {
-        Ok(chunks) => shown(alloc, chunks.as_slice()),
-        Err(error) => Ok(format!(in alloc; "{error}")?),
-    }
+    entry.v.fields.last().ok_or("a field")
+}
+
+// The contents of a field.
+fn contents(
+    alloc: Global,
+    field: &Pair<'_>,
+    names: &Definitions<'_, '_>,
+) -> Result<Chunks, ParseError> {
+    parse_field(alloc, field.key.v, &field.value.v, names)
+}
+
+// What the last field of a file's last entry says, or its fault.
+fn said(alloc: Global, file: &str) -> Result<String, Fail> {
+    let raw = parsed(alloc, file)?;
+    let names = definitions(alloc, &raw)?;
+    told(alloc, contents(alloc, last_field(&raw)?, &names))
 }
 
 // What a title in braces says.
@@ -122,56 +149,73 @@ static SYMBOLS: [(&str, &str); 72] = [
     ("-", ""),
 ];
 
+// What a command says.
+fn command(alloc: Global, name: &str) -> Result<String, Fail> {
+    let text = format!(in alloc; "\\{name}")?;
+    title(alloc, text.as_str())
+}
+
 #[test]
 fn reads_symbols(rt: HostRuntime) -> Result<(), Fail> {
     let alloc = rt.alloc();
     for (name, text) in &SYMBOLS {
-        let command = format!(in alloc; "\\{name}")?;
-        let found = title(alloc, command.as_str())?;
+        let found = command(alloc, name)?;
         let want = format!(in alloc; "N[{text}]")?;
-        assert_eq!(rt; found.as_str(), want.as_str(), "{name}");
+        agrees(&rt, found.as_str(), want.as_str());
     }
     Ok(())
 }
 
-// The accents: name, mark, and what the mark makes of a letter.
-static ACCENTS: [(&str, &str, &str, &str); 17] = [
-    ("`", "\u{300}", "e", "\u{E8}"),
-    ("\u{B4}", "\u{301}", "e", "\u{E9}"),
-    ("'", "\u{301}", "e", "\u{E9}"),
-    ("^", "\u{302}", "e", "\u{EA}"),
-    ("~", "\u{303}", "n", "\u{F1}"),
-    ("=", "\u{304}", "e", "\u{113}"),
-    ("u", "\u{306}", "a", "\u{103}"),
-    (".", "\u{307}", "z", "\u{17C}"),
-    ("\"", "\u{308}", "u", "\u{FC}"),
-    ("r", "\u{30A}", "a", "\u{E5}"),
-    ("H", "\u{30B}", "o", "\u{151}"),
-    ("v", "\u{30C}", "s", "\u{161}"),
-    ("d", "\u{323}", "a", "\u{1EA1}"),
-    ("c", "\u{327}", "c", "\u{E7}"),
-    ("k", "\u{328}", "a", "\u{105}"),
-    ("b", "\u{332}", "d", "d\u{332}"),
-    ("o", "\u{338}", "o", "o\u{338}"),
+// The accents: name, an argument, and what the command says of it. The mark is on the last character; of nothing the
+// mark is left, and of a circumflex and a tilde the character by itself.
+static ACCENTS: [(&str, &str, &str); 34] = [
+    ("`", "xe", "N[x\u{E8}]"),
+    ("`", "", "N[\u{300}]"),
+    ("\u{B4}", "xe", "N[x\u{E9}]"),
+    ("\u{B4}", "", "N[\u{301}]"),
+    ("'", "xe", "N[x\u{E9}]"),
+    ("'", "", "N[\u{301}]"),
+    ("^", "xe", "N[x\u{EA}]"),
+    ("^", "", "N[^]"),
+    ("~", "xn", "N[x\u{F1}]"),
+    ("~", "", "N[~]"),
+    ("=", "xe", "N[x\u{113}]"),
+    ("=", "", "N[\u{304}]"),
+    ("u", "xa", "N[x\u{103}]"),
+    ("u", "", "N[\u{306}]"),
+    (".", "xz", "N[x\u{17C}]"),
+    (".", "", "N[\u{307}]"),
+    ("\"", "xu", "N[x\u{FC}]"),
+    ("\"", "", "N[\u{308}]"),
+    ("r", "xa", "N[x\u{E5}]"),
+    ("r", "", "N[\u{30A}]"),
+    ("H", "xo", "N[x\u{151}]"),
+    ("H", "", "N[\u{30B}]"),
+    ("v", "xs", "N[x\u{161}]"),
+    ("v", "", "N[\u{30C}]"),
+    ("d", "xa", "N[x\u{1EA1}]"),
+    ("d", "", "N[\u{323}]"),
+    ("c", "xc", "N[x\u{E7}]"),
+    ("c", "", "N[\u{327}]"),
+    ("k", "xa", "N[x\u{105}]"),
+    ("k", "", "N[\u{328}]"),
+    ("b", "xd", "N[xd\u{332}]"),
+    ("b", "", "N[\u{332}]"),
+    ("o", "xo", "N[xo\u{338}]"),
+    ("o", "", "N[\u{338}]"),
 ];
+
+// What an accent's command says of an argument.
+fn accented(alloc: Global, name: &str, argument: &str) -> Result<String, Fail> {
+    let command = format!(in alloc; "\\{name}{{{argument}}}")?;
+    title(alloc, command.as_str())
+}
 
 #[test]
 fn reads_accents(rt: HostRuntime) -> Result<(), Fail> {
     let alloc = rt.alloc();
-    for (name, mark, letter, composed) in &ACCENTS {
-        let braced = format!(in alloc; "\\{name}{{x{letter}}}")?;
-        let found = title(alloc, braced.as_str())?;
-        let want = format!(in alloc; "N[x{composed}]")?;
-        assert_eq!(rt; found.as_str(), want.as_str(), "{name}");
-        let bare = match *mark {
-            "\u{302}" => "^",
-            "\u{303}" => "~",
-            _ => mark,
-        };
-        let empty = format!(in alloc; "\\{name}{{}}")?;
-        let found = title(alloc, empty.as_str())?;
-        let want = format!(in alloc; "N[{bare}]")?;
-        assert_eq!(rt; found.as_str(), want.as_str(), "{name} with nothing");
+    for (name, letter, want) in &ACCENTS {
+        agrees(&rt, accented(alloc, name, letter)?.as_str(), want);
     }
     Ok(())
 }
@@ -208,8 +252,7 @@ fn reads_contents(rt: HostRuntime) -> Result<(), Fail> {
         ("$$", "N[]M[]"),
     ];
     for (text, want) in rows {
-        let found = title(rt.alloc(), text)?;
-        assert_eq!(rt; found.as_str(), want, "{text}");
+        agrees(&rt, title(rt.alloc(), text)?.as_str(), want);
     }
     Ok(())
 }
@@ -231,8 +274,7 @@ fn reads_fields(rt: HostRuntime) -> Result<(), Fail> {
         ("@misc{k, t=\"{x\" # {}}", "N[]V[x]N[]"),
     ];
     for (file, want) in rows {
-        let found = said(rt.alloc(), file)?;
-        assert_eq!(rt; found.as_str(), want, "{file}");
+        agrees(&rt, said(rt.alloc(), file)?.as_str(), want);
     }
     Ok(())
 }
@@ -276,112 +318,128 @@ fn tells_faults_of_fields(rt: HostRuntime) -> Result<(), Fail> {
         ),
     ];
     for (file, want) in rows {
-        let found = said(rt.alloc(), file)?;
-        assert_eq!(rt; found.as_str(), want, "{file}");
+        agrees(&rt, said(rt.alloc(), file)?.as_str(), want);
     }
     Ok(())
+}
+
+// A command in so many of its own arguments.
+fn nested(alloc: Global, depth: usize) -> Result<String, AllocError> {
+    let mut text = String::new(alloc);
+    for _ in 0..depth {
+        text.push_str("\\emph{")?;
+    }
+    text.push('x')?;
+    for _ in 0..depth {
+        text.push('}')?;
+    }
+    Ok(text)
 }
 
 #[test]
 fn reads_nested_commands(rt: HostRuntime) -> Result<(), Fail> {
     let alloc = rt.alloc();
-    let mut text = String::new(alloc);
-    for _ in 0..200 {
-        text.push_str("\\emph{")?;
-    }
-    text.push('x')?;
-    for _ in 0..200 {
-        text.push('}')?;
-    }
-    let found = title(alloc, text.as_str())?;
+    let text = nested(alloc, 200)?;
     let want = format!(in alloc; "N[{text}]")?;
-    assert_eq!(rt; found.as_str(), want.as_str());
+    agrees(&rt, title(alloc, text.as_str())?.as_str(), want.as_str());
     Ok(())
+}
+
+// Definitions, of which each names the one before it so many times, behind the first; the last is a field's value.
+fn chain(alloc: Global, first: &str, length: u32, is_doubled: bool) -> Result<String, AllocError> {
+    let mut file = format!(in alloc; "@string{{a0 = {{{first}}}}}")?;
+    for n in 0..length {
+        let next = n.wrapping_add(1);
+        let line = if is_doubled {
+            format!(in alloc; "@string{{a{next} = a{n} # a{n}}}")?
+        } else {
+            format!(in alloc; "@string{{a{next} = a{n}}}")?
+        };
+        file.push_str(line.as_str())?;
+    }
+    let field = format!(in alloc; "@misc{{k, title = a{length}}}")?;
+    file.push_str(field.as_str())?;
+    Ok(file)
 }
 
 #[test]
 fn reads_names_that_double(rt: HostRuntime) -> Result<(), Fail> {
     let alloc = rt.alloc();
-    let mut file = format!(in alloc; "@string{{a0 = {{x}}}}")?;
-    for n in 0..16 {
-        let next: u32 = n + 1;
-        let line = format!(in alloc; "@string{{a{next} = a{n} # a{n}}}")?;
-        file.push_str(line.as_str())?;
-    }
-    file.push_str("@misc{k, title = a16}")?;
+    let file = chain(alloc, "x", 16, true)?;
     let found = said(alloc, file.as_str())?;
-    assert_eq!(rt; found.len(), 65_536 + 3);
+    assert!(rt; found.len() == 65_536 + 3);
     Ok(())
 }
 
 #[test]
 fn reads_a_long_chain_of_names(rt: HostRuntime) -> Result<(), Fail> {
     let alloc = rt.alloc();
-    let mut file = format!(in alloc; "@string{{a0 = {{end}}}}")?;
-    for n in 0..20_000 {
-        let next: u32 = n + 1;
-        let line = format!(in alloc; "@string{{a{next} = a{n}}}")?;
-        file.push_str(line.as_str())?;
-    }
-    file.push_str("@misc{k, title = a20000}")?;
-    let found = said(alloc, file.as_str())?;
-    assert_eq!(rt; found.as_str(), "N[end]");
+    let file = chain(alloc, "end", 20_000, false)?;
+    agrees(&rt, said(alloc, file.as_str())?.as_str(), "N[end]");
     Ok(())
 }
 
-#[test]
-fn reads_fields_one_after_another(rt: HostRuntime) -> Result<(), Fail> {
-    let alloc = rt.alloc();
-    let file = "@string{d = {a--b\\&c}} @string{o = d # { } # d} @string{r = r} \
-        @misc{k, title = o, url = o, note = d # jan, file = o # jan, editor = r, author = o, doi = d}";
-    let Ok(raw) = RawBibliography::parse(alloc, file) else {
-        return Err("the file is not read")?;
-    };
+// What each field says, or its fault, by one reader, each behind a line's end.
+fn said_in_turn<'a>(
+    alloc: Global,
+    reader: &mut FieldReader<'a, 'a>,
+    fields: &'a [Pair<'a>],
+) -> Result<String, Fail> {
+    let mut out = String::new(alloc);
+    for field in fields {
+        let found = told(alloc, reader.read(field.key.v, &field.value.v))?;
+        out.push('\n')?;
+        out.push_str(found.as_str())?;
+    }
+    Ok(out)
+}
+
+// What each field of a file's last entry says by one reader.
+fn said_by_one_reader(alloc: Global, file: &str) -> Result<String, Fail> {
+    let raw = parsed(alloc, file)?;
     let mut names = BTreeMap::new(alloc);
     for pair in &raw.abbreviations {
         names.insert(pair.key.v, &pair.value.v)?;
     }
-    let mut reader = FieldReader::new(alloc, names);
     let entry = raw.entries.last().ok_or("an entry")?;
-    let wanted = [
-        "N[a\u{2013}b&c a\u{2013}b&c]",
-        "N[a\u{2013}b\\&c a\u{2013}b\\&c]",
-        "N[a\u{2013}b&cJanuary]",
-        "N[a\u{2013}b\\&c a\u{2013}b\\&cJanuary]",
-        "circular abbreviation \"r\": 60-61",
-        "N[a\u{2013}b&c a\u{2013}b&c]",
-        "N[a\u{2013}b\\&c]",
-    ];
-    for (field, want) in entry.v.fields.iter().zip(wanted) {
-        let found = match reader.read(field.key.v, &field.value.v) {
-            Ok(chunks) => shown(alloc, chunks.as_slice())?,
-            Err(error) => format!(in alloc; "{error}")?,
-        };
-        assert_eq!(rt; found.as_str(), want, "{}", field.key.v);
-    }
-    assert_eq!(rt; entry.v.fields.len(), wanted.len());
+    let mut reader = FieldReader::new(alloc, names);
+    said_in_turn(alloc, &mut reader, entry.v.fields.as_slice())
+}
+
+#[test]
+fn reads_fields_one_after_another(rt: HostRuntime) -> Result<(), Fail> {
+    let file = "@string{d = {a--b\\&c}} @string{o = d # { } # d} @string{r = r} \
+        @misc{k, title = o, url = o, note = d # jan, file = o # jan, editor = r, author = o, doi = d}";
+    let want = "
+N[a\u{2013}b&c a\u{2013}b&c]
+N[a\u{2013}b\\&c a\u{2013}b\\&c]
+N[a\u{2013}b&cJanuary]
+N[a\u{2013}b\\&c a\u{2013}b\\&cJanuary]
+circular abbreviation \"r\": 60-61
+N[a\u{2013}b&c a\u{2013}b&c]
+N[a\u{2013}b\\&c]";
+    agrees(&rt, said_by_one_reader(rt.alloc(), file)?.as_str(), want);
     Ok(())
+}
+
+// Where the chunks stand, each place behind a blank.
+fn spans(alloc: Global, chunks: ChunksRef<'_>) -> Result<String, AllocError> {
+    let mut out = String::new(alloc);
+    for chunk in chunks {
+        let span = format!(in alloc; " {}-{}", chunk.span.start, chunk.span.end)?;
+        out.push_str(span.as_str())?;
+    }
+    Ok(out)
 }
 
 #[test]
 fn keeps_spans_of_chunks(rt: HostRuntime) -> Result<(), Fail> {
     let alloc = rt.alloc();
-    let file = "@misc{a, title={Foo {NASA} $x$}}";
-    let Ok(raw) = RawBibliography::parse(alloc, file) else {
-        return Err("the file is not read")?;
-    };
-    let names = HashMap::new(alloc);
-    let entry = raw.entries.last().ok_or("an entry")?;
-    let field = entry.v.fields.last().ok_or("a field")?;
-    let Ok(chunks) = parse_field(alloc, "title", &field.value.v, &names) else {
-        return Err("the field is not read")?;
-    };
-    let mut spans = String::new(alloc);
-    for chunk in chunks.iter() {
-        let span = format!(in alloc; "{}-{} ", chunk.span.start, chunk.span.end)?;
-        spans.push_str(span.as_str())?;
-    }
-    assert_eq!(rt; spans.as_str(), "16-20 21-25 26-27 28-29 ");
+    let raw = parsed(alloc, "@misc{a, title={Foo {NASA} $x$}}")?;
+    let names = definitions(alloc, &raw)?;
+    let chunks = contents(alloc, last_field(&raw)?, &names)?;
+    let found = spans(alloc, chunks.as_slice())?;
+    agrees(&rt, found.as_str(), " 16-20 21-25 26-27 28-29");
     Ok(())
 }
 

@@ -1,25 +1,30 @@
 //! The file grammar: worked examples, which fault is told and where, and texts cut short.
 
+use crate::checks::{agrees, parsed};
+use bib_chunks::chunk::{Span, Spanned};
 use bib_syntax::raw::{
-    BiblatexParser, ParseError, RawBibliography, RawChunk, is_id_continue, is_id_start, is_key,
+    BiblatexParser, ParseError, RawChunk, RawEntry, is_id_continue, is_id_start, is_key,
 };
-use std::alloc::Global;
+use std::alloc::{AllocError, Global};
 use std::process::Abort;
 use std::test::Fail;
 
-// The keys of a text's entries, each behind a bar, or the fault.
-fn keys(alloc: Global, text: &str) -> Result<String, Fail> {
+// The keys of entries, each behind a bar.
+fn barred(alloc: Global, entries: &[Spanned<RawEntry<'_>>]) -> Result<String, AllocError> {
     let mut found = String::new(alloc);
-    match RawBibliography::parse(alloc, text) {
-        Ok(raw) => {
-            for entry in &raw.entries {
-                found.push('|')?;
-                found.push_str(entry.v.key.v)?;
-            }
-        }
-        Err(error) => found = format!(in alloc; "{error}")?,
+    for entry in entries {
+        found.push('|')?;
+        found.push_str(entry.v.key.v)?;
     }
     Ok(found)
+}
+
+// The keys of a text's entries, each behind a bar, or the fault.
+fn keys(alloc: Global, text: &str) -> Result<String, Fail> {
+    match parsed(alloc, text) {
+        Ok(raw) => Ok(barred(alloc, raw.entries.as_slice())?),
+        Err(error) => Ok(format!(in alloc; "{error}")?),
+    }
 }
 
 #[test]
@@ -46,8 +51,7 @@ fn reads_keys(rt: HostRuntime) -> Result<(), Fail> {
         ("@misc { ü:x , note = \"\" }", "|ü:x"),
     ];
     for (text, want) in rows {
-        let found = keys(rt.alloc(), text)?;
-        assert_eq!(rt; found.as_str(), want, "{text}");
+        agrees(&rt, keys(rt.alloc(), text)?.as_str(), want);
     }
     Ok(())
 }
@@ -69,8 +73,7 @@ fn tells_faults(rt: HostRuntime) -> Result<(), Fail> {
         ("@comment{x", "expected closing brace: 10-10"),
     ];
     for (text, want) in rows {
-        let found = keys(rt.alloc(), text)?;
-        assert_eq!(rt; found.as_str(), want, "{text}");
+        agrees(&rt, keys(rt.alloc(), text)?.as_str(), want);
     }
     Ok(())
 }
@@ -102,52 +105,66 @@ fn tells_faults_of_texts_cut_short(rt: HostRuntime) -> Result<(), Fail> {
     ];
     for (n, want) in wants.iter().enumerate() {
         let cut = whole.get(..n).ok_or("a cut")?;
-        let found = keys(rt.alloc(), cut)?;
-        assert_eq!(rt; found.as_str(), *want, "{cut}");
+        agrees(&rt, keys(rt.alloc(), cut)?.as_str(), *want);
     }
     Ok(())
 }
 
-// The text of an element, behind a mark that says whether it is an abbreviation's name.
-fn marked(alloc: Global, chunk: &RawChunk<'_>) -> Result<String, Fail> {
-    Ok(match chunk {
-        RawChunk::Normal(text) => format!(in alloc; "text {text}")?,
-        RawChunk::Abbreviation(name) => format!(in alloc; "name {name}")?,
-    })
+// The text of an element, and whether it is an abbreviation's name.
+fn text_of<'a>(chunk: &RawChunk<'a>) -> (&'a str, bool) {
+    match chunk {
+        RawChunk::Normal(text) => (text, false),
+        RawChunk::Abbreviation(name) => (name, true),
+    }
+}
+
+// A piece of a value is this text, at this place, and an abbreviation's name or not.
+fn is_piece(
+    rt: &impl Abort,
+    piece: Option<&Spanned<RawChunk<'_>>>,
+    text: &str,
+    is_name: bool,
+    span: Span,
+) {
+    let Some(piece) = piece else {
+        return agrees(rt, "no piece", text);
+    };
+    let (found, is_found_name) = text_of(&piece.v);
+    agrees(rt, found, text);
+    assert!(rt; is_found_name == is_name && piece.span == span, "{text}");
 }
 
 #[test]
 fn keeps_spans_and_slices(rt: HostRuntime) -> Result<(), Fail> {
     let text = "@string{BT = \"bibtex\"} @book{k, title = BT # {x} # 12 }";
-    let raw = RawBibliography::parse(rt.alloc(), text)?;
+    let raw = parsed(rt.alloc(), text)?;
     let pair = raw.abbreviations.first().ok_or("an abbreviation")?;
-    assert_eq!(rt; pair.key.v, "BT");
-    let piece = pair.value.v.first().ok_or("a piece")?;
-    assert_eq!(rt; marked(rt.alloc(), &piece.v)?.as_str(), "text bibtex");
-    assert_eq!(rt; piece.span, 14..20);
+    agrees(&rt, pair.key.v, "BT");
+    is_piece(&rt, pair.value.v.first(), "bibtex", false, 14..20);
     let entry = raw.entries.first().ok_or("an entry")?;
-    assert_eq!(rt; entry.span, 23..54);
-    assert_eq!(rt; entry.v.kind.v, "book");
+    agrees(&rt, entry.v.kind.v, "book");
     let title = entry.v.fields.first().ok_or("a field")?;
-    assert_eq!(rt; title.value.span, 40..54);
-    assert_eq!(rt; title.value.v.len(), 3);
-    let name = title.value.v.first().ok_or("a name")?;
-    assert_eq!(rt; marked(rt.alloc(), &name.v)?.as_str(), "name BT");
-    assert_eq!(rt; name.span, 40..42);
+    assert!(rt; entry.span == (23..54) && title.value.span == (40..54));
+    assert!(rt; title.value.v.len() == 3);
+    is_piece(&rt, title.value.v.first(), "BT", true, 40..42);
+    is_piece(&rt, title.value.v.last(), "12", false, 51..53);
     Ok(())
 }
 
 #[test]
 fn joins_preambles(rt: HostRuntime) -> Result<(), Fail> {
     let raw = BiblatexParser::new("@preamble{\"a\"} @preamble{\"b\"}").parse(rt.alloc())?;
-    assert_eq!(rt; raw.preamble.as_str(), "\"a\" # \"b\"");
+    agrees(&rt, raw.preamble.as_str(), "\"a\" # \"b\"");
     Ok(())
 }
 
 // A fault lies in its text.
 fn lies_within(rt: &impl Abort, error: &ParseError, text: &str) {
-    assert!(rt; error.span.start <= error.span.end, "{error}");
-    assert!(rt; error.span.end <= text.len(), "{error}");
+    let Span { start, end } = error.span;
+    assert!(rt;
+        start <= end && end <= text.len(),
+        "{start}-{end} in {text}"
+    );
 }
 
 #[test]
@@ -167,7 +184,7 @@ fn reads_every_front_of_the_examples(rt: HostRuntime) -> Result<(), Fail> {
     for text in texts {
         for n in 0..=text.len() {
             if let Some(front) = text.get(..n) {
-                if let Err(error) = RawBibliography::parse(rt.alloc(), front) {
+                if let Err(error) = parsed(rt.alloc(), front) {
                     lies_within(&rt, &error, front);
                 }
             }
@@ -176,17 +193,23 @@ fn reads_every_front_of_the_examples(rt: HostRuntime) -> Result<(), Fail> {
     Ok(())
 }
 
-#[test]
-fn reads_deep_and_long_values(rt: HostRuntime) -> Result<(), Fail> {
-    let mut text = String::from_str(rt.alloc(), "@misc{a, title=")?;
-    for _ in 0..100_000 {
+// A title in so many braces.
+fn deep(alloc: Global, braces: usize) -> Result<String, AllocError> {
+    let mut text = String::from_str(alloc, "@misc{a, title=")?;
+    for _ in 0..braces {
         text.push('{')?;
     }
-    for _ in 0..100_000 {
+    for _ in 0..braces {
         text.push('}')?;
     }
     text.push('}')?;
-    assert_eq!(rt; keys(rt.alloc(), &text)?.as_str(), "|a");
+    Ok(text)
+}
+
+#[test]
+fn reads_deep_and_long_values(rt: HostRuntime) -> Result<(), Fail> {
+    let text = deep(rt.alloc(), 100_000)?;
+    agrees(&rt, keys(rt.alloc(), text.as_str())?.as_str(), "|a");
     Ok(())
 }
 
