@@ -379,31 +379,22 @@ fn reads_a_long_chain_of_names(rt: HostRuntime) -> Result<(), Fail> {
     Ok(())
 }
 
-// What each field says, or its fault, by one reader, each behind a line's end.
-fn said_in_turn<'a>(
-    alloc: Global,
-    reader: &mut FieldReader<'a, 'a>,
-    fields: &'a [Pair<'a>],
-) -> Result<String, Fail> {
-    let mut out = String::new(alloc);
-    for field in fields {
-        let found = told(alloc, reader.read(field.key.v, &field.value.v))?;
-        out.push('\n')?;
-        out.push_str(found.as_str())?;
-    }
-    Ok(out)
-}
-
-// What each field of a file's last entry says by one reader.
+// What each field of a file's last entry says, or its fault, by one reader, each behind a line's end.
 fn said_by_one_reader(alloc: Global, file: &str) -> Result<String, Fail> {
     let raw = parsed(alloc, file)?;
     let mut names = BTreeMap::new(alloc);
     for pair in &raw.abbreviations {
         names.insert(pair.key.v, &pair.value.v)?;
     }
-    let entry = raw.entries.last().ok_or("an entry")?;
     let mut reader = FieldReader::new(alloc, names);
-    said_in_turn(alloc, &mut reader, entry.v.fields.as_slice())
+    let entry = raw.entries.last().ok_or("an entry")?;
+    let mut out = String::new(alloc);
+    for field in &entry.v.fields {
+        let found = told(alloc, reader.read(field.key.v, &field.value.v))?;
+        out.push('\n')?;
+        out.push_str(found.as_str())?;
+    }
+    Ok(out)
 }
 
 #[test]
