@@ -31,7 +31,8 @@ pub trait Source {
     /// Reads all the bytes that are left.
     fn read_all(&mut self, alloc: Global) -> Result<Vec<u8>, SourceError>
         ensures given { IfOk result (λ bytes. gives self.old bytes.items) }
-        ensures failed { result ≡ Err SourceError.Failed → failures self.old < 2 ^ 64 - 1 → failures self.old < failures self.new };
+        ensures failed { result ≡ Err SourceError.Failed → failures self.old < 2 ^ 64 - 1 →
+            failures self.old < failures self.new };
 }
 
 // What is printed, and the status.
@@ -65,7 +66,8 @@ fn key_lines(alloc: Global, raw: &RawBibliography<'_>) -> Result<String, AllocEr
 
 // The answer of the command `keys` for an input.
 fn keys(alloc: Global, bytes: &[u8]) -> Result<Answer, AllocError>
-    ensures { IfOk result (λ answer. IsKeysAnswer bytes.now (string_bytes answer.text) answer.status) }
+    ensures { IfOk result (λ answer. IsKeysAnswer bytes.now
+        (string_bytes answer.text) answer.status) }
 {
     let Ok(text) = str::from_utf8(bytes) else {
         return Ok(Answer {
@@ -85,7 +87,8 @@ fn keys(alloc: Global, bytes: &[u8]) -> Result<Answer, AllocError>
 
 // The answer for an input with a fault.
 fn fault(alloc: Global, error: &ParseError) -> Result<Answer, AllocError>
-    ensures { IfOk result (λ answer. (error.now.kind ≢ OutOfMemory) × (string_bytes answer.text ≡ error_line (error_text error.now)) × (answer.status ≡ 1)) }
+    ensures { IfOk result (λ answer. (error.now.kind ≢ OutOfMemory) ×
+        (string_bytes answer.text ≡ error_line (error_text error.now)) × (answer.status ≡ 1)) }
 {
     match &error.kind {
         ParseErrorKind::OutOfMemory => Err(AllocError),
@@ -98,7 +101,8 @@ fn fault(alloc: Global, error: &ParseError) -> Result<Answer, AllocError>
 
 // Prints a text, and answers the status: 1 if the text was refused.
 fn print<K: Sink>(output: &mut K, text: &str, status: u8) -> u8
-    ensures printed { K.refusals output.old < 2 ^ 64 - 1 → K.refusals output.new ≡ K.refusals output.old →
+    ensures printed { K.refusals output.old < 2 ^ 64 - 1 →
+        K.refusals output.new ≡ K.refusals output.old →
         Appends (K.taken output.old) (K.taken output.new) text.now × (result ≡ status) }
     ensures refused { K.refusals output.new ≢ K.refusals output.old → result ≡ 1 }
 {
@@ -111,9 +115,11 @@ fn print<K: Sink>(output: &mut K, text: &str, status: u8) -> u8
 /// any of it is written. A refused write gives status 1, and nothing more is written.
 pub fn run<S: Source, K: Sink>(alloc: Global, words: &[String], input: &mut S, output: &mut K) -> u8
     ensures unread { (IsKeys (map string_bytes words.now) → ⊥) → input.new ≡ input.old }
-    ensures printed { K.refusals output.old < 2 ^ 64 - 1 → K.refusals output.new ≡ K.refusals output.old →
-        (text : List ℕ) × Appends (K.taken output.old) (K.taken output.new) text
-        × IsAnswer (map string_bytes words.now) (S.gives input.old) (S.failures input.old < 2 ^ 64 - 1 → S.failures input.old < S.failures input.new) text result }
+    ensures printed { K.refusals output.old < 2 ^ 64 - 1 →
+        K.refusals output.new ≡ K.refusals output.old →
+        (text : List ℕ) × Appends (K.taken output.old) (K.taken output.new) text ×
+        IsAnswer (map string_bytes words.now) (S.gives input.old)
+        (S.failures input.old < 2 ^ 64 - 1 → S.failures input.old < S.failures input.new) text result }
     ensures refused { K.refusals output.new ≢ K.refusals output.old → result ≡ 1 }
 {
     if !is_keys(words) {

@@ -48,7 +48,8 @@ impl<T> Spanned<T> {
 
     /// A value that stands nowhere: both ends are `usize::MAX`.
     pub fn detached(v: T) -> Self
-        ensures { result ≡ record { v = v; span = record { start = 2 ^ 64 - 1; end = 2 ^ 64 - 1 } } }
+        ensures { result ≡
+            record { v = v; span = record { start = 2 ^ 64 - 1; end = 2 ^ 64 - 1 } } }
     {
         Spanned {
             v,
@@ -128,7 +129,8 @@ impl Chunk {
 
     /// The text of the chunk as it is written in a field, verbatim or not, without braces and dollar signs round it.
     pub fn to_biblatex_string(&self, alloc: Global, is_verbatim: bool) -> Result<String, AllocError>
-        ensures { IfOk result (λ text. string_bytes text ≡ encode_utf8_all (written_chunk is_verbatim self.now)) }
+        ensures { IfOk result (λ text. string_bytes text ≡
+            encode_utf8_all (written_chunk is_verbatim self.now)) }
     {
         writing::chunk_text(alloc, self, is_verbatim)
     }

@@ -43,11 +43,18 @@ pub fn parse_field(
     field: &Field<'_>,
     abbreviations: &HashMap<&str, &Field<'_>>,
 ) -> Result<Chunks, ParseError>
-    ensures read { IfOk result (λ chunks. Evaluates (defined_in abbreviations.now) (abbreviation.is_verbatim_field key.now) (map piece_of field.now.items) (styled chunks)) }
-    ensures readable { OnOk result (IsReadable (defined_in abbreviations.now) (abbreviation.is_verbatim_field key.now) (map piece_of field.now.items)) }
-    ensures refused { IfErr result (λ e. (e ≡ out_of_memory) ⊎ (IsFirstFault (defined_in abbreviations.now) (abbreviation.is_verbatim_field key.now) [] (map piece_of field.now.items) e × (IsReadable (defined_in abbreviations.now) (abbreviation.is_verbatim_field key.now) (map piece_of field.now.items) → ⊥))) }
+    ensures read { IfOk result (λ chunks. Evaluates (defined_in abbreviations.now)
+        (abbreviation.is_verbatim_field key.now) (map piece_of field.now.items) (styled chunks)) }
+    ensures readable { OnOk result (IsReadable (defined_in abbreviations.now)
+        (abbreviation.is_verbatim_field key.now) (map piece_of field.now.items)) }
+    ensures refused { IfErr result (λ e. (e ≡ out_of_memory) ⊎
+        (IsFirstFault (defined_in abbreviations.now) (abbreviation.is_verbatim_field key.now) []
+        (map piece_of field.now.items) e ×
+        (IsReadable (defined_in abbreviations.now) (abbreviation.is_verbatim_field key.now)
+        (map piece_of field.now.items) → ⊥))) }
     ensures joined { IfOk result AreJoined }
-    ensures placed { (p : Part) → map piece_of field.now.items ≡ literal p ∷ [] → p.end ≡ p.start + length p.text → IfOk result (ArePlaced p.start p.end) }
+    ensures placed { (p : Part) → map piece_of field.now.items ≡ literal p ∷ [] →
+        p.end ≡ p.start + length p.text → IfOk result (ArePlaced p.start p.end) }
 {
     field_contents(alloc, is_verbatim_field(key), field, abbreviations)
 }

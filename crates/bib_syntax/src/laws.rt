@@ -6,7 +6,8 @@ ghost use Rattle.bib_syntax.specs.Reading.{FileReading};
 
 /// A text has at most one raw reading.
 pub fn one_reading()
-    ensures { (text : List ℕ) (says tells : FileReading) → IsRawReading text says → IsRawReading text tells → says ≡ tells }
+    ensures { (text : List ℕ) (says tells : FileReading) → IsRawReading text says →
+        IsRawReading text tells → says ≡ tells }
 {}
 
 /// The texts that the file grammar reads, where runs may end anywhere, are those that have a raw reading, where each

@@ -28,7 +28,9 @@ impl<'s> Model for Scanner<'s> {
 // The character at a place and the place behind it, if the text goes on.
 fn char_at(text: &str, at: usize) -> Option<char>
     requires { IsCharBoundary text.now at }
-    ensures { MatchOption result (AtEnd (place text.now at)) (λ c. (v : Place) × CharAt (place text.now at) c v) }
+    ensures { MatchOption result
+        (AtEnd (place text.now at))
+        (λ c. (v : Place) × CharAt (place text.now at) c v) }
 {
     text[at..].chars().next()
 }
@@ -82,7 +84,9 @@ impl<'s> Scanner<'s> {
 
     /// Whether this character stands here.
     pub fn at(&self, c: char) -> bool
-        ensures { MatchBool result ((v : Place) × CharAt self.now c v) ((v : Place) → CharAt self.now c v → ⊥) }
+        ensures { MatchBool result
+            ((v : Place) × CharAt self.now c v)
+            ((v : Place) → CharAt self.now c v → ⊥) }
     {
         match self.peek() {
             Some(here) => here == c,
@@ -100,7 +104,9 @@ impl<'s> Scanner<'s> {
 
     /// Takes the character that stands here.
     pub fn eat(&mut self) -> Option<char>
-        ensures { MatchOption result (AtEnd self.old × (self.new ≡ self.old)) (λ c. CharAt self.old c self.new) }
+        ensures { MatchOption result
+            (AtEnd self.old × (self.new ≡ self.old))
+            (λ c. CharAt self.old c self.new) }
     {
         let c = self.peek()?;
         self.pass(c);
@@ -109,7 +115,9 @@ impl<'s> Scanner<'s> {
 
     /// Takes this character if it stands here, and says whether it did.
     pub fn eat_if(&mut self, c: char) -> bool
-        ensures { MatchBool result (CharAt self.old c self.new) ((self.new ≡ self.old) × ((v : Place) → CharAt self.old c v → ⊥)) }
+        ensures { MatchBool result
+            (CharAt self.old c self.new)
+            ((self.new ≡ self.old) × ((v : Place) → CharAt self.old c v → ⊥)) }
     {
         if !self.at(c) {
             return false;
@@ -151,7 +159,8 @@ impl<'s> Scanner<'s> {
     /// Takes characters until one passes a test, and gives the text that they are.
     pub fn eat_until<F: Fn(char) -> bool>(&mut self, test: F) -> &'s str
         requires { F.IsAlwaysCallable test }
-        ensures longest { (p : ℕ → Bool) → Answers (F.post test) p → Longest (λ c. not (p c)) self.old self.new }
+        ensures longest { (p : ℕ → Bool) → Answers (F.post test) p →
+            Longest (λ c. not (p c)) self.old self.new }
         ensures eaten { result.now ≡ between self.old self.new }
     {
         self.eat_while(|c| !test(c))

@@ -84,7 +84,8 @@ pub(crate) fn claims(alloc: Global, entry: &Entry) -> Result<Vec<Text>, AllocErr
 fn claim_next(entries: &mut Vec<Entry>, names: &mut Names, entry: &Entry) -> Result<(), AllocError>
     ensures same_entries { entries.new.items ≡ entries.old.items }
     ensures room { OnOk result (vec_len entries.new < vec_capacity entries.new) }
-    ensures claimed { OnOk result (names.new ≡ claimed names.old (claims_for (length entries.old.items) (claims entry.now))) }
+    ensures claimed { OnOk result (names.new ≡ claimed names.old
+        (claims_for (length entries.old.items) (claims entry.now))) }
     ensures refused { OnErr result (names.new ≡ names.old) }
 {
     let claims = claims(*entries.allocator(), entry)?;
@@ -109,9 +110,12 @@ impl Bibliography {
     /// the first entry whose key an earlier one claimed (`DuplicateKey`, at the entry) or which has a field that can't be
     /// read. Spans are in bytes of the text.
     pub fn parse(alloc: Global, src: &str) -> Result<Self, ParseError>
-        ensures loaded { IfOk result (λ library. (says : FileReading) × IsRawReading src.now says × IsLoaded says library) }
+        ensures loaded { IfOk result (λ library. (says : FileReading) × IsRawReading src.now says ×
+            IsLoaded says library) }
         ensures accepted { OnOk result (IsFile src.now) }
-        ensures refused { IfErr result (λ e. Refuses src.now e (IsFile src.now → ⊥) ⊎ ((says : FileReading) × IsRawReading src.now says × IsFaultOf says e × (IsAccepted says → ⊥))) }
+        ensures refused { IfErr result (λ e. Refuses src.now e (IsFile src.now → ⊥) ⊎
+            ((says : FileReading) × IsRawReading src.now says × IsFaultOf says e ×
+            (IsAccepted says → ⊥))) }
     {
         let raw = RawBibliography::parse(alloc, src)?;
         Self::from_raw(alloc, raw)
@@ -123,7 +127,8 @@ impl Bibliography {
     /// entry) or which has a field that can't be read.
     pub fn from_raw(alloc: Global, raw: RawBibliography<'_>) -> Result<Self, ParseError>
         ensures loaded { IfOk result (IsLoaded (file_of raw.entry)) }
-        ensures refused { IfErr result (λ e. (e ≡ out_of_memory) ⊎ (IsFaultOf (file_of raw.entry) e × (IsAccepted (file_of raw.entry) → ⊥))) }
+        ensures refused { IfErr result (λ e. (e ≡ out_of_memory) ⊎
+            (IsFaultOf (file_of raw.entry) e × (IsAccepted (file_of raw.entry) → ⊥))) }
     {
         let (entries, names) = load(alloc, raw)?;
         Ok(Self::from_names(entries, names))

@@ -64,7 +64,8 @@ impl Entry {
     /// Sets the field of the name in lower case, and hands back what it held. A refusal changes nothing, and gives the
     /// chunks back.
     pub fn set(&mut self, name: &str, chunks: Chunks) -> Result<Option<Chunks>, SetError>
-        ensures had { IfOk result (λ had. had ≡ by_name.get self.old.fields (map to_ascii_lowercase name.now)) }
+        ensures had { IfOk result (λ had. had ≡ by_name.get self.old.fields
+            (map to_ascii_lowercase name.now)) }
         ensures set { OnOk result (self.new ≡ record self.old
             { fields = by_name.insert self.old.fields (map to_ascii_lowercase name.now) chunks }) }
         ensures refused { OnErr result (self.new ≡ self.old) }
@@ -84,7 +85,8 @@ impl Entry {
     /// Takes the field of this very name out. Takes no memory.
     pub fn remove(&mut self, name: &str) -> Option<Chunks>
         ensures had { result ≡ by_name.get self.old.fields name.now }
-        ensures removed { self.new ≡ record self.old { fields = by_name.remove self.old.fields name.now } }
+        ensures removed { self.new ≡
+            record self.old { fields = by_name.remove self.old.fields name.now } }
     {
         self.fields.remove(name)
     }

@@ -21,7 +21,8 @@ pub(crate) fn definitions<'f, 's>(
     alloc: Global,
     pairs: &'f [Pair<'s>],
 ) -> Result<BTreeMap<&'s str, &'f Field<'s>>, AllocError>
-    ensures { IfOk result (λ definitions. (name : List ℕ) → sorted_in definitions name ≡ last_definition pairs.now name) }
+    ensures { IfOk result (λ definitions. (name : List ℕ) →
+        sorted_in definitions name ≡ last_definition pairs.now name) }
 {
     let mut definitions = BTreeMap::new(alloc);
     'definitions: for pair in pairs {
@@ -38,7 +39,8 @@ pub(crate) fn read_entry<'f, 's>(
 ) -> Result<Entry, ParseError>
     ensures same { reader.new ≡ reader.old }
     ensures read { IfOk result (λ entry. IsEntryOf (given_by reader.old) raw.now entry) }
-    ensures refused { IfErr result (λ e. (e ≡ out_of_memory) ⊎ IsFieldsFault (given_by reader.old) raw.now.fields.items e) }
+    ensures refused { IfErr result (λ e. (e ≡ out_of_memory) ⊎
+        IsFieldsFault (given_by reader.old) raw.now.fields.items e) }
 {
     let mut pairs = Vec::with_capacity(alloc, raw.fields.len())?;
     'fields: for field in &raw.fields {
@@ -64,7 +66,8 @@ fn read_field<'f, 's>(
     ensures name { IfOk result (λ read. read.0 ≡ field_name field.now) }
     ensures value { IfOk result (λ read. IsFieldOf (given_by reader.old) field.now read.1) }
     ensures readable { OnOk result (IsFieldReadable (given_by reader.old) field.now) }
-    ensures refused { IfErr result (λ e. (e ≡ out_of_memory) ⊎ IsFieldFault (given_by reader.old) field.now e) }
+    ensures refused { IfErr result (λ e. (e ≡ out_of_memory) ⊎
+        IsFieldFault (given_by reader.old) field.now e) }
 {
     let name = field.key.v.to_ascii_lowercase(alloc)?;
     let chunks = reader.read(name.as_str(), &field.value.v)?;

@@ -23,7 +23,8 @@ use std::collections::BTreeMap;
 
 // The fault of a key that an earlier entry claimed.
 fn duplicate(alloc: Global, raw: &Spanned<RawEntry<'_>>) -> Result<ParseError, AllocError>
-    ensures { IfOk result (λ e. e ≡ record { span = raw.now.span; kind = DuplicateKey raw.now.v.key.v.now }) }
+    ensures { IfOk result (λ e. e ≡
+        record { span = raw.now.span; kind = DuplicateKey raw.now.v.key.v.now }) }
 {
     let key = Text::from_str(alloc, raw.v.key.v)?;
     Ok(ParseError {
@@ -39,9 +40,11 @@ fn load_entries<'f, 's>(
     raw: Vec<Spanned<RawEntry<'s>>>,
     definitions: BTreeMap<&'s str, &'f Field<'s>>,
 ) -> Result<(Vec<Entry>, Names), ParseError>
-    ensures loaded { IfOk result (λ all. IsLoadedSoFar (sorted_in definitions.entry) (map entry_of raw.entry.items) all.0.items all.1) }
+    ensures loaded { IfOk result (λ all. IsLoadedSoFar (sorted_in definitions.entry)
+        (map entry_of raw.entry.items) all.0.items all.1) }
     ensures below { IfOk result (λ all. ArePlacesBelow (length all.0.items) all.1) }
-    ensures refused { IfErr result (λ e. (e ≡ out_of_memory) ⊎ IsFaultOfEntries (sorted_in definitions.entry) [] (map entry_of raw.entry.items) e) }
+    ensures refused { IfErr result (λ e. (e ≡ out_of_memory) ⊎
+        IsFaultOfEntries (sorted_in definitions.entry) [] (map entry_of raw.entry.items) e) }
 {
     let mut reader = FieldReader::new(alloc, definitions);
     let mut entries = Vec::with_capacity(alloc, raw.len())?;
@@ -62,7 +65,9 @@ pub(crate) fn load(
     alloc: Global,
     raw: RawBibliography<'_>,
 ) -> Result<(Vec<Entry>, Names), ParseError>
-    ensures loaded { IfOk result (λ all. IsLoadedSoFar (definition_in (file_of raw.entry).abbreviations) (file_of raw.entry).entries all.0.items all.1) }
+    ensures loaded { IfOk result (λ all. IsLoadedSoFar
+        (definition_in (file_of raw.entry).abbreviations)
+        (file_of raw.entry).entries all.0.items all.1) }
     ensures below { IfOk result (λ all. ArePlacesBelow (length all.0.items) all.1) }
     ensures refused { IfErr result (λ e. (e ≡ out_of_memory) ⊎ IsFaultOf (file_of raw.entry) e) }
 {

@@ -17,5 +17,6 @@ pub trait Sink {
     fn write_str(&mut self, text: &str) -> bool
         ensures took { OnTrue result (Appends (taken self.old) (taken self.new) text.now) }
         ensures same { OnTrue result (refusals self.new ≡ refusals self.old) }
-        ensures refused { OnFalse result (refusals self.old < 2 ^ 64 - 1 → refusals self.old < refusals self.new) };
+        ensures refused { OnFalse result (refusals self.old < 2 ^ 64 - 1 →
+            refusals self.old < refusals self.new) };
 }

@@ -32,7 +32,8 @@ impl Parts {
 
     // Adds a chunk to the part that goes on.
     fn add(&mut self, chunk: Spanned<Chunk>) -> Result<(), AllocError>
-        ensures { OnOk result (self.new ≡ record { done = self.old.done; last = self.old.last ++ chunk ∷ [] }) }
+        ensures { OnOk result (self.new ≡
+            record { done = self.old.done; last = self.old.last ++ chunk ∷ [] }) }
     {
         self.last.push(chunk)?;
         Ok(())
@@ -40,7 +41,8 @@ impl Parts {
 
     // Ends the part that goes on.
     fn end(&mut self, alloc: Global) -> Result<(), AllocError>
-        ensures { OnOk result (self.new ≡ record { done = self.old.done ++ self.old.last ∷ []; last = [] }) }
+        ensures { OnOk result (self.new ≡
+            record { done = self.old.done ++ self.old.last ∷ []; last = [] }) }
     {
         let part = mem::replace(&mut self.last, Items::new(alloc));
         self.done.push(part)?;
@@ -299,7 +301,8 @@ fn trimmed(
     first: bool,
     last: bool,
 ) -> Result<Spanned<Chunk>, AllocError>
-    ensures { IfOk result (λ c. c ≡ placed (trimmed first last chunk.now.v) chunk.now.span.start chunk.now.span.end) }
+    ensures { IfOk result (λ c. c ≡ placed
+        (trimmed first last chunk.now.v) chunk.now.span.start chunk.now.span.end) }
 {
     match &chunk.v {
         Chunk::Normal(text) => normal(

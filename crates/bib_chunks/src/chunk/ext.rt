@@ -18,12 +18,14 @@ pub trait ChunksExt {
     /// The text of the chunks: math between dollar signs, and in normal text a line break as a space, or as nothing
     /// behind white space.
     fn format_verbatim(&self, alloc: Global) -> Result<String, AllocError>
-        ensures { IfOk result (λ text. string_bytes text ≡ encode_utf8_all (formatted (contents self.now))) };
+        ensures { IfOk result (λ text. string_bytes text ≡
+            encode_utf8_all (formatted (contents self.now))) };
 
     /// The text of the chunks as a sentence has it: as `format_verbatim`, with the characters of normal chunks in lower
     /// case, and in upper case where the character is the first of the first chunk.
     fn format_sentence(&self, alloc: Global) -> Result<String, AllocError>
-        ensures { IfOk result (λ text. string_bytes text ≡ encode_utf8_all (sentence (contents self.now))) };
+        ensures { IfOk result (λ text. string_bytes text ≡
+            encode_utf8_all (sentence (contents self.now))) };
 
     /// From the start of the first chunk to the end of the last, in bytes; `0..0` where there is none.
     fn span(&self) -> Span
@@ -31,7 +33,8 @@ pub trait ChunksExt {
 
     /// The value as it is written in a file, in its braces, for a verbatim field or another.
     fn to_biblatex_string(&self, alloc: Global, is_verbatim: bool) -> Result<String, AllocError>
-        ensures { IfOk result (λ text. string_bytes text ≡ encode_utf8_all (written_value is_verbatim (contents self.now))) };
+        ensures { IfOk result (λ text. string_bytes text ≡
+            encode_utf8_all (written_value is_verbatim (contents self.now))) };
 }
 
 impl ChunksExt for ChunksRef<'_> {

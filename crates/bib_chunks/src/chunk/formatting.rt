@@ -44,7 +44,8 @@ fn write_break(out: &mut String, space: bool) -> Result<(), AllocError>
 // Writes a normal text on one line, behind white space or not, and answers whether white space stands behind it.
 fn write_flowing(out: &mut String, text: &str, space: bool) -> Result<bool, AllocError>
     ensures written { OnOk result (Writes out.old out.new (flowing space (chars text.now))) }
-    ensures behind { IfOk result (λ after. after ≡ ends_in_space space (flowing space (chars text.now))) }
+    ensures behind { IfOk result (λ after. after ≡
+        ends_in_space space (flowing space (chars text.now))) }
 {
     let mut scanner = Scanner::new(text);
     let mut after = space;
@@ -62,7 +63,8 @@ fn write_flowing(out: &mut String, text: &str, space: bool) -> Result<bool, Allo
 
 // Writes a chunk behind white space or not, and answers whether white space stands behind it.
 fn write_chunk(out: &mut String, chunk: &Chunk, space: bool) -> Result<bool, AllocError>
-    ensures written { OnOk result (Writes out.old out.new (formatted_chunk (λ cs. cs) space chunk.now)) }
+    ensures written { OnOk result (Writes out.old out.new
+        (formatted_chunk (λ cs. cs) space chunk.now)) }
     ensures behind { IfOk result (λ after. after ≡ space_behind space chunk.now) }
 {
     match chunk {
@@ -151,8 +153,10 @@ fn write_sentence_text(
     begins: bool,
     space: bool,
 ) -> Result<bool, AllocError>
-    ensures written { OnOk result (Writes out.old out.new (sentence_case begins (flowing space (chars text.now)))) }
-    ensures behind { IfOk result (λ after. after ≡ ends_in_space space (flowing space (chars text.now))) }
+    ensures written { OnOk result (Writes out.old out.new
+        (sentence_case begins (flowing space (chars text.now)))) }
+    ensures behind { IfOk result (λ after. after ≡
+        ends_in_space space (flowing space (chars text.now))) }
 {
     let mut scanner = Scanner::new(text);
     let mut first = begins;
@@ -175,7 +179,8 @@ fn write_sentence_chunk(
     begins: bool,
     space: bool,
 ) -> Result<bool, AllocError>
-    ensures written { OnOk result (Writes out.old out.new (formatted_chunk (sentence_case begins) space chunk.now)) }
+    ensures written { OnOk result (Writes out.old out.new
+        (formatted_chunk (sentence_case begins) space chunk.now)) }
     ensures behind { IfOk result (λ after. after ≡ space_behind space chunk.now) }
 {
     match chunk {

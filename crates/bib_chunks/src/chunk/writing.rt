@@ -187,7 +187,8 @@ pub(super) fn chunk_text(
     chunk: &Chunk,
     is_verbatim: bool,
 ) -> Result<String, AllocError>
-    ensures { IfOk result (λ text. string_bytes text ≡ encode_utf8_all (written_chunk is_verbatim chunk.now)) }
+    ensures { IfOk result (λ text. string_bytes text ≡
+        encode_utf8_all (written_chunk is_verbatim chunk.now)) }
 {
     let mut out = String::new(alloc);
     write_chunk(&mut out, chunk, is_verbatim)?;
@@ -200,7 +201,8 @@ pub(super) fn value_text(
     chunks: ChunksRef<'_>,
     is_verbatim: bool,
 ) -> Result<String, AllocError>
-    ensures { IfOk result (λ text. string_bytes text ≡ encode_utf8_all (written_value is_verbatim chunks.now)) }
+    ensures { IfOk result (λ text. string_bytes text ≡
+        encode_utf8_all (written_value is_verbatim chunks.now)) }
 {
     let mut out = String::new(alloc);
     out.push('{')?;

@@ -29,10 +29,13 @@ pub(crate) fn field_contents<'a>(
     field: &Field<'a>,
     definitions: &'a HashMap<&'a str, &'a Field<'a>>,
 ) -> Result<Chunks, ParseError>
-    ensures read { IfOk result (λ chunks. Evaluates (defined_in definitions.now) is_verbatim (map piece_of field.now.items) (styled chunks)) }
-    ensures refused { IfErr result (λ e. (e ≡ out_of_memory) ⊎ IsFirstFault (defined_in definitions.now) is_verbatim [] (map piece_of field.now.items) e) }
+    ensures read { IfOk result (λ chunks. Evaluates (defined_in definitions.now) is_verbatim
+        (map piece_of field.now.items) (styled chunks)) }
+    ensures refused { IfErr result (λ e. (e ≡ out_of_memory) ⊎
+        IsFirstFault (defined_in definitions.now) is_verbatim [] (map piece_of field.now.items) e) }
     ensures joined { IfOk result AreJoined }
-    ensures placed { (p : Part) → map piece_of field.now.items ≡ literal p ∷ [] → p.end ≡ p.start + length p.text → IfOk result (ArePlaced p.start p.end) }
+    ensures placed { (p : Part) → map piece_of field.now.items ≡ literal p ∷ [] →
+        p.end ≡ p.start + length p.text → IfOk result (ArePlaced p.start p.end) }
 {
     let source = Source {
         alloc,
@@ -93,7 +96,10 @@ impl<'s> Memo<'s> {
         name: &'s str,
         definition: &'f Field<'s>,
     ) -> Result<Frame<'f, 's>, ParseError>
-        ensures opened { (definitions : Definitions) → definitions name.now ≡ Some (map piece_of definition.now.items) → progress self.old name.now ≡ None → IfOk result (λ frame. Opens definitions self.old self.new name.now frame) }
+        ensures opened { (definitions : Definitions) →
+            definitions name.now ≡ Some (map piece_of definition.now.items) →
+            progress self.old name.now ≡ None →
+            IfOk result (λ frame. Opens definitions self.old self.new name.now frame) }
         ensures err { IfErr result (λ e. e ≡ out_of_memory) }
     {
         self.names.insert(name, Progress::Begun)?;
@@ -107,7 +113,9 @@ impl<'s> Memo<'s> {
     // Ends the expansion of a name.
     fn close(&mut self, frame: &Frame<'_, 's>) -> Result<(), ParseError>
         ensures values { self.new.values ≡ self.old.values }
-        ensures names { OnOk result ((other : List ℕ) → progress self.new other ≡ noted frame.now.name.now (Done frame.now.start (length self.old.values.items)) (progress self.old) other) }
+        ensures names { OnOk result ((other : List ℕ) →
+            progress self.new other ≡ noted frame.now.name.now
+            (Done frame.now.start (length self.old.values.items)) (progress self.old) other) }
         ensures err { IfErr result (λ e. e ≡ out_of_memory) }
     {
         let done = Progress::Done {
@@ -123,7 +131,9 @@ impl<'s> Memo<'s> {
         requires ordered { start ≤ end }
         requires within { end ≤ length self.old.values.items }
         ensures names { self.new.names ≡ self.old.names }
-        ensures values { OnOk result ((more : List (Spanned Chunk)) × (self.new.values.items ≡ self.old.values.items ++ more) × (styled more ≡ styled (chunks_between start end self.old.values.items))) }
+        ensures values { OnOk result ((more : List (Spanned Chunk)) ×
+            (self.new.values.items ≡ self.old.values.items ++ more) ×
+            (styled more ≡ styled (chunks_between start end self.old.values.items))) }
         ensures err { IfErr result (λ e. e ≡ out_of_memory) }
     {
         let mut part = Chunks::new(alloc);
@@ -137,11 +147,13 @@ impl<'m, 'f, 's> Source<'m, 'f, 's> {
     // Reads the contents of a field.
     pub(crate) fn field(self, memo: &mut Memo<'s>, field: &Field<'s>) -> Result<Chunks, ParseError>
         requires sound { IsSoundFor self memo.old [] }
-        ensures read { IfOk result (λ chunks. Says self.entry (map piece_of field.now.items) (styled chunks)) }
+        ensures read { IfOk result (λ chunks. Says self.entry (map piece_of field.now.items)
+            (styled chunks)) }
         ensures sound { OnOk result (IsSoundFor self.entry memo.new []) }
         ensures refused { IfErr result (λ e. Stops self.entry [] (map piece_of field.now.items) e) }
         ensures joined { IfOk result AreJoined }
-        ensures placed { (p : Part) → map piece_of field.now.items ≡ literal p ∷ [] → p.end ≡ p.start + length p.text → IfOk result (ArePlaced p.start p.end) }
+        ensures placed { (p : Part) → map piece_of field.now.items ≡ literal p ∷ [] →
+            p.end ≡ p.start + length p.text → IfOk result (ArePlaced p.start p.end) }
     {
         let mut out = Chunks::new(self.alloc);
         'pieces: for piece in field {
@@ -154,10 +166,12 @@ impl<'m, 'f, 's> Source<'m, 'f, 's> {
     pub(crate) fn read(self, memo: &mut Memo<'s>, field: &Field<'s>) -> Result<Chunks, ParseError>
         requires sound { IsSoundFor self memo.old [] }
         ensures sound { IsSoundFor self.entry memo.new [] }
-        ensures read { IfOk result (λ chunks. Says self.entry (map piece_of field.now.items) (styled chunks)) }
+        ensures read { IfOk result (λ chunks. Says self.entry (map piece_of field.now.items)
+            (styled chunks)) }
         ensures refused { IfErr result (λ e. Stops self.entry [] (map piece_of field.now.items) e) }
         ensures joined { IfOk result AreJoined }
-        ensures placed { (p : Part) → map piece_of field.now.items ≡ literal p ∷ [] → p.end ≡ p.start + length p.text → IfOk result (ArePlaced p.start p.end) }
+        ensures placed { (p : Part) → map piece_of field.now.items ≡ literal p ∷ [] →
+            p.end ≡ p.start + length p.text → IfOk result (ArePlaced p.start p.end) }
     {
         let read = self.field(memo, field);
         if read.is_err() {
@@ -174,10 +188,14 @@ impl<'m, 'f, 's> Source<'m, 'f, 's> {
         piece: &Spanned<RawChunk<'s>>,
     ) -> Result<(), ParseError>
         requires sound { IsSoundFor self memo.old [] }
-        ensures said { OnOk result ((atoms : List Atom) × Says self.entry (piece_of piece.now ∷ []) atoms × (styled out.new ≡ styled out.old ++ atoms)) }
+        ensures said { OnOk result ((atoms : List Atom) ×
+            Says self.entry (piece_of piece.now ∷ []) atoms ×
+            (styled out.new ≡ styled out.old ++ atoms)) }
         ensures sound { OnOk result (IsSoundFor self.entry memo.new []) }
         ensures joined { OnOk result (AreJoined out.old → AreJoined out.new) }
-        ensures placed { OnOk result ((p : Part) → piece_of piece.now ≡ literal p → p.end ≡ p.start + length p.text → (low : ℕ) → ArePlaced low p.start out.old → ArePlaced low p.end out.new) }
+        ensures placed { OnOk result ((p : Part) → piece_of piece.now ≡ literal p →
+            p.end ≡ p.start + length p.text → (low : ℕ) → ArePlaced low p.start out.old →
+            ArePlaced low p.end out.new) }
         ensures refused { IfErr result (λ e. StopsAt self.entry [] (piece_of piece.now) e) }
     {
         if let RawChunk::Normal(text) = piece.v {
@@ -195,7 +213,9 @@ impl<'m, 'f, 's> Source<'m, 'f, 's> {
         piece: &Spanned<RawChunk<'s>>,
     ) -> Result<(), ParseError>
         requires sound { IsSoundFor self memo.old [] }
-        ensures said { OnOk result ((atoms : List Atom) × Says self.entry (piece_of piece.now ∷ []) atoms × (styled out.new ≡ styled out.old ++ atoms)) }
+        ensures said { OnOk result ((atoms : List Atom) ×
+            Says self.entry (piece_of piece.now ∷ []) atoms ×
+            (styled out.new ≡ styled out.old ++ atoms)) }
         ensures sound { OnOk result (IsSoundFor self.entry memo.new []) }
         ensures joined { OnOk result (AreJoined out.old → AreJoined out.new) }
         ensures refused { IfErr result (λ e. StopsAt self.entry [] (piece_of piece.now) e) }
@@ -216,9 +236,11 @@ impl<'m, 'f, 's> Source<'m, 'f, 's> {
         requires sound { IsSoundFor self memo.old (first.name.now ∷ []) }
         requires defined { known_to self first.name.now ≡ Some (map piece_of first.rest.now) }
         requires start { first.start ≡ length memo.old.values.items }
-        ensures said { OnOk result (Adds self.entry memo.old memo.new (map piece_of first.entry.rest.now)) }
+        ensures said { OnOk result (Adds self.entry memo.old memo.new
+            (map piece_of first.entry.rest.now)) }
         ensures sound { OnOk result (IsSoundFor self.entry memo.new []) }
-        ensures refused { IfErr result (λ e. Stops self.entry (first.entry.name.now ∷ []) (map piece_of first.entry.rest.now) e) }
+        ensures refused { IfErr result (λ e. Stops self.entry (first.entry.name.now ∷ [])
+            (map piece_of first.entry.rest.now) e) }
     {
         let mut frames: Vec<Frame<'f, 's>> = Vec::new(self.alloc);
         let mut frame = first;
@@ -246,8 +268,10 @@ impl<'m, 'f, 's> Source<'m, 'f, 's> {
         piece: &Spanned<RawChunk<'s>>,
     ) -> Result<Option<Frame<'f, 's>>, ParseError>
         requires within { AreWithin memo.old }
-        ensures taken { (path : List (List ℕ)) → IsSoundFor self.entry memo.old path → IfOk result (IsTaken self.entry memo.old memo.new (piece_of piece.now)) }
-        ensures refused { (path : List (List ℕ)) → IsSoundFor self.entry memo.old path → IfErr result (λ e. StopsAt self.entry path (piece_of piece.now) e) }
+        ensures taken { (path : List (List ℕ)) → IsSoundFor self.entry memo.old path →
+            IfOk result (IsTaken self.entry memo.old memo.new (piece_of piece.now)) }
+        ensures refused { (path : List (List ℕ)) → IsSoundFor self.entry memo.old path →
+            IfErr result (λ e. StopsAt self.entry path (piece_of piece.now) e) }
     {
         match piece.v {
             RawChunk::Normal(text) => {
@@ -261,8 +285,11 @@ impl<'m, 'f, 's> Source<'m, 'f, 's> {
     // A text.
     fn text(self, memo: &mut Memo<'s>, text: &str, offset: usize) -> Result<(), ParseError>
         ensures names { memo.new.names ≡ memo.old.names }
-        ensures said { OnOk result ((p : Part) → p.text ≡ text.now → Adds self.entry memo.old memo.new (literal p ∷ [])) }
-        ensures refused { IfErr result (λ e. (e ≡ out_of_memory) ⊎ ((p : Part) (path : List (List ℕ)) (rest : List Piece) → p.text ≡ text.now → IsFirstFault (known_to self.entry) self.entry.is_verbatim path (literal p ∷ rest) e)) }
+        ensures said { OnOk result ((p : Part) → p.text ≡ text.now →
+            Adds self.entry memo.old memo.new (literal p ∷ [])) }
+        ensures refused { IfErr result (λ e. (e ≡ out_of_memory) ⊎
+            ((p : Part) (path : List (List ℕ)) (rest : List Piece) → p.text ≡ text.now →
+            IsFirstFault (known_to self.entry) self.entry.is_verbatim path (literal p ∷ rest) e)) }
     {
         let mut part = Chunks::new(self.alloc);
         contents(&mut part, self.alloc, text, offset, self.is_verbatim)?;
@@ -278,8 +305,12 @@ impl<'m, 'f, 's> Source<'m, 'f, 's> {
         span: &Span,
     ) -> Result<Option<Frame<'f, 's>>, ParseError>
         requires within { AreWithin memo.old }
-        ensures taken { (path : List (List ℕ)) → IsSoundFor self.entry memo.old path → IfOk result (IsTaken self.entry memo.old memo.new (abbreviation (part_at name.now span.now))) }
-        ensures refused { (path : List (List ℕ)) → IsSoundFor self.entry memo.old path → IfErr result (λ e. StopsAt self.entry path (abbreviation (part_at name.now span.now)) e) }
+        ensures taken { (path : List (List ℕ)) → IsSoundFor self.entry memo.old path →
+            IfOk result (IsTaken self.entry memo.old memo.new
+            (abbreviation (part_at name.now span.now))) }
+        ensures refused { (path : List (List ℕ)) → IsSoundFor self.entry memo.old path →
+            IfErr result (λ e. StopsAt self.entry path
+            (abbreviation (part_at name.now span.now)) e) }
     {
         match memo.names.get(name) {
             Some(Progress::Begun) => Err(ParseError {
@@ -303,8 +334,12 @@ impl<'m, 'f, 's> Source<'m, 'f, 's> {
         span: &Span,
     ) -> Result<Option<Frame<'f, 's>>, ParseError>
         requires fresh { progress memo.old name.now ≡ None }
-        ensures taken { IfOk result (IsTaken self.entry memo.old memo.new (abbreviation (part_at name.now span.now))) }
-        ensures refused { IfErr result (λ e. (e ≡ out_of_memory) ⊎ ((path : List (List ℕ)) (rest : List Piece) → IsFirstFault (known_to self.entry) self.entry.is_verbatim path (abbreviation (part_at name.now span.now) ∷ rest) e)) }
+        ensures taken { IfOk result (IsTaken self.entry memo.old memo.new
+            (abbreviation (part_at name.now span.now))) }
+        ensures refused { IfErr result (λ e. (e ≡ out_of_memory) ⊎
+            ((path : List (List ℕ)) (rest : List Piece) →
+            IsFirstFault (known_to self.entry) self.entry.is_verbatim path
+            (abbreviation (part_at name.now span.now) ∷ rest) e)) }
     {
         if let Some(definition) = self.definitions.get(name) {
             return Ok(Some(memo.open(name, definition)?));

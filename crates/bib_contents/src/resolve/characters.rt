@@ -50,7 +50,9 @@ impl<'s> Characters<'s> {
 
     // The character that stands here.
     pub(crate) fn peek(&self) -> Option<char>
-        ensures { MatchOption result (left self.now ≡ []) (λ c. (rest : List ℕ) × (left self.now ≡ c ∷ rest)) }
+        ensures { MatchOption result
+            (left self.now ≡ [])
+            (λ c. (rest : List ℕ) × (left self.now ≡ c ∷ rest)) }
     {
         self.scanner.peek()
     }
@@ -64,14 +66,18 @@ impl<'s> Characters<'s> {
 
     // Takes the character that stands here.
     pub(crate) fn eat(&mut self) -> Option<char>
-        ensures { MatchOption result ((left self.old ≡ []) × (self.new ≡ self.old)) (λ c. Passes self.old (c ∷ []) self.new) }
+        ensures { MatchOption result
+            ((left self.old ≡ []) × (self.new ≡ self.old))
+            (λ c. Passes self.old (c ∷ []) self.new) }
     {
         self.scanner.eat()
     }
 
     // Takes this character if it stands here, and says whether it did.
     pub(crate) fn eat_if(&mut self, c: char) -> bool
-        ensures { MatchBool result (Passes self.old (c ∷ []) self.new) ((self.new ≡ self.old) × (begins (λ d. d == c) (left self.old) ≡ false)) }
+        ensures { MatchBool result
+            (Passes self.old (c ∷ []) self.new)
+            ((self.new ≡ self.old) × (begins (λ d. d == c) (left self.old) ≡ false)) }
     {
         self.scanner.eat_if(c)
     }
@@ -81,7 +87,8 @@ impl<'s> Characters<'s> {
         requires callable { F.IsAlwaysCallable test }
         requires is_test { (p : ℕ → Bool) × Answers (F.post test) p }
         ensures passed { Passes self.old (chars result.now) self.new }
-        ensures longest { (p : ℕ → Bool) → Answers (F.post test) p → (list_all p (chars result.now) ≡ true) × (begins p (left self.new) ≡ false) }
+        ensures longest { (p : ℕ → Bool) → Answers (F.post test) p →
+            (list_all p (chars result.now) ≡ true) × (begins p (left self.new) ≡ false) }
     {
         self.scanner.eat_while(test)
     }

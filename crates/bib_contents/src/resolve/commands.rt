@@ -54,7 +54,8 @@ fn accent_mark(name: &str) -> Option<char>
 
 // The text beside a name in a table.
 fn find_text(table: &[(&str, &'static str)], name: &str) -> Option<&'static str>
-    ensures { option_map (λ text. text.now) result ≡ named (map (λ row. (row.0.now, row.1.now)) table.entry.now) name.now }
+    ensures { option_map (λ text. text.now) result ≡
+        named (map (λ row. (row.0.now, row.1.now)) table.entry.now) name.now }
 {
     'rows: for (row_name, text) in table {
         if *row_name == name {
@@ -66,7 +67,8 @@ fn find_text(table: &[(&str, &'static str)], name: &str) -> Option<&'static str>
 
 // The text of the symbol with this name.
 fn symbol(name: &str) -> Option<&'static str>
-    ensures { option_map (λ text. text.now) result ≡ option_map encode_utf8_all (named symbols (chars name.now)) }
+    ensures { option_map (λ text. text.now) result ≡
+        option_map encode_utf8_all (named symbols (chars name.now)) }
 {
     find_text(&SYMBOLS, name)
 }
@@ -141,7 +143,8 @@ fn write_marked(out: &mut String, text: &str, mark: char) -> Result<(), AllocErr
 // Writes what an accent with this mark stands for.
 fn write_accent(out: &mut String, argument: Option<&str>, mark: char) -> Result<(), AllocError>
     requires { IsTrue (is_in_form Nfd (mark ∷ [])) }
-    ensures { OnOk result (Writes out.old out.new (accented mark (option_map (λ text. chars text.now) argument.entry))) }
+    ensures { OnOk result (Writes out.old out.new
+        (accented mark (option_map (λ text. chars text.now) argument.entry))) }
 {
     let Some(text) = argument else {
         out.push(mark)?;
@@ -168,7 +171,8 @@ fn write_other_alone(out: &mut String, name: &str) -> Result<(), AllocError>
 
 // Writes what a command with an argument stands for that is neither an accent nor a symbol.
 fn write_other(out: &mut String, name: &str, argument: &str) -> Result<(), AllocError>
-    ensures { OnOk result (Writes out.old out.new (other (chars name.now) (Some (chars argument.now)))) }
+    ensures { OnOk result (Writes out.old out.new
+        (other (chars name.now) (Some (chars argument.now)))) }
 {
     match name {
         "o" => return write_marked(out, argument, '\u{338}'),
@@ -193,7 +197,9 @@ pub(crate) fn write_command(
     name: &str,
     argument: Option<&str>,
 ) -> Result<(), AllocError>
-    ensures { OnOk result (string_bytes out.new ≡ string_bytes out.old ++ encode_utf8_all (given (chars name.now) (option_map (λ text. chars text.now) argument.entry))) }
+    ensures { OnOk result (string_bytes out.new ≡
+        string_bytes out.old ++ encode_utf8_all
+        (given (chars name.now) (option_map (λ text. chars text.now) argument.entry))) }
 {
     if let Some(mark) = accent_mark(name) {
         return write_accent(out, argument, mark);

@@ -57,7 +57,8 @@ fn is_shown(chunk: &Chunk) -> bool
 
 // The text of an argument: empty chunks are passed over, so that it depends on the styled text alone.
 fn format_argument(alloc: Global, chunks: Chunks) -> Result<String, AllocError>
-    ensures { IfOk result (λ text. string_bytes text ≡ encode_utf8_all (atoms_text false (styled chunks))) }
+    ensures { IfOk result (λ text. string_bytes text ≡
+        encode_utf8_all (atoms_text false (styled chunks))) }
 {
     let mut filled = chunks.into_vec();
     filled.retain(|chunk| is_shown(&chunk.v));
@@ -67,8 +68,11 @@ fn format_argument(alloc: Global, chunks: Chunks) -> Result<String, AllocError>
 // The text of an argument in braces, which is read as contents that are not verbatim.
 #[cycle(contents)]
 fn inner_text(alloc: Global, text: &str, offset: usize) -> Result<String, ParseError>
-    ensures read { IfOk result (λ inside. (inner : List Atom) × Reads false 0 (chars text.now) inner × (string_bytes inside ≡ encode_utf8_all (atoms_text false inner))) }
-    ensures refused { IfErr result (λ e. (e ≡ out_of_memory) ⊎ (IsUnread e.kind × IsStuck false 0 (chars text.now))) }
+    ensures read { IfOk result (λ inside. (inner : List Atom) ×
+        Reads false 0 (chars text.now) inner ×
+        (string_bytes inside ≡ encode_utf8_all (atoms_text false inner))) }
+    ensures refused { IfErr result (λ e. (e ≡ out_of_memory) ⊎
+        (IsUnread e.kind × IsStuck false 0 (chars text.now))) }
 {
     let mut chunks = Items::new(alloc);
     contents(&mut chunks, alloc, text, offset, false)?;
@@ -83,8 +87,13 @@ fn write_unit(
     unit: TextUnit<'_>,
     behind: usize,
 ) -> Result<(), ParseError>
-    ensures written { OnOk result ((inner : List Atom) × ((argument : List ℕ) → held (text_unit_of unit.entry) ≡ Some argument → Reads false 0 argument inner) × Writes text.old text.new (unit_text (text_unit_of unit.entry) inner)) }
-    ensures refused { IfErr result (λ e. (e ≡ out_of_memory) ⊎ (IsUnread e.kind × ((argument : List ℕ) × (held (text_unit_of unit.entry) ≡ Some argument) × IsStuck false 0 argument))) }
+    ensures written { OnOk result ((inner : List Atom) ×
+        ((argument : List ℕ) → held (text_unit_of unit.entry) ≡ Some argument →
+        Reads false 0 argument inner) × Writes text.old text.new
+        (unit_text (text_unit_of unit.entry) inner)) }
+    ensures refused { IfErr result (λ e. (e ≡ out_of_memory) ⊎
+        (IsUnread e.kind × ((argument : List ℕ) × (held (text_unit_of unit.entry) ≡ Some argument) ×
+        IsStuck false 0 argument))) }
 {
     match unit {
         TextUnit::Hyphens(count) => write_dashes(text, count)?,
@@ -141,11 +150,15 @@ fn take(
     span: Span,
 ) -> Result<(), ParseError>
     requires deep { growing.old.depth < 2 ^ 63 }
-    requires spelt { span.end ≡ span.start + length (encode_utf8_all (unit_spelling (unit_of unit))) }
-    ensures taken { OnOk result (Took (unit_of unit.entry) growing.old.depth (so_far out.old growing.old) growing.new.depth (so_far out.new growing.new)) }
-    ensures refused { IfErr result (λ e. (e ≡ out_of_memory) ⊎ (IsUnread e.kind × IsUntaken (unit_of unit.entry) growing.old.depth)) }
+    requires spelt { span.end ≡ span.start + length
+        (encode_utf8_all (unit_spelling (unit_of unit))) }
+    ensures taken { OnOk result (Took (unit_of unit.entry) growing.old.depth
+        (so_far out.old growing.old) growing.new.depth (so_far out.new growing.new)) }
+    ensures refused { IfErr result (λ e. (e ≡ out_of_memory) ⊎
+        (IsUnread e.kind × IsUntaken (unit_of unit.entry) growing.old.depth)) }
     ensures joined { OnOk result (AreJoined out.old → AreJoined out.new) }
-    ensures placed { OnOk result (IsMoved out.old growing.old (saturated (offset + span.start)) out.new growing.new (saturated (offset + span.end))) }
+    ensures placed { OnOk result (IsMoved out.old growing.old
+        (saturated (offset + span.start)) out.new growing.new (saturated (offset + span.end))) }
 {
     let end = offset.saturating_add(span.start);
     let behind = offset.saturating_add(span.end);
@@ -180,10 +193,14 @@ pub(crate) fn contents(
     offset: usize,
     is_verbatim: bool,
 ) -> Result<(), ParseError>
-    ensures read { OnOk result ((atoms : List Atom) × IsContent is_verbatim (chars text.now) atoms × (styled out.new ≡ styled out.old ++ atoms)) }
+    ensures read { OnOk result ((atoms : List Atom) × IsContent is_verbatim (chars text.now) atoms ×
+        (styled out.new ≡ styled out.old ++ atoms)) }
     ensures joined { OnOk result (AreJoined out.old → AreJoined out.new) }
-    ensures placed { OnOk result ((low : ℕ) → ArePlaced low offset out.old → ArePlaced low (saturated (offset + length text.now)) out.new) }
-    ensures refused { IfErr result (λ e. (e ≡ out_of_memory) ⊎ (IsUnread e.kind × ((atoms : List Atom) → IsContent is_verbatim (chars text.now) atoms → ⊥))) }
+    ensures placed { OnOk result ((low : ℕ) → ArePlaced low offset out.old →
+        ArePlaced low (saturated (offset + length text.now)) out.new) }
+    ensures refused { IfErr result (λ e. (e ≡ out_of_memory) ⊎
+        (IsUnread e.kind × ((atoms : List Atom) →
+        IsContent is_verbatim (chars text.now) atoms → ⊥))) }
 {
     let end = offset.saturating_add(text.len());
     let mut s = Characters::new(text);

@@ -20,7 +20,8 @@ pub(crate) enum LookUp<'m, 'f, 's> {
 impl<'m, 'f, 's> LookUp<'m, 'f, 's> {
     // The definition of a name.
     pub(crate) fn get(self, name: &str) -> Option<&'f Field<'s>>
-        ensures { option_map (λ field. map piece_of field.now.items) result ≡ found_in self.entry name.now }
+        ensures { option_map (λ field. map piece_of field.now.items) result ≡
+            found_in self.entry name.now }
     {
         match self {
             LookUp::Hashed(definitions) => definitions.get(name).copied(),

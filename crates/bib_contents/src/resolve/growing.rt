@@ -41,9 +41,11 @@ pub(crate) fn turn(
     behind: usize,
 ) -> Result<(), AllocError>
     ensures atoms { OnOk result (styled out.new ≡ so_far out.old growing.old) }
-    ensures begun { OnOk result ((string_bytes growing.new.text ≡ []) × (growing.new.depth ≡ depth) × (growing.new.start ≡ behind)) }
+    ensures begun { OnOk result ((string_bytes growing.new.text ≡ []) ×
+        (growing.new.depth ≡ depth) × (growing.new.start ≡ behind)) }
     ensures joined { OnOk result (AreJoined out.old → AreJoined out.new) }
-    ensures placed { OnOk result ((low : ℕ) → ArePlaced low growing.old.start out.old → growing.old.start ≤ end → ArePlaced low end out.new) }
+    ensures placed { OnOk result ((low : ℕ) → ArePlaced low growing.old.start out.old →
+        growing.old.start ≤ end → ArePlaced low end out.new) }
 {
     let empty = String::new(*growing.text.allocator());
     let text = std::mem::replace(&mut growing.text, empty);
@@ -66,10 +68,14 @@ pub(crate) fn turn_at_math(
     span: Span,
     behind: usize,
 ) -> Result<(), AllocError>
-    ensures atoms { OnOk result (styled out.new ≡ so_far out.old growing.old ++ Atom.math (chars text.now) ∷ []) }
-    ensures begun { OnOk result ((string_bytes growing.new.text ≡ []) × (growing.new.depth ≡ growing.old.depth) × (growing.new.start ≡ behind)) }
+    ensures atoms { OnOk result (styled out.new ≡
+        so_far out.old growing.old ++ Atom.math (chars text.now) ∷ []) }
+    ensures begun { OnOk result ((string_bytes growing.new.text ≡ []) ×
+        (growing.new.depth ≡ growing.old.depth) × (growing.new.start ≡ behind)) }
     ensures joined { OnOk result (AreJoined out.old → AreJoined out.new) }
-    ensures placed { OnOk result ((low : ℕ) → ArePlaced low growing.old.start out.old → growing.old.start ≤ end → end ≤ span.start → span.start ≤ span.end → ArePlaced low span.end out.new) }
+    ensures placed { OnOk result ((low : ℕ) → ArePlaced low growing.old.start out.old →
+        growing.old.start ≤ end → end ≤ span.start → span.start ≤ span.end →
+        ArePlaced low span.end out.new) }
 {
     let alloc = *growing.text.allocator();
     let depth = growing.depth;
@@ -83,7 +89,8 @@ pub(crate) fn turn_at_math(
 pub(crate) fn finish(out: &mut Chunks, mut growing: Open, end: usize) -> Result<(), AllocError>
     ensures atoms { OnOk result (styled out.new ≡ so_far out.old growing) }
     ensures joined { OnOk result (AreJoined out.old → AreJoined out.new) }
-    ensures placed { OnOk result ((low : ℕ) → ArePlaced low growing.start out.old → growing.start ≤ end → ArePlaced low end out.new) }
+    ensures placed { OnOk result ((low : ℕ) → ArePlaced low growing.start out.old →
+        growing.start ≤ end → ArePlaced low end out.new) }
 {
     if growing.text.as_str().is_empty() && !growing.is_first {
         return Ok(());

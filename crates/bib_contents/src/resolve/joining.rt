@@ -13,7 +13,9 @@ use std::alloc::AllocError;
 pub(crate) fn append(out: &mut Chunks, chunk: Spanned<Chunk>) -> Result<(), AllocError>
     ensures styled { OnOk result (styled out.new ≡ styled out.old ++ atoms_of chunk.v) }
     ensures joined { OnOk result (AreJoined out.old → AreJoined out.new) }
-    ensures placed { OnOk result ((low high : ℕ) → ArePlaced low high out.old → high ≤ chunk.span.start → chunk.span.start ≤ chunk.span.end → ArePlaced low chunk.span.end out.new) }
+    ensures placed { OnOk result ((low high : ℕ) → ArePlaced low high out.old →
+        high ≤ chunk.span.start → chunk.span.start ≤ chunk.span.end →
+        ArePlaced low chunk.span.end out.new) }
 {
     let Some(last) = out.pop() else {
         out.push(chunk)?;

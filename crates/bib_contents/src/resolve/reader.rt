@@ -59,11 +59,19 @@ impl<'f, 's> FieldReader<'f, 's> {
     /// Reads the contents of a field with this name, as `parse_field` does.
     pub fn read(&mut self, key: &str, field: &Field<'s>) -> Result<Chunks, ParseError>
         ensures same { self.new ≡ self.old }
-        ensures read { IfOk result (λ chunks. Evaluates (given_by self.old) (abbreviation.is_verbatim_field key.now) (map piece_of field.now.items) (styled chunks)) }
-        ensures readable { OnOk result (IsReadable (given_by self.old) (abbreviation.is_verbatim_field key.now) (map piece_of field.now.items)) }
-        ensures refused { IfErr result (λ e. (e ≡ out_of_memory) ⊎ (IsFirstFault (given_by self.old) (abbreviation.is_verbatim_field key.now) [] (map piece_of field.now.items) e × (IsReadable (given_by self.old) (abbreviation.is_verbatim_field key.now) (map piece_of field.now.items) → ⊥))) }
+        ensures read { IfOk result (λ chunks. Evaluates (given_by self.old)
+            (abbreviation.is_verbatim_field key.now) (map piece_of field.now.items)
+            (styled chunks)) }
+        ensures readable { OnOk result (IsReadable (given_by self.old)
+            (abbreviation.is_verbatim_field key.now) (map piece_of field.now.items)) }
+        ensures refused { IfErr result (λ e. (e ≡ out_of_memory) ⊎
+            (IsFirstFault (given_by self.old) (abbreviation.is_verbatim_field key.now) []
+            (map piece_of field.now.items) e ×
+            (IsReadable (given_by self.old) (abbreviation.is_verbatim_field key.now)
+            (map piece_of field.now.items) → ⊥))) }
         ensures joined { IfOk result AreJoined }
-        ensures placed { (p : Part) → map piece_of field.now.items ≡ literal p ∷ [] → p.end ≡ p.start + length p.text → IfOk result (ArePlaced p.start p.end) }
+        ensures placed { (p : Part) → map piece_of field.now.items ≡ literal p ∷ [] →
+            p.end ≡ p.start + length p.text → IfOk result (ArePlaced p.start p.end) }
     {
         let is_verbatim = is_verbatim_field(key);
         let source = Source {

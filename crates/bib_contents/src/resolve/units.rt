@@ -52,7 +52,9 @@ fn hyphens(s: &mut Characters<'_>) -> usize
 // A math text, behind its dollar sign.
 fn formula<'s>(s: &mut Characters<'s>) -> Option<Unit<'s>>
     ensures same { s.new.text ≡ s.old.text }
-    ensures found { MatchOption result ((u : ContentUnit) (rest : List ℕ) → IsNext false u (36 ∷ left s.old) rest → ⊥) (λ u. IsNext false (unit_of u) (36 ∷ left s.old) (left s.new)) }
+    ensures found { MatchOption result
+        ((u : ContentUnit) (rest : List ℕ) → IsNext false u (36 ∷ left s.old) rest → ⊥)
+        (λ u. IsNext false (unit_of u) (36 ∷ left s.old) (left s.new)) }
 {
     let text = s.eat_while(|c| c != '$');
     if !s.eat_if('$') {
@@ -64,7 +66,10 @@ fn formula<'s>(s: &mut Characters<'s>) -> Option<Unit<'s>>
 // The text of an argument, behind its opening brace.
 fn braced<'s>(s: &mut Characters<'s>) -> Option<&'s str>
     ensures same { s.new.text ≡ s.old.text }
-    ensures found { MatchOption result ((text rest : List ℕ) → left s.old ≡ text ++ 125 ∷ rest → balances 0 text ≡ true → ⊥) (λ text. (left s.old ≡ chars text.now ++ 125 ∷ left s.new) × (balances 0 (chars text.now) ≡ true)) }
+    ensures found { MatchOption result
+        ((text rest : List ℕ) → left s.old ≡ text ++ 125 ∷ rest → balances 0 text ≡ true → ⊥)
+        (λ text. (left s.old ≡ chars text.now ++ 125 ∷ left s.new) ×
+        (balances 0 (chars text.now) ≡ true)) }
 {
     let start = s.cursor();
     let mut depth: usize = 0;
@@ -91,7 +96,11 @@ fn eat_argument<'s>(
     is_spaced: bool,
 ) -> Option<Argument<'s>>
     ensures same { s.new.text ≡ s.old.text }
-    ensures found { MatchOption result ((a : contents.Argument) (rest : List ℕ) → left s.old ≡ argument_spelling a ++ rest → is_argument takes_next is_spaced a rest ≡ true → ⊥) (λ a. (left s.old ≡ argument_spelling (argument_of a) ++ left s.new) × (is_argument takes_next is_spaced (argument_of a) (left s.new) ≡ true)) }
+    ensures found { MatchOption result
+        ((a : contents.Argument) (rest : List ℕ) → left s.old ≡ argument_spelling a ++ rest →
+        is_argument takes_next is_spaced a rest ≡ true → ⊥)
+        (λ a. (left s.old ≡ argument_spelling (argument_of a) ++ left s.new) ×
+        (is_argument takes_next is_spaced (argument_of a) (left s.new) ≡ true)) }
 {
     if s.peek() == Some('{') {
         if is_spaced {
@@ -115,7 +124,8 @@ fn eat_argument<'s>(
 // Takes the name of a command, whose first character stands here.
 fn eat_name<'s>(s: &mut Characters<'s>, first: char) -> &'s str
     requires stands { (rest : List ℕ) × (left s.old ≡ first ∷ rest) }
-    requires begins { (contents.is_escaped false first ≡ false) × (contents.is_blank first ≡ false) }
+    requires begins { (contents.is_escaped false first ≡ false) ×
+        (contents.is_blank first ≡ false) }
     ensures passed { Passes s.old (chars result.now) s.new }
     ensures name { contents.is_name (chars result.now) ≡ true }
     ensures whole { contents.is_whole_name (chars result.now) (left s.new) ≡ true }
@@ -131,7 +141,8 @@ fn eat_name<'s>(s: &mut Characters<'s>, first: char) -> &'s str
 
 // Whether a command takes the next character.
 fn takes_next(name: &str, is_spaced: bool) -> bool
-    ensures { (space : List ℕ) → is_spaced ≡ not (contents.is_empty space) → result ≡ contents.takes_next (chars name.now) space }
+    ensures { (space : List ℕ) → is_spaced ≡ not (contents.is_empty space) →
+        result ≡ contents.takes_next (chars name.now) space }
 {
     let mut letters = Characters::new(name);
     let Some(first) = letters.eat() else {
@@ -146,9 +157,12 @@ fn takes_next(name: &str, is_spaced: bool) -> bool
 // A command, behind its backslash, where a character stands that can begin its name.
 fn command<'s>(s: &mut Characters<'s>, first: char) -> Option<Unit<'s>>
     requires stands { (rest : List ℕ) × (left s.old ≡ first ∷ rest) }
-    requires begins { (contents.is_escaped false first ≡ false) × (contents.is_blank first ≡ false) }
+    requires begins { (contents.is_escaped false first ≡ false) ×
+        (contents.is_blank first ≡ false) }
     ensures same { s.new.text ≡ s.old.text }
-    ensures found { MatchOption result ((u : ContentUnit) (rest : List ℕ) → IsNext false u (92 ∷ left s.old) rest → ⊥) (λ u. IsNext false (unit_of u) (92 ∷ left s.old) (left s.new)) }
+    ensures found { MatchOption result
+        ((u : ContentUnit) (rest : List ℕ) → IsNext false u (92 ∷ left s.old) rest → ⊥)
+        (λ u. IsNext false (unit_of u) (92 ∷ left s.old) (left s.new)) }
 {
     let name = eat_name(s, first);
     let space = s.eat_while(is_space);
@@ -163,7 +177,9 @@ fn command<'s>(s: &mut Characters<'s>, first: char) -> Option<Unit<'s>>
 // What a backslash begins, behind it.
 fn escape<'s>(s: &mut Characters<'s>, is_verbatim: bool) -> Option<Unit<'s>>
     ensures same { s.new.text ≡ s.old.text }
-    ensures found { MatchOption result ((u : ContentUnit) (rest : List ℕ) → IsNext is_verbatim u (92 ∷ left s.old) rest → ⊥) (λ u. IsNext is_verbatim (unit_of u) (92 ∷ left s.old) (left s.new)) }
+    ensures found { MatchOption result
+        ((u : ContentUnit) (rest : List ℕ) → IsNext is_verbatim u (92 ∷ left s.old) rest → ⊥)
+        (λ u. IsNext is_verbatim (unit_of u) (92 ∷ left s.old) (left s.new)) }
 {
     let Some(c) = s.peek() else {
         if is_verbatim {
@@ -187,7 +203,9 @@ fn escape<'s>(s: &mut Characters<'s>, is_verbatim: bool) -> Option<Unit<'s>>
 // The unit that stands here; none at the end of the text, and where no unit begins.
 pub(crate) fn eat_unit<'s>(s: &mut Characters<'s>, is_verbatim: bool) -> Option<Unit<'s>>
     ensures same { s.new.text ≡ s.old.text }
-    ensures found { MatchOption result ((u : ContentUnit) (rest : List ℕ) → IsNext is_verbatim u (left s.old) rest → ⊥) (λ u. IsNext is_verbatim (unit_of u) (left s.old) (left s.new)) }
+    ensures found { MatchOption result
+        ((u : ContentUnit) (rest : List ℕ) → IsNext is_verbatim u (left s.old) rest → ⊥)
+        (λ u. IsNext is_verbatim (unit_of u) (left s.old) (left s.new)) }
 {
     let Some(c) = s.peek() else {
         return None;

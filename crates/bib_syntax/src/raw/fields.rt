@@ -36,8 +36,10 @@ pub(crate) fn gap(s: &mut Scanner<'_>)
 
 // The elements of a value, joined by `#`.
 fn elements<'s>(s: &mut Scanner<'s>, alloc: Global) -> Result<Field<'s>, ParseError>
-    ensures found { IfOk result (λ pieces. Elements longest s.old (map piece_of pieces.items) s.new) }
-    ensures refused { IfErr result (λ e. Refuses s.old.text e ((es : List Piece) (v : Place) → Elements longest s.old es v → ⊥)) }
+    ensures found { IfOk result (λ pieces. Elements longest s.old
+        (map piece_of pieces.items) s.new) }
+    ensures refused { IfErr result (λ e. Refuses s.old.text e ((es : List Piece) (v : Place) →
+        Elements longest s.old es v → ⊥)) }
 {
     let mut pieces = Vec::with_capacity(alloc, 1)?;
     'elements: loop {
@@ -54,7 +56,8 @@ fn elements<'s>(s: &mut Scanner<'s>, alloc: Global) -> Result<Field<'s>, ParseEr
 // A field: a name, an equals sign and a value.
 fn field<'s>(s: &mut Scanner<'s>, alloc: Global) -> Result<Pair<'s>, ParseError>
     ensures found { IfOk result (λ pair. Field longest s.old (field_of pair) s.new) }
-    ensures refused { IfErr result (λ e. Refuses s.old.text e ((f : FieldReading) (v : Place) → Field longest s.old f v → ⊥)) }
+    ensures refused { IfErr result (λ e. Refuses s.old.text e ((f : FieldReading) (v : Place) →
+        Field longest s.old f v → ⊥)) }
 {
     let name = identifier(s)?;
     s.eat_whitespace();
@@ -67,8 +70,10 @@ fn field<'s>(s: &mut Scanner<'s>, alloc: Global) -> Result<Pair<'s>, ParseError>
 
 // The brace behind fields, with white space before it; `missing` is what is told where it doesn't stand.
 fn closed(s: &mut Scanner<'_>, missing: Token) -> Result<(), ParseError>
-    ensures found { OnOk result (Longest is_whitespace s.old s.new × ((v : Place) × CharAt s.new 125 v)) }
-    ensures none { OnErr result ((v w : Place) → Longest is_whitespace s.old v → CharAt v 125 w → ⊥) }
+    ensures found { OnOk result (Longest is_whitespace s.old s.new ×
+        ((v : Place) × CharAt s.new 125 v)) }
+    ensures none { OnErr result ((v w : Place) → Longest is_whitespace s.old v →
+        CharAt v 125 w → ⊥) }
     ensures fault { IfErr result (IsSyntaxFault s.old.text) }
 {
     s.eat_whitespace();
@@ -85,7 +90,8 @@ fn closed(s: &mut Scanner<'_>, missing: Token) -> Result<(), ParseError>
 pub(crate) fn fields<'s>(s: &mut Scanner<'s>, alloc: Global) -> Result<Vec<Pair<'s>>, ParseError>
     ensures found { IfOk result (λ pairs. Fields longest s.old (map field_of pairs.items) s.new) }
     ensures closed { OnOk result ((v : Place) × CharAt s.new 125 v) }
-    ensures refused { IfErr result (λ e. Refuses s.old.text e ((fs : List FieldReading) (v w : Place) → Fields longest s.old fs v → CharAt v 125 w → ⊥)) }
+    ensures refused { IfErr result (λ e. Refuses s.old.text e
+        ((fs : List FieldReading) (v w : Place) → Fields longest s.old fs v → CharAt v 125 w → ⊥)) }
 {
     let mut pairs = Vec::new(alloc);
     'fields: while begins_identifier(s) {

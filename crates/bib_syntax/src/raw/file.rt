@@ -70,8 +70,10 @@ fn head<'s>(s: &mut Scanner<'s>) -> Result<Spanned<&'s str>, ParseError>
 
 // A comment, up to its first closing brace.
 fn comment(s: &mut Scanner<'_>) -> Result<(), ParseError>
-    ensures found { OnOk result ((u : Place) (p : Part) → Body longest u p BlockKind.Comment s.old nothing s.new) }
-    ensures none { OnErr result ((u : Place) (p : Part) (r : FileReading) (v : Place) → Body longest u p BlockKind.Comment s.old r v → ⊥) }
+    ensures found { OnOk result ((u : Place) (p : Part) →
+        Body longest u p BlockKind.Comment s.old nothing s.new) }
+    ensures none { OnErr result ((u : Place) (p : Part) (r : FileReading) (v : Place) →
+        Body longest u p BlockKind.Comment s.old r v → ⊥) }
     ensures fault { IfErr result (IsSyntaxFault s.old.text) }
 {
     s.eat_until(|c| c == '}');
@@ -81,8 +83,10 @@ fn comment(s: &mut Scanner<'_>) -> Result<(), ParseError>
 
 // A preamble: one quoted text, of which the quotes are a part.
 fn preamble<'s>(s: &mut Scanner<'s>) -> Result<&'s str, ParseError>
-    ensures found { IfOk result (λ text. (u : Place) (p : Part) → Body longest u p BlockKind.Preamble s.old (item_of (Item.Preamble text)) s.new) }
-    ensures none { OnErr result ((u : Place) (p : Part) (r : FileReading) (v : Place) → Body longest u p BlockKind.Preamble s.old r v → ⊥) }
+    ensures found { IfOk result (λ text. (u : Place) (p : Part) →
+        Body longest u p BlockKind.Preamble s.old (item_of (Item.Preamble text)) s.new) }
+    ensures none { OnErr result ((u : Place) (p : Part) (r : FileReading) (v : Place) →
+        Body longest u p BlockKind.Preamble s.old r v → ⊥) }
     ensures fault { IfErr result (IsSyntaxFault s.old.text) }
 {
     let start = s.cursor();
@@ -95,8 +99,11 @@ fn preamble<'s>(s: &mut Scanner<'s>) -> Result<&'s str, ParseError>
 
 // Definitions of abbreviations.
 fn strings<'s>(s: &mut Scanner<'s>, alloc: Global) -> Result<Vec<Pair<'s>>, ParseError>
-    ensures found { IfOk result (λ pairs. (u : Place) (p : Part) → Body longest u p BlockKind.Strings s.old (item_of (Item.Strings pairs)) s.new) }
-    ensures refused { IfErr result (λ e. Refuses s.old.text e ((u : Place) (p : Part) (r : FileReading) (v : Place) → Body longest u p BlockKind.Strings s.old r v → ⊥)) }
+    ensures found { IfOk result (λ pairs. (u : Place) (p : Part) →
+        Body longest u p BlockKind.Strings s.old (item_of (Item.Strings pairs)) s.new) }
+    ensures refused { IfErr result (λ e. Refuses s.old.text e
+        ((u : Place) (p : Part) (r : FileReading) (v : Place) →
+        Body longest u p BlockKind.Strings s.old r v → ⊥)) }
 {
     let pairs = fields(s, alloc)?;
     s.eat_if('}');
@@ -110,8 +117,11 @@ fn entry<'s>(
     kind: Spanned<&'s str>,
     start: usize,
 ) -> Result<Spanned<RawEntry<'s>>, ParseError>
-    ensures found { IfOk result (λ e. (u : Place) → u.at ≡ start → Body longest u (part_of kind.entry) BlockKind.Entry s.old (item_of (Item.Entry e)) s.new) }
-    ensures refused { IfErr result (λ e. Refuses s.old.text e ((u : Place) (p : Part) (r : FileReading) (v : Place) → Body longest u p BlockKind.Entry s.old r v → ⊥)) }
+    ensures found { IfOk result (λ e. (u : Place) → u.at ≡ start →
+        Body longest u (part_of kind.entry) BlockKind.Entry s.old (item_of (Item.Entry e)) s.new) }
+    ensures refused { IfErr result (λ e. Refuses s.old.text e
+        ((u : Place) (p : Part) (r : FileReading) (v : Place) →
+        Body longest u p BlockKind.Entry s.old r v → ⊥)) }
 {
     let key = key(s);
     s.eat_whitespace();
@@ -127,7 +137,8 @@ fn entry<'s>(
 fn block<'s>(s: &mut Scanner<'s>, alloc: Global) -> Result<Item<'s>, ParseError>
     requires { (v : Place) × CharAt s.old 64 v }
     ensures found { IfOk result (λ item. Block longest s.old (item_of item) s.new) }
-    ensures refused { IfErr result (λ e. Refuses s.old.text e ((r : FileReading) (v : Place) → Block longest s.old r v → ⊥)) }
+    ensures refused { IfErr result (λ e. Refuses s.old.text e ((r : FileReading) (v : Place) →
+        Block longest s.old r v → ⊥)) }
 {
     let start = s.cursor();
     let kind = head(s)?;
@@ -173,7 +184,8 @@ pub(crate) fn blocks<'s>(
     alloc: Global,
 ) -> Result<RawBibliography<'s>, ParseError>
     ensures found { IfOk result (λ raw. File longest s.old (file_of raw)) }
-    ensures refused { IfErr result (λ e. Refuses s.old.text e ((r : FileReading) → File longest s.old r → ⊥)) }
+    ensures refused { IfErr result (λ e. Refuses s.old.text e ((r : FileReading) →
+        File longest s.old r → ⊥)) }
 {
     let mut raw = RawBibliography {
         preamble: String::new(alloc),

@@ -43,7 +43,8 @@ pub(crate) fn expect(s: &mut Scanner<'_>, c: char, token: Token) -> Result<(), P
 // A brace, for which a quote may stand.
 pub(crate) fn brace(s: &mut Scanner<'_>, c: char, token: Token) -> Result<(), ParseError>
     ensures found { OnOk result ((d : ℕ) × CharAt s.old d s.new × (d == c || d == 34 ≡ true)) }
-    ensures none { OnErr result ((d : ℕ) (v : Place) → CharAt s.old d v → d == c || d == 34 ≡ true → ⊥) }
+    ensures none { OnErr result ((d : ℕ) (v : Place) → CharAt s.old d v →
+        d == c || d == 34 ≡ true → ⊥) }
     ensures fault { IfErr result (IsSyntaxFault s.old.text) }
 {
     if s.eat_if(c) || s.eat_if('"') {
@@ -54,7 +55,9 @@ pub(crate) fn brace(s: &mut Scanner<'_>, c: char, token: Token) -> Result<(), Pa
 
 // Whether an identifier begins here.
 pub(crate) fn begins_identifier(s: &Scanner<'_>) -> bool
-    ensures { MatchBool result ((c : ℕ) × (v : Place) × CharAt s.now c v × (characters.is_id_start c ≡ true)) ((c : ℕ) (v : Place) → CharAt s.now c v → characters.is_id_start c ≡ false) }
+    ensures { MatchBool result
+        ((c : ℕ) × (v : Place) × CharAt s.now c v × (characters.is_id_start c ≡ true))
+        ((c : ℕ) (v : Place) → CharAt s.now c v → characters.is_id_start c ≡ false) }
 {
     match s.peek() {
         Some(c) => is_id_start(c),
@@ -210,7 +213,9 @@ fn braced<'s>(s: &mut Scanner<'s>) -> Result<Spanned<&'s str>, ParseError>
 
 // Whether a number begins here.
 fn begins_number(s: &Scanner<'_>) -> bool
-    ensures { MatchBool result ((c : ℕ) × (v : Place) × CharAt s.now c v × (is_ascii_digit c ≡ true)) ((c : ℕ) (v : Place) → CharAt s.now c v → is_ascii_digit c ≡ false) }
+    ensures { MatchBool result
+        ((c : ℕ) × (v : Place) × CharAt s.now c v × (is_ascii_digit c ≡ true))
+        ((c : ℕ) (v : Place) → CharAt s.now c v → is_ascii_digit c ≡ false) }
 {
     match s.peek() {
         Some(c) => is_digit(c),

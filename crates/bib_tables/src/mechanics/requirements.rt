@@ -115,11 +115,16 @@ impl Requirements {
 impl EntryType {
     /// The fields that an entry of this type has to have, may have and must not have.
     pub fn requirements(&self, alloc: Global) -> Result<Requirements, AllocError>
-        ensures required { IfOk result (λ asked. texts asked.required.items ≡ (rules_of self.now).required) }
-        ensures optional { IfOk result (λ asked. texts asked.optional.items ≡ (rules_of self.now).optional) }
-        ensures forbidden { IfOk result (λ asked. texts asked.forbidden.items ≡ forbidden_of self.now) }
-        ensures author { IfOk result (λ asked. asked.author_eds_field ≡ (rules_of self.now).author) }
-        ensures pages { IfOk result (λ asked. asked.page_chapter_field ≡ (rules_of self.now).pages) }
+        ensures required { IfOk result (λ asked. texts asked.required.items ≡
+            (rules_of self.now).required) }
+        ensures optional { IfOk result (λ asked. texts asked.optional.items ≡
+            (rules_of self.now).optional) }
+        ensures forbidden { IfOk result (λ asked. texts asked.forbidden.items ≡
+            forbidden_of self.now) }
+        ensures author { IfOk result (λ asked. asked.author_eds_field ≡
+            (rules_of self.now).author) }
+        ensures pages { IfOk result (λ asked. asked.page_chapter_field ≡
+            (rules_of self.now).pages) }
         ensures date { IfOk result (λ asked. asked.needs_date ≡ (rules_of self.now).needs_date) }
     {
         let row = self.row();
