@@ -4,8 +4,8 @@ use Rattle.std.specs.Prelude.{◌⊎◌, ◌↔◌}
 use Rattle.std.proofs.lemmas.Bool.{both_ways, ne_eqb}
 use Rattle.std.proofs.Math.Numerals.{sub-one}
 use Rattle.bib_text.specs.Places.{Place, place, CharAt, AtEnd}
-use Rattle.bib_chunks.specs.Braces.{is_plain, Parts}
-use Rattle.bib_chunks.specs.Braces.Parts.{none, plain, hidden, nested}
+use Rattle.bib_text.specs.Braces.{is_plain, Parts}
+use Rattle.bib_text.specs.Braces.Parts.{none, plain, hidden, nested}
 use Rattle.bib_text.proofs.PlaceFacts.{same_char, same_place, no_char_at_end}
 
 -- parts up to the end, where so many braces still close

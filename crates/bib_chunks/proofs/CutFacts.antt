@@ -11,7 +11,7 @@ use Rattle.std.proofs.lemmas.Bool.{ne_eqb, cases_Bool}
 use Rattle.std.specs.Borrow.{Bor}
 use Rattle.bib_chunks.specs.declared.chunk.Chunk.{Chunk}
 use Rattle.bib_chunks.specs.declared.chunk.Chunk.TheVariants.{Normal}
-use Rattle.bib_chunks.specs.declared.chunk.Spanned.{Spanned}
+use Rattle.bib_text.specs.declared.spanned.Spanned.{Spanned}
 use Rattle.bib_chunks.specs.declared.chunk.cuts.Parts.{Parts}
 use Rattle.bib_chunks.specs.Cuts.{further, placed, behind_separator, between_commas, comma_pieces, onto, joined, comma_list, and_pieces, and_parts}
 use Rattle.bib_chunks.specs.Cutting.{all_parts, Reads}

@@ -10,7 +10,7 @@ use Rattle.std.proofs.lemmas.List.{drop_more, append-nil}
 use Rattle.std.proofs.lemmas.Str.{chars_past_char, encodes-chars, chars-nil}
 use Rattle.bib_chunks.specs.declared.chunk.Chunk.{Chunk}
 use Rattle.bib_chunks.specs.declared.chunk.Chunk.TheVariants.{Verbatim}
-use Rattle.bib_chunks.specs.declared.chunk.Spanned.{Spanned}
+use Rattle.bib_text.specs.declared.spanned.Spanned.{Spanned}
 use Rattle.bib_text.specs.Places.{Place, CharAt, Run, Longest, AtEnd, between}
 use Rattle.bib_chunks.specs.Formatted.{is_break, ends_in_space, unbroken, flowing, space_behind, formatted_chunk, formatted_behind, cased, sentence_case, sentence_behind}
 use Rattle.bib_text.proofs.TextFacts.{ahead, Passed, passed_char, passed_run, passed_between, written_more, written_all, chars_at_end, chars_past, chars_whole}

@@ -9,7 +9,7 @@ use Rattle.bib_chunks.specs.declared.chunk.Chunk.{Chunk}
 use Rattle.bib_chunks.specs.declared.chunk.Chunk.TheVariants.{Normal as NormalChunk, Verbatim as VerbatimChunk, Math as MathChunk}
 use Rattle.bib_chunks.specs.declared.chunk.settling.Before.{Before}
 use Rattle.bib_chunks.specs.declared.chunk.settling.Before.TheVariants.{Nothing, Normal, Verbatim}
-use Rattle.bib_chunks.specs.Braces.{IsParts}
+use Rattle.bib_text.specs.Braces.{IsParts}
 use Rattle.bib_text.specs.Places.{Place, CharAt, Longest, AtEnd}
 use Rattle.bib_chunks.specs.Styled.{Atom, atoms_of}
 use Rattle.bib_chunks.specs.Settled.{IsSettledAtom, runs_together, AreApart, IsSettled}

@@ -3,7 +3,7 @@ use Rattle.std.proofs.Common.{◌≡◌, ℕ, ◌-◌, List, [], ◌∷◌, leng
 use Rattle.std.specs.Prelude.{slice_get}
 use Rattle.std.specs.declared.ops.Range.{Range}
 use Rattle.bib_chunks.specs.declared.chunk.Chunk.{Chunk}
-use Rattle.bib_chunks.specs.declared.chunk.Spanned.{Spanned}
+use Rattle.bib_text.specs.declared.spanned.Spanned.{Spanned}
 use Rattle.bib_chunks.specs.Styled.{last_end, whole_span}
 
 same_some : (x y : Spanned Chunk) → Some x ≡ Some y → x ≡ y

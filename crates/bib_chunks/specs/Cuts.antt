@@ -6,7 +6,7 @@ use Rattle.std.specs.Str.{chars, trim_start, trim_end}
 use Rattle.std.specs.declared.ops.Range.{Range}
 use Rattle.bib_chunks.specs.declared.chunk.Chunk.{Chunk}
 use Rattle.bib_chunks.specs.declared.chunk.Chunk.TheVariants.{Normal, Verbatim, Math}
-use Rattle.bib_chunks.specs.declared.chunk.Spanned.{Spanned}
+use Rattle.bib_text.specs.declared.spanned.Spanned.{Spanned}
 
 -- a place so many bytes further on; what stands at the highest number, as nowhere, stays there
 abbrev pub further : ℕ → ℕ → ℕ

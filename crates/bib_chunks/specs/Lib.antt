@@ -1,4 +1,3 @@
-pub mod Braces
 pub mod Cuts
 pub mod Cutting
 pub mod Formatted

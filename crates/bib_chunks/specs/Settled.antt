@@ -2,7 +2,7 @@
 use Rattle.std.specs.Prelude.{◌≡◌, ℕ, Bool, true, false, ◌==◌, ◌&&◌, ◌||◌, List, [], ◌∷◌, encode_utf8_all}
 use Rattle.std.specs.Char.{is_whitespace}
 use Rattle.std.specs.List.{list_any, AllByRecursion}
-use Rattle.bib_chunks.specs.Braces.{IsParts}
+use Rattle.bib_text.specs.Braces.{IsParts}
 use Rattle.bib_chunks.specs.Styled.{Atom}
 
 -- an atom that may stand in settled text: no white space but U+0020, and math outside verbatim fields alone, without

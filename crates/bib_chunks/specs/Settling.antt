@@ -2,7 +2,7 @@
 use Rattle.std.specs.Prelude.{◌≡◌, ◌↔◌, ◌==◌, ℕ, Bool, true, false, List, [], ◌∷◌, ◌++◌, map}
 use Rattle.std.specs.List.{list_any}
 use Rattle.std.specs.Str.{chars}
-use Rattle.bib_chunks.specs.Braces.{IsParts}
+use Rattle.bib_text.specs.Braces.{IsParts}
 use Rattle.bib_chunks.specs.Styled.{Atom}
 use Rattle.bib_chunks.specs.Settled.{is_pair, IsSettledAtom}
 use Rattle.bib_chunks.specs.declared.chunk.settling.Before.{Before}

@@ -9,7 +9,7 @@ use Rattle.bib_chunks.specs.Styled.{Atom, styled, atoms_of}
 use Rattle.bib_chunks.specs.Formatted.{flowing, unbroken, ends_in_space, space_behind, formatted_chunk, formatted_behind}
 use Rattle.bib_chunks.specs.declared.chunk.Chunk.{Chunk}
 use Rattle.bib_chunks.specs.declared.chunk.Chunk.TheVariants.{Normal, Verbatim, Math}
-use Rattle.bib_chunks.specs.declared.chunk.Spanned.{Spanned}
+use Rattle.bib_text.specs.declared.spanned.Spanned.{Spanned}
 use Rattle.std.specs.Char.{is_whitespace}
 use Rattle.bib_chunks.proofs.FormattedFacts.{ends-append}
 use Rattle.bib_contents.specs.Contents.{ContentUnit, Argument, Reads, IsNext, fits, unit_spelling, is_ordinary, is_empty, character, meaning, is_closable, depth_after, held, atoms_text}

@@ -8,7 +8,7 @@ use Rattle.std.proofs.lemmas.Str.{chars-append, chars-nil, encodes-append, encod
 use Rattle.bib_text.specs.Places.{Place}
 use Rattle.bib_chunks.specs.Styled.{Atom, styled}
 use Rattle.bib_chunks.specs.declared.chunk.Chunk.{Chunk}
-use Rattle.bib_chunks.specs.declared.chunk.Spanned.{Spanned}
+use Rattle.bib_text.specs.declared.spanned.Spanned.{Spanned}
 use Rattle.bib_contents.specs.Contents.{ContentUnit, IsNext, Reads, is_ordinary, character, depth_after, unit_spelling}
 use Rattle.bib_contents.specs.Joined.{AreJoined, ArePlaced}
 use Rattle.bib_contents.specs.Passing.{left, Passes, Took, IsMoved, so_far, saturated}

@@ -9,7 +9,7 @@ use Rattle.std.specs.Global.{Vec}
 use Rattle.std.specs.BTreeMap.{BTreeMap}
 use Rattle.std.specs.HashMap.{HashMap}
 use Rattle.std.specs.Map.{lookup}
-use Rattle.bib_chunks.specs.declared.chunk.Spanned.{Spanned}
+use Rattle.bib_text.specs.declared.spanned.Spanned.{Spanned}
 use Rattle.bib_chunks.specs.Styled.{Atom}
 use Rattle.bib_syntax.specs.declared.raw.RawChunk.{RawChunk}
 use Rattle.bib_syntax.specs.declared.raw.ParseErrorKind.{ParseErrorKind}

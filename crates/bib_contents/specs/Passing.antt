@@ -5,7 +5,7 @@ use Rattle.bib_text.specs.Places.{Place}
 use Rattle.bib_chunks.specs.Styled.{Atom, styled}
 use Rattle.bib_chunks.specs.declared.chunk.Chunk.{Chunk}
 use Rattle.bib_chunks.specs.declared.chunk.Chunk.TheVariants.{Normal, Verbatim, Math}
-use Rattle.bib_chunks.specs.declared.chunk.Spanned.{Spanned}
+use Rattle.bib_text.specs.declared.spanned.Spanned.{Spanned}
 use Rattle.bib_contents.specs.Contents.{ContentUnit, Reads, character, is_empty, meaning, is_closable, depth_after, held}
 use Rattle.bib_contents.specs.Joined.{ArePlaced}
 use Rattle.bib_contents.specs.declared.resolve.growing.Open.{Open}

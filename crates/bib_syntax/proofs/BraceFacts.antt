@@ -2,8 +2,8 @@
 use Rattle.std.proofs.Common.{◌≡◌, ◌-◌, arith, ℕ, zero, suc, true, refl, sym, subst, MatchOption, Option, None, Some}
 use Rattle.bib_text.specs.Places.{Place, CharAt, Run, Stops, AtEnd}
 use Rattle.bib_text.specs.Places.Run.{stop, step}
-use Rattle.bib_chunks.specs.Braces.{Parts, is_plain}
-use Rattle.bib_chunks.specs.Braces.Parts.{none, plain, hidden, nested}
+use Rattle.bib_text.specs.Braces.{Parts, is_plain}
+use Rattle.bib_text.specs.Braces.Parts.{none, plain, hidden, nested}
 use Rattle.bib_text.proofs.PlaceFacts.{same_char, char_clash, pass_clash, no_char_at_end}
 
 -- from u, parts and a closing brace for each brace that is open, and then parts up to v

@@ -3,8 +3,8 @@ use Rattle.std.proofs.Common.{◌≡◌, ℕ, true, false, List, [], ◌∷◌, 
 use Rattle.std.specs.Char.{is_whitespace}
 use Rattle.bib_text.specs.Places.{Place, CharAt, Run, Stops, Longest}
 use Rattle.bib_text.proofs.PlaceFacts.{same_char, char_clash, pass_clash, longest_same, test_clash, stops_at, stops_without, Ahead, ahead_here, ahead_then, ahead_char, ahead_run}
-use Rattle.bib_chunks.specs.Braces.{Parts}
-use Rattle.bib_chunks.specs.Braces.{Parts as parts}
+use Rattle.bib_text.specs.Braces.{Parts}
+use Rattle.bib_text.specs.Braces.{Parts as parts}
 use Rattle.bib_syntax.proofs.WordFacts.{ahead_number}
 use Rattle.bib_syntax.proofs.ReadingFacts.{fault_back}
 use Rattle.bib_syntax.specs.Characters.{is_id_start}

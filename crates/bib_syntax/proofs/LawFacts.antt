@@ -5,8 +5,8 @@ use Rattle.std.proofs.lemmas.Bool.{and_parts, not-true}
 use Rattle.std.specs.Char.{is_whitespace, is_control, is_ascii_digit}
 use Rattle.bib_text.specs.Places.{Place, CharAt, Longest}
 use Rattle.bib_text.specs.Places.Run.{stop}
-use Rattle.bib_chunks.specs.Braces.{Parts}
-use Rattle.bib_chunks.specs.Braces.{Parts as parts}
+use Rattle.bib_text.specs.Braces.{Parts}
+use Rattle.bib_text.specs.Braces.{Parts as parts}
 use Rattle.bib_text.proofs.PlaceFacts.{same_char, char_clash, pass_clash, longest_same, test_clash, stops_at}
 use Rattle.bib_syntax.specs.Characters.{is_id_start, is_id_continue, is_delimiter}
 use Rattle.bib_syntax.specs.Reading.{Part, part, Piece, FieldReading}

@@ -6,7 +6,7 @@ use Rattle.std.specs.Char.{is_ascii_digit}
 use Rattle.bib_text.specs.Places.{Place, CharAt, Longest}
 use Rattle.bib_text.proofs.PlaceFacts.{same_char, char_clash, pass_clash, longest_rest, longest_same, stops_without, test_clash, Ahead, ahead_then, ahead_char, ahead_run}
 use Rattle.std.specs.Borrow.{Bor}
-use Rattle.bib_chunks.specs.declared.chunk.Spanned.{Spanned}
+use Rattle.bib_text.specs.declared.spanned.Spanned.{Spanned}
 use Rattle.bib_syntax.specs.declared.raw.RawChunk.{RawChunk}
 use Rattle.bib_syntax.specs.declared.raw.RawChunk.TheVariants.{Normal, Abbreviation}
 use Rattle.bib_syntax.specs.Views.{part_of, piece_of}

@@ -8,7 +8,7 @@ use Rattle.std.specs.Prelude.{◌≡◌, ℕ, Bool, true, not, ◌&&◌, ◌||�
 use Rattle.std.specs.Char.{is_whitespace, is_ascii_digit}
 use Rattle.std.specs.Str.{str_eq_ignore_ascii_case}
 use Rattle.bib_text.specs.Places.{Place, place, CharAt, Run, Longest, Stops, AtEnd, between}
-use Rattle.bib_chunks.specs.Braces.{Parts}
+use Rattle.bib_text.specs.Braces.{Parts}
 use Rattle.bib_syntax.specs.declared.raw.file.BlockKind.{BlockKind}
 use Rattle.bib_syntax.specs.declared.raw.file.BlockKind.TheVariants.{Comment, Preamble, Strings, Entry}
 use Rattle.bib_syntax.specs.Characters.{is_key, is_id_start, is_id_continue}

@@ -10,8 +10,8 @@ mod fields;
 mod file;
 mod words;
 
-use bib_chunks::chunk::{Span, Spanned};
 use bib_text::scanner::Scanner;
+use bib_text::spanned::{Span, Spanned};
 use bib_text::text::Text;
 use file::blocks;
 pub use file::is_named;

@@ -1,2 +1,3 @@
+pub mod Braces
 pub mod Enums
 pub mod Places

@@ -5,7 +5,7 @@ use Rattle.std.specs.FinMap as by_name
 use Rattle.std.specs.List.{list_any}
 use Rattle.bib_chunks.specs.Styled.{styled}
 use Rattle.bib_chunks.specs.declared.chunk.Chunk.{Chunk}
-use Rattle.bib_chunks.specs.declared.chunk.Spanned.{Spanned}
+use Rattle.bib_text.specs.declared.spanned.Spanned.{Spanned}
 use Rattle.bib_contents.specs.Abbreviations.{Definitions, Evaluates, IsFirstFault, IsReadable, is_verbatim_field}
 use Rattle.bib_syntax.specs.Reading.{FieldReading, EntryReading, FileReading}
 use Rattle.bib_syntax.specs.declared.raw.ParseError.{ParseError}

@@ -4,7 +4,7 @@ use Rattle.std.specs.Char.{to_ascii_lowercase}
 use Rattle.std.specs.FinMap as by_name
 use Rattle.bib_chunks.specs.Styled.{styled}
 use Rattle.bib_chunks.specs.declared.chunk.Chunk.{Chunk}
-use Rattle.bib_chunks.specs.declared.chunk.Spanned.{Spanned}
+use Rattle.bib_text.specs.declared.spanned.Spanned.{Spanned}
 use Rattle.bib_contents.specs.Abbreviations.{Definitions, Evaluates, IsFirstFault, IsReadable, is_verbatim_field}
 use Rattle.bib_syntax.specs.Reading.{Piece}
 use Rattle.bib_syntax.specs.Views.{piece_of}

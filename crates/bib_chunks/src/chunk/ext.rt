@@ -2,7 +2,7 @@
 
 ghost use Rattle.std.specs.Prelude.{◌≡◌, List, IfOk, string_bytes, encode_utf8_all};
 ghost use Rattle.bib_chunks.specs.declared.chunk.Chunk.{Chunk as AChunk};
-ghost use Rattle.bib_chunks.specs.declared.chunk.Spanned.{Spanned as APlaced};
+ghost use Rattle.bib_text.specs.declared.spanned.Spanned.{Spanned as APlaced};
 ghost use Rattle.bib_chunks.specs.Formatted.{formatted, sentence};
 ghost use Rattle.bib_chunks.specs.Styled.{whole_span};
 ghost use Rattle.bib_chunks.specs.Written.{written_value};

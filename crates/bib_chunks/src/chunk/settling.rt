@@ -3,7 +3,7 @@
 ghost use Rattle.std.specs.Prelude.{◌≡◌, ◌==◌, ◌↔◌, [], IsTrue, MatchBool, MatchOption};
 ghost use Rattle.std.specs.List.{list_any};
 ghost use Rattle.std.specs.Str.{chars};
-ghost use Rattle.bib_chunks.specs.Braces.{IsParts};
+ghost use Rattle.bib_text.specs.Braces.{IsParts};
 ghost use Rattle.bib_chunks.specs.Settled.{is_pair, IsSettled};
 ghost use Rattle.bib_chunks.specs.Settling.{MayFollow, behind, character_atom, text_atoms, Continues, IsStuck, ContinuesIn, IsStuckIn, IsSettledMath};
 ghost use Rattle.bib_chunks.specs.Styled.{atoms_of, styled};

@@ -10,8 +10,8 @@ ghost use Rattle.bib_syntax.specs.Views.{piece_of, field_of};
 
 use crate::raw::words::{begins_identifier, element, expect, fault, identifier};
 use crate::raw::{Field, Pair, ParseError, ParseErrorKind, Token};
-use bib_chunks::chunk::Spanned;
 use bib_text::scanner::Scanner;
+use bib_text::spanned::Spanned;
 use std::alloc::Global;
 
 // A percent sign and the rest of its line.

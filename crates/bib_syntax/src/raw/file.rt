@@ -11,8 +11,8 @@ ghost use Rattle.bib_syntax.specs.Views.{part_of, file_of, item_of};
 use crate::raw::fields::{fields, gap, remark};
 use crate::raw::words::{brace, expect, identifier, key, quoted};
 use crate::raw::{Pair, ParseError, RawBibliography, RawEntry, Token};
-use bib_chunks::chunk::Spanned;
 use bib_text::scanner::Scanner;
+use bib_text::spanned::Spanned;
 use std::alloc::{AllocError, Global};
 
 // What a block of a file is, by its name.

@@ -3,7 +3,7 @@
 ghost use Rattle.std.specs.Prelude.{◌≡◌, ℕ, ◌≤◌, ◌+◌, ◌||◌, ◌&&◌, ◌==◌, not, true, false, length, IfOk, IfErr, OnOk, OnErr, IsTrue, MatchBool};
 ghost use Rattle.std.specs.Char.{is_ascii_digit};
 ghost use Rattle.bib_text.specs.Places.{Place, CharAt, Longest};
-ghost use Rattle.bib_chunks.specs.Braces.{Parts, is_plain};
+ghost use Rattle.bib_text.specs.Braces.{Parts, is_plain};
 ghost use Rattle.bib_syntax.specs.Characters as characters;
 ghost use Rattle.bib_syntax.specs.Faults.{IsSyntaxFault, is_syntax};
 ghost use Rattle.bib_syntax.specs.Grammar.{Identifier, Number, Quoted, QuotedParts, Braced, Element, longest};
@@ -13,8 +13,8 @@ ghost use Rattle.bib_syntax.specs.Views.{part_of, piece_of};
 use crate::raw::{
     ParseError, ParseErrorKind, RawChunk, Token, is_id_continue, is_id_start, is_key,
 };
-use bib_chunks::chunk::Spanned;
 use bib_text::scanner::Scanner;
+use bib_text::spanned::Spanned;
 
 // A fault of the grammar at this place.
 pub(crate) fn fault(s: &Scanner<'_>, kind: ParseErrorKind) -> ParseError

@@ -4,7 +4,7 @@ use Rattle.std.specs.Str.{chars}
 use denote.Text.{Utf8}
 use denote.Shadow.{shadow}
 use Rattle.bib_chunks.specs.declared.chunk.Chunk.{Chunk}
-use Rattle.bib_chunks.specs.declared.chunk.Spanned.{Spanned}
+use Rattle.bib_text.specs.declared.spanned.Spanned.{Spanned}
 use Rattle.bib_chunks.specs.Cuts.{placed_between_ands, between_ands, joined}
 use Rattle.bib_chunks.specs.Cutting.{all_parts}
 use Rattle.bib_chunks.proofs.chunk.cuts.cut_at_ands.Given as goal

@@ -4,7 +4,7 @@ use Rattle.std.specs.List.{slice_split}
 use denote.Text.{Utf8}
 use denote.Shadow.{shadow}
 use Rattle.bib_chunks.specs.declared.chunk.Chunk.{Chunk}
-use Rattle.bib_chunks.specs.declared.chunk.Spanned.{Spanned}
+use Rattle.bib_text.specs.declared.spanned.Spanned.{Spanned}
 use Rattle.bib_chunks.specs.Cuts.{between_commas, joined}
 use Rattle.bib_chunks.specs.Cutting.{all_parts}
 use Rattle.bib_chunks.proofs.chunk.cuts.cut_at_commas.Given as goal

@@ -1,5 +1,5 @@
 use Rattle.std.proofs.Common.{◌≡◌, ◌≤◌, ◌-◌, length}
-use Rattle.bib_chunks.specs.Braces.{IsParts}
+use Rattle.bib_text.specs.Braces.{IsParts}
 use Rattle.bib_text.specs.Places.{place}
 use Rattle.bib_chunks.proofs.BraceFacts.{Closes}
 use Rattle.std.specs.Prelude.{◌↔◌}

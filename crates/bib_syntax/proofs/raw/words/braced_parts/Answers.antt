@@ -2,7 +2,7 @@ use Rattle.std.proofs.Common.{ℕ, ◌≡◌, ◌≤◌, ◌<◌, ◌^◌, ◌+�
 use Rattle.std.specs.Char.{len_utf8}
 use Rattle.std.proofs.lemmas.Str.{len_utf8_bounds}
 use Rattle.bib_text.specs.Places.{Place, CharAt, Longest}
-use Rattle.bib_chunks.specs.Braces.{is_plain}
+use Rattle.bib_text.specs.Braces.{is_plain}
 use Rattle.bib_text.proofs.PlaceFacts.{Ahead, ahead_here, ahead_then, ahead_char, ahead_run, ahead_same, ahead_taken, boundary_ahead, left_smaller, char_left}
 use Rattle.bib_syntax.proofs.BraceFacts.{SameBraced, braced_then, braced_run, braced_open, braced_hidden, braced_same, braced_less, braced_stuck, found_parts}
 use Rattle.bib_syntax.proofs.BraceFacts.Closes.{last}

@@ -1,6 +1,6 @@
 use Rattle.std.proofs.Common.{refl, inr, sym, ap}
 use Rattle.bib_chunks.specs.declared.chunk.Chunk.{Chunk}
-use Rattle.bib_chunks.specs.declared.chunk.Spanned.{Spanned}
+use Rattle.bib_text.specs.declared.spanned.Spanned.{Spanned}
 use Rattle.bib_contents.specs.Abbreviations.{IsFirstFault as first_fault}
 use Rattle.bib_contents.specs.Expanding.{known_to, part_at}
 use Rattle.bib_contents.proofs.ExpansionFacts.{expands_month}
