@@ -33,7 +33,7 @@ fn sets(
     }
 }
 
-// The entry that was handed out has this text in a field, or there is none where it is a dash.
+// The entry that was handed out has this text in a field, a dash standing for no field; or "no entry" was.
 fn gave(
     rt: &impl Abort,
     alloc: Global,
@@ -43,7 +43,10 @@ fn gave(
 ) -> Result<(), AllocError> {
     match entry {
         Some(entry) => is_text(rt, alloc, entry.get(field), want),
-        None => is_text(rt, alloc, None, want),
+        None => {
+            agrees(rt, "no entry", want);
+            Ok(())
+        }
     }
 }
 
@@ -83,7 +86,7 @@ fn removes_an_entry_with_its_names(rt: HostRuntime) -> Result<(), Fail> {
     let mut library = taken_over(alloc)?;
     gave(&rt, alloc, library.remove("a"), "title", "B")?;
     holds(&rt, alloc, &library, "|a", &[("a", "-"), ("b", "-")])?;
-    gave(&rt, alloc, library.remove("b"), "title", "-")?;
+    gave(&rt, alloc, library.remove("b"), "title", "no entry")?;
     Ok(())
 }
 
@@ -94,7 +97,7 @@ fn changes_what_a_removal_left(rt: HostRuntime) -> Result<(), Fail> {
     library.remove("a");
     library.alias("a", "z")?;
     holds(&rt, alloc, &library, "|a", &[("a", "-"), ("z", "-")])?;
-    inserts(&rt, alloc, &mut library, "a", ("note", "new"), "-")?;
+    inserts(&rt, alloc, &mut library, "a", ("note", "new"), "no entry")?;
     holds(&rt, alloc, &library, "|a|a", &[("a", "a"), ("z", "-")])?;
     has_field(&rt, alloc, &library, "a", "note", "new")?;
     Ok(())
@@ -104,8 +107,9 @@ fn changes_what_a_removal_left(rt: HostRuntime) -> Result<(), Fail> {
 fn inserts_with_names_and_exchanges(rt: HostRuntime) -> Result<(), Fail> {
     let alloc = rt.alloc();
     let mut library = Bibliography::new(alloc);
+    assert!(rt; library.is_empty());
     holds(&rt, alloc, &library, "", &[("k", "-")])?;
-    inserts(&rt, alloc, &mut library, "k", ("ids", "x, y"), "-")?;
+    inserts(&rt, alloc, &mut library, "k", ("ids", "x, y"), "no entry")?;
     let names = [("x", "k"), ("y", "k"), ("k", "k")];
     holds(&rt, alloc, &library, "|k", &names)?;
     inserts(&rt, alloc, &mut library, "x", ("title", "new"), "x, y")?;
