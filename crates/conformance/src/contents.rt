@@ -345,7 +345,8 @@ fn reads_nested_commands(rt: HostRuntime) -> Result<(), Fail> {
     Ok(())
 }
 
-// Definitions, of which each names the one before it so many times, behind the first; the last is a field's value.
+// The first definition, and behind it others, each of which names the one before it once or twice; the last is a
+// field's value.
 fn chain(alloc: Global, first: &str, length: u32, is_doubled: bool) -> Result<String, AllocError> {
     let mut file = format!(in alloc; "@string{{a0 = {{{first}}}}}")?;
     for n in 0..length {

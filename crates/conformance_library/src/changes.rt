@@ -33,24 +33,28 @@ fn sets(
     }
 }
 
-// The entry that was handed out has this text in a field, a dash standing for no field; or "no entry" was.
+// The entry that was handed out has this key and this text in a field, or there is none where the key is a dash.
 fn gave(
     rt: &impl Abort,
     alloc: Global,
     entry: Option<Entry>,
-    field: &str,
-    want: &str,
+    key: &str,
+    (field, want): (&str, &str),
 ) -> Result<(), AllocError> {
     match entry {
-        Some(entry) => is_text(rt, alloc, entry.get(field), want),
+        Some(entry) => {
+            agrees(rt, entry.key.as_str(), key);
+            is_text(rt, alloc, entry.get(field), want)
+        }
         None => {
-            agrees(rt, "no entry", want);
+            agrees(rt, "-", key);
             Ok(())
         }
     }
 }
 
-// Inserts an entry of this key and of one field; the entry that it exchanged has this text in its field `ids`.
+// Inserts an entry of this key and of one field; the entry that it exchanged had this key and this field, or there was
+// none where the key is a dash.
 fn inserts(
     rt: &impl Abort,
     alloc: Global,
@@ -58,11 +62,12 @@ fn inserts(
     key: &str,
     field: (&str, &str),
     had: &str,
+    had_field: (&str, &str),
 ) -> Result<(), AllocError> {
     let mut entry = misc(alloc, key)?;
     sets(rt, alloc, &mut entry, field, "-")?;
     match library.insert(entry) {
-        Ok(entry) => gave(rt, alloc, entry, "ids", had),
+        Ok(entry) => gave(rt, alloc, entry, had, had_field),
         Err(_) => Err(AllocError),
     }
 }
@@ -84,9 +89,9 @@ fn takes_a_key_over(rt: HostRuntime) -> Result<(), Fail> {
 fn removes_an_entry_with_its_names(rt: HostRuntime) -> Result<(), Fail> {
     let alloc = rt.alloc();
     let mut library = taken_over(alloc)?;
-    gave(&rt, alloc, library.remove("a"), "title", "B")?;
+    gave(&rt, alloc, library.remove("a"), "b", ("title", "B"))?;
     holds(&rt, alloc, &library, "|a", &[("a", "-"), ("b", "-")])?;
-    gave(&rt, alloc, library.remove("b"), "title", "no entry")?;
+    gave(&rt, alloc, library.remove("b"), "-", ("", ""))?;
     Ok(())
 }
 
@@ -97,7 +102,15 @@ fn changes_what_a_removal_left(rt: HostRuntime) -> Result<(), Fail> {
     library.remove("a");
     library.alias("a", "z")?;
     holds(&rt, alloc, &library, "|a", &[("a", "-"), ("z", "-")])?;
-    inserts(&rt, alloc, &mut library, "a", ("note", "new"), "no entry")?;
+    inserts(
+        &rt,
+        alloc,
+        &mut library,
+        "a",
+        ("note", "new"),
+        "-",
+        ("", ""),
+    )?;
     holds(&rt, alloc, &library, "|a|a", &[("a", "a"), ("z", "-")])?;
     has_field(&rt, alloc, &library, "a", "note", "new")?;
     Ok(())
@@ -109,10 +122,11 @@ fn inserts_with_names_and_exchanges(rt: HostRuntime) -> Result<(), Fail> {
     let mut library = Bibliography::new(alloc);
     assert!(rt; library.is_empty());
     holds(&rt, alloc, &library, "", &[("k", "-")])?;
-    inserts(&rt, alloc, &mut library, "k", ("ids", "x, y"), "no entry")?;
+    let ids = ("ids", "x, y");
+    inserts(&rt, alloc, &mut library, "k", ids, "-", ("", ""))?;
     let names = [("x", "k"), ("y", "k"), ("k", "k")];
     holds(&rt, alloc, &library, "|k", &names)?;
-    inserts(&rt, alloc, &mut library, "x", ("title", "new"), "x, y")?;
+    inserts(&rt, alloc, &mut library, "x", ("title", "new"), "k", ids)?;
     let names = [("x", "x"), ("y", "x"), ("k", "x")];
     holds(&rt, alloc, &library, "|x", &names)?;
     has_field(&rt, alloc, &library, "y", "title", "new")?;

@@ -7,26 +7,26 @@ use std::alloc::{AllocError, Global};
 use std::process::Abort;
 use std::test::Fail;
 
-/// The text that was found is the wanted one.
-pub fn agrees(rt: &impl Abort, found: &str, want: &str) {
+// The text that was found is the wanted one.
+pub(crate) fn agrees(rt: &impl Abort, found: &str, want: &str) {
     assert!(rt; found == want, "{found:?}, and not {want:?}");
 }
 
-/// The bibliography of a file that is accepted.
-pub fn parsed(alloc: Global, file: &str) -> Result<Bibliography, Fail> {
+// The bibliography of a file that is accepted.
+pub(crate) fn parsed(alloc: Global, file: &str) -> Result<Bibliography, Fail> {
     Ok(Bibliography::parse(alloc, file)?)
 }
 
-/// The text of chunks, or a dash where there are none.
-pub fn text(alloc: Global, chunks: Option<ChunksRef<'_>>) -> Result<String, AllocError> {
+// The text of chunks, or a dash where there are none.
+fn text(alloc: Global, chunks: Option<ChunksRef<'_>>) -> Result<String, AllocError> {
     match chunks {
         Some(chunks) => chunks.format_verbatim(alloc),
         None => String::from_str(alloc, "-"),
     }
 }
 
-/// The chunks have this text, or are none where it is a dash.
-pub fn is_text(
+// The chunks have this text, or are none where it is a dash.
+pub(crate) fn is_text(
     rt: &impl Abort,
     alloc: Global,
     chunks: Option<ChunksRef<'_>>,
@@ -37,8 +37,8 @@ pub fn is_text(
     Ok(())
 }
 
-/// The field of the entry that a name points to has this text, or there is none where it is a dash.
-pub fn has_field(
+// The field of the entry that a name points to has this text, or there is none where it is a dash.
+pub(crate) fn has_field(
     rt: &impl Abort,
     alloc: Global,
     library: &Bibliography,
@@ -52,16 +52,16 @@ pub fn has_field(
     }
 }
 
-/// The key of the entry that a name points to, or a dash.
-pub fn key_of<'a>(library: &'a Bibliography, name: &str) -> &'a str {
+// The key of the entry that a name points to, or a dash.
+pub(crate) fn key_of<'a>(library: &'a Bibliography, name: &str) -> &'a str {
     match library.get(name) {
         Some(entry) => entry.key.as_str(),
         None => "-",
     }
 }
 
-/// The keys of the entries, each behind a bar.
-pub fn keys(alloc: Global, library: &Bibliography) -> Result<String, AllocError> {
+// The keys of the entries, each behind a bar.
+pub(crate) fn keys(alloc: Global, library: &Bibliography) -> Result<String, AllocError> {
     let mut out = String::new(alloc);
     for key in library.keys() {
         out.push('|')?;
@@ -70,8 +70,8 @@ pub fn keys(alloc: Global, library: &Bibliography) -> Result<String, AllocError>
     Ok(out)
 }
 
-/// The bibliography has entries of these keys, and each of these names points to the entry beside it.
-pub fn holds(
+// The bibliography has entries of these keys, and each of these names points to the entry beside it.
+pub(crate) fn holds(
     rt: &impl Abort,
     alloc: Global,
     library: &Bibliography,
@@ -86,16 +86,16 @@ pub fn holds(
     Ok(())
 }
 
-/// One normal chunk.
-pub fn normal(alloc: Global, text: &str) -> Result<Chunks, AllocError> {
+// One normal chunk.
+pub(crate) fn normal(alloc: Global, text: &str) -> Result<Chunks, AllocError> {
     let mut all = Items::new(alloc);
     let text = Text::from_str(alloc, text)?;
     all.push(Spanned::zero(Chunk::Normal(text)))?;
     Ok(all)
 }
 
-/// An entry of no fields.
-pub fn misc(alloc: Global, key: &str) -> Result<Entry, AllocError> {
+// An entry of no fields.
+pub(crate) fn misc(alloc: Global, key: &str) -> Result<Entry, AllocError> {
     let key = Text::from_str(alloc, key)?;
     Ok(Entry::new(alloc, key, EntryType::Misc))
 }
