@@ -1,9 +1,7 @@
 -- Chunks that grow at their end.
-use Rattle.std.proofs.Common.{◌≡◌, ℕ, ◌≤◌, false, List, [], ◌∷◌, ◌++◌, length, refl, sym, ap, ◌∙◌, append_assoc, append-nil, arith, suc, map}
+use Rattle.std.proofs.Common.{◌≡◌, ℕ, ◌≤◌, false, List, [], ◌∷◌, ◌++◌, sym, ap, ◌∙◌, append_assoc, append-nil, arith, suc}
 use Rattle.std.proofs.lemmas.Bool.Decides.{nat_tests}
-use Rattle.std.proofs.lemmas.Str.{chars-nil}
 use Rattle.std.specs.Prelude.{IsTrue, ◌==◌}
-use Rattle.std.specs.Str.{chars}
 use Rattle.std.proofs.lemmas.List.Concat.{flat_map-append}
 use Rattle.bib_chunks.specs.declared.chunk.Chunk.{Chunk}
 use Rattle.bib_text.specs.declared.spanned.Spanned.{Spanned}
@@ -65,11 +63,6 @@ placed_push (c ∷ rest) chunk low high placed before ordered = (
   placed.1,
   placed_push rest chunk c.span.end high placed.2 before ordered,
 )
-
--- a text without characters shows nowhere
-pub blank_atoms : {A : Type 0} (f : ℕ → A) (text : List ℕ) → IsTrue (length text == 0) → map f (chars text) ≡ []
-blank_atoms f [] blank = rw chars-nil refl
-blank_atoms f (b ∷ bs) blank = absurd (suc_not_zero (length bs) blank)
 
 -- chunks that stand before a place stand before a later one
 pub placed_up : (chunks : List (Spanned Chunk)) (low high higher : ℕ) → high ≤ higher → ArePlaced low high chunks → ArePlaced low higher chunks

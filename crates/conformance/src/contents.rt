@@ -272,6 +272,12 @@ fn reads_fields(rt: HostRuntime) -> Result<(), Fail> {
         ("@string{jan={x}} @misc{k, t = jan # Jan}", "N[xJanuary]"),
         ("@misc{k, t=\"{x\"}", "N[]V[x]"),
         ("@misc{k, t=\"{x\" # {}}", "N[]V[x]N[]"),
+        ("@string{e={{}}} @misc{k, t = {a} # e # {b}}", "N[a]V[]N[b]"),
+        ("@string{m={$y$}} @misc{k, t = {{z}} # m}", "N[]V[z]N[]M[y]"),
+        (
+            "@string{e={{}}} @string{d = e # e} @misc{k, t = d # {x} # d # {$m$}}",
+            "N[]V[]N[]V[]N[x]V[]N[]V[]N[]M[m]",
+        ),
     ];
     for (file, want) in rows {
         agrees(&rt, said(rt.alloc(), file)?.as_str(), want);
@@ -424,14 +430,30 @@ fn spans(alloc: Global, chunks: ChunksRef<'_>) -> Result<String, AllocError> {
     Ok(out)
 }
 
-#[test]
-fn keeps_spans_of_chunks(rt: HostRuntime) -> Result<(), Fail> {
-    let alloc = rt.alloc();
-    let raw = parsed(alloc, "@misc{a, title={Foo {NASA} $x$}}")?;
+// Where the chunks of the last field of a file's last entry stand.
+fn placed(alloc: Global, file: &str) -> Result<String, Fail> {
+    let raw = parsed(alloc, file)?;
     let names = definitions(alloc, &raw)?;
     let chunks = contents(alloc, last_field(&raw)?, &names)?;
-    let found = spans(alloc, chunks.as_slice())?;
-    agrees(&rt, found.as_str(), " 16-20 21-25 26-27 28-29");
+    Ok(spans(alloc, chunks.as_slice())?)
+}
+
+#[test]
+fn keeps_spans_of_chunks(rt: HostRuntime) -> Result<(), Fail> {
+    let rows = [
+        (
+            "@misc{a, title={Foo {NASA} $x$}}",
+            " 16-20 21-25 26-27 28-29",
+        ),
+        (
+            "@string{e={{}}} @misc{k, t = {a} # e # {b}}",
+            " 30-11 12-12 40-41",
+        ),
+        ("@string{z={}} @misc{k, t = {a} # z}", " 28-11"),
+    ];
+    for (file, want) in rows {
+        agrees(&rt, placed(rt.alloc(), file)?.as_str(), want);
+    }
     Ok(())
 }
 

@@ -1,6 +1,6 @@
 //! Chunks that grow at their end.
 
-ghost use Rattle.std.specs.Prelude.{◌≡◌, ℕ, ◌≤◌, [], ◌++◌, OnOk, IfOk, IsTrue};
+ghost use Rattle.std.specs.Prelude.{◌≡◌, ℕ, ◌≤◌, ◌++◌, OnOk, IfOk};
 ghost use Rattle.std.specs.Str.{chars};
 ghost use Rattle.bib_chunks.specs.Styled.{atoms_of, styled};
 ghost use Rattle.bib_contents.specs.Joined.{AreJoined, ArePlaced, AreNeighbours};
@@ -73,24 +73,11 @@ pub(crate) fn append_copies(out: &mut Chunks, chunks: &[Spanned<Chunk>]) -> Resu
     Ok(())
 }
 
-// Appends a copy of a chunk. A text without characters is left out, but not as the first chunk.
+// Appends a copy of a chunk.
 fn append_copy(out: &mut Chunks, chunk: &Spanned<Chunk>) -> Result<(), AllocError>
     ensures styled { OnOk result (styled out.new ≡ styled out.old ++ atoms_of chunk.now.v) }
     ensures joined { OnOk result (AreJoined out.old → AreJoined out.new) }
 {
-    if !out.is_empty() && is_blank(&chunk.v) {
-        return Ok(());
-    }
     let v = chunk.v.clone()?;
     append(out, Spanned::new(v, chunk.span.start..chunk.span.end))
-}
-
-// Whether a chunk is a text without characters.
-fn is_blank(chunk: &Chunk) -> bool
-    ensures { IsTrue result → atoms_of chunk.now ≡ [] }
-{
-    match chunk {
-        Chunk::Normal(text) | Chunk::Verbatim(text) => text.is_empty(),
-        Chunk::Math(_) => false,
-    }
 }
