@@ -1,5 +1,5 @@
 -- Facts on names and the places that they point to.
-use Rattle.std.proofs.Common.{◌≡◌, ℕ, Bool, true, false, cond, T, List, [], ◌∷◌, Option, Some, None, refl, sym, ap, subst, ◌∙◌, MatchBool, Equal, Ordering, is_eq, option_map, option_and_then, filter_map}
+use Rattle.std.proofs.Common.{◌≡◌, ℕ, Bool, true, false, cond, T, List, [], ◌∷◌, ◌++◌, Option, Some, None, refl, sym, ap, subst, ◌∙◌, MatchBool, Equal, Ordering, is_eq, option_map, option_and_then, filter_map}
 use Rattle.std.specs.List.{cons_option}
 use Rattle.std.specs.List.Retain.{RetainsInTurn}
 use Rattle.std.specs.Cmp.{IsTotalOrder}
@@ -9,8 +9,13 @@ use Rattle.std.specs.FinMap as map
 use Rattle.std.specs.FinMap.{find, is_sorted, get-from_sorted, get-entries, entries_sorted}
 use Rattle.std.specs.FinMap.Entries.{below_all}
 use Rattle.bib_maps.specs.Sorted.{ByText, by_bytes, IsSorted, map_of}
-use Rattle.bib_maps.specs.Names.{moved, moved_pair, without_place}
+use Rattle.bib_maps.specs.Names.{claimed, claims_for, moved, moved_pair, without_place}
 use Rattle.bib_maps.proofs.SortedFacts.{first, second, both, less, tied, holds, is_true, entries_are}
+
+-- one more name is claimed behind others
+pub claimed_next : (names : ByText ℕ) (place : ℕ) (done : List (List ℕ)) (name : List ℕ) → claimed names (claims_for place (done ++ name ∷ [])) ≡ map.insert (claimed names (claims_for place done)) name place
+claimed_next names place [] name = refl
+claimed_next names place (d ∷ done) name = claimed_next (map.insert names d place) place done name
 
 kept_or_dropped : {X : Type 0} (b : Bool) (o : Option X) (y : X) (zs : List X) → MatchBool b (o ≡ Some y) (o ≡ None) → cond b (y ∷ zs) zs ≡ cons_option o zs
 kept_or_dropped true o y zs is = ap (λ p. cons_option p zs) (sym is)

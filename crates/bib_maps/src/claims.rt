@@ -1,6 +1,6 @@
 //! The names of a bibliography while it is read.
 
-ghost use Rattle.std.specs.Prelude.{◌≡◌, OnOk, OnErr, IfOk};
+ghost use Rattle.std.specs.Prelude.{◌≡◌, ℕ, take, OnOk, OnErr, IfOk};
 ghost use Rattle.std.specs.FinMap as map;
 ghost use Rattle.bib_maps.specs.Names.{claimed, claims_for};
 
@@ -57,9 +57,12 @@ impl Claims {
         Ok(())
     }
 
-    /// Lets names point to a place, one after another.
+    /// Lets names point to a place, one after another. A refusal leaves the first of them claimed, so many as there was
+    /// memory for.
     pub fn claim_all(&mut self, names: Vec<Text>, place: usize) -> Result<(), AllocError>
         ensures claimed { OnOk result (self.new ≡ claimed self.old (claims_for place names.items)) }
+        ensures refused { OnErr result ((n : ℕ) ×
+            (self.new ≡ claimed self.old (claims_for place (take n names.items)))) }
     {
         'names: for name in names {
             self.claim(name, place)?;

@@ -4,5 +4,5 @@
 pub mod claims;
 pub mod lists;
 pub mod names;
-pub mod sorted;
+mod sorted;
 pub mod text_map;

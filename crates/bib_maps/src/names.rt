@@ -61,8 +61,8 @@ impl Names {
         }
     }
 
-    /// The names of sorted pairs. Takes no memory.
-    pub fn from_sorted(pairs: Vec<(Text, usize)>) -> Self
+    // The names of sorted pairs.
+    pub(crate) fn from_sorted(pairs: Vec<(Text, usize)>) -> Self
         requires { IsSorted pairs.items }
         ensures { result ≡ map_of pairs.items }
     {

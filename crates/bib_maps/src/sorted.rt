@@ -7,16 +7,16 @@ ghost use Rattle.bib_maps.specs.Sorted.{IsSorted, IsPlaceOf, IsGapFor, map_of};
 use bib_text::text::Text;
 use std::alloc::AllocError;
 
-/// Where the pair of a name stands, or where it would; found by halving.
-pub fn search<V>(pairs: &[(Text, V)], name: &str) -> Result<usize, usize>
+// Where the pair of a name stands, or where it would; found by halving.
+pub(crate) fn search<V>(pairs: &[(Text, V)], name: &str) -> Result<usize, usize>
     requires { IsSorted pairs.now }
     ensures { MatchResult result (IsPlaceOf pairs.now name.now) (IsGapFor pairs.now name.now) }
 {
     pairs.binary_search_by(|pair| pair.0.as_str().cmp(name))
 }
 
-/// Sorts pairs. Of pairs with one name the last stands.
-pub fn sorted<V: Drop>(mut pairs: Vec<(Text, V)>) -> Result<Vec<(Text, V)>, AllocError>
+// Sorts pairs. Of pairs with one name the last stands.
+pub(crate) fn sorted<V: Drop>(mut pairs: Vec<(Text, V)>) -> Result<Vec<(Text, V)>, AllocError>
     ensures sorted { IfOk result (λ pairs. IsSorted pairs.items) }
     ensures last { IfOk result (λ all. map_of all.items ≡ map.from_entries (reverse pairs.items)) }
 {
