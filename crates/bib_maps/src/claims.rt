@@ -57,8 +57,7 @@ impl Claims {
         Ok(())
     }
 
-    /// Lets names point to a place, one after another. A refusal leaves the first of them claimed, so many as there was
-    /// memory for.
+    /// Lets names point to a place, one after another. A refusal leaves some first ones of them claimed.
     pub fn claim_all(&mut self, names: Vec<Text>, place: usize) -> Result<(), AllocError>
         ensures claimed { OnOk result (self.new ≡ claimed self.old (claims_for place names.items)) }
         ensures refused { OnErr result ((n : ℕ) ×
