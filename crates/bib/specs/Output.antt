@@ -1,3 +1,4 @@
+-- Meaning: words of public contracts.
 -- What the program prints, and its status.
 use Rattle.std.specs.Prelude.{◌≡◌, ℕ, List, [], ◌∷◌, ◌++◌, codes}
 use Rattle.std.specs.List.{flat_map}

@@ -1,3 +1,4 @@
+-- Meaning: words of public contracts.
 -- Lists in the value of a field, and where they are cut.
 use Rattle.std.specs.Prelude.{ℕ, ◌+◌, ◌-◌, ◌^◌, ◌==◌, ◌&&◌, map, encode_utf8_all, Bool, true, false, List, [], ◌∷◌, ◌++◌, length, min, if◌then◌else◌, Option, Some, None}
 use Rattle.std.specs.List.{slice_split, position_or_len, before_first, after_first}

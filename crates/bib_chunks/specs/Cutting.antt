@@ -1,3 +1,4 @@
+-- Machinery: words of private contracts.
 -- How lists are cut piece by piece.
 use Rattle.std.specs.Prelude.{◌≡◌, ℕ, true, false, List, ◌∷◌, ◌++◌, codes, encode_utf8_all}
 use Rattle.std.specs.Str.{IsUtf8, chars}

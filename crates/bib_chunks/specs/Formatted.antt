@@ -1,3 +1,4 @@
+-- Meaning: words of public contracts.
 -- Chunks as plain text. A formatted text is given by its characters.
 use Rattle.std.specs.Prelude.{ℕ, Bool, true, false, ◌==◌, ◌||◌, if◌then◌else◌, List, [], ◌∷◌, ◌++◌}
 use Rattle.std.specs.Char.{is_whitespace}

@@ -1,3 +1,4 @@
+-- Meaning: words of public contracts.
 -- Chunks whose text is lent out to be changed.
 use Rattle.std.specs.Prelude.{ℕ, List}
 use Rattle.std.specs.Borrow.{Lends, MutBor, Fml}

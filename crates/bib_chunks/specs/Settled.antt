@@ -1,3 +1,4 @@
+-- Meaning: words of public contracts.
 -- Settled text: what is read again as it was, once it is written.
 use Rattle.std.specs.Prelude.{◌≡◌, ℕ, Bool, true, false, ◌==◌, ◌&&◌, ◌||◌, List, [], ◌∷◌, encode_utf8_all}
 use Rattle.std.specs.Char.{is_whitespace}

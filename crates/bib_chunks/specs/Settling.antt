@@ -1,3 +1,4 @@
+-- Machinery: words of private contracts.
 -- Settled text, judged from its start on.
 use Rattle.std.specs.Prelude.{◌≡◌, ◌↔◌, ◌==◌, ℕ, Bool, true, false, List, [], ◌∷◌, ◌++◌, map}
 use Rattle.std.specs.List.{list_any}

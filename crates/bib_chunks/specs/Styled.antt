@@ -1,3 +1,4 @@
+-- Meaning: words of public contracts.
 -- Styled text: what a list of chunks says once the borders between chunks are forgotten.
 use Rattle.std.specs.Prelude.{ℕ, List, [], ◌∷◌, map}
 use Rattle.std.specs.declared.ops.Range.{Range}

@@ -1,3 +1,4 @@
+-- Machinery: words of private contracts.
 -- Texts that grow.
 use Rattle.std.specs.Prelude.{◌≡◌, ℕ, List, ◌++◌, string_bytes, encode_utf8_all}
 use Rattle.std.specs.declared.string.String.{String}

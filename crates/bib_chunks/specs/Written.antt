@@ -1,3 +1,4 @@
+-- Meaning: words of public contracts.
 -- Values as they are written in a file. A written text is given by its characters.
 use Rattle.std.specs.Prelude.{ℕ, Bool, true, false, ◌==◌, ◌||◌, not, if◌then◌else◌, List, [], ◌∷◌, ◌++◌, codes}
 use Rattle.std.specs.List.{flat_map}

@@ -8,7 +8,7 @@ use Rattle.std.proofs.lemmas.List.{append_cancel_left}
 use Rattle.std.proofs.lemmas.Str.{encodes-chars, chars-nil}
 use Rattle.bib_text.specs.Places.{Place}
 use Rattle.bib_chunks.specs.Written.{is_grouping}
-use Rattle.bib_contents.specs.Contents.{ContentUnit, is_ordinary, Argument, is_escaped, is_space, is_blank, is_named, is_sign, is_mark, is_accent_letter, begins, is_empty, argument_spelling, is_name, is_whole_name, takes_next, is_argument, IsNext}
+use Rattle.bib_contents.specs.Contents.{ContentUnit, is_ordinary, Argument, is_escaped, is_space, is_blank, is_name_character, is_sign, is_mark, is_accent_letter, begins, is_empty, argument_spelling, is_name, is_whole_name, takes_next, is_argument, IsNext}
 use Rattle.bib_contents.specs.Passing.{left, Passes}
 use Rattle.bib_contents.proofs.UnitFacts.{first_unit, first_argument, command_of, unit_first, escape_first, behind, prefix_run, behind_run, command_parts}
 use Rattle.bib_contents.proofs.ArgumentFacts.{behind_first}
@@ -26,13 +26,13 @@ pub sign_name : (c : ℕ) → is_escaped false c ≡ false → is_blank c ≡ fa
 sign_name c escaped blank sign = rw (escaped, blank, sign) refl
 
 -- any other character and those that go on in a name are one
-pub other_name : (c : ℕ) (cs : List ℕ) → is_escaped false c ≡ false → is_blank c ≡ false → is_sign c ≡ false → list_all is_named cs ≡ true → is_name (c ∷ cs) ≡ true
+pub other_name : (c : ℕ) (cs : List ℕ) → is_escaped false c ≡ false → is_blank c ≡ false → is_sign c ≡ false → list_all is_name_character cs ≡ true → is_name (c ∷ cs) ≡ true
 other_name c cs escaped blank sign named = rw (escaped, blank, sign, named) refl
 
 pub sign_whole : (c : ℕ) (tail : List ℕ) → is_sign c ≡ true → is_whole_name (c ∷ []) tail ≡ true
 sign_whole c tail sign = rw sign refl
 
-pub other_whole : (c : ℕ) (cs tail : List ℕ) → is_sign c ≡ false → begins is_named tail ≡ false → is_whole_name (c ∷ cs) tail ≡ true
+pub other_whole : (c : ℕ) (cs tail : List ℕ) → is_sign c ≡ false → begins is_name_character tail ≡ false → is_whole_name (c ∷ cs) tail ≡ true
 other_whole c cs tail sign stops = rw (sign, stops) refl
 
 spaced_more : (b : ℕ) (bs cs : List ℕ) → encode_utf8_all cs ≡ b ∷ bs → not (length (b ∷ bs) == 0) ≡ not (is_empty cs)

@@ -5,7 +5,7 @@ use Rattle.std.specs.List.{list_all, list_any}
 use Rattle.std.proofs.lemmas.Bool.{and_parts, not-true, ne_eqb, eqb-true, both_ways, or_parts, cases_Bool}
 use Rattle.std.proofs.lemmas.List.{length-replicate}
 use Rattle.bib_chunks.specs.Written.{is_grouping, is_reserved}
-use Rattle.bib_contents.specs.Contents.{is_escapable, ContentUnit, Argument, is_escaped, is_space, is_blank, is_named, is_sign, is_ordinary, begins, is_empty, balances, argument_spelling, unit_spelling, is_name, is_whole_name, takes_next, is_argument, fits}
+use Rattle.bib_contents.specs.Contents.{is_escapable, ContentUnit, Argument, is_escaped, is_space, is_blank, is_name_character, is_sign, is_ordinary, begins, is_empty, balances, argument_spelling, unit_spelling, is_name, is_whole_name, takes_next, is_argument, fits}
 
 -- the characters up to the first that fails, and what stands from there on
 abbrev pub prefix : (ℕ → Bool) → List ℕ → List ℕ
@@ -44,7 +44,7 @@ first_escape is_verbatim (c ∷ cs) =
     else if is_verbatim then ContentUnit.backslash
     else if is_blank c then ContentUnit.copied c
     else if is_sign c then first_command (c ∷ []) cs
-    else first_command (c ∷ prefix is_named cs) (behind is_named cs)
+    else first_command (c ∷ prefix is_name_character cs) (behind is_name_character cs)
 
 -- the unit that a text begins with
 abbrev pub first_unit : Bool → List ℕ → ContentUnit
@@ -161,11 +161,11 @@ none_any (c ∷ cs) none =
     rw parts.0 (none_any cs parts.1)
 
 -- a name that is not a sign is taken whole
-name_first : (c : ℕ) (cs tail : List ℕ) (u : ContentUnit) → list_all is_named cs ≡ true → begins is_named tail ≡ false → first_command (c ∷ cs) tail ≡ u
-    → first_command (c ∷ prefix is_named (cs ++ tail)) (behind is_named (cs ++ tail)) ≡ u
+name_first : (c : ℕ) (cs tail : List ℕ) (u : ContentUnit) → list_all is_name_character cs ≡ true → begins is_name_character tail ≡ false → first_command (c ∷ cs) tail ≡ u
+    → first_command (c ∷ prefix is_name_character (cs ++ tail)) (behind is_name_character (cs ++ tail)) ≡ u
 name_first c cs tail u named stops found =
-    ap (λ xs. first_command (c ∷ xs) (behind is_named (cs ++ tail))) (prefix_run is_named cs tail named stops)
-    ∙ ap (first_command (c ∷ cs)) (behind_run is_named cs tail named stops)
+    ap (λ xs. first_command (c ∷ xs) (behind is_name_character (cs ++ tail))) (prefix_run is_name_character cs tail named stops)
+    ∙ ap (first_command (c ∷ cs)) (behind_run is_name_character cs tail named stops)
     ∙ found
 
 -- a sign is a whole name
@@ -177,7 +177,7 @@ sign_first c tail (d ∷ ds) none found = absurd (both_ways false refl none)
 pub escape_first : (c : ℕ) (cs tail : List ℕ) (u : ContentUnit) → is_name (c ∷ cs) ≡ true → is_whole_name (c ∷ cs) tail ≡ true → first_command (c ∷ cs) tail ≡ u
     → first_escape false (c ∷ (cs ++ tail)) ≡ u
 escape_first c cs tail u name whole found =
-    let parts = and_parts (not (is_escaped false c) && not (is_blank c)) (if is_sign c then is_empty cs else list_all is_named cs) name in
+    let parts = and_parts (not (is_escaped false c) && not (is_blank c)) (if is_sign c then is_empty cs else list_all is_name_character cs) name in
     let plain = and_parts (not (is_escaped false c)) (not (is_blank c)) parts.0 in
     rw (not-true _ plain.0, not-true _ plain.1)
     (elim (cases_Bool (is_sign c)) [

@@ -1,3 +1,4 @@
+-- Meaning: words of public contracts.
 -- Abbreviations: what a field says once each name in it is replaced by its definition. Names and texts are given by
 -- their bytes.
 use Rattle.std.specs.Prelude.{◌≡◌, ℕ, Bool, List, [], ◌∷◌, ◌++◌, map, ◌⊎◌, Option, Some, None, codes, if◌then◌else◌, bytes_eq}
@@ -16,7 +17,7 @@ use Rattle.bib_syntax.specs.declared.raw.ParseErrorKind.{ParseErrorKind}
 use Rattle.bib_syntax.specs.declared.raw.ParseErrorKind.TheVariants.{UnknownAbbreviation, AbbreviationCycle}
 use Rattle.bib_syntax.specs.declared.raw.ParseError.{ParseError}
 use Rattle.bib_contents.specs.Contents.{IsContent, IsUnread}
-use Rattle.bib_syntax.specs.Grammar.{is_named}
+use Rattle.bib_syntax.specs.Grammar.{is_word}
 use Rattle.bib_syntax.specs.Reading.{Part, Piece}
 use Rattle.bib_syntax.specs.Reading.Piece.{literal, abbreviation}
 use Rattle.bib_syntax.specs.Views.{piece_of}
@@ -37,18 +38,18 @@ is_verbatim_field key = list_any (bytes_eq key) verbatim_fields
 -- the English name of the month with these first three letters, in any ASCII case
 unfoldable pub month : List ℕ → Option (List ℕ)
 month name =
-    if is_named (codes "jan") name then Some (codes "January")
-    else if is_named (codes "feb") name then Some (codes "February")
-    else if is_named (codes "mar") name then Some (codes "March")
-    else if is_named (codes "apr") name then Some (codes "April")
-    else if is_named (codes "may") name then Some (codes "May")
-    else if is_named (codes "jun") name then Some (codes "June")
-    else if is_named (codes "jul") name then Some (codes "July")
-    else if is_named (codes "aug") name then Some (codes "August")
-    else if is_named (codes "sep") name then Some (codes "September")
-    else if is_named (codes "oct") name then Some (codes "October")
-    else if is_named (codes "nov") name then Some (codes "November")
-    else if is_named (codes "dec") name then Some (codes "December")
+    if is_word name (codes "jan") then Some (codes "January")
+    else if is_word name (codes "feb") then Some (codes "February")
+    else if is_word name (codes "mar") then Some (codes "March")
+    else if is_word name (codes "apr") then Some (codes "April")
+    else if is_word name (codes "may") then Some (codes "May")
+    else if is_word name (codes "jun") then Some (codes "June")
+    else if is_word name (codes "jul") then Some (codes "July")
+    else if is_word name (codes "aug") then Some (codes "August")
+    else if is_word name (codes "sep") then Some (codes "September")
+    else if is_word name (codes "oct") then Some (codes "October")
+    else if is_word name (codes "nov") then Some (codes "November")
+    else if is_word name (codes "dec") then Some (codes "December")
     else None
 
 -- a name stands among these pieces

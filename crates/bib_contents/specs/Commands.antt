@@ -1,3 +1,4 @@
+-- Meaning: words of public contracts.
 -- What a command of LaTeX stands for, as the Rust crate `biblatex` has it. A text is given by its characters.
 use Rattle.std.specs.Prelude.{ℕ, List, [], ◌∷◌, ◌++◌, Option, Some, None, codes, bytes_eq, if◌then◌else◌, ◌==◌}
 use Prim.Native.String.{String}

@@ -1,3 +1,4 @@
+-- Meaning: words of public contracts.
 -- The contents of a field: how the text of a piece is cut into units, and what each unit means. Contents are LaTeX
 -- source, as the Rust crate `biblatex` reads it. A text is given by its characters.
 use Rattle.std.specs.Prelude.{◌≡◌, ℕ, zero, suc, ◌-◌, ◌/◌, ◌%◌, Bool, true, false, not, ◌&&◌, ◌||◌, ◌==◌, nat_lt, ◌⊎◌, if◌then◌else◌, List, [], ◌∷◌, ◌++◌, map, replicate, Option, None, Some}
@@ -30,8 +31,8 @@ unfoldable pub is_blank : ℕ → Bool
 is_blank c = is_whitespace c || is_control c
 
 -- the characters that go on in a command's name
-unfoldable pub is_named : ℕ → Bool
-is_named c = is_id_continue c
+unfoldable pub is_name_character : ℕ → Bool
+is_name_character c = is_id_continue c
 
 -- the characters that name an accent: " ' ^ ~ = . U+00B4 U+0060
 unfoldable pub is_mark : ℕ → Bool
@@ -112,11 +113,11 @@ unit_spelling (ContentUnit.other c) = c ∷ []
 abbrev pub is_name : List ℕ → Bool
 is_name [] = false
 is_name (c ∷ cs) =
-    not (is_escaped false c) && not (is_blank c) && (if is_sign c then is_empty cs else list_all is_named cs)
+    not (is_escaped false c) && not (is_blank c) && (if is_sign c then is_empty cs else list_all is_name_character cs)
 
 -- whether a name can end before a text: a sign always, another name where no identifier character follows
 abbrev pub is_whole_name : List ℕ → List ℕ → Bool
-is_whole_name name rest = begins is_sign name || not (begins is_named rest)
+is_whole_name name rest = begins is_sign name || not (begins is_name_character rest)
 
 -- whether a command takes the next character: an accent named by a mark, or one named by a letter and white space
 abbrev pub takes_next : List ℕ → List ℕ → Bool

@@ -1,3 +1,4 @@
+-- Meaning: words of public contracts.
 -- Chunks as a reader gives them: joined where they are of one kind, and in the order in which they stand.
 use Rattle.std.specs.Prelude.{◌≡◌, ℕ, ◌≤◌, Bool, true, false, List, [], ◌∷◌, ◌++◌, Option, Some, None}
 use Rattle.bib_chunks.specs.declared.chunk.Chunk.{Chunk}

@@ -1,4 +1,5 @@
--- Words of private contracts: characters that a cursor passes, and how far contents were read.
+-- Machinery: words of private contracts.
+-- Characters that a cursor passes, and how far contents were read.
 use Rattle.std.specs.Prelude.{◌≡◌, ◌⊎◌, ℕ, ◌+◌, ◌-◌, ◌^◌, ◌≤◌, min, Bool, true, false, not, List, ◌++◌, length, drop, map, Some, string_bytes, encode_utf8_all}
 use Rattle.std.specs.Str.{chars}
 use Rattle.bib_text.specs.Places.{Place}

@@ -1,3 +1,4 @@
+-- Machinery: words of private contracts.
 -- What the program's units of contents are.
 use Rattle.std.specs.Str.{chars}
 use Rattle.bib_contents.specs.Contents as contents

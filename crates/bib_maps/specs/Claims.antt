@@ -1,3 +1,4 @@
+-- Machinery: words of private contracts.
 -- The names of a bibliography while it is read.
 use Rattle.std.specs.Prelude.{ℕ, List, map, String, string_bytes}
 use Rattle.std.specs.Global.{Global}

@@ -1,4 +1,5 @@
--- Chunks that grow at their end: words of private contracts.
+-- Machinery: words of private contracts.
+-- Chunks that grow at their end.
 use Rattle.std.specs.Prelude.{Bool, List, [], ◌∷◌, true, ◌==◌, not, length}
 use Rattle.bib_chunks.specs.declared.chunk.Chunk.{Chunk}
 use Rattle.bib_chunks.specs.declared.chunk.Chunk.TheVariants.{Normal, Verbatim, Math}

@@ -1,3 +1,4 @@
+-- Meaning: words of public contracts.
 -- Comma lists in a styled text.
 use Rattle.std.specs.Prelude.{ℕ, Bool, true, false, List, [], ◌∷◌, ◌++◌, map, encode_utf8, encode_utf8_all, if◌then◌else◌}
 use Rattle.bib_chunks.specs.declared.chunk.Chunk.{Chunk}

@@ -1,3 +1,4 @@
+-- Meaning: words of public contracts.
 -- The names of a bibliography: each points to the place of an entry.
 use Rattle.std.specs.Prelude.{◌≡◌, ℕ, ◌-◌, ◌<◌, ◌==◌, nat_lt, List, [], ◌∷◌, map, Option, Some, None, option_map, if◌then◌else◌, Bool, MatchBool}
 use Rattle.std.specs.List.{filter_map}

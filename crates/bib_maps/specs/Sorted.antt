@@ -1,3 +1,4 @@
+-- Meaning: words of public contracts.
 -- Pairs of a name and a value, sorted by the names' bytes.
 use Rattle.std.specs.Prelude.{◌≡◌, ℕ, ◌<◌, ◌≤◌, List, length, IsTrue}
 use Rattle.std.specs.List.{AllWithin, HoldsAt}

@@ -1,3 +1,4 @@
+-- Meaning: words of public contracts.
 -- Comparing and copying maps by text.
 use Rattle.std.specs.Prelude.{◌≡◌, ℕ, Bool, ◌&&◌, List, nat_eq}
 use Rattle.std.specs.List.{AllZip}

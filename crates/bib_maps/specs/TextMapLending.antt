@@ -1,3 +1,4 @@
+-- Meaning: words of public contracts.
 -- Maps by text whose values are lent out to be changed.
 use Rattle.std.specs.Prelude.{ℕ, List, Option}
 use Rattle.std.specs.Borrow.{LendsIf, MutBor, Fml, RattleType}

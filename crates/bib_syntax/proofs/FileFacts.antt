@@ -11,8 +11,7 @@ use Rattle.bib_syntax.specs.Reading.{Part, part, FieldReading, EntryReading, Fil
 use Rattle.bib_syntax.specs.Grammar.{Identifier, Quoted, Remark, Gap, Fields, Head, Body, Block, File, block_kind, longest}
 use Rattle.bib_syntax.specs.Grammar.{Body as body}
 use Rattle.bib_syntax.specs.Grammar.{File as file}
-use Rattle.bib_syntax.specs.declared.raw.file.BlockKind.{BlockKind}
-use Rattle.bib_syntax.specs.declared.raw.file.BlockKind.TheVariants.{Comment, Preamble, Strings, Entry}
+use Rattle.bib_syntax.specs.Grammar.{BlockKind}
 use Rattle.bib_syntax.proofs.LawFacts.{moved, identifier_same, quoted_same, gap_same, fields_same, remark_same}
 use Rattle.bib_syntax.proofs.FieldFacts.{ahead_identifier, ahead_quoted, ahead_gap, ahead_fields}
 
@@ -40,28 +39,28 @@ ahead_head h = ahead_then (ahead_char h.sign) (ahead_then (ahead_identifier h.na
 abbrev pub not_close : ℕ → Bool
 not_close c = not (c == 125)
 
-pub no_comment : {u a : Place} → Longest not_close u a → ((v : Place) → CharAt a 125 v → ⊥) → (start : Place) (p : Part) (r : FileReading) (v : Place) → Body longest start p Comment u r v → ⊥
+pub no_comment : {u a : Place} → Longest not_close u a → ((v : Place) → CharAt a 125 v → ⊥) → (start : Place) (p : Part) (r : FileReading) (v : Place) → Body longest start p BlockKind.comment u r v → ⊥
 no_comment run none start p r v (body.comment a inside close) = none v (moved (λ x y. CharAt x 125 y) (longest_same inside run) close)
 
-pub no_preamble : {u : Place} → ((p : Part) (v : Place) → Quoted u p v → ⊥) → (start : Place) (p : Part) (r : FileReading) (v : Place) → Body longest start p Preamble u r v → ⊥
+pub no_preamble : {u : Place} → ((p : Part) (v : Place) → Quoted u p v → ⊥) → (start : Place) (p : Part) (r : FileReading) (v : Place) → Body longest start p BlockKind.preamble u r v → ⊥
 no_preamble none start p r v (body.preamble quoted white close is_close) = none _ _ quoted
 
 pub no_preamble_close : {u a b : Place} {q : Part} → Quoted u q a → Longest is_whitespace a b → ((d : ℕ) (v : Place) → CharAt b d v → d == 125 || d == 34 ≡ true → ⊥)
-    → (start : Place) (p : Part) (r : FileReading) (v : Place) → Body longest start p Preamble u r v → ⊥
+    → (start : Place) (p : Part) (r : FileReading) (v : Place) → Body longest start p BlockKind.preamble u r v → ⊥
 no_preamble_close quoted white none start p r v (body.preamble {c = c} quoted' white' close is_close) =
     let there = longest_same (moved (Longest is_whitespace) (quoted_same quoted quoted').1 white) white' in
     none c v (subst (λ y. CharAt y c v) (sym there) close) is_close
 
-pub no_strings : {u : Place} → ((fs : List FieldReading) (v w : Place) → Fields longest u fs v → CharAt v 125 w → ⊥) → (start : Place) (p : Part) (r : FileReading) (v : Place) → Body longest start p Strings u r v → ⊥
+pub no_strings : {u : Place} → ((fs : List FieldReading) (v w : Place) → Fields longest u fs v → CharAt v 125 w → ⊥) → (start : Place) (p : Part) (r : FileReading) (v : Place) → Body longest start p BlockKind.strings u r v → ⊥
 no_strings none start p r v (body.strings fields close) = none _ _ _ fields close
 
-pub no_entry_comma : {u a b : Place} → Longest is_key u a → Longest is_whitespace a b → ((v : Place) → CharAt b 44 v → ⊥) → (start : Place) (p : Part) (r : FileReading) (v : Place) → Body longest start p Entry u r v → ⊥
+pub no_entry_comma : {u a b : Place} → Longest is_key u a → Longest is_whitespace a b → ((v : Place) → CharAt b 44 v → ⊥) → (start : Place) (p : Part) (r : FileReading) (v : Place) → Body longest start p BlockKind.entry u r v → ⊥
 no_entry_comma key white none start p r v (body.entry a key' white' comma gap fields close) =
     let there = longest_same (moved (Longest is_whitespace) (longest_same key key') white) white' in
     none _ (moved (λ x y. CharAt x 44 y) (sym there) comma)
 
 pub no_entry_fields : {u a b c d : Place} → Longest is_key u a → Longest is_whitespace a b → CharAt b 44 c → Gap longest c d
-    → ((fs : List FieldReading) (v w : Place) → Fields longest d fs v → CharAt v 125 w → ⊥) → (start : Place) (p : Part) (r : FileReading) (v : Place) → Body longest start p Entry u r v → ⊥
+    → ((fs : List FieldReading) (v w : Place) → Fields longest d fs v → CharAt v 125 w → ⊥) → (start : Place) (p : Part) (r : FileReading) (v : Place) → Body longest start p BlockKind.entry u r v → ⊥
 no_entry_fields key white comma gap none start p r v (body.entry {z = z} {fs = fs} a key' white' comma' gap' fields close) =
     let there = longest_same (moved (Longest is_whitespace) (longest_same key key') white) white' in
     let behind = (same_char (moved (λ x y. CharAt x 44 y) there comma) comma').1 in
@@ -247,11 +246,11 @@ says_entry key kind fs start end = record { preamble = []; entries = record { ke
 
 -- an entry, from what was read of it
 pub entry_found : {u s a b c d z w : Place} {fs : List FieldReading} (kind key : Part) (start end : ℕ) → u.at ≡ start → end ≡ z.at → key ≡ part s a → Longest is_key s a → Longest is_whitespace a b → CharAt b 44 c → Gap longest c d
-    → Fields longest d fs z → CharAt z 125 w → Body longest u kind Entry s (says_entry key kind fs start end) w
+    → Fields longest d fs z → CharAt z 125 w → Body longest u kind BlockKind.entry s (says_entry key kind fs start end) w
 entry_found {u} {s} {a} {b} {c} {d} {z} {w} {fs} kind key start end starts ends reading run white comma gap fields close =
     let same : says_entry (part s a) kind fs u.at z.at ≡ says_entry key kind fs start end =
     ap (λ k. says_entry k kind fs u.at z.at) (sym reading) ∙ ap (λ n. says_entry key kind fs n z.at) starts ∙ ap (says_entry key kind fs start) (sym ends) in
-    subst (λ r. Body longest u kind Entry s r w) same (body.entry a run white comma gap fields close)
+    subst (λ r. Body longest u kind BlockKind.entry s r w) same (body.entry a run white comma gap fields close)
 
 -- less is left behind a block, a remark, and a run of characters that are skipped
 pub block_smaller : {u v : Place} {r : FileReading} → Block longest u r v → length v.text - v.at < length u.text - u.at

@@ -17,7 +17,7 @@ use Rattle.bib_syntax.specs.Grammar.{Gap as gap}
 use Rattle.bib_syntax.specs.Grammar.{Fields as fields}
 use Rattle.bib_syntax.specs.Grammar.{Body as body}
 use Rattle.bib_syntax.specs.Grammar.{File as file}
-use Rattle.bib_syntax.specs.declared.raw.file.BlockKind.{BlockKind}
+use Rattle.bib_syntax.specs.Grammar.{BlockKind}
 use Rattle.bib_syntax.proofs.LawFacts.{start_not_white}
 
 -- with longest runs, and so with any

@@ -1,3 +1,4 @@
+-- Meaning: words of public contracts.
 -- The classes of characters of a bibliography file, as the Rust crate `biblatex` has them.
 use Rattle.std.specs.Prelude.{ℕ, Bool, not, ◌&&◌, ◌||◌, ◌==◌}
 use Rattle.std.specs.Char.{is_whitespace, is_control}

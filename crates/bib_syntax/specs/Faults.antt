@@ -1,3 +1,4 @@
+-- Meaning: words of public contracts.
 -- Faults of a text, and how they are printed, as the Rust crate `biblatex` prints them.
 use Rattle.std.specs.Prelude.{◌≡◌, ℕ, ◌≤◌, Bool, true, false, List, [], ◌∷◌, ◌++◌, unwrap_or, length, codes, IsTrue, ◌⊎◌}
 use Rattle.std.specs.Fmt.{decimal, debug_str}

@@ -1,3 +1,4 @@
+-- Meaning: words of public contracts.
 -- The grammar of bibliography files, after BibTeX's as the Rust crate `biblatex` reads it. A rule relates the place
 -- where it begins, what is read, and the place behind it; rules one after another share a place.
 --
@@ -9,8 +10,6 @@ use Rattle.std.specs.Char.{is_whitespace, is_ascii_digit}
 use Rattle.std.specs.Str.{str_eq_ignore_ascii_case}
 use Rattle.bib_text.specs.Places.{Place, place, CharAt, Run, Longest, Stops, AtEnd, between}
 use Rattle.bib_text.specs.Braces.{Parts}
-use Rattle.bib_syntax.specs.declared.raw.file.BlockKind.{BlockKind}
-use Rattle.bib_syntax.specs.declared.raw.file.BlockKind.TheVariants.{Comment, Preamble, Strings, Entry}
 use Rattle.bib_syntax.specs.Characters.{is_key, is_id_start, is_id_continue}
 use Rattle.bib_syntax.specs.Reading.{Part, part, Piece, FieldReading, FileReading, nothing, then}
 use Rattle.bib_syntax.specs.Reading.Piece.{literal, abbreviation}
@@ -122,15 +121,23 @@ pub data Fields (mode : Mode) : Place → List FieldReading → Place → Type 0
   more : {u v w x y z : Place} {f : FieldReading} {fs : List FieldReading} → Field mode u f v → Gap mode v w → CharAt w 44 x
       → Gap mode x y → Fields mode y fs z → Fields mode u (f ∷ fs) z
 
--- a name in any ASCII case
-abbrev pub is_named : List ℕ → List ℕ → Bool
-is_named word name = str_eq_ignore_ascii_case name word
+-- whether a name is this word, in any ASCII case
+abbrev pub is_word : List ℕ → List ℕ → Bool
+is_word name word = str_eq_ignore_ascii_case name word
 
--- what a block is, by its name: a comment, a preamble, a list of abbreviations, or an entry
+-- what a block can be: a comment, a preamble, a list of abbreviations, or an entry
+pub data BlockKind : Type 0 where
+  comment : BlockKind
+  preamble : BlockKind
+  strings : BlockKind
+  entry : BlockKind
+
+-- what a block is, by its name
 abbrev pub block_kind : List ℕ → BlockKind
 block_kind name =
-    cond (is_named (codes "comment") name) Comment
-    (cond (is_named (codes "preamble") name) Preamble (cond (is_named (codes "string") name) Strings Entry))
+    cond (is_word name (codes "comment")) BlockKind.comment
+    (cond (is_word name (codes "preamble")) BlockKind.preamble
+    (cond (is_word name (codes "string")) BlockKind.strings BlockKind.entry))
 
 -- where a block begins: an at sign, its name, and a brace or a quote, with white space round that
 pub record Head (mode : Mode) (u : Place) (kind : Part) (v : Place) : Type 0 where
@@ -148,14 +155,14 @@ pub record Head (mode : Mode) (u : Place) (kind : Part) (v : Place) : Type 0 whe
 
 -- what stands between a block's head and the place behind it, and what it says; the block began at `start`
 pub data Body (mode : Mode) (start : Place) (kind : Part) : BlockKind → Place → FileReading → Place → Type 0 where
-  comment : {u w : Place} (v : Place) → Chars mode (λ c. not (c == 125)) u v → CharAt v 125 w → Body mode start kind Comment u nothing w
+  comment : {u w : Place} (v : Place) → Chars mode (λ c. not (c == 125)) u v → CharAt v 125 w → Body mode start kind BlockKind.comment u nothing w
   preamble : {u v w x : Place} {p : Part} {c : ℕ} → Quoted u p v → White mode v w → CharAt w c x → c == 125 || c == 34 ≡ true
-      → Body mode start kind Preamble u (record { preamble = between u v; entries = []; abbreviations = [] }) x
+      → Body mode start kind BlockKind.preamble u (record { preamble = between u v; entries = []; abbreviations = [] }) x
   strings : {u v w : Place} {fs : List FieldReading} → Fields mode u fs v → CharAt v 125 w
-      → Body mode start kind Strings u (record { preamble = []; entries = []; abbreviations = fs }) w
+      → Body mode start kind BlockKind.strings u (record { preamble = []; entries = []; abbreviations = fs }) w
   entry : {u w x y z end : Place} {fs : List FieldReading} (v : Place) → Chars mode is_key u v → White mode v w → CharAt w 44 x → Gap mode x y
       → Fields mode y fs z → CharAt z 125 end
-      → Body mode start kind Entry u
+      → Body mode start kind BlockKind.entry u
       (record { preamble = []; entries = record { key = part u v; kind = kind; fields = fs; start = start.at; end = z.at } ∷ []; abbreviations = [] }) end
 
 -- a block, from its at sign to behind its last brace

@@ -1,3 +1,4 @@
+pub mod Blocks
 pub mod Characters
 pub mod Faults
 pub mod Grammar

@@ -1,3 +1,4 @@
+-- Meaning: words of public contracts.
 -- What a bibliography file says: its entries, abbreviations and preamble, each part with the bytes where it stands.
 use Rattle.std.specs.Prelude.{ℕ, List, [], ◌∷◌, ◌++◌, codes}
 use Rattle.bib_text.specs.Places.{Place, between}

@@ -1,3 +1,4 @@
+-- Meaning: words of public contracts.
 -- What the values of the program that hold what a file says, say: their texts and spans, wherever these are kept.
 use Rattle.std.specs.Prelude.{ℕ, List, [], ◌∷◌, map}
 use Rattle.std.specs.String.{string_bytes}
@@ -8,8 +9,6 @@ use Rattle.bib_syntax.specs.declared.raw.RawChunk.TheVariants.{Normal, Abbreviat
 use Rattle.bib_syntax.specs.declared.raw.Pair.{Pair}
 use Rattle.bib_syntax.specs.declared.raw.RawEntry.{RawEntry}
 use Rattle.bib_syntax.specs.declared.raw.RawBibliography.{RawBibliography}
-use Rattle.bib_syntax.specs.declared.raw.file.Item.{Item}
-use Rattle.bib_syntax.specs.declared.raw.file.Item.TheVariants.{Nothing, Preamble, Strings, Entry}
 use Rattle.bib_syntax.specs.Reading.{Part, Piece, FieldReading, EntryReading, FileReading, nothing}
 use Rattle.bib_syntax.specs.Reading.Piece.{literal, abbreviation}
 
@@ -37,10 +36,3 @@ file_of raw = record {
   entries = map entry_of raw.entries.items;
   abbreviations = map field_of raw.abbreviations.items;
 }
-
--- what a block says
-abbrev pub item_of : Item → FileReading
-item_of Nothing = nothing
-item_of (Preamble s) = record { preamble = s.now; entries = []; abbreviations = [] }
-item_of (Strings pairs) = record { preamble = []; entries = []; abbreviations = map field_of pairs.items }
-item_of (Entry e) = record { preamble = []; entries = entry_of e ∷ []; abbreviations = [] }

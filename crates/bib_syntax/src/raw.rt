@@ -14,7 +14,7 @@ use bib_text::scanner::Scanner;
 use bib_text::spanned::{Span, Spanned};
 use bib_text::text::Text;
 use file::blocks;
-pub use file::is_named;
+pub use file::is_word;
 use std::alloc::{AllocError, AllocFailed, Global};
 use std::error::Error;
 use std::fmt;

@@ -1,3 +1,4 @@
+-- Meaning: words of public contracts.
 -- The types of entries, by the lists of BibTeX and of the BibLaTeX manual.
 use Rattle.std.specs.Prelude.{ℕ, Bool, true, false, List, [], ◌∷◌, ◌++◌, Option, codes, map, unwrap_or}
 use Rattle.std.specs.Char.{to_ascii_lowercase}

@@ -1,3 +1,4 @@
+-- Meaning: words of public contracts.
 -- The fields that each type of entry asks for, by the BibLaTeX manual's tables of entry types. The lists are those
 -- by which this crate checks entries and lets them inherit.
 use Rattle.std.specs.Prelude.{ℕ, Bool, true, false, List, [], ◌∷◌, ◌++◌, codes, map}

@@ -1,3 +1,4 @@
+-- Machinery: words of private contracts.
 -- The code's table of requirements, as the definition's.
 use Rattle.std.specs.List.{flat_map}
 use Rattle.bib_tables.specs.declared.mechanics.requirements.Row.{Row}

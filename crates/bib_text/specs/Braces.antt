@@ -1,3 +1,4 @@
+-- Meaning: words of public contracts.
 -- Texts in which the braces balance, as they stand between two braces in a file: a backslash hides the
 -- character behind it, and each brace that opens is closed.
 use Rattle.std.specs.Prelude.{◌≡◌, ℕ, Bool, true, not, ◌&&◌, ◌==◌, List, length}

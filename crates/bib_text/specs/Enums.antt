@@ -1,3 +1,4 @@
+-- Meaning: words of public contracts.
 -- Names, and the values that they stand for.
 use Rattle.std.specs.Prelude.{ℕ, List, [], ◌∷◌, Option, Some, None, if◌then◌else◌, ◌==◌, bytes_eq, map}
 

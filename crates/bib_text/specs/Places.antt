@@ -1,3 +1,4 @@
+-- Meaning: words of public contracts.
 -- Places in a text, and the characters between them. A rule of a grammar relates two places, so that rules one
 -- after another are rules that share a place. A text is its bytes in UTF-8, and a character is its code point.
 use Rattle.std.specs.Prelude.{◌≡◌, ℕ, ◌+◌, ◌-◌, Bool, true, false, List, ◌++◌, length, take, drop, encode_utf8}

@@ -1,3 +1,4 @@
+-- Meaning: words of public contracts.
 -- What an editor did, after the BibLaTeX manual's list of values for `editortype`.
 use Rattle.std.specs.Prelude.{ℕ, List, [], ◌∷◌, Option, codes, unwrap_or}
 use Rattle.bib_types.specs.declared.types.EditorType.{EditorType}

@@ -1,3 +1,4 @@
+-- Meaning: words of public contracts.
 -- Gender and number, after the BibLaTeX manual's values for `gender`.
 use Rattle.std.specs.Prelude.{ℕ, Bool, true, false, List, [], ◌∷◌, Option, None, Some, codes, if◌then◌else◌}
 use Rattle.std.specs.List.{list_all}

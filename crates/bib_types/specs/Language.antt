@@ -1,3 +1,4 @@
+-- Meaning: words of public contracts.
 -- The languages that BibLaTeX files name in `langid` and `language`, with the names and tags of the Rust crate
 -- `biblatex`.
 use Rattle.std.specs.Prelude.{ℕ, List, [], ◌∷◌, Option, codes, map, encode_utf8_all}

@@ -1,3 +1,4 @@
+-- Meaning: words of public contracts.
 -- What the numbers of `pages` count, after the BibLaTeX manual's list of values for `pagination`.
 use Rattle.std.specs.Prelude.{ℕ, List, [], ◌∷◌, Option, codes}
 use Rattle.bib_types.specs.declared.types.Pagination.{Pagination}

@@ -1,4 +1,5 @@
--- Entries as they are read, with the names that they claim: words of private contracts.
+-- Machinery: words of private contracts.
+-- Entries as they are read, with the names that they claim.
 use Rattle.std.specs.Prelude.{◌≡◌, ℕ, List, []}
 use Rattle.bib_contents.specs.Abbreviations.{Definitions}
 use Rattle.bib_syntax.specs.Reading.{EntryReading}

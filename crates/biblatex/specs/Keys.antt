@@ -1,3 +1,4 @@
+-- Meaning: words of public contracts.
 -- The keys of entries.
 use Rattle.std.specs.Prelude.{ℕ, List, map}
 use Rattle.std.specs.Slice.Iter.{iter_rest}

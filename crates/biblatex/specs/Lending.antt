@@ -1,3 +1,4 @@
+-- Meaning: words of public contracts.
 -- Libraries whose entries are lent out to be changed.
 use Rattle.std.specs.Prelude.{ℕ, List, ◌++◌, length, take, drop, Option, Some, None}
 use Rattle.std.specs.Borrow.{LendsIf, MutBor, Fml, Array, follows}

@@ -1,3 +1,4 @@
+-- Meaning: words of public contracts.
 -- A bibliography: a list of entries, and names that point to their places.
 use Rattle.std.specs.Prelude.{ℕ, List, [], ◌∷◌, ◌++◌, length, slice_get, slice_set, Option, Some, None, option_and_then, codes, refl}
 use Rattle.std.specs.List.{remove}

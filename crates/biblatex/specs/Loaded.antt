@@ -1,3 +1,4 @@
+-- Meaning: words of public contracts.
 -- What a file says as a bibliography: its entries with their fields read, and the first fault if they can't be.
 use Rattle.std.specs.Prelude.{◌≡◌, ℕ, Bool, true, false, List, [], ◌∷◌, ◌++◌, map, reverse, find, bytes_eq, option_map, Option, Some, None, MatchOption}
 use Rattle.std.specs.Char.{to_ascii_lowercase}

@@ -1,3 +1,4 @@
+-- Machinery: words of private contracts.
 -- What a file's entries are as entries of a bibliography, and the first fault if they can't be.
 use Rattle.std.specs.Prelude.{◌≡◌, ℕ, List, [], ◌∷◌, map, reverse, find, bytes_eq, option_map, Option, Some, None, MatchOption}
 use Rattle.std.specs.Char.{to_ascii_lowercase}

@@ -1,3 +1,4 @@
+-- Machinery: words of private contracts.
 -- Reading one field.
 use Rattle.std.specs.Prelude.{[]}
 use Rattle.bib_contents.specs.Abbreviations.{Definitions, IsFirstFault, is_verbatim_field}

@@ -1,3 +1,4 @@
+-- Meaning: words of public contracts.
 -- Comparing libraries.
 use Rattle.std.specs.Prelude.{Bool, ◌&&◌, nat_eq}
 use Rattle.std.specs.Cmp.{IsEquivalence, IsPartialEquivalence, and_per, and_equiv, on_per, on_equiv, partial_equiv_from_equiv, nat_eq_equiv}

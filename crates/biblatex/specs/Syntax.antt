@@ -1,3 +1,4 @@
+-- Meaning: words of public contracts.
 -- The words of the layers below that contracts of this crate's users cite.
 pub use Rattle.bib_contents.specs.Abbreviations.{Evaluates, IsFirstFault, IsReadable, defined_in}
 pub use Rattle.bib_contents.specs.Contents.{IsContent}

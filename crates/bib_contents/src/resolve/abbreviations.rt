@@ -17,7 +17,7 @@ use crate::resolve::contents::contents;
 use crate::resolve::definitions::LookUp;
 use crate::resolve::joining::append_copies;
 use bib_chunks::chunk::{Chunk, Chunks, Span, Spanned};
-use bib_syntax::raw::{Field, ParseError, ParseErrorKind, RawChunk, is_named};
+use bib_syntax::raw::{Field, ParseError, ParseErrorKind, RawChunk, is_word};
 use bib_text::text::Text;
 use std::alloc::{AllocError, Global};
 use std::collections::{BTreeMap, HashMap};
@@ -361,29 +361,29 @@ impl<'m, 'f, 's> Source<'m, 'f, 's> {
 fn month(name: &str) -> Option<&'static str>
     ensures { option_map (λ english. english.now) result ≡ abbreviations.month name.now }
 {
-    if is_named(name, "jan") {
+    if is_word(name, "jan") {
         Some("January")
-    } else if is_named(name, "feb") {
+    } else if is_word(name, "feb") {
         Some("February")
-    } else if is_named(name, "mar") {
+    } else if is_word(name, "mar") {
         Some("March")
-    } else if is_named(name, "apr") {
+    } else if is_word(name, "apr") {
         Some("April")
-    } else if is_named(name, "may") {
+    } else if is_word(name, "may") {
         Some("May")
-    } else if is_named(name, "jun") {
+    } else if is_word(name, "jun") {
         Some("June")
-    } else if is_named(name, "jul") {
+    } else if is_word(name, "jul") {
         Some("July")
-    } else if is_named(name, "aug") {
+    } else if is_word(name, "aug") {
         Some("August")
-    } else if is_named(name, "sep") {
+    } else if is_word(name, "sep") {
         Some("September")
-    } else if is_named(name, "oct") {
+    } else if is_word(name, "oct") {
         Some("October")
-    } else if is_named(name, "nov") {
+    } else if is_word(name, "nov") {
         Some("November")
-    } else if is_named(name, "dec") {
+    } else if is_word(name, "dec") {
         Some("December")
     } else {
         None

@@ -34,9 +34,9 @@ pub(crate) fn is_space(c: char) -> bool
 }
 
 // The characters that go on in a command's name.
-#[tactic(auto, unfolding(crate::specs::Contents::is_named))]
-pub(crate) fn is_named(c: char) -> bool
-    ensures { result ≡ contents.is_named c }
+#[tactic(auto, unfolding(crate::specs::Contents::is_name_character))]
+pub(crate) fn is_name_character(c: char) -> bool
+    ensures { result ≡ contents.is_name_character c }
 {
     is_id_continue(c)
 }

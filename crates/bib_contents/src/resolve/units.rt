@@ -10,7 +10,7 @@ ghost use Rattle.bib_contents.specs.UnitViews.{argument_of, unit_of};
 
 use crate::resolve::characters::Characters;
 use crate::resolve::classes::{
-    is_accent_letter, is_blank, is_escaped, is_mark, is_named, is_ordinary, is_sign, is_space,
+    is_accent_letter, is_blank, is_escaped, is_mark, is_name_character, is_ordinary, is_sign, is_space,
 };
 
 // The argument of a command.
@@ -135,7 +135,7 @@ fn eat_name<'s>(s: &mut Characters<'s>, first: char) -> &'s str
     if is_sign(first) {
         return s.from(start);
     }
-    s.eat_while(is_named);
+    s.eat_while(is_name_character);
     s.from(start)
 }
 

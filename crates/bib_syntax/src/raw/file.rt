@@ -2,11 +2,13 @@
 
 ghost use Rattle.std.specs.Prelude.{◌≡◌, ℕ, List, [], ◌∷◌, ◌==◌, ◌&&◌, ◌||◌, not, true, IfOk, IfErr, OnOk, OnErr};
 ghost use Rattle.bib_text.specs.Places.{Place, CharAt, place};
+ghost use Rattle.bib_syntax.specs.Blocks.{item_of, kind_of};
 ghost use Rattle.bib_syntax.specs.Grammar as grammar;
+ghost use Rattle.bib_syntax.specs.Grammar.{BlockKind as ABlock};
 ghost use Rattle.bib_syntax.specs.Grammar.{Head, Body, Block, Remark, File, Quoted, longest};
 ghost use Rattle.bib_syntax.specs.Reading.{Part, FileReading, nothing, then};
 ghost use Rattle.bib_syntax.specs.Faults.{IsSyntaxFault, Refuses, out_of_memory};
-ghost use Rattle.bib_syntax.specs.Views.{part_of, file_of, item_of};
+ghost use Rattle.bib_syntax.specs.Views.{part_of, file_of};
 
 use crate::raw::fields::{fields, gap, remark};
 use crate::raw::words::{brace, expect, identifier, key, quoted};
@@ -24,20 +26,20 @@ enum BlockKind {
 }
 
 /// Whether a name is this word in some ASCII case.
-pub fn is_named(name: &str, word: &str) -> bool
-    ensures { result ≡ grammar.is_named word.now name.now }
+pub fn is_word(name: &str, word: &str) -> bool
+    ensures { result ≡ grammar.is_word name.now word.now }
 {
     name.eq_ignore_ascii_case(word)
 }
 
 fn block_kind(name: &str) -> BlockKind
-    ensures { result ≡ grammar.block_kind name.now }
+    ensures { kind_of result ≡ grammar.block_kind name.now }
 {
-    if is_named(name, "comment") {
+    if is_word(name, "comment") {
         BlockKind::Comment
-    } else if is_named(name, "preamble") {
+    } else if is_word(name, "preamble") {
         BlockKind::Preamble
-    } else if is_named(name, "string") {
+    } else if is_word(name, "string") {
         BlockKind::Strings
     } else {
         BlockKind::Entry
@@ -71,9 +73,9 @@ fn head<'s>(s: &mut Scanner<'s>) -> Result<Spanned<&'s str>, ParseError>
 // A comment, up to its first closing brace.
 fn comment(s: &mut Scanner<'_>) -> Result<(), ParseError>
     ensures found { OnOk result ((u : Place) (p : Part) →
-        Body longest u p BlockKind.Comment s.old nothing s.new) }
+        Body longest u p ABlock.comment s.old nothing s.new) }
     ensures none { OnErr result ((u : Place) (p : Part) (r : FileReading) (v : Place) →
-        Body longest u p BlockKind.Comment s.old r v → ⊥) }
+        Body longest u p ABlock.comment s.old r v → ⊥) }
     ensures fault { IfErr result (IsSyntaxFault s.old.text) }
 {
     s.eat_until(|c| c == '}');
@@ -84,9 +86,9 @@ fn comment(s: &mut Scanner<'_>) -> Result<(), ParseError>
 // A preamble: one quoted text, of which the quotes are a part.
 fn preamble<'s>(s: &mut Scanner<'s>) -> Result<&'s str, ParseError>
     ensures found { IfOk result (λ text. (u : Place) (p : Part) →
-        Body longest u p BlockKind.Preamble s.old (item_of (Item.Preamble text)) s.new) }
+        Body longest u p ABlock.preamble s.old (item_of (Item.Preamble text)) s.new) }
     ensures none { OnErr result ((u : Place) (p : Part) (r : FileReading) (v : Place) →
-        Body longest u p BlockKind.Preamble s.old r v → ⊥) }
+        Body longest u p ABlock.preamble s.old r v → ⊥) }
     ensures fault { IfErr result (IsSyntaxFault s.old.text) }
 {
     let start = s.cursor();
@@ -100,10 +102,10 @@ fn preamble<'s>(s: &mut Scanner<'s>) -> Result<&'s str, ParseError>
 // Definitions of abbreviations.
 fn strings<'s>(s: &mut Scanner<'s>, alloc: Global) -> Result<Vec<Pair<'s>>, ParseError>
     ensures found { IfOk result (λ pairs. (u : Place) (p : Part) →
-        Body longest u p BlockKind.Strings s.old (item_of (Item.Strings pairs)) s.new) }
+        Body longest u p ABlock.strings s.old (item_of (Item.Strings pairs)) s.new) }
     ensures refused { IfErr result (λ e. Refuses s.old.text e
         ((u : Place) (p : Part) (r : FileReading) (v : Place) →
-        Body longest u p BlockKind.Strings s.old r v → ⊥)) }
+        Body longest u p ABlock.strings s.old r v → ⊥)) }
 {
     let pairs = fields(s, alloc)?;
     s.eat_if('}');
@@ -118,10 +120,10 @@ fn entry<'s>(
     start: usize,
 ) -> Result<Spanned<RawEntry<'s>>, ParseError>
     ensures found { IfOk result (λ e. (u : Place) → u.at ≡ start →
-        Body longest u (part_of kind.entry) BlockKind.Entry s.old (item_of (Item.Entry e)) s.new) }
+        Body longest u (part_of kind.entry) ABlock.entry s.old (item_of (Item.Entry e)) s.new) }
     ensures refused { IfErr result (λ e. Refuses s.old.text e
         ((u : Place) (p : Part) (r : FileReading) (v : Place) →
-        Body longest u p BlockKind.Entry s.old r v → ⊥)) }
+        Body longest u p ABlock.entry s.old r v → ⊥)) }
 {
     let key = key(s);
     s.eat_whitespace();

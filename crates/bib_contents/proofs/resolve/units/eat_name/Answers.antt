@@ -1,6 +1,6 @@
 use Rattle.std.proofs.Common.{◌≡◌, ◌∷◌, [], sym}
 use Rattle.std.specs.Str.{chars}
-use Rattle.bib_contents.specs.Contents.{is_named}
+use Rattle.bib_contents.specs.Contents.{is_name_character}
 use Rattle.bib_contents.specs.Passing.{Passes}
 use Rattle.bib_contents.proofs.ArgumentFacts.{passes_text}
 use Rattle.bib_contents.proofs.PassingFacts.{passes_then}
@@ -9,7 +9,7 @@ use Rattle.bib_contents.proofs.resolve.units.eat_name.Goals as goal
 use Rattle.bib_contents.proofs.resolve.units.eat_name.Goals.{After-from, After-from-2}
 
 pub eat_while-requires-clause-is_test : goal.eat_while-requires-clause-is_test
-eat_while-requires-clause-is_test c = (is_named, λ x r post. post)
+eat_while-requires-clause-is_test c = (is_name_character, λ x r post. post)
 
 sign_passed : (c : After-from) → Passes c.args.s.now (c.args.first ∷ []) c.eat.new.self
 sign_passed c = eaten_first c.eat.result c.eat.ensures c.requires.stands.1
@@ -37,10 +37,10 @@ returns-clause-passed c = rw (name_text c) (name_passed c)
 
 pub returns-clause-name : goal.returns-clause-name
 returns-clause-name c =
-    let run = c.eat_while.ensures.longest is_named (λ x r post. post) in
+    let run = c.eat_while.ensures.longest is_name_character (λ x r post. post) in
     rw (name_text c) (other_name c.args.first _ c.requires.begins.0 c.requires.begins.1 (sym c.if-is_sign.ensures) run.0)
 
 pub returns-clause-whole : goal.returns-clause-whole
 returns-clause-whole c =
-    let run = c.eat_while.ensures.longest is_named (λ x r post. post) in
+    let run = c.eat_while.ensures.longest is_name_character (λ x r post. post) in
     rw (name_text c) (other_whole c.args.first (chars c.eat_while.result.now) _ (sym c.if-is_sign.ensures) run.1)

@@ -1,0 +1,128 @@
+#!/usr/bin/env python3
+"""Checks in a second what the prover doesn't read.
+
+- Each wrong body, crates/NAME/must-fail/*.edit and crates/NAME/wrong/*.edit, fits its file: each of its `old:` texts
+  stands there exactly once. Its name is words in small letters with hyphens between them, and no other has it.
+- docs/PROMISES.md names each wrong body, in the column of its folder, and none that isn't there.
+- docs/DEFINITIONS.md names each word that a public contract cites.
+- Each file of specs/ says in its first line whether it is meaning or machinery.
+"""
+import pathlib
+import re
+import sys
+
+TOP = pathlib.Path(__file__).resolve().parent
+CRATES = TOP / "crates"
+FOLDERS = ("must-fail", "wrong")
+faults = []
+
+
+def fault(path, why):
+    faults.append(f"{path.relative_to(TOP)}: {why}")
+
+
+def check_fit(edit):
+    """Each old text of the edit stands exactly once in its file, as the texts before it left that."""
+    crate, file, old, texts, pairs = edit.parent.parent, None, None, {}, 0
+    for line in edit.read_text().splitlines():
+        word, _, text = line.partition(": ")
+        if word == "file":
+            file = crate / text
+        elif word == "old":
+            old = text
+        elif word.rstrip(":") == "new" and old is not None and file is not None:
+            if file not in texts:
+                texts[file] = file.read_text() if file.is_file() else ""
+            found = texts[file].count(old)
+            if found != 1:
+                fault(edit, f"its text stands {found} times in {file.relative_to(crate)}, and not once: {old}")
+            texts[file] = texts[file].replace(old, text)
+            old, pairs = None, pairs + 1
+    if not pairs:
+        fault(edit, "it changes nothing")
+
+
+def edits():
+    """The names of the wrong bodies by folder."""
+    names = {folder: set() for folder in FOLDERS}
+    for folder in FOLDERS:
+        for edit in sorted(CRATES.glob(f"*/{folder}/*.edit")):
+            check_fit(edit)
+            if not re.fullmatch(r"[a-z0-9]+(-[a-z0-9]+)*", edit.stem):
+                fault(edit, "its name is not words in small letters with hyphens between them")
+            if any(edit.stem in it for it in names.values()):
+                fault(edit, "another wrong body has this name")
+            names[folder].add(edit.stem)
+    return names
+
+
+def check_promises(names):
+    """The last two columns of each table name the wrong bodies of the two folders."""
+    promises = TOP / "docs" / "PROMISES.md"
+    named = {folder: set() for folder in FOLDERS}
+    for line in promises.read_text().splitlines():
+        columns = re.split(r"(?<!\\)\|", line)
+        if len(columns) == 6:
+            for folder, column in zip(FOLDERS, columns[3:5]):
+                named[folder] |= set(re.findall(r"`([^`]+)`", column))
+    for folder in FOLDERS:
+        for name in sorted(names[folder] - named[folder]):
+            fault(promises, f"it doesn't name {folder}/{name}")
+        for name in sorted(named[folder] - names[folder]):
+            fault(promises, f"it names {folder}/{name}, which isn't there")
+
+
+def contracts(text):
+    """The texts of the clauses of public functions, and of the ghost members of traits and their impls."""
+    for found in re.finditer(r"(?m)^( *)pub fn .*?(?=^\1\{|;\n\n|;\n\1\})", text, re.S):
+        yield found[0]
+    for found in re.finditer(r"(?m)^ *ghost (?!use|coded|invariant)[a-z_]+(:| =) \{.*?\};", text, re.S):
+        yield found[0]
+    for found in re.finditer(r"(?m)^pub trait .*?^\}", text, re.S):
+        yield found[0]
+
+
+def cited(file):
+    """The words of this repository's specs/ that the public contracts of a file cite."""
+    text = file.read_text()
+    imported = {}
+    for path, names in re.findall(r"ghost use Rattle\.(\w+\.specs\.[\w.]+)\.\{([^}]*)\}", text):
+        if (CRATES / path.partition(".")[0]).is_dir() and ".declared." not in path and ".contracts." not in path:
+            for name in names.split(","):
+                word, _, other = name.strip().partition(" as ")
+                imported[other or word] = word
+    for clause in contracts(text):
+        for word in re.findall(r"[A-Za-z_][\w']*", clause):
+            if word in imported:
+                yield imported[word]
+
+
+def check_definitions():
+    definitions = TOP / "docs" / "DEFINITIONS.md"
+    listed = set(re.findall(r"`([A-Za-z_][\w']*)", definitions.read_text()))
+    for file in sorted(CRATES.glob("*/src/**/*.rt")):
+        for word in sorted(set(cited(file)) - listed):
+            fault(definitions, f"it doesn't list {word}, which {file.relative_to(CRATES)} cites")
+            listed.add(word)
+
+
+def check_specs():
+    for file in sorted(CRATES.glob("*/specs/*.antt")):
+        text = file.read_text()
+        if file.name != "Lib.antt" and not text.startswith(("-- Meaning: ", "-- Machinery: ")):
+            fault(file, "its first line doesn't say whether it is meaning or machinery")
+
+
+def main():
+    names = edits()
+    check_promises(names)
+    check_definitions()
+    check_specs()
+    for it in faults:
+        print(f"check: {it}")
+    print(f"check: {len(names['must-fail'])} wrong bodies for the gate and {len(names['wrong'])} others, {len(faults)} faults")
+    return 1 if faults else 0
+
+
+if __name__ == "__main__":
+    sys.exit(main())
