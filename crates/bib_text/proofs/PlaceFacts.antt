@@ -6,7 +6,8 @@ use Rattle.std.specs.Str.{IsUtf8, IsCharBoundary}
 use Rattle.std.proofs.lemmas.Str.{encode_same, drop_past_char, length-encode, len_utf8_bounds, len_utf8_ascii, encode_ascii, IsUtf8-drop, IsCharBoundary-past_char}
 use Rattle.std.proofs.lemmas.List.{drop_more}
 use Rattle.std.proofs.lemmas.Bool.{cases_eq, eq-eqb, ne_eqb, eqb-false}
-use Rattle.bib_text.specs.Places.{Place, place, CharAt, Run, Stops, Longest, AtEnd, between}
+use Rattle.bib_text.specs.Places.{Place, place, CharAt, Run, Stops, Longest, AllBetween, AtEnd, EndsOr}
+use Rattle.bib_text.specs.Places.{AllBetween as each}
 use Rattle.bib_text.specs.Places.Run.{stop, step}
 
 -- two places of one text are one where they are as far from its start
@@ -87,13 +88,47 @@ boundary_after text at {u} {v} {c} here utf8 boundary char =
 pub run_push : {test : ℕ → Bool} {u v w : Place} {c : ℕ} → Run test u v → CharAt v c w → test c ≡ true → Run test u w
 run_push run char passes = run_append run (run_one char passes)
 
+-- ---- characters of each of which something holds
+
 -- a byte of ASCII more
-pub run_push_ascii : {test : ℕ → Bool} {u : Place} (text : List ℕ) (at : ℕ) → Run test u (place text at) → at < length text → get_or text at 0 < 128 → test (get_or text at 0) ≡ true → Run test u (place text (at + 1))
-run_push_ascii text at run within ascii passes = run_push run (ascii_here text at within ascii) passes
+pub all_push_ascii : {Holds : ℕ → Type 0} {u : Place} (text : List ℕ) (at : ℕ) → AllBetween Holds u (place text at) → at < length text → get_or text at 0 < 128 → Holds (get_or text at 0) → AllBetween Holds u (place text (at + 1))
+all_push_ascii text at all within ascii holds = each.step all (ascii_here text at within ascii) holds
 
 -- any character more
-pub run_push_char : {test : ℕ → Bool} {u v : Place} {c : ℕ} (text : List ℕ) (at : ℕ) → Run test u (place text at) → CharAt (place text at) c v → test c ≡ true → Run test u (place text (at + len_utf8 c))
-run_push_char {test} {u} {v} {c} text at run char passes = subst (λ p. Run test u p) (place_behind char) (run_push run char passes)
+pub all_push_char : {Holds : ℕ → Type 0} {u v : Place} {c : ℕ} (text : List ℕ) (at : ℕ) → AllBetween Holds u (place text at) → CharAt (place text at) c v → Holds c → AllBetween Holds u (place text (at + len_utf8 c))
+all_push_char {Holds} {u} text at all char holds = subst (λ p. AllBetween Holds u p) (place_behind char) (each.step all char holds)
+
+-- of which then something else holds
+pub all_map : {Holds Follows : ℕ → Type 0} {u v : Place} → ((c : ℕ) → Holds c → Follows c) → AllBetween Holds u v → AllBetween Follows u v
+all_map follows each.stop = each.stop
+all_map follows (each.step all char holds) = each.step (all_map follows all) char (follows _ holds)
+
+pub end_map : {Holds Follows : ℕ → Type 0} {u : Place} → ((c : ℕ) → Holds c → Follows c) → EndsOr Holds u → EndsOr Follows u
+end_map follows (inl end) = inl end
+end_map follows (inr here) = inr (here.0, here.1, here.2, follows _ here.3)
+
+-- they stand in one text
+pub all_same : {Holds : ℕ → Type 0} {u v : Place} → AllBetween Holds u v → v.text ≡ u.text
+all_same each.stop = refl
+all_same (each.step all char holds) = char.same ∙ all_same all
+
+-- they stand one behind another
+pub all_forward : {Holds : ℕ → Type 0} {u v : Place} → AllBetween Holds u v → u.at ≤ v.at
+all_forward {u = u} each.stop = omega arith
+all_forward {Holds} {u} {v = w} (each.step {v = v} {c = c} all char holds) =
+    let before : u.at ≤ v.at = all_forward all in
+    let next : w.at ≡ v.at + len_utf8 c = char.next in
+    omega arith
+
+-- they are a run where a test passes each such character
+pub run_of_all : {Holds : ℕ → Type 0} {test : ℕ → Bool} {u v : Place} → ((c : ℕ) → Holds c → test c ≡ true) → AllBetween Holds u v → Run test u v
+run_of_all passes each.stop = stop
+run_of_all passes (each.step all char holds) = run_push (run_of_all passes all) char (passes _ holds)
+
+-- a run stops here where a test fails each such character
+pub stops_of_end : {Holds : ℕ → Type 0} (test : ℕ → Bool) {u : Place} → ((c : ℕ) → Holds c → test c ≡ false) → EndsOr Holds u → Stops test u
+stops_of_end test fails (inl end) = stops_at_end test end
+stops_of_end test fails (inr here) = stops_at test here.2 (fails _ here.3)
 
 -- whether the character that stands here is this one
 pub stands_cases : {u v : Place} (c d : ℕ) → CharAt u c v → MatchBool (nat_eq c d) ((w : Place) × CharAt u d w) ((w : Place) → CharAt u d w → ⊥)

@@ -1,3 +1,4 @@
 pub mod Braces
 pub mod Enums
+pub mod Lending
 pub mod Places

@@ -2,12 +2,13 @@
 
 ghost use Rattle.std.specs.Prelude.{◌≡◌, ◌==◌, ◌<◌, List, [], ◌∷◌, ◌++◌, length, is_ok, if◌then◌else◌, IfErr, IsSome, ◌↔◌, option_to_list};
 ghost use Rattle.std.specs.List.{AllZip};
-ghost use Rattle.std.specs.Slice.Iter.{iter_rest};
+ghost use Rattle.std.specs.Borrow.{sem};
+ghost use Rattle.std.specs.Slice.Iter.{iter_rest, iter_mut_rest};
 ghost use Rattle.std.specs.Cmp.Lexicographic.{pointwise, lists_per, lists_equiv};
 
 use std::alloc::{AllocError, AllocFailed, Global};
 use std::marker::Model;
-use std::slice::Iter;
+use std::slice::{Iter, IterMut};
 
 /// A list of values. Contracts see it as the list of its elements.
 #[derive(Debug, Drop)]
@@ -27,6 +28,8 @@ impl<T> Model for Items<T> {
 }
 
 impl<T> Items<T> {
+    ghost use Rattle.bib_text.specs.Lending.{LendsElements, LendsSlice};
+
     /// The empty list.
     pub fn new(alloc: Global) -> Self
         ensures { result ≡ [] }
@@ -72,11 +75,27 @@ impl<T> Items<T> {
         self.vec.as_slice()
     }
 
+    /// The elements, borrowed to be changed.
+    pub fn as_mut_slice(&mut self) -> &mut [T]
+        ensures* writes_back { sem 𝓛 (LendsSlice T.row self.entry result) }
+        ensures value { result.now ≡ self.old }
+    {
+        self.vec.as_mut_slice()
+    }
+
     /// The elements one after another.
     pub fn iter(&self) -> Iter<'_, T>
         ensures { iter_rest result ≡ self.now }
     {
         self.vec.iter()
+    }
+
+    /// The elements one after another, to be changed.
+    pub fn iter_mut(&mut self) -> IterMut<'_, T>
+        ensures* writes_back { sem 𝓛 (LendsElements T.row self.entry result) }
+        ensures elements { iter_mut_rest result ≡ self.old }
+    {
+        self.vec.iter_mut()
     }
 
     /// Appends an element. A refusal changes nothing, and gives the element back.
@@ -117,4 +136,33 @@ impl<T: PartialEq> PartialEq for Items<T> {
 
 impl<T: Eq> Eq for Items<T> {
     ghost laws = { lists_equiv T.Eq.laws };
+}
+
+impl<'a, T> IntoIterator for &'a Items<T> {
+    type Item = &'a T;
+
+    type IntoIter = Iter<'a, T>;
+
+    ghost into_iter_gives = { λ items it. iter_rest it ≡ items.now };
+
+    fn into_iter(self) -> Self::IntoIter {
+        self.iter()
+    }
+}
+
+impl<'a, T> IntoIterator for &'a mut Items<T> {
+    ghost use Rattle.bib_text.specs.Lending.{LendsElements};
+
+    type Item = &'a mut T;
+
+    type IntoIter = IterMut<'a, T>;
+
+    ghost into_iter_gives = { λ items it. iter_mut_rest it ≡ items.now };
+
+    fn into_iter(self) -> Self::IntoIter
+        ensures* writes_back { sem 𝓛 (LendsElements T.row self.entry result) }
+        ensures into_iter_gives { iter_mut_rest result ≡ self.old }
+    {
+        self.iter_mut()
+    }
 }

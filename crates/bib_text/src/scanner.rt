@@ -1,9 +1,9 @@
 //! A cursor over a text.
 
-ghost use Rattle.std.specs.Prelude.{◌≡◌, ℕ, ◌+◌, ◌-◌, ◌≤◌, ◌<◌, ◌^◌, Bool, not, length, take, drop, MatchOption, MatchBool, IsTrue, ◌↔◌};
+ghost use Rattle.std.specs.Prelude.{◌≡◌, ℕ, ◌+◌, ◌-◌, ◌≤◌, ◌<◌, ◌^◌, Bool, true, false, not, length, take, drop, MatchOption, MatchBool, IsTrue, ◌↔◌};
 ghost use Rattle.std.specs.Char.{is_whitespace};
 ghost use Rattle.std.specs.Str.{IsCharBoundary, IsUtf8};
-ghost use Rattle.bib_text.specs.Places.{Place, place, CharAt, Longest, AtEnd, Answers, between};
+ghost use Rattle.bib_text.specs.Places.{Place, place, CharAt, Longest, AllBetween, AtEnd, EndsOr, Answers, between};
 
 use std::marker::Model;
 
@@ -126,10 +126,15 @@ impl<'s> Scanner<'s> {
         true
     }
 
-    /// Takes characters while they pass a test, and gives the text that they are.
+    /// Takes characters while they pass a test, and gives the text that they are: the longest run, where the test always
+    /// answers alike of a character.
     pub fn eat_while<F: Fn(char) -> bool>(&mut self, test: F) -> &'s str
         requires { F.IsAlwaysCallable test }
         ensures longest { (p : ℕ → Bool) → Answers (F.post test) p → Longest p self.old self.new }
+        ensures passed { AllBetween (λ c. F.post test c true) self.old self.new }
+        ensures stopped { EndsOr (λ c. F.post test c false) self.new }
+        ensures same { self.new.text ≡ self.old.text }
+        ensures forward { self.old.at ≤ self.new.at }
         ensures eaten { result.now ≡ between self.old self.new }
     {
         let bytes = self.text.as_bytes();
@@ -156,11 +161,16 @@ impl<'s> Scanner<'s> {
         &self.text[start..at]
     }
 
-    /// Takes characters until one passes a test, and gives the text that they are.
+    /// Takes characters until one passes a test, and gives the text that they are: the longest run of others, where the
+    /// test always answers alike of a character.
     pub fn eat_until<F: Fn(char) -> bool>(&mut self, test: F) -> &'s str
         requires { F.IsAlwaysCallable test }
         ensures longest { (p : ℕ → Bool) → Answers (F.post test) p →
             Longest (λ c. not (p c)) self.old self.new }
+        ensures passed { AllBetween (λ c. F.post test c false) self.old self.new }
+        ensures stopped { EndsOr (λ c. F.post test c true) self.new }
+        ensures same { self.new.text ≡ self.old.text }
+        ensures forward { self.old.at ≤ self.new.at }
         ensures eaten { result.now ≡ between self.old self.new }
     {
         self.eat_while(|c| !test(c))

@@ -1,10 +1,11 @@
 //! Text of one's own: a `String` that contracts see as its bytes.
 
-ghost use Rattle.std.specs.Prelude.{◌≡◌, ◌==◌, ◌↔◌, List, [], ◌++◌, length, is_ok, if◌then◌else◌, IfOk, IsTrue, nat_eq, encode_utf8, string_bytes};
+ghost use Rattle.std.specs.Prelude.{◌≡◌, ◌==◌, Some, ◌↔◌, List, [], ◌++◌, length, is_ok, if◌then◌else◌, IfOk, IsTrue, nat_eq, encode_utf8, string_bytes};
 ghost use Rattle.std.specs.Cmp;
 ghost use Rattle.std.specs.Cmp.Lexicographic.{pointwise, nat_list_eq_equiv};
 
 use std::alloc::{AllocError, Global};
+use std::fmt;
 use std::marker::Model;
 
 /// A text. Contracts see it as its bytes, which are UTF-8.
@@ -87,6 +88,15 @@ impl Text {
         ensures { self.new ≡ (if is_ok result then self.old ++ text.now else self.old) }
     {
         self.string.push_str(text)
+    }
+}
+
+/// Writes the text, padded as the format asks for.
+impl fmt::Display for Text {
+    ghost output = { λ t. Some t };
+
+    fn fmt<W: fmt::Write>(&self, f: &mut fmt::Formatter<W>) -> fmt::Result {
+        f.pad(self.as_str())
     }
 }
 

@@ -1,14 +1,14 @@
-use Rattle.std.proofs.Common.{length, ◌-◌, ℕ, ◌≤◌, Bool}
+use Rattle.std.proofs.Common.{length, ◌-◌, ◌≤◌, true}
 use Rattle.std.specs.Str.{IsCharBoundary}
-use Rattle.bib_text.specs.Places.{place, Run, Answers}
+use Rattle.bib_text.specs.Places.{place, AllBetween}
 use Rattle.bib_text.proofs.scanner.Scanner.eat_while.Given as goal
 
--- what was passed so far passed the test, and the place is one where the text may be cut
+-- each character that was passed so far may have passed the test, and the place is one where the text may be cut
 abbrev pub invariant-run : goal.invariant-run
 invariant-run g l =
     (l.start ≤ l.at)
     × IsCharBoundary l.self-inside.text.now l.at
-    × ((p : ℕ → Bool) → Answers (goal.F-post g l.test) p → Run p (place l.self-inside.text.now l.start) (place l.self-inside.text.now l.at))
+    × AllBetween (λ c. goal.F-post g l.test c true) (place l.self-inside.text.now l.start) (place l.self-inside.text.now l.at)
 
 abbrev pub decreases-run : goal.decreases-run
 decreases-run g l = length l.bytes - l.at
