@@ -5,6 +5,7 @@ pub mod CommandUnitFacts
 pub mod ContentFacts
 pub mod ExpansionFacts
 pub mod JoinedFacts
+pub mod LawFacts
 pub mod PassingFacts
 pub mod ReaderFacts
 pub mod ReadingContents

@@ -127,6 +127,10 @@ pub data IsFirstFault (definitions : Definitions) (is_verbatim : Bool) : List (L
       → Evaluates definitions is_verbatim (piece ∷ []) atoms → IsFirstFault definitions is_verbatim path rest e
       → IsFirstFault definitions is_verbatim path (piece ∷ rest) e
 
+-- two faults are one: the same kind at the same place; of a text that is not read the kind and the place stay open
+abbrev pub AreOneFault : ParseError → ParseError → Type 0
+AreOneFault e f = (e ≡ f) ⊎ (IsUnread e.kind × IsUnread f.kind)
+
 -- the definition of a name among pairs of a name and a field
 abbrev pub definition_among : List (Bor (List ℕ) × Bor (Vec (Spanned RawChunk))) → Definitions
 definition_among pairs name = option_map (λ field. map piece_of field.now.items) (lookup (λ key. bytes_eq name key.now) pairs)

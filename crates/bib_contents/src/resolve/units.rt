@@ -10,7 +10,8 @@ ghost use Rattle.bib_contents.specs.UnitViews.{argument_of, unit_of};
 
 use crate::resolve::characters::Characters;
 use crate::resolve::classes::{
-    is_accent_letter, is_blank, is_escaped, is_mark, is_name_character, is_ordinary, is_sign, is_space,
+    is_accent_letter, is_blank, is_escaped, is_mark, is_name_character, is_ordinary, is_sign,
+    is_space,
 };
 
 // The argument of a command.
