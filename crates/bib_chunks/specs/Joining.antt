@@ -1,18 +1,11 @@
 -- Chunks that grow at their end: words of private contracts.
-use Rattle.std.specs.Prelude.{Bool, List, [], ◌∷◌, true, ◌==◌, not, length}
+use Rattle.std.specs.Prelude.{List, [], ◌∷◌}
 use Rattle.bib_chunks.specs.declared.chunk.Chunk.{Chunk}
-use Rattle.bib_chunks.specs.declared.chunk.Chunk.TheVariants.{Normal, Verbatim, Math}
 use Rattle.bib_text.specs.declared.spanned.Spanned.{Spanned}
-use Rattle.bib_maps.specs.Lists.{before}
+use Rattle.bib_chunks.specs.Lists.{before}
 
 -- chunks with another behind them, joined to the last of them if that is of its kind
 abbrev pub behind : List (Spanned Chunk) → Spanned Chunk → List (Spanned Chunk)
 behind [] chunk = chunk ∷ []
 behind (last ∷ []) chunk = before last (chunk ∷ [])
 behind (first ∷ next ∷ rest) chunk = first ∷ behind (next ∷ rest) chunk
-
--- whether a chunk shows in the styled text: an empty normal or verbatim one doesn't
-abbrev pub shows : Chunk → Bool
-shows (Normal text) = not (length text == 0)
-shows (Verbatim text) = not (length text == 0)
-shows (Math text) = true

@@ -1,21 +1,11 @@
 -- Comma lists in a styled text.
-use Rattle.std.specs.Prelude.{ℕ, Bool, true, false, List, [], ◌∷◌, ◌++◌, map, encode_utf8, encode_utf8_all, if◌then◌else◌}
+use Rattle.std.specs.Prelude.{ℕ, List, [], ◌∷◌, ◌++◌, map, encode_utf8, encode_utf8_all, if◌then◌else◌}
 use Rattle.bib_chunks.specs.declared.chunk.Chunk.{Chunk}
 use Rattle.bib_chunks.specs.declared.chunk.Chunk.TheVariants.{Normal, Verbatim, Math}
 use Rattle.bib_text.specs.declared.spanned.Spanned.{Spanned}
 use Rattle.bib_chunks.specs.Cuts.{placed, comma_list}
 use Rattle.bib_chunks.specs.Formatted.{formatted}
-use Rattle.bib_chunks.specs.Styled.{Atom}
-
--- whether two neighbouring chunks are joined: both are normal, or both verbatim
-abbrev pub are_joined : Chunk → Chunk → Bool
-are_joined (Normal text) (Normal more) = true
-are_joined (Verbatim text) (Verbatim more) = true
-are_joined (Normal text) (Verbatim more) = false
-are_joined (Normal text) (Math more) = false
-are_joined (Verbatim text) (Normal more) = false
-are_joined (Verbatim text) (Math more) = false
-are_joined (Math text) other = false
+use Rattle.bib_chunks.specs.Styled.{Atom, is_same_kind}
 
 -- a chunk with more text at its end, that of another chunk of its kind
 abbrev pub lengthened : Chunk → Chunk → Chunk
@@ -41,7 +31,7 @@ chunk_of (Atom.math cs) = Math (encode_utf8_all cs)
 abbrev pub before : Spanned Chunk → List (Spanned Chunk) → List (Spanned Chunk)
 before chunk [] = chunk ∷ []
 before chunk (next ∷ rest) =
-    if are_joined chunk.v next.v then placed (lengthened chunk.v next.v) chunk.span.start chunk.span.end ∷ rest
+    if is_same_kind chunk.v next.v then placed (lengthened chunk.v next.v) chunk.span.start chunk.span.end ∷ rest
     else chunk ∷ next ∷ rest
 
 -- a styled text as chunks, none of which is empty, and no neighbours of which are both normal or both verbatim

@@ -1,7 +1,7 @@
 use Rattle.std.proofs.Common.{sym, ◌∙◌}
 use Rattle.std.proofs.lemmas.Result.{on_ok_weaker}
-use Rattle.bib_maps.proofs.ListFacts.{added_joined, added_apart}
-use Rattle.bib_maps.proofs.lists.add.Goals as goal
+use Rattle.bib_chunks.proofs.ListFacts.{added_joined, added_apart}
+use Rattle.bib_chunks.proofs.chunk.lists.add.Goals as goal
 
 pub returns-then-joined : goal.returns-then-joined
 returns-then-joined c = added_joined _ c.pop.new.self _ c.in-Some.last c.lengthen.new.last c.args.chunk.now c.in-Some.ensures.items c.in_ok-joined.ensures.text (sym c.in_ok-joined.ensures.joined ∙ c.if-joined.true) c.in_ok-push.ensures.items

@@ -3,8 +3,8 @@ use Rattle.std.specs.Prelude.{encode_utf8_all}
 use Rattle.bib_chunks.specs.Cuts.{comma_list}
 use Rattle.bib_chunks.specs.Formatted.{formatted}
 use Rattle.bib_chunks.specs.Styled.{styled}
-use Rattle.bib_maps.specs.Lists.{chunks_of}
-use Rattle.bib_maps.proofs.lists.comma_texts.Given as goal
+use Rattle.bib_chunks.specs.Lists.{chunks_of}
+use Rattle.bib_chunks.proofs.chunk.lists.comma_texts.Given as goal
 
 -- the parts so far are formatted
 abbrev pub invariant-parts : goal.invariant-parts

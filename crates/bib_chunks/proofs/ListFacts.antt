@@ -10,12 +10,12 @@ use Rattle.bib_chunks.specs.declared.chunk.Chunk.{Chunk}
 use Rattle.bib_chunks.specs.declared.chunk.Chunk.TheVariants.{Normal, Verbatim, Math}
 use Rattle.bib_text.specs.declared.spanned.Spanned.{Spanned}
 use Rattle.bib_chunks.specs.Cuts.{placed}
-use Rattle.bib_chunks.specs.Styled.{Atom, atoms_of, styled, text_of}
-use Rattle.bib_maps.specs.Lists.{are_joined, lengthened, at_start, chunk_of, before, chunks_of}
-use Rattle.bib_maps.specs.Joining.{behind, shows}
+use Rattle.bib_chunks.specs.Styled.{Atom, atoms_of, styled, text_of, is_shown, is_same_kind}
+use Rattle.bib_chunks.specs.Lists.{lengthened, at_start, chunk_of, before, chunks_of}
+use Rattle.bib_chunks.specs.Joining.{behind}
 
 -- what is at a chunk's end decides as the chunk does
-joined_same : (c d e : Chunk) → are_joined c d ≡ true → are_joined (lengthened c d) e ≡ are_joined d e
+joined_same : (c d e : Chunk) → is_same_kind c d ≡ true → is_same_kind (lengthened c d) e ≡ is_same_kind d e
 joined_same (Normal a) (Normal b) (Normal e) h = refl
 joined_same (Normal a) (Normal b) (Verbatim e) h = refl
 joined_same (Normal a) (Normal b) (Math e) h = refl
@@ -28,7 +28,7 @@ joined_same (Verbatim a) (Normal b) e h = absurd (false≢true h)
 joined_same (Verbatim a) (Math b) e h = absurd (false≢true h)
 joined_same (Math a) d e h = absurd (false≢true h)
 
-same_joined : (c d e : Chunk) → are_joined c (lengthened d e) ≡ are_joined c d
+same_joined : (c d e : Chunk) → is_same_kind c (lengthened d e) ≡ is_same_kind c d
 same_joined (Normal a) (Normal b) (Normal e) = refl
 same_joined (Normal a) (Normal b) (Verbatim e) = refl
 same_joined (Normal a) (Normal b) (Math e) = refl
@@ -45,7 +45,7 @@ same_joined (Verbatim a) (Verbatim b) (Math e) = refl
 same_joined (Verbatim a) (Math b) e = refl
 same_joined (Math a) d e = refl
 
-lengthened_twice : (c d e : Chunk) → are_joined c d ≡ true → are_joined d e ≡ true → lengthened c (lengthened d e) ≡ lengthened (lengthened c d) e
+lengthened_twice : (c d e : Chunk) → is_same_kind c d ≡ true → is_same_kind d e ≡ true → lengthened c (lengthened d e) ≡ lengthened (lengthened c d) e
 lengthened_twice (Normal a) (Normal b) (Normal e) h k = ap Normal (sym (append_assoc a b e))
 lengthened_twice (Verbatim a) (Verbatim b) (Verbatim e) h k = ap Verbatim (sym (append_assoc a b e))
 lengthened_twice (Normal a) (Normal b) (Verbatim e) h k = absurd (false≢true k)
@@ -63,20 +63,20 @@ both : Spanned Chunk → Spanned Chunk → Spanned Chunk
 both c d = placed (lengthened c.v d.v) c.span.start c.span.end
 
 module _ (c d : Spanned Chunk) where
-  before_joined : are_joined c.v d.v ≡ true → (rest : List (Spanned Chunk)) → before c (d ∷ rest) ≡ both c d ∷ rest
+  before_joined : is_same_kind c.v d.v ≡ true → (rest : List (Spanned Chunk)) → before c (d ∷ rest) ≡ both c d ∷ rest
   unfolding both
   before_joined h rest = ap (λ b. if b then both c d ∷ rest else c ∷ d ∷ rest) h
 
-  before_apart : are_joined c.v d.v ≡ false → (rest : List (Spanned Chunk)) → before c (d ∷ rest) ≡ c ∷ d ∷ rest
+  before_apart : is_same_kind c.v d.v ≡ false → (rest : List (Spanned Chunk)) → before c (d ∷ rest) ≡ c ∷ d ∷ rest
   unfolding both
   before_apart h rest = ap (λ b. if b then both c d ∷ rest else c ∷ d ∷ rest) h
 
   -- a chunk before two that are joined, or before one that is joined to it
-  before_twice : are_joined c.v d.v ≡ true → (rest : List (Spanned Chunk)) → before c (before d rest) ≡ before (both c d) rest
+  before_twice : is_same_kind c.v d.v ≡ true → (rest : List (Spanned Chunk)) → before c (before d rest) ≡ before (both c d) rest
   unfolding both
   before_twice h [] = before_joined h []
   before_twice h (e ∷ es) =
-      elim (are_joined d.v e.v) as (λ b. are_joined d.v e.v ≡ b → before c (if b then both d e ∷ es else d ∷ e ∷ es) ≡ before (both c d) (e ∷ es)) [
+      elim (is_same_kind d.v e.v) as (λ b. is_same_kind d.v e.v ≡ b → before c (if b then both d e ∷ es else d ∷ e ∷ es) ≡ before (both c d) (e ∷ es)) [
         | true ↦ λ k.
             ap (λ b. if b then both c (both d e) ∷ es else c ∷ both d e ∷ es) (same_joined c.v d.v e.v ∙ h)
             ∙ ap (λ v. placed v c.span.start c.span.end ∷ es) (lengthened_twice c.v d.v e.v h k)
@@ -86,11 +86,11 @@ module _ (c d : Spanned Chunk) where
             ∙ sym (ap (λ b. if b then both (both c d) e ∷ es else both c d ∷ e ∷ es) (joined_same c.v d.v e.v h ∙ k))
       ] refl
 
-  before_other : are_joined c.v d.v ≡ false → (rest : List (Spanned Chunk)) → before c (before d rest) ≡ c ∷ before d rest
+  before_other : is_same_kind c.v d.v ≡ false → (rest : List (Spanned Chunk)) → before c (before d rest) ≡ c ∷ before d rest
   unfolding both
   before_other h [] = before_apart h []
   before_other h (e ∷ es) =
-      elim (are_joined d.v e.v) as (λ b. before c (if b then both d e ∷ es else d ∷ e ∷ es) ≡ c ∷ (if b then both d e ∷ es else d ∷ e ∷ es)) [
+      elim (is_same_kind d.v e.v) as (λ b. before c (if b then both d e ∷ es else d ∷ e ∷ es) ≡ c ∷ (if b then both d e ∷ es else d ∷ e ∷ es)) [
         | true ↦ ap (λ b. if b then both c (both d e) ∷ es else c ∷ both d e ∷ es) (same_joined c.v d.v e.v ∙ h)
         | false ↦ before_apart h (e ∷ es)
       ]
@@ -100,12 +100,12 @@ before-behind : (c : Spanned Chunk) (chunks : List (Spanned Chunk)) (n : Spanned
 unfolding both
 before-behind c [] n = refl
 before-behind c (d ∷ []) n =
-    elim (are_joined c.v d.v) as (λ b. are_joined c.v d.v ≡ b → before c (before d (n ∷ [])) ≡ behind (if b then both c d ∷ [] else c ∷ d ∷ []) n) [
+    elim (is_same_kind c.v d.v) as (λ b. is_same_kind c.v d.v ≡ b → before c (before d (n ∷ [])) ≡ behind (if b then both c d ∷ [] else c ∷ d ∷ []) n) [
       | true ↦ λ h. before_twice c d h (n ∷ [])
       | false ↦ λ h. before_other c d h (n ∷ [])
     ] refl
 before-behind c (d ∷ e ∷ rest) n =
-    elim (are_joined c.v d.v) as (λ b. (if b then both c d ∷ behind (e ∷ rest) n else c ∷ d ∷ behind (e ∷ rest) n) ≡ behind (if b then both c d ∷ e ∷ rest else c ∷ d ∷ e ∷ rest) n) [ true ↦ refl | false ↦ refl ]
+    elim (is_same_kind c.v d.v) as (λ b. (if b then both c d ∷ behind (e ∷ rest) n else c ∷ d ∷ behind (e ∷ rest) n) ≡ behind (if b then both c d ∷ e ∷ rest else c ∷ d ∷ e ∷ rest) n) [ true ↦ refl | false ↦ refl ]
 
 -- a styled text with more behind it, which is one chunk
 chunks_of-append : (atoms more : List Atom) (n : Spanned Chunk) → chunks_of more ≡ n ∷ [] → chunks_of (atoms ++ more) ≡ behind (chunks_of atoms) n
@@ -126,7 +126,7 @@ behind-last [] last n = refl
 behind-last (x ∷ []) last n = refl
 behind-last (x ∷ y ∷ front) last n = ap (λ l. x ∷ l) (behind-last (y ∷ front) last n)
 
-not_lengthened : (c d : Chunk) → are_joined c d ≡ false → lengthened c d ≡ c
+not_lengthened : (c d : Chunk) → is_same_kind c d ≡ false → lengthened c d ≡ c
 not_lengthened (Normal a) (Normal b) h = absurd (false≢true (sym h))
 not_lengthened (Verbatim a) (Verbatim b) h = absurd (false≢true (sym h))
 not_lengthened (Normal a) (Verbatim b) h = refl
@@ -137,14 +137,14 @@ not_lengthened (Math a) d h = refl
 
 module _ (old front now : List (Spanned Chunk)) (last : Spanned Chunk) (v chunk : Chunk) (was : old ≡ front ++ last ∷ []) (text : v ≡ lengthened last.v chunk) where
   -- the last chunk was taken out, lengthened and put back
-  pub added_joined : are_joined last.v chunk ≡ true → now ≡ front ++ placed v last.span.start last.span.end ∷ [] → now ≡ behind old (at_start chunk)
+  pub added_joined : is_same_kind last.v chunk ≡ true → now ≡ front ++ placed v last.span.start last.span.end ∷ [] → now ≡ behind old (at_start chunk)
   unfolding both
   added_joined h is =
       is ∙ ap (λ t. front ++ placed t last.span.start last.span.end ∷ []) text
       ∙ sym (ap (λ l. behind l (at_start chunk)) was ∙ behind-last front last (at_start chunk) ∙ ap (λ l. front ++ l) (before_joined last (at_start chunk) h []))
 
   -- it was put back as it was, and the next one behind it
-  pub added_apart : are_joined last.v chunk ≡ false → (middle : List (Spanned Chunk)) → middle ≡ front ++ placed v last.span.start last.span.end ∷ [] → now ≡ middle ++ at_start chunk ∷ [] → now ≡ behind old (at_start chunk)
+  pub added_apart : is_same_kind last.v chunk ≡ false → (middle : List (Spanned Chunk)) → middle ≡ front ++ placed v last.span.start last.span.end ∷ [] → now ≡ middle ++ at_start chunk ∷ [] → now ≡ behind old (at_start chunk)
   added_apart h middle back is =
       is ∙ ap (λ l. l ++ at_start chunk ∷ []) (back ∙ ap (λ t. front ++ placed t last.span.start last.span.end ∷ []) (text ∙ not_lengthened last.v chunk h))
       ∙ append_assoc front (last ∷ []) (at_start chunk ∷ [])
@@ -163,7 +163,7 @@ one_run kind to run text utf8 some =
     ] refl
 
 -- a chunk that shows is one chunk of its styled text
-shown : (chunk : Chunk) → IsUtf8 (text_of chunk) → shows chunk ≡ true → chunks_of (atoms_of chunk) ≡ at_start chunk ∷ []
+shown : (chunk : Chunk) → IsUtf8 (text_of chunk) → is_shown chunk ≡ true → chunks_of (atoms_of chunk) ≡ at_start chunk ∷ []
 shown (Normal text) utf8 some = one_run Atom.normal Normal normal_run text utf8 some
 shown (Verbatim text) utf8 some = one_run Atom.verbatim Verbatim verbatim_run text utf8 some
 shown (Math text) utf8 some = ap (λ t. at_start (Math t) ∷ []) (encodes-chars text utf8)
@@ -173,7 +173,7 @@ no_text [] none = chars-nil
 no_text (b ∷ text) none = absurd (false≢true (sym none ∙ ap not (ne_eqb _ _ (λ e. omega arith))))
 
 -- one that doesn't has no styled text
-hidden : (chunk : Chunk) → shows chunk ≡ false → atoms_of chunk ≡ []
+hidden : (chunk : Chunk) → is_shown chunk ≡ false → atoms_of chunk ≡ []
 hidden (Normal text) none = ap (map Atom.normal) (no_text text none)
 hidden (Verbatim text) none = ap (map Atom.verbatim) (no_text text none)
 hidden (Math text) none = absurd (false≢true (sym none))
@@ -183,8 +183,8 @@ pub joined_more : (chunks : List (Spanned Chunk)) (i : ℕ) (d : Spanned Chunk) 
 joined_more chunks i d lt =
     ap styled (take_more chunks i d lt) ∙ flat_map-append (λ c. atoms_of c.v) (take i chunks) (get_or chunks i d ∷ []) ∙ ap (λ l. styled (take i chunks) ++ l) (append-nil _)
 
-pub joined_shown : (atoms : List Atom) (chunk : Chunk) (all more : List (Spanned Chunk)) → IsUtf8 (text_of chunk) → shows chunk ≡ true → all ≡ chunks_of atoms → more ≡ behind all (at_start chunk) → more ≡ chunks_of (atoms ++ atoms_of chunk)
+pub joined_shown : (atoms : List Atom) (chunk : Chunk) (all more : List (Spanned Chunk)) → IsUtf8 (text_of chunk) → is_shown chunk ≡ true → all ≡ chunks_of atoms → more ≡ behind all (at_start chunk) → more ≡ chunks_of (atoms ++ atoms_of chunk)
 joined_shown atoms chunk all more utf8 some was is = is ∙ ap (λ l. behind l (at_start chunk)) was ∙ sym (chunks_of-append atoms (atoms_of chunk) (at_start chunk) (shown chunk utf8 some))
 
-pub joined_hidden : (atoms : List Atom) (chunk : Chunk) → shows chunk ≡ false → chunks_of atoms ≡ chunks_of (atoms ++ atoms_of chunk)
+pub joined_hidden : (atoms : List Atom) (chunk : Chunk) → is_shown chunk ≡ false → chunks_of atoms ≡ chunks_of (atoms ++ atoms_of chunk)
 joined_hidden atoms chunk none = sym (ap (λ l. chunks_of (atoms ++ l)) (hidden chunk none) ∙ ap chunks_of (append-nil atoms))

@@ -1,7 +1,7 @@
 use Rattle.std.proofs.Common.{◌≡◌, take}
 use Rattle.bib_chunks.specs.Styled.{styled}
-use Rattle.bib_maps.specs.Lists.{chunks_of}
-use Rattle.bib_maps.proofs.lists.joined.Given as goal
+use Rattle.bib_chunks.specs.Lists.{chunks_of}
+use Rattle.bib_chunks.proofs.chunk.lists.joined.Given as goal
 
 -- the chunks so far are joined
 abbrev pub invariant-chunks : goal.invariant-chunks

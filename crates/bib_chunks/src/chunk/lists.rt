@@ -2,19 +2,19 @@
 
 ghost use Rattle.std.specs.Prelude.{◌≡◌, ◌∷◌, ◌++◌, [], OnOk, IfOk};
 ghost use Rattle.std.specs.Str.{IsUtf8};
-ghost use Rattle.bib_chunks.specs.Styled.{styled, text_of};
-ghost use Rattle.bib_maps.specs.Lists.{are_joined, lengthened, at_start, chunks_of, comma_texts};
-ghost use Rattle.bib_maps.specs.Joining.{behind, shows};
+ghost use Rattle.bib_chunks.specs.Styled.{styled, text_of, is_shown, is_same_kind};
+ghost use Rattle.bib_chunks.specs.Lists.{lengthened, at_start, chunks_of, comma_texts};
+ghost use Rattle.bib_chunks.specs.Joining.{behind};
 
-use bib_chunks::chunk::cuts::comma_list;
-use bib_chunks::chunk::{Chunk, Chunks, ChunksExt, ChunksRef, Spanned};
+use super::cuts::comma_list;
+use super::{Chunk, Chunks, ChunksExt, ChunksRef, Spanned};
 use bib_text::items::Items;
 use bib_text::text::Text;
 use std::alloc::{AllocError, Global};
 
 // Adds the text of a chunk at the end of one of its kind, and says whether it is one.
 fn lengthen(last: &mut Chunk, chunk: &Chunk) -> Result<bool, AllocError>
-    ensures joined { IfOk result (λ joined. joined ≡ are_joined last.old chunk.now) }
+    ensures joined { IfOk result (λ joined. joined ≡ is_same_kind last.old chunk.now) }
     ensures text { OnOk result (last.new ≡ lengthened last.old chunk.now) }
 {
     match (last, chunk) {
@@ -55,8 +55,8 @@ fn add(chunks: &mut Chunks, chunk: &Chunk) -> Result<(), AllocError>
 }
 
 // Whether a chunk shows in the styled text: it isn't normal or verbatim and empty.
-fn shows(chunk: &Chunk) -> bool
-    ensures value { result ≡ shows chunk.now }
+fn is_shown(chunk: &Chunk) -> bool
+    ensures value { result ≡ is_shown chunk.now }
     ensures text { IsUtf8 (text_of chunk.now) }
 {
     let text = chunk.get();
@@ -72,7 +72,7 @@ fn joined(alloc: Global, chunks: ChunksRef<'_>) -> Result<Chunks, AllocError>
 {
     let mut all = Items::new(alloc);
     'chunks: for chunk in chunks {
-        if shows(&chunk.v) {
+        if is_shown(&chunk.v) {
             add(&mut all, &chunk.v)?;
         }
     }
