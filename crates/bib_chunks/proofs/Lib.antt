@@ -5,4 +5,5 @@ pub mod FormattedFacts
 pub mod ListFacts
 pub mod SettledFacts
 pub mod SpanFacts
+pub mod StyledFacts
 pub mod WrittenFacts

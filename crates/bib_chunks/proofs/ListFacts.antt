@@ -1,17 +1,18 @@
 -- Facts on chunks that are joined.
-use Rattle.std.proofs.Common.{arith, ◌+◌, ◌<◌, take, get_or, not, ◌≡◌, ℕ, true, false, List, [], ◌∷◌, ◌++◌, length, map, refl, sym, ap, subst, ◌∙◌, append_assoc, append-nil, if◌then◌else◌, ◌==◌}
+use Rattle.std.proofs.Common.{◌+◌, ◌<◌, take, get_or, not, ◌≡◌, ℕ, true, false, List, [], ◌∷◌, ◌++◌, length, map, refl, sym, ap, subst, ◌∙◌, append_assoc, append-nil, if◌then◌else◌, ◌==◌}
 use Rattle.std.specs.Prelude.{encode_utf8, encode_utf8_all}
 use Rattle.std.specs.Str.{IsUtf8, chars}
 use Rattle.std.proofs.lemmas.List.{take_more}
 use Rattle.std.proofs.lemmas.List.Concat.{flat_map-append}
-use Rattle.std.proofs.lemmas.Str.{encodes-chars, chars-nil}
-use Rattle.std.proofs.lemmas.Bool.{false≢true, ne_eqb}
+use Rattle.std.proofs.lemmas.Str.{encodes-chars}
+use Rattle.std.proofs.lemmas.Bool.{false≢true}
 use Rattle.bib_chunks.specs.declared.chunk.Chunk.{Chunk}
 use Rattle.bib_chunks.specs.declared.chunk.Chunk.TheVariants.{Normal, Verbatim, Math}
 use Rattle.bib_text.specs.declared.spanned.Spanned.{Spanned}
 use Rattle.bib_chunks.specs.Cuts.{placed}
 use Rattle.bib_chunks.specs.Styled.{Atom, atoms_of, styled, text_of, is_shown, is_same_kind}
 use Rattle.bib_chunks.specs.Lists.{lengthened, at_start, chunk_of, before, chunks_of}
+use Rattle.bib_chunks.proofs.StyledFacts.{no_characters, hidden}
 use Rattle.bib_chunks.specs.Joining.{behind}
 
 -- what is at a chunk's end decides as the chunk does
@@ -150,10 +151,6 @@ module _ (old front now : List (Spanned Chunk)) (last : Spanned Chunk) (v chunk 
       ∙ append_assoc front (last ∷ []) (at_start chunk ∷ [])
       ∙ sym (ap (λ l. behind l (at_start chunk)) was ∙ behind-last front last (at_start chunk) ∙ ap (λ l. front ++ l) (before_apart last (at_start chunk) h []))
 
--- the characters of a text that isn't empty
-no_characters : (text : List ℕ) → IsUtf8 text → chars text ≡ [] → text ≡ []
-no_characters text utf8 none = sym (encodes-chars text utf8) ∙ ap encode_utf8_all none
-
 one_run : (kind : ℕ → Atom) (to : List ℕ → Chunk) (run : (c : ℕ) (cs : List ℕ) → chunks_of (map kind (c ∷ cs)) ≡ at_start (to (encode_utf8_all (c ∷ cs))) ∷ []) (text : List ℕ) → IsUtf8 text → not (length text == 0) ≡ true
     → chunks_of (map kind (chars text)) ≡ at_start (to text) ∷ []
 one_run kind to run text utf8 some =
@@ -167,16 +164,6 @@ shown : (chunk : Chunk) → IsUtf8 (text_of chunk) → is_shown chunk ≡ true �
 shown (Normal text) utf8 some = one_run Atom.normal Normal normal_run text utf8 some
 shown (Verbatim text) utf8 some = one_run Atom.verbatim Verbatim verbatim_run text utf8 some
 shown (Math text) utf8 some = ap (λ t. at_start (Math t) ∷ []) (encodes-chars text utf8)
-
-no_text : (text : List ℕ) → not (length text == 0) ≡ false → chars text ≡ []
-no_text [] none = chars-nil
-no_text (b ∷ text) none = absurd (false≢true (sym none ∙ ap not (ne_eqb _ _ (λ e. omega arith))))
-
--- one that doesn't has no styled text
-hidden : (chunk : Chunk) → is_shown chunk ≡ false → atoms_of chunk ≡ []
-hidden (Normal text) none = ap (map Atom.normal) (no_text text none)
-hidden (Verbatim text) none = ap (map Atom.verbatim) (no_text text none)
-hidden (Math text) none = absurd (false≢true (sym none))
 
 -- a loop's step
 pub joined_more : (chunks : List (Spanned Chunk)) (i : ℕ) (d : Spanned Chunk) → i < length chunks → styled (take (i + 1) chunks) ≡ styled (take i chunks) ++ atoms_of (get_or chunks i d).v

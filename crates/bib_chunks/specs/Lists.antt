@@ -1,11 +1,11 @@
 -- Comma lists in a styled text.
-use Rattle.std.specs.Prelude.{ℕ, List, [], ◌∷◌, ◌++◌, map, encode_utf8, encode_utf8_all, if◌then◌else◌}
+use Rattle.std.specs.Prelude.{ℕ, false, List, [], ◌∷◌, ◌++◌, map, encode_utf8, encode_utf8_all, if◌then◌else◌}
 use Rattle.bib_chunks.specs.declared.chunk.Chunk.{Chunk}
 use Rattle.bib_chunks.specs.declared.chunk.Chunk.TheVariants.{Normal, Verbatim, Math}
 use Rattle.bib_text.specs.declared.spanned.Spanned.{Spanned}
 use Rattle.bib_chunks.specs.Cuts.{placed, comma_list}
-use Rattle.bib_chunks.specs.Formatted.{formatted}
-use Rattle.bib_chunks.specs.Styled.{Atom, is_same_kind}
+use Rattle.bib_chunks.specs.Formatted.{formatted_atoms}
+use Rattle.bib_chunks.specs.Styled.{Atom, styled, is_same_kind}
 
 -- a chunk with more text at its end, that of another chunk of its kind
 abbrev pub lengthened : Chunk → Chunk → Chunk
@@ -41,4 +41,4 @@ chunks_of (atom ∷ atoms) = before (at_start (chunk_of atom)) (chunks_of atoms)
 
 -- the parts of a styled text that is a comma list, each formatted
 abbrev pub comma_texts : List Atom → List (List ℕ)
-comma_texts atoms = map (λ part. encode_utf8_all (formatted part)) (comma_list (chunks_of atoms))
+comma_texts atoms = map (λ part. encode_utf8_all (formatted_atoms false (styled part))) (comma_list (chunks_of atoms))

@@ -17,6 +17,7 @@ use bib_text::items::Items;
 pub use bib_text::spanned::{Span, Spanned};
 use bib_text::text::Text;
 pub use ext::ChunksExt;
+pub use formatting::format_styled;
 pub use settling::is_settled;
 use std::alloc::{AllocError, Global};
 

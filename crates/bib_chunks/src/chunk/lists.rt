@@ -1,13 +1,13 @@
 //! Comma lists in the styled text of a field.
 
 ghost use Rattle.std.specs.Prelude.{◌≡◌, ◌∷◌, ◌++◌, [], OnOk, IfOk};
-ghost use Rattle.std.specs.Str.{IsUtf8};
-ghost use Rattle.bib_chunks.specs.Styled.{styled, text_of, is_shown, is_same_kind};
+ghost use Rattle.bib_chunks.specs.Styled.{styled, is_same_kind};
 ghost use Rattle.bib_chunks.specs.Lists.{lengthened, at_start, chunks_of, comma_texts};
 ghost use Rattle.bib_chunks.specs.Joining.{behind};
 
 use super::cuts::comma_list;
-use super::{Chunk, Chunks, ChunksExt, ChunksRef, Spanned};
+use super::formatting::{format_styled, is_shown};
+use super::{Chunk, Chunks, ChunksRef, Spanned};
 use bib_text::items::Items;
 use bib_text::text::Text;
 use std::alloc::{AllocError, Global};
@@ -54,18 +54,6 @@ fn add(chunks: &mut Chunks, chunk: &Chunk) -> Result<(), AllocError>
     push_copy(chunks, chunk)
 }
 
-// Whether a chunk shows in the styled text: it isn't normal or verbatim and empty.
-fn is_shown(chunk: &Chunk) -> bool
-    ensures value { result ≡ is_shown chunk.now }
-    ensures text { IsUtf8 (text_of chunk.now) }
-{
-    let text = chunk.get();
-    match chunk {
-        Chunk::Math(_) => true,
-        _ => !text.is_empty(),
-    }
-}
-
 // The chunks without empty ones, and with neighbours of one kind joined.
 fn joined(alloc: Global, chunks: ChunksRef<'_>) -> Result<Chunks, AllocError>
     ensures { IfOk result (λ all. all ≡ chunks_of (styled chunks.now)) }
@@ -88,7 +76,7 @@ pub fn comma_texts(alloc: Global, chunks: ChunksRef<'_>) -> Result<Vec<Text>, Al
     let parts = comma_list(alloc, joined.as_slice())?;
     let mut texts = Vec::new(alloc);
     'parts: for part in parts.as_slice() {
-        let text = part.as_slice().format_verbatim(alloc)?;
+        let text = format_styled(alloc, part.as_slice())?;
         texts.push(Text::from_string(text))?;
     }
     Ok(texts)
