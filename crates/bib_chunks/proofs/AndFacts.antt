@@ -1,5 +1,5 @@
 -- Facts on the word `and` in a text.
-use Rattle.std.proofs.Common.{◌≡◌, ℕ, ◌+◌, ◌-◌, ◌<◌, Bool, true, false, ◌&&◌, cond, List, [], ◌∷◌, ◌++◌, length, get_or, take, drop, refl, sym, ap, ◌∙◌, arith, append_assoc, length-append, nat_eq, length-drop, ⊎_elim}
+use Rattle.std.proofs.Common.{◌≡◌, ℕ, ◌+◌, ◌-◌, ◌<◌, Bool, true, false, ◌&&◌, cond, List, [], ◌∷◌, ◌++◌, length, get_or, take, drop, refl, sym, ap, ◌∙◌, arith, append_assoc, nat_eq, length-drop, ⊎_elim}
 use Rattle.std.specs.Prelude.{◌==◌, codes, encode_utf8_all}
 use lib.Utf8.{encode}
 use Rattle.std.specs.Char.{is_whitespace}
@@ -9,13 +9,10 @@ use Rattle.std.proofs.lemmas.List.{append-nil, append_cancel_left, take_at, take
 use Rattle.std.proofs.lemmas.Str.{encodes-chars, chars-nil}
 use Rattle.bib_chunks.specs.declared.chunk.Chunk.{Chunk}
 use Rattle.bib_text.specs.declared.spanned.Spanned.{Spanned}
-use Rattle.bib_chunks.specs.declared.chunk.cuts.Parts.{Parts}
-use Rattle.bib_chunks.specs.declared.chunk.Chunk.TheVariants.{Normal}
 use Rattle.bib_text.specs.Places.{place, CharAt}
-use Rattle.bib_chunks.specs.Cuts.{further, placed, joined, begins_with_space, is_and, prepend, between_ands, placed_between_ands, trimmed, trimmed_from}
-use Rattle.bib_chunks.specs.Cutting.{all_parts, Reads, IsAnd, NoAnd, IsFirstAnd}
+use Rattle.bib_chunks.specs.Cuts.{begins_with_space, is_and, prepend, between_ands, trimmed, trimmed_from}
+use Rattle.bib_chunks.specs.Cutting.{IsAnd, NoAnd, IsFirstAnd}
 use Rattle.bib_text.proofs.TextFacts.{Passed, passed_char, passed_append, chars_past, chars_whole}
-use Rattle.bib_chunks.proofs.CutFacts.{read_one, read_end}
 
 -- whether the word stands at the start of these characters, with white space round it
 abbrev pub word_here : Bool → List ℕ → Bool
@@ -83,16 +80,16 @@ cond_some : (here : Bool) (cut : List (List ℕ)) (a : ℕ) (texts : List (List 
 cond_some true cut a texts some = ([], cut, refl)
 cond_some false cut a texts some = ((a ∷ []) ++ some.0, some.1, ap (prepend (a ∷ [])) some.2)
 
-between_some : (space : Bool) (cs : List ℕ) → (text : List ℕ) × (texts : List (List ℕ)) × (between_ands space cs ≡ text ∷ texts)
-between_some space [] = ([], [], refl)
-between_some space (a ∷ []) = (_, _, refl)
-between_some space (a ∷ n ∷ []) = (_, _, refl)
-between_some space (a ∷ n ∷ d ∷ rest) =
-    let more = between_some (is_whitespace a) (n ∷ d ∷ rest) in
+pub ands_some : (space : Bool) (cs : List ℕ) → (text : List ℕ) × (texts : List (List ℕ)) × (between_ands space cs ≡ text ∷ texts)
+ands_some space [] = ([], [], refl)
+ands_some space (a ∷ []) = (_, _, refl)
+ands_some space (a ∷ n ∷ []) = (_, _, refl)
+ands_some space (a ∷ n ∷ d ∷ rest) =
+    let more = ands_some (is_whitespace a) (n ∷ d ∷ rest) in
     cond_some (space && is_and a n d && begins_with_space rest) (between_ands false rest) a (between_ands (is_whitespace a) (n ∷ d ∷ rest)) more
 
 prepend_none : (space : Bool) (cs : List ℕ) → prepend [] (between_ands space cs) ≡ between_ands space cs
-prepend_none space cs = let some = between_some space cs in rw some.2 refl
+prepend_none space cs = let some = ands_some space cs in rw some.2 refl
 
 -- what was passed before a place, in which no such word was found
 pub record Searched (text : List ℕ) (at : ℕ) (space : Bool) : Type 0 where
@@ -145,49 +142,11 @@ searched_all text at space so_far nothing =
     let left : chars (drop at text) ≡ [] = ap chars nothing ∙ chars-nil in
     so_far.texts ∙ ap (λ xs. prepend so_far.cs (between_ands space xs)) left ∙ ap (λ xs. (so_far.cs ++ xs) ∷ []) (sym left) ∙ ap (λ xs. xs ∷ []) (sym so_far.passed.spelt)
 
-placed_some : (start end : ℕ) (text : List ℕ) (more : List (List ℕ)) → (x : Spanned Chunk) × (xs : List (Spanned Chunk)) × (placed_between_ands start end (text ∷ more) ≡ x ∷ xs)
-placed_some start end text [] = (_, _, refl)
-placed_some start end text (next ∷ more) = (_, _, refl)
-
--- a piece up to such a word was read
-pub read_and : (old middle new : Parts) (start end stop next : ℕ) (rest before behind : List ℕ) (piece : Spanned Chunk)
-    → IsFirstAnd rest before behind → stop ≡ further start (length before) → next ≡ further stop 3 → piece ≡ placed (Normal before) start stop
-    → middle ≡ record { done = old.done; last = old.last ++ piece ∷ [] } → new ≡ record { done = middle.done ++ middle.last ∷ []; last = [] }
-    → (parts : List (List (Spanned Chunk))) → all_parts new (joined (placed_between_ands next end (between_ands false (chars behind))) parts) ≡ all_parts old (joined (placed_between_ands start end (between_ands false (chars rest))) parts)
-read_and old middle new start end stop next rest before behind piece first stop_is next_is piece_is added closed parts =
-    let (text, more, split) = between_some false (chars behind) in
-    let (x, xs, some) = placed_some next end text more in
-    let rest_pieces : placed_between_ands next end (between_ands false (chars behind)) ≡ x ∷ xs = ap (placed_between_ands next end) split ∙ some in
-    let bytes : encode_utf8_all (chars before) ≡ before = sym first.spells in
-    let here : placed_between_ands start end (chars before ∷ text ∷ more) ≡ piece ∷ (x ∷ xs) =
-    ap (λ bs. placed (Normal bs) start (further start (length bs)) ∷ placed_between_ands (further (further start (length bs)) 3) end (text ∷ more)) bytes
-    ∙ ap (λ n. placed (Normal before) start n ∷ placed_between_ands (further n 3) end (text ∷ more)) (sym stop_is)
-    ∙ ap (λ n. placed (Normal before) start stop ∷ placed_between_ands n end (text ∷ more)) (sym next_is)
-    ∙ ap (λ ys. placed (Normal before) start stop ∷ ys) some
-    ∙ ap (λ p. p ∷ (x ∷ xs)) (sym piece_is) in
-    let all_pieces : placed_between_ands start end (between_ands false (chars rest)) ≡ piece ∷ (x ∷ xs) = ap (placed_between_ands start end) (first.cut ∙ ap (λ ts. chars before ∷ ts) split) ∙ here in
-    ap (λ ps. all_parts new (joined ps parts)) rest_pieces ∙ read_end old middle new piece x xs added closed parts ∙ ap (λ ps. all_parts old (joined ps parts)) (sym all_pieces)
-
--- the last piece was read
-pub read_and_rest : (old new : Parts) (start end : ℕ) (rest : List ℕ) (piece : Spanned Chunk)
-    → IsUtf8 rest → between_ands false (chars rest) ≡ chars rest ∷ [] → piece ≡ placed (Normal rest) start end
-    → new ≡ record { done = old.done; last = old.last ++ piece ∷ [] } → Reads old new (placed_between_ands start end (between_ands false (chars rest)))
-read_and_rest old new start end rest piece utf8 whole piece_is added parts =
-    let pieces : placed_between_ands start end (between_ands false (chars rest)) ≡ piece ∷ [] =
-    ap (placed_between_ands start end) whole ∙ ap (λ t. placed (Normal t) start end ∷ []) (encodes-chars rest utf8) ∙ ap (λ p. p ∷ []) (sym piece_is) in
-    read_one old new piece added parts ∙ ap (λ ps. all_parts old (joined ps parts)) (sym pieces)
-
--- less is left behind such a word
-pub less_behind_and : (text before behind : List ℕ) → IsFirstAnd text before behind → length behind < length text
-less_behind_and text before behind first =
-    let size : length text ≡ length before + (3 + length behind) = ap length first.word ∙ length-append before (codes "and" ++ behind) ∙ ap (λ n. length before + n) (length-append (codes "and") behind) in
-    omega arith
-
 trimmed_cons : (first last : Bool) (x : Spanned Chunk) (rest : List (Spanned Chunk)) → last ≡ nat_eq (length rest) 0
-    → trimmed_from first (x ∷ rest) ≡ placed (trimmed first last x.v) x.span.start x.span.end ∷ trimmed_from false rest
-trimmed_cons first last x [] is_last = ap (λ b. placed (trimmed first b x.v) x.span.start x.span.end ∷ []) (sym is_last)
+    → trimmed_from first (x ∷ rest) ≡ trimmed first last x.v x.span ∷ trimmed_from false rest
+trimmed_cons first last x [] is_last = ap (λ b. trimmed first b x.v x.span ∷ []) (sym is_last)
 trimmed_cons first last x (next ∷ more) is_last =
-    ap (λ b. placed (trimmed first b x.v) x.span.start x.span.end ∷ trimmed_from false (next ∷ more)) (sym (is_last ∙ ne_eqb _ 0 (λ none. omega (arith, none))))
+    ap (λ b. trimmed first b x.v x.span ∷ trimmed_from false (next ∷ more)) (sym (is_last ∙ ne_eqb _ 0 (λ none. omega (arith, none))))
 
 same_test : (m n : ℕ) → m ≡ n + 1 → nat_eq m 1 ≡ nat_eq n 0
 same_test m n more = ⊎_elim
@@ -197,7 +156,7 @@ same_test m n more = ⊎_elim
 
 -- one chunk was copied, the last one just where nothing follows
 pub trimmed_step : (first last : Bool) (x : Spanned Chunk) (chunks : List (Spanned Chunk)) (i : ℕ) → i < length chunks → x ≡ get_or chunks i x → last ≡ nat_eq (length chunks - i) 1
-    → trimmed_from first (drop i chunks) ≡ placed (trimmed first last x.v) x.span.start x.span.end ∷ trimmed_from false (drop (i + 1) chunks)
+    → trimmed_from first (drop i chunks) ≡ trimmed first last x.v x.span ∷ trimmed_from false (drop (i + 1) chunks)
 trimmed_step first last x chunks i within is is_last =
     let split : drop i chunks ≡ x ∷ drop (i + 1) chunks = drop_more chunks i x within ∙ ap (λ y. y ∷ drop (i + 1) chunks) (sym is) in
     let left : length (drop (i + 1) chunks) ≡ length chunks - (i + 1) = length-drop (i + 1) chunks in

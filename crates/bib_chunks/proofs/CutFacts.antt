@@ -1,20 +1,26 @@
 -- Facts on lists and their parts.
-use Rattle.std.proofs.Common.{◌≡◌, ℕ, ◌+◌, ◌<◌, Bool, true, List, [], ◌∷◌, ◌++◌, length, get_or, drop, refl, sym, ap, ◌∙◌, append_assoc, length-append, suc, arith, Option, Some, None, lit<, ⊎_elim}
-use Rattle.std.specs.Prelude.{◌==◌}
-use Rattle.std.specs.List.{slice_split, onto_first, after_first}
-use Rattle.std.specs.Str.{IsUtf8, trim_end}
-use Rattle.std.proofs.lemmas.List.{append-nil, drop_more, drop_at, get_or_at, get_or_default, length_push}
-use Rattle.std.proofs.lemmas.Str.{IsUtf8-drop, IsCharBoundary-after_ascii}
-use Rattle.std.proofs.lemmas.List.Splits.{slice_split_first, slice_split_none, slice_split-cons_yes, slice_split-cons_no}
-use Rattle.std.proofs.lemmas.Str.Pattern.{IsSplitOnceResult, split_once_first, split_parts}
-use Rattle.std.proofs.lemmas.Bool.{ne_eqb, cases_Bool}
+use Rattle.std.proofs.Common.{◌≡◌, ℕ, ◌+◌, ◌-◌, ◌<◌, ◌≤◌, Bool, true, false, List, [], ◌∷◌, ◌++◌, length, get_or, take, drop, refl, sym, ap, ◌∙◌, append_assoc, length-append, arith, Option, Some, None, ⊎_elim}
+use Rattle.std.specs.Prelude.{◌==◌, codes, encode_utf8_all, MatchOption, option_map, if◌then◌else◌}
+use Rattle.std.specs.Char.{len_utf8}
+use Rattle.std.specs.List.{slice_split, onto_first}
+use Rattle.std.specs.Str.{IsUtf8, NonePass, chars}
+use Rattle.std.specs.declared.ops.Range.{Range}
+use Rattle.std.proofs.lemmas.List.{drop_more, take-append-drop}
+use Rattle.std.proofs.lemmas.Str.{IsUtf8-take, IsCharBoundary-from_drop, encodes-chars}
+use Rattle.std.proofs.lemmas.List.Splits.{slice_split-cons_yes, slice_split-cons_no}
+use Rattle.std.proofs.lemmas.Str.Pattern.{IsSplitOnceResult}
+use Rattle.std.proofs.lemmas.Bool.{cases_Bool, cond-true, cond-false, eq-eqb}
 use Rattle.std.specs.Borrow.{Bor}
 use Rattle.bib_chunks.specs.declared.chunk.Chunk.{Chunk}
-use Rattle.bib_chunks.specs.declared.chunk.Chunk.TheVariants.{Normal}
 use Rattle.bib_text.specs.declared.spanned.Spanned.{Spanned}
+use Rattle.bib_text.proofs.TextFacts.{chars_past, chars_whole, encode_one}
 use Rattle.bib_chunks.specs.declared.chunk.cuts.Parts.{Parts}
-use Rattle.bib_chunks.specs.Cuts.{further, placed, behind_separator, between_commas, comma_pieces, onto, joined, comma_list, and_pieces, and_parts}
-use Rattle.bib_chunks.specs.Cutting.{all_parts, Reads}
+use Rattle.bib_chunks.specs.declared.chunk.cuts.Separator.{Separator}
+use Rattle.bib_chunks.specs.declared.chunk.cuts.Separator.TheVariants.{Comma, And}
+use Rattle.bib_chunks.specs.declared.chunk.Chunk.TheVariants.{Normal}
+use Rattle.bib_chunks.specs.Cuts.{further, placed, part_of, piece, pieces, pieces_between, onto, joined, list_parts, between_commas, between_ands, cut_characters, both_pieces, halves}
+use Rattle.bib_chunks.specs.Cutting.{between, width, all_parts, Reads, IsFirstCut, IsFirstAnd}
+use Rattle.bib_chunks.proofs.AndFacts.{ands_some}
 
 onto_onto : (xs ys : List (Spanned Chunk)) (parts : List (List (Spanned Chunk))) → onto xs (onto ys parts) ≡ onto (xs ++ ys) parts
 onto_onto xs ys [] = refl
@@ -26,13 +32,9 @@ onto_nothing [] parts some = some
 onto_nothing (p ∷ []) parts some = onto_onto [] (p ∷ []) parts
 onto_nothing (p ∷ q ∷ more) parts some = refl
 
-pub onto_list : (chunks : List (Spanned Chunk)) → onto [] (comma_list chunks) ≡ comma_list chunks
-onto_list [] = refl
-onto_list (c ∷ rest) = onto_nothing (comma_pieces c.v c.span) (comma_list rest) (onto_list rest)
-
-pub onto_and_parts : (chunks : List (Spanned Chunk)) → onto [] (and_parts chunks) ≡ and_parts chunks
-onto_and_parts [] = refl
-onto_and_parts (c ∷ rest) = onto_nothing (and_pieces c.v c.span) (and_parts rest) (onto_and_parts rest)
+pub onto_parts : (w : ℕ) (cut : List ℕ → List (List ℕ)) (chunks : List (Spanned Chunk)) → onto [] (list_parts w cut chunks) ≡ list_parts w cut chunks
+onto_parts w cut [] = refl
+onto_parts w cut (c ∷ rest) = onto_nothing (pieces w cut c.v c.span) (list_parts w cut rest) (onto_parts w cut rest)
 
 onto_some : (next : Spanned Chunk) (more : List (Spanned Chunk)) (parts : List (List (Spanned Chunk))) → onto [] (joined (next ∷ more) parts) ≡ joined (next ∷ more) parts
 onto_some next [] parts = onto_onto [] (next ∷ []) parts
@@ -46,7 +48,7 @@ ended : Parts → Parts
 ended parts = record { done = parts.done ++ parts.last ∷ []; last = [] }
 
 -- a piece was added, and its part ended
-pub read_end : (old middle new : Parts) (piece next : Spanned Chunk) (more : List (Spanned Chunk)) → middle ≡ record { done = old.done; last = old.last ++ piece ∷ [] } → new ≡ record { done = middle.done ++ middle.last ∷ []; last = [] }
+read_end : (old middle new : Parts) (piece next : Spanned Chunk) (more : List (Spanned Chunk)) → middle ≡ record { done = old.done; last = old.last ++ piece ∷ [] } → new ≡ record { done = middle.done ++ middle.last ∷ []; last = [] }
     → (behind : List (List (Spanned Chunk))) → all_parts new (joined (next ∷ more) behind) ≡ all_parts old (joined (piece ∷ next ∷ more) behind)
 unfolding ended
 read_end old middle new piece next more added closed behind =
@@ -55,87 +57,155 @@ read_end old middle new piece next more added closed behind =
     ∙ append_assoc old.done ((old.last ++ piece ∷ []) ∷ []) _
     ∙ ap (λ ps. old.done ++ (old.last ++ piece ∷ []) ∷ ps) (onto_some next more behind)
 
--- the last part ended
-pub read_last : (old new : Parts) → new ≡ record { done = old.done ++ old.last ∷ []; last = [] } → new.done ≡ all_parts old ([] ∷ [])
-read_last old new is = ap (λ p. p.done) is ∙ ap (λ l. old.done ++ l ∷ []) (sym (append-nil old.last))
+-- a place that is counted in two steps
+further_twice : (at n m : ℕ) → further at (further n m) ≡ further at (n + m)
+further_twice at n m = omega arith
 
--- a comma
-abbrev pub is_comma : ℕ → Bool
-is_comma b = b == 44
+pub part_further : (whole text : List ℕ) (span : Range ℕ) (at skipped : ℕ) → part_of whole span (further at skipped) text ≡ part_of whole span (at + skipped) text
+part_further whole text span at skipped =
+    ap (λ n. if length text == length whole then placed (Normal text) span.start span.end else placed (Normal text) n (further n (length text)))
+    (further_twice span.start at skipped)
 
--- where `split_once` cuts, the first piece ends
-pub cut_here : (rest : List ℕ) (r : Option (Bor (List ℕ) × Bor (List ℕ))) (before after : Bor (List ℕ)) → r ≡ Some (before, after) → IsSplitOnceResult 44 rest r
-    → (slice_split is_comma rest ≡ before.now ∷ slice_split is_comma after.now) × (length after.now < length rest)
-cut_here rest r before after is cut =
-    let first = split_once_first 44 rest (Some (before, after)) (rw is at cut) (lit< tt) in
-    let parts = split_parts 44 rest (Some (before, after)) (rw is at cut) (lit< tt) in
-    let sizes : length rest ≡ length before.now + suc (length after.now) = ap length parts.0 ∙ length-append before.now (44 ∷ after.now) in (
-      slice_split_first is_comma rest 0 first.0 ∙ ap (λ b. b ∷ slice_split is_comma (after_first is_comma rest)) (sym first.1) ∙ ap (λ a. before.now ∷ slice_split is_comma a) (sym first.2),
-      omega arith,
-    )
+-- where a text is cut at a character
+pub record IsCharCut (c : ℕ) (text before after : List ℕ) : Type 0 where
+  pub free : NonePass (λ d. d == c) (chars before)
+  pub cut : chars text ≡ chars before ++ c ∷ chars after
+  pub spells : before ≡ encode_utf8_all (chars before)
+  pub utf8 : IsUtf8 after
+  pub size : length text ≡ length before + (len_utf8 c + length after)
 
--- what stands behind the cut is text
-pub behind_cut_utf8 : (rest : List ℕ) (r : Option (Bor (List ℕ) × Bor (List ℕ))) (before after : Bor (List ℕ)) → r ≡ Some (before, after) → IsSplitOnceResult 44 rest r → IsUtf8 rest → IsUtf8 after.now
-behind_cut_utf8 rest r before after is cut utf8 =
-    let parts = split_parts 44 rest (Some (before, after)) (rw is at cut) (lit< tt) in
-    let whole : rest ≡ before.now ++ 44 ∷ after.now = parts.0 in
-    let size : length rest ≡ length before.now + suc (length after.now) = ap length whole ∙ length-append before.now (44 ∷ after.now) in
-    let comma : get_or rest (length before.now) 0 ≡ 44 = ap (λ bs. get_or bs (length before.now) 0) whole ∙ get_or_at before.now 44 after.now 0 (length before.now) refl in
-    let boundary = IsCharBoundary-after_ascii rest (length before.now) utf8 (omega arith) (omega arith) in
-    let left : drop (length before.now + 1) rest ≡ after.now =
-    ap (drop (length before.now + 1)) (whole ∙ sym (append_assoc before.now (44 ∷ []) after.now)) ∙ drop_at (before.now ++ 44 ∷ []) after.now (length before.now + 1) (length_push before.now 44) in
-    rw left at (IsUtf8-drop rest (length before.now + 1) utf8 boundary)
+-- `split_once` cuts there
+pub char_cut : (c : ℕ) (text : List ℕ) (before after : Bor (List ℕ)) → IsUtf8 text → IsSplitOnceResult c text (Some (before, after)) → IsCharCut c text before.now after.now
+char_cut c text before after utf8 (i, j, found, front, back, ordered, size, rest_size) =
+    let spelt : encode_utf8_all found.0.0 ≡ take i text = found.0.1 in
+    let past = chars_past found.0.0 text (drop i text) utf8 (sym (take-append-drop i text) ∙ ap (λ bs. bs ++ drop i text) (sym spelt)) in
+    let one = chars_past (c ∷ []) (drop i text) (drop j text) past.1 (found.1.split ∙ ap (λ bs. bs ++ drop j text) (encode_one c)) in
+    let within : i ≤ length text = omega arith in
+    let front_utf8 : IsUtf8 (take i text) = IsUtf8-take text i utf8 (IsCharBoundary-from_drop text i within past.1) in
+    let front_chars : chars (take i text) ≡ found.0.0 = chars_whole found.0.0 (take i text) front_utf8 (sym spelt) in
+    let rest_chars : chars (drop i text) ≡ c ∷ chars (drop j text) = one.0 in
+    rw (front, back) (record {
+      free = rw front_chars found.0.2;
+      cut = past.0 ∙ ap (λ cs. found.0.0 ++ cs) rest_chars ∙ ap (λ cs. cs ++ c ∷ chars (drop j text)) (sym front_chars);
+      spells = sym (encodes-chars (take i text) front_utf8);
+      utf8 = one.1;
+      size = omega (arith, found.1.ends, size, rest_size, ap length front, ap length back);
+    })
 
--- where it doesn't cut, there is one piece
-pub cut_nowhere : (rest : List ℕ) (r : Option (Bor (List ℕ) × Bor (List ℕ))) → r ≡ None → IsSplitOnceResult 44 rest r → slice_split is_comma rest ≡ rest ∷ []
-cut_nowhere rest r is cut =
-    let free = split_parts 44 rest None (rw is at cut) (lit< tt) in
-    slice_split_none is_comma rest (λ k d within. ne_eqb _ 44 (λ same. free k within (get_or_default rest k 0 d within ∙ same)))
+-- where it finds none, no character of the text is that one
+pub char_free : (c : ℕ) (text : List ℕ) → IsUtf8 text → IsSplitOnceResult c text None → NonePass (λ d. d == c) (chars text)
+char_free c text utf8 none = rw (chars_whole none.0 text utf8 (sym none.1)) none.2
 
-split_some : (bs : List ℕ) → (text : List ℕ) × (more : List (List ℕ)) × (slice_split is_comma bs ≡ text ∷ more)
-split_some [] = ([], [], refl)
-split_some (b ∷ bs) =
-    let rest = split_some bs in
-    ⊎_elim (λ yes. ([], slice_split is_comma bs, slice_split-cons_yes is_comma b bs yes))
-    (λ no_comma. (b ∷ rest.0, rest.1, slice_split-cons_no is_comma b bs no_comma ∙ ap (onto_first b) rest.2))
-    (cases_Bool (is_comma b))
+split_none : (test : ℕ → Bool) (cs : List ℕ) → NonePass test cs → slice_split test cs ≡ cs ∷ []
+split_none test [] free = refl
+split_none test (c ∷ cs) free = slice_split-cons_no test c cs free.0 ∙ ap (onto_first c) (split_none test cs free.1)
 
-between_some : (behind : Bool) (start end : ℕ) (text : List ℕ) (more : List (List ℕ)) → (x : Spanned Chunk) × (xs : List (Spanned Chunk)) × (between_commas behind start end (text ∷ more) ≡ x ∷ xs)
-between_some behind start end text [] = (_, _, refl)
-between_some behind start end text (next ∷ more) = (_, _, refl)
+split_here : (test : ℕ → Bool) (cs : List ℕ) (c : ℕ) (rest : List ℕ) → NonePass test cs → test c ≡ true → slice_split test (cs ++ c ∷ rest) ≡ cs ∷ slice_split test rest
+split_here test [] c rest free here = slice_split-cons_yes test c rest here
+split_here test (d ∷ cs) c rest free here = slice_split-cons_no test d (cs ++ c ∷ rest) free.0 ∙ ap (onto_first d) (split_here test cs c rest free.1 here)
 
--- a piece up to a comma was read
-pub read_comma : (old middle new : Parts) (behind : Bool) (start end comma next : ℕ) (rest before after trimmed : List ℕ) (piece : Spanned Chunk)
-    → slice_split is_comma rest ≡ before ∷ slice_split is_comma after
-    → comma ≡ further start (length before) → next ≡ further comma 1
-    → trimmed ≡ trim_end (behind_separator behind before) → piece ≡ placed (Normal trimmed) start comma
-    → middle ≡ record { done = old.done; last = old.last ++ piece ∷ [] } → new ≡ record { done = middle.done ++ middle.last ∷ []; last = [] }
-    → (parts : List (List (Spanned Chunk))) → all_parts new (joined (between_commas true next end (slice_split is_comma after)) parts) ≡ all_parts old (joined (between_commas behind start end (slice_split is_comma rest)) parts)
-read_comma old middle new behind start end comma next rest before after trimmed piece cut comma_is next_is trimmed_is piece_is added closed parts =
-    let (text, more, split) = split_some after in
-    let (x, xs, some) = between_some true next end text more in
-    let rest_pieces : between_commas true next end (slice_split is_comma after) ≡ x ∷ xs = ap (between_commas true next end) split ∙ some in
-    let here : between_commas behind start end (before ∷ text ∷ more) ≡ piece ∷ (x ∷ xs) =
-    ap (λ n. placed (Normal (trim_end (behind_separator behind before))) start (further start (length before)) ∷ between_commas true n end (text ∷ more)) (ap (λ n. further n 1) (sym comma_is) ∙ sym next_is)
-    ∙ ap (λ ys. placed (Normal (trim_end (behind_separator behind before))) start (further start (length before)) ∷ ys) some
-    ∙ ap (λ n. placed (Normal (trim_end (behind_separator behind before))) start n ∷ (x ∷ xs)) (sym comma_is)
-    ∙ ap (λ t. placed (Normal t) start comma ∷ (x ∷ xs)) (sym trimmed_is)
-    ∙ ap (λ p. p ∷ (x ∷ xs)) (sym piece_is) in
-    let all_pieces : between_commas behind start end (slice_split is_comma rest) ≡ piece ∷ (x ∷ xs) = ap (between_commas behind start end) (cut ∙ ap (λ ts. before ∷ ts) split) ∙ here in
-    ap (λ ps. all_parts new (joined ps parts)) rest_pieces ∙ read_end old middle new piece x xs added closed parts ∙ ap (λ ps. all_parts old (joined ps parts)) (sym all_pieces)
+-- the first comma of a text
+pub first_comma : (text : List ℕ) (r : Option (Bor (List ℕ) × Bor (List ℕ))) → IsUtf8 text → IsSplitOnceResult 44 text r
+    → MatchOption r (between Comma (chars text) ≡ chars text ∷ []) (λ both. IsFirstCut Comma text both.0.now both.1.now)
+first_comma text None utf8 none = split_none (λ c. c == 44) (chars text) (char_free 44 text utf8 none)
+first_comma text (Some both) utf8 found =
+    let is = char_cut 44 text both.0 both.1 utf8 found in
+    record {
+      cut = ap (slice_split (λ c. c == 44)) is.cut ∙ split_here (λ c. c == 44) (chars both.0.now) 44 (chars both.1.now) is.free refl;
+      spells = is.spells;
+      utf8 = is.utf8;
+      size = is.size;
+    }
+
+-- the first word `and`
+pub first_word : (text : List ℕ) (r : Option (Bor (List ℕ) × Bor (List ℕ)))
+    → MatchOption r (between_ands false (chars text) ≡ chars text ∷ []) (λ both. IsFirstAnd text both.0.now both.1.now)
+    → MatchOption r (between And (chars text) ≡ chars text ∷ []) (λ both. IsFirstCut And text both.0.now both.1.now)
+first_word text None none = none
+first_word text (Some both) first = record {
+  cut = first.cut;
+  spells = first.spells;
+  utf8 = first.utf8;
+  size = ap length first.word ∙ length-append both.0.now (codes "and" ++ both.1.now) ∙ ap (λ n. length both.0.now + n) (length-append (codes "and") both.1.now);
+}
+
+-- a text has a first piece
+commas_some : (cs : List ℕ) → (text : List ℕ) × (more : List (List ℕ)) × (between_commas cs ≡ text ∷ more)
+commas_some [] = ([], [], refl)
+commas_some (c ∷ cs) =
+    let rest = commas_some cs in
+    ⊎_elim (λ yes. ([], between_commas cs, slice_split-cons_yes (λ d. d == 44) c cs yes))
+    (λ other. (c ∷ rest.0, rest.1, slice_split-cons_no (λ d. d == 44) c cs other ∙ ap (onto_first c) rest.2))
+    (cases_Bool (c == 44))
+
+between_some : (separator : Separator) (cs : List ℕ) → (text : List ℕ) × (more : List (List ℕ)) × (between separator cs ≡ text ∷ more)
+between_some Comma cs = commas_some cs
+between_some And cs = ands_some false cs
+
+pieces_some : (w : ℕ) (whole : List ℕ) (span : Range ℕ) (at : ℕ) (behind : Bool) (text : List ℕ) (more : List (List ℕ))
+    → (x : Spanned Chunk) × (xs : List (Spanned Chunk)) × (pieces_between w whole span at behind (text ∷ more) ≡ x ∷ xs)
+pieces_some w whole span at behind text [] = (_, _, refl)
+pieces_some w whole span at behind text (next ∷ more) = (_, _, refl)
+
+-- a piece up to a separator was read
+pub read_piece : (separator : Separator) (old middle new : Parts) (whole : List ℕ) (span : Range ℕ) (at onward : ℕ) (behind : Bool) (rest before after : List ℕ) (here : Spanned Chunk)
+    → IsFirstCut separator rest before after → onward ≡ at + (length before + width separator) → here ≡ piece whole span at behind true before
+    → middle ≡ record { done = old.done; last = old.last ++ here ∷ [] } → new ≡ record { done = middle.done ++ middle.last ∷ []; last = [] }
+    → (parts : List (List (Spanned Chunk)))
+    → all_parts new (joined (pieces_between (width separator) whole span onward true (between separator (chars after))) parts)
+    ≡ all_parts old (joined (pieces_between (width separator) whole span at behind (between separator (chars rest))) parts)
+read_piece separator old middle new whole span at onward behind rest before after here first onward_is here_is added closed parts =
+    let w = width separator in
+    let (text, more, split) = between_some separator (chars after) in
+    let (x, xs, some) = pieces_some w whole span onward true text more in
+    let rest_pieces : pieces_between w whole span onward true (between separator (chars after)) ≡ x ∷ xs = ap (pieces_between w whole span onward true) split ∙ some in
+    let bytes : encode_utf8_all (chars before) ≡ before = sym first.spells in
+    let all_here : pieces_between w whole span at behind (chars before ∷ text ∷ more) ≡ here ∷ (x ∷ xs) =
+    ap (λ bs. piece whole span at behind true bs ∷ pieces_between w whole span (at + (length bs + w)) true (text ∷ more)) bytes
+    ∙ ap (λ n. piece whole span at behind true before ∷ pieces_between w whole span n true (text ∷ more)) (sym onward_is)
+    ∙ ap (λ ys. piece whole span at behind true before ∷ ys) some
+    ∙ ap (λ p. p ∷ (x ∷ xs)) (sym here_is) in
+    let all_pieces : pieces_between w whole span at behind (between separator (chars rest)) ≡ here ∷ (x ∷ xs) = ap (pieces_between w whole span at behind) (first.cut ∙ ap (λ ts. chars before ∷ ts) split) ∙ all_here in
+    ap (λ ps. all_parts new (joined ps parts)) rest_pieces ∙ read_end old middle new here x xs added closed parts ∙ ap (λ ps. all_parts old (joined ps parts)) (sym all_pieces)
 
 -- the last piece was read
-pub read_rest : (old new : Parts) (behind : Bool) (start end : ℕ) (rest trimmed : List ℕ) (piece : Spanned Chunk)
-    → slice_split is_comma rest ≡ rest ∷ [] → trimmed ≡ behind_separator behind rest → piece ≡ placed (Normal trimmed) start end
-    → new ≡ record { done = old.done; last = old.last ++ piece ∷ [] } → Reads old new (between_commas behind start end (slice_split is_comma rest))
-read_rest old new behind start end rest trimmed piece whole trimmed_is piece_is added parts =
-    let pieces : between_commas behind start end (slice_split is_comma rest) ≡ piece ∷ [] =
-    ap (between_commas behind start end) whole ∙ ap (λ t. placed (Normal t) start end ∷ []) (sym trimmed_is) ∙ ap (λ p. p ∷ []) (sym piece_is) in
-    read_one old new piece added parts ∙ ap (λ ps. all_parts old (joined ps parts)) (sym pieces)
+pub read_rest : (separator : Separator) (old new : Parts) (whole : List ℕ) (span : Range ℕ) (at : ℕ) (behind : Bool) (rest : List ℕ) (here : Spanned Chunk)
+    → IsUtf8 rest → between separator (chars rest) ≡ chars rest ∷ [] → here ≡ piece whole span at behind false rest
+    → new ≡ record { done = old.done; last = old.last ++ here ∷ [] }
+    → Reads old new (pieces_between (width separator) whole span at behind (between separator (chars rest)))
+read_rest separator old new whole span at behind rest here utf8 last here_is added parts =
+    let pieces : pieces_between (width separator) whole span at behind (between separator (chars rest)) ≡ here ∷ [] =
+    ap (pieces_between (width separator) whole span at behind) last ∙ ap (λ bs. piece whole span at behind false bs ∷ []) (encodes-chars rest utf8) ∙ ap (λ p. p ∷ []) (sym here_is) in
+    read_one old new here added parts ∙ ap (λ ps. all_parts old (joined ps parts)) (sym pieces)
 
--- one chunk of a comma list was read
-pub read_chunk : (old new : Parts) (total : List (List (Spanned Chunk))) (chunks : List (Spanned Chunk)) (i : ℕ) (x : Spanned Chunk) → i < length chunks → x ≡ get_or chunks i x
-    → Reads old new (comma_pieces x.v x.span) → all_parts old (comma_list (drop i chunks)) ≡ total → all_parts new (comma_list (drop (i + 1) chunks)) ≡ total
-read_chunk old new total chunks i x within is reads so_far =
+-- one chunk of a list was read
+pub read_chunk : (w : ℕ) (cut : List ℕ → List (List ℕ)) (old new : Parts) (total : List (List (Spanned Chunk))) (chunks : List (Spanned Chunk)) (i : ℕ) (x : Spanned Chunk) → i < length chunks → x ≡ get_or chunks i x
+    → Reads old new (pieces w cut x.v x.span) → all_parts old (list_parts w cut (drop i chunks)) ≡ total → all_parts new (list_parts w cut (drop (i + 1) chunks)) ≡ total
+read_chunk w cut old new total chunks i x within is reads so_far =
     let split : drop i chunks ≡ x ∷ drop (i + 1) chunks = drop_more chunks i x within ∙ ap (λ y. y ∷ drop (i + 1) chunks) (sym is) in
-    reads (comma_list (drop (i + 1) chunks)) ∙ ap (λ cs. all_parts old (comma_list cs)) (sym split) ∙ so_far
+    reads (list_parts w cut (drop (i + 1) chunks)) ∙ ap (λ cs. all_parts old (list_parts w cut cs)) (sym split) ∙ so_far
+
+-- characters that are cut in two
+cut_free : (c : ℕ) (cs : List ℕ) → NonePass (λ d. d == c) cs → cut_characters c cs ≡ None
+cut_free c [] free = refl
+cut_free c (d ∷ cs) free = cond-false (d == c) _ _ free.0 ∙ ap (option_map (λ both. (d ∷ both.0, both.1))) (cut_free c cs free.1)
+
+cut_here : (c : ℕ) (cs rest : List ℕ) → NonePass (λ d. d == c) cs → cut_characters c (cs ++ c ∷ rest) ≡ Some (cs, rest)
+cut_here c [] rest free = cond-true (c == c) _ _ (eq-eqb c c refl)
+cut_here c (d ∷ cs) rest free = cond-false (d == c) _ _ free.0 ∙ ap (option_map (λ both. (d ∷ both.0, both.1))) (cut_here c cs rest free.1)
+
+-- a chunk without that character
+pub no_halves : (c : ℕ) (text : List ℕ) (span : Range ℕ) → IsUtf8 text → IsSplitOnceResult c text None → None ≡ halves c (Normal text) span
+no_halves c text span utf8 none = sym (ap (option_map (both_pieces (len_utf8 c) text span)) (cut_free c (chars text) (char_free c text utf8 none)))
+
+-- its two pieces
+pub two_halves : (c : ℕ) (text : List ℕ) (span : Range ℕ) (before after : Bor (List ℕ)) (first second : Spanned Chunk) (at : ℕ)
+    → IsUtf8 text → IsSplitOnceResult c text (Some (before, after)) → at ≡ length text - length after.now
+    → first ≡ piece text span 0 false true before.now → second ≡ piece text span at true false after.now → Some (first, second) ≡ halves c (Normal text) span
+two_halves c text span before after first second at utf8 found at_is first_is second_is =
+    let is = char_cut c text before after utf8 found in
+    let here : at ≡ length before.now + len_utf8 c = omega (arith, is.size) in
+    ap (λ p. Some (p, second)) (first_is ∙ ap (piece text span 0 false true) is.spells)
+    ∙ ap (λ p. Some (piece text span 0 false true (encode_utf8_all (chars before.now)), p))
+    (second_is ∙ ap (λ n. piece text span n true false after.now) (here ∙ ap (λ bs. length bs + len_utf8 c) is.spells) ∙ ap (piece text span (length (encode_utf8_all (chars before.now)) + len_utf8 c) true false) (sym (encodes-chars after.now is.utf8)))
+    ∙ sym (ap (option_map (both_pieces (len_utf8 c) text span)) (ap (cut_characters c) is.cut ∙ cut_here c (chars before.now) (chars after.now) is.free))

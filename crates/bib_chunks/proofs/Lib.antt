@@ -2,6 +2,8 @@ pub mod AndFacts
 pub mod BraceFacts
 pub mod CutFacts
 pub mod FormattedFacts
+pub mod ListFacts
 pub mod SettledFacts
 pub mod SpanFacts
+pub mod StyledFacts
 pub mod WrittenFacts

@@ -1,8 +1,8 @@
 -- Meaning: words of public contracts.
 -- Lists in the value of a field, and where they are cut.
-use Rattle.std.specs.Prelude.{ℕ, ◌+◌, ◌-◌, ◌^◌, ◌==◌, ◌&&◌, map, encode_utf8_all, Bool, true, false, List, [], ◌∷◌, ◌++◌, length, min, if◌then◌else◌, Option, Some, None}
-use Rattle.std.specs.List.{slice_split, position_or_len, before_first, after_first}
-use Rattle.std.specs.Char.{is_whitespace}
+use Rattle.std.specs.Prelude.{ℕ, ◌+◌, ◌-◌, ◌^◌, ◌==◌, ◌&&◌, encode_utf8_all, Bool, true, false, List, [], ◌∷◌, ◌++◌, length, min, if◌then◌else◌, Option, Some, None, option_map}
+use Rattle.std.specs.List.{slice_split}
+use Rattle.std.specs.Char.{is_whitespace, len_utf8}
 use Rattle.std.specs.Str.{chars, trim_start, trim_end}
 use Rattle.std.specs.declared.ops.Range.{Range}
 use Rattle.bib_chunks.specs.declared.chunk.Chunk.{Chunk}
@@ -17,25 +17,46 @@ further at n = min (at + n) (2 ^ 64 - 1)
 abbrev pub placed : Chunk → ℕ → ℕ → Spanned Chunk
 placed chunk start end = record { v = chunk; span = record { start = start; end = end } }
 
--- a text without the white space at its start, if a separator stands before it
-abbrev pub behind_separator : Bool → List ℕ → List ℕ
-behind_separator true text = trim_start text
-behind_separator false text = text
+-- a text without the white space at its start, if something is cut off or begins there
+abbrev pub trimmed_start : Bool → List ℕ → List ℕ
+trimmed_start true text = trim_start text
+trimmed_start false text = text
 
--- the normal chunks that stand between the commas of one, given the texts between its commas, its bytes, and whether
--- a comma stands before it: no white space is left next to a comma, and each stands in the bytes between its commas
-abbrev pub between_commas : Bool → ℕ → ℕ → List (List ℕ) → List (Spanned Chunk)
-between_commas behind start end [] = []
-between_commas behind start end (text ∷ []) = placed (Normal (behind_separator behind text)) start end ∷ []
-between_commas behind start end (text ∷ next ∷ more) =
-    placed (Normal (trim_end (behind_separator behind text))) start (further start (length text))
-    ∷ between_commas true (further (further start (length text)) 1) end (next ∷ more)
+-- a text without the white space at its end, if something is cut off or ends there
+abbrev pub trimmed_end : Bool → List ℕ → List ℕ
+trimmed_end true text = trim_end text
+trimmed_end false text = text
 
--- the pieces of a chunk in a comma list: it is cut at its commas if it is normal
-abbrev pub comma_pieces : Chunk → Range ℕ → List (Spanned Chunk)
-comma_pieces (Normal text) span = between_commas false span.start span.end (slice_split (λ b. b == 44) text)
-comma_pieces (Verbatim text) span = placed (Verbatim text) span.start span.end ∷ []
-comma_pieces (Math text) span = placed (Math text) span.start span.end ∷ []
+-- a part of a normal chunk's text as a chunk, given that text and the chunk's bytes, and how many bytes of the text
+-- stand before the part. It stands where its text does, counted from the chunk's start; a part that is the whole text
+-- stands where the chunk does, whose bytes may be more than its text has, as around a command, or less.
+abbrev pub part_of : List ℕ → Range ℕ → ℕ → List ℕ → Spanned Chunk
+part_of whole span at text =
+    if length text == length whole then placed (Normal text) span.start span.end
+    else placed (Normal text) (further span.start at) (further (further span.start at) (length text))
+
+-- the same, without the white space at the part's start, at its end, or at both: it stands where the text that is left
+-- does
+abbrev pub piece : List ℕ → Range ℕ → ℕ → Bool → Bool → List ℕ → Spanned Chunk
+piece whole span at first last text =
+    part_of whole span (at + (length text - length (trimmed_start first text))) (trimmed_end last (trimmed_start first text))
+
+-- the pieces of a normal chunk that is cut at separators of so many bytes, given its text and bytes, how many bytes
+-- stand before the first piece, whether a separator does, and the texts between the separators, by characters: the
+-- white space next to a separator is left out
+abbrev pub pieces_between : ℕ → List ℕ → Range ℕ → ℕ → Bool → List (List ℕ) → List (Spanned Chunk)
+pieces_between width whole span at behind [] = []
+pieces_between width whole span at behind (text ∷ []) = piece whole span at behind false (encode_utf8_all text) ∷ []
+pieces_between width whole span at behind (text ∷ next ∷ more) =
+    piece whole span at behind true (encode_utf8_all text)
+    ∷ pieces_between width whole span (at + (length (encode_utf8_all text) + width)) true (next ∷ more)
+
+-- the pieces of a chunk in a list, given the bytes of a separator and the texts between the separators of a text: a
+-- chunk that isn't normal is one piece
+abbrev pub pieces : ℕ → (List ℕ → List (List ℕ)) → Chunk → Range ℕ → List (Spanned Chunk)
+pieces width between (Normal text) span = pieces_between width text span 0 false (between (chars text))
+pieces width between (Verbatim text) span = placed (Verbatim text) span.start span.end ∷ []
+pieces width between (Math text) span = placed (Math text) span.start span.end ∷ []
 
 -- parts of a list, the first of which begins with these chunks
 abbrev pub onto : List (Spanned Chunk) → List (List (Spanned Chunk)) → List (List (Spanned Chunk))
@@ -49,38 +70,18 @@ joined [] parts = parts
 joined (piece ∷ []) parts = onto (piece ∷ []) parts
 joined (piece ∷ next ∷ more) parts = (piece ∷ []) ∷ joined (next ∷ more) parts
 
--- the parts of a comma list: it is cut at each comma of a normal chunk, and no chunks are one empty part
+-- the parts of a list that is cut at such separators; no chunks are one empty part
+abbrev pub list_parts : ℕ → (List ℕ → List (List ℕ)) → List (Spanned Chunk) → List (List (Spanned Chunk))
+list_parts width between [] = [] ∷ []
+list_parts width between (c ∷ rest) = joined (pieces width between c.v c.span) (list_parts width between rest)
+
+-- the texts between the commas of one, by characters
+abbrev pub between_commas : List ℕ → List (List ℕ)
+between_commas = slice_split (λ c. c == 44)
+
+-- the parts of a comma list: it is cut at each comma of a normal chunk
 abbrev pub comma_list : List (Spanned Chunk) → List (List (Spanned Chunk))
-comma_list [] = [] ∷ []
-comma_list (c ∷ rest) = joined (comma_pieces c.v c.span) (comma_list rest)
-
--- a normal chunk in two, at the first of its bytes that is this ASCII character: the white space next to it is left
--- out, and each half stands in the bytes on its side; nothing where the chunk isn't normal or has no such byte
-abbrev pub halves : ℕ → Chunk → Range ℕ → Option (Spanned Chunk × Spanned Chunk)
-halves separator (Normal text) span =
-    let end = further span.start (length (before_first (λ b. b == separator) text)) in
-    if position_or_len (λ b. b == separator) text == length text then None
-    else Some (
-      placed (Normal (trim_end (before_first (λ b. b == separator) text))) span.start end,
-      placed (Normal (trim_start (after_first (λ b. b == separator) text))) (further end 1) span.end,
-    )
-halves separator (Verbatim text) span = None
-halves separator (Math text) span = None
-
--- a cut of chunks behind these
-abbrev pub cut_behind : List (Spanned Chunk) → Option (List (Spanned Chunk) × List (Spanned Chunk)) → Option (List (Spanned Chunk) × List (Spanned Chunk))
-cut_behind chunks None = None
-cut_behind chunks (Some cut) = Some (chunks ++ cut.0, cut.1)
-
--- the cut of a chunk and what follows it, given the halves of the chunk and the cut of what follows
-abbrev pub cut_first : Spanned Chunk → List (Spanned Chunk) → Option (Spanned Chunk × Spanned Chunk) → Option (List (Spanned Chunk) × List (Spanned Chunk)) → Option (List (Spanned Chunk) × List (Spanned Chunk))
-cut_first c rest (Some both) later = Some (both.0 ∷ [], both.1 ∷ rest)
-cut_first c rest None later = cut_behind (c ∷ []) later
-
--- what stands before and behind the first such character of a normal chunk, if there is one
-abbrev pub cut_at : ℕ → List (Spanned Chunk) → Option (List (Spanned Chunk) × List (Spanned Chunk))
-cut_at separator [] = None
-cut_at separator (c ∷ rest) = cut_first c rest (halves separator c.v c.span) (cut_at separator rest)
+comma_list = list_parts 1 between_commas
 
 -- whether characters begin with white space
 abbrev pub begins_with_space : List ℕ → Bool
@@ -104,47 +105,58 @@ between_ands space (a ∷ n ∷ d ∷ rest) =
     else prepend (a ∷ []) (between_ands (is_whitespace a) (n ∷ d ∷ rest))
 between_ands space rest = rest ∷ []
 
--- these texts as normal chunks, each in the bytes between its words
-abbrev pub placed_between_ands : ℕ → ℕ → List (List ℕ) → List (Spanned Chunk)
-placed_between_ands start end [] = []
-placed_between_ands start end (text ∷ []) = placed (Normal (encode_utf8_all text)) start end ∷ []
-placed_between_ands start end (text ∷ next ∷ more) =
-    placed (Normal (encode_utf8_all text)) start (further start (length (encode_utf8_all text)))
-    ∷ placed_between_ands (further (further start (length (encode_utf8_all text))) 3) end (next ∷ more)
-
--- the pieces of a chunk in an `and` list: it is cut at those words if it is normal
-abbrev pub and_pieces : Chunk → Range ℕ → List (Spanned Chunk)
-and_pieces (Normal text) span = placed_between_ands span.start span.end (between_ands false (chars text))
-and_pieces (Verbatim text) span = placed (Verbatim text) span.start span.end ∷ []
-and_pieces (Math text) span = placed (Math text) span.start span.end ∷ []
-
--- the parts of chunks that are cut at those words
-abbrev pub and_parts : List (Spanned Chunk) → List (List (Spanned Chunk))
-and_parts [] = [] ∷ []
-and_parts (c ∷ rest) = joined (and_pieces c.v c.span) (and_parts rest)
-
--- a text without the white space at its end, if it ends something
-abbrev pub before_end : Bool → List ℕ → List ℕ
-before_end true text = trim_end text
-before_end false text = text
-
 -- a chunk without the white space at its start, at its end, or at both, if it is normal
-abbrev pub trimmed : Bool → Bool → Chunk → Chunk
-trimmed first last (Normal text) = Normal (before_end last (behind_separator first text))
-trimmed first last (Verbatim text) = Verbatim text
-trimmed first last (Math text) = Math text
+abbrev pub trimmed : Bool → Bool → Chunk → Range ℕ → Spanned Chunk
+trimmed first last (Normal text) span = piece text span 0 first last text
+trimmed first last (Verbatim text) span = placed (Verbatim text) span.start span.end
+trimmed first last (Math text) span = placed (Math text) span.start span.end
 
 -- chunks without the white space at the start of the first one, if they begin something, and at the end of the last
 abbrev pub trimmed_from : Bool → List (Spanned Chunk) → List (Spanned Chunk)
 trimmed_from first [] = []
-trimmed_from first (c ∷ []) = placed (trimmed first true c.v) c.span.start c.span.end ∷ []
-trimmed_from first (c ∷ next ∷ more) = placed (trimmed first false c.v) c.span.start c.span.end ∷ trimmed_from false (next ∷ more)
+trimmed_from first (c ∷ []) = trimmed first true c.v c.span ∷ []
+trimmed_from first (c ∷ next ∷ more) = trimmed first false c.v c.span ∷ trimmed_from false (next ∷ more)
 
 -- chunks without the white space at their start and end, where that is normal
 abbrev pub trimmed_ends : List (Spanned Chunk) → List (Spanned Chunk)
 trimmed_ends = trimmed_from true
 
--- the parts of an `and` list: its ends are trimmed, it is cut at each such word inside one normal chunk, and the ends
--- of each part are trimmed; no chunks are one empty part
+-- the parts of an `and` list: its ends are trimmed, and it is cut at each such word inside one normal chunk
 abbrev pub and_list : List (Spanned Chunk) → List (List (Spanned Chunk))
-and_list chunks = map trimmed_ends (and_parts (trimmed_ends chunks))
+and_list chunks = list_parts 3 (between_ands false) (trimmed_ends chunks)
+
+-- characters in two, at the first that is this one
+abbrev pub cut_characters : ℕ → List ℕ → Option (List ℕ × List ℕ)
+cut_characters separator [] = None
+cut_characters separator (c ∷ cs) =
+    if c == separator then Some ([], cs)
+    else option_map (λ both. (c ∷ both.0, both.1)) (cut_characters separator cs)
+
+-- two pieces of a normal chunk, at such a cut of its text
+abbrev pub both_pieces : ℕ → List ℕ → Range ℕ → List ℕ × List ℕ → Spanned Chunk × Spanned Chunk
+both_pieces width whole span both = (
+  piece whole span 0 false true (encode_utf8_all both.0),
+  piece whole span (length (encode_utf8_all both.0) + width) true false (encode_utf8_all both.1),
+)
+
+-- a normal chunk in two, at the first of its characters that is this one: the white space next to it is left out;
+-- nothing where the chunk isn't normal or has no such character
+abbrev pub halves : ℕ → Chunk → Range ℕ → Option (Spanned Chunk × Spanned Chunk)
+halves separator (Normal text) span = option_map (both_pieces (len_utf8 separator) text span) (cut_characters separator (chars text))
+halves separator (Verbatim text) span = None
+halves separator (Math text) span = None
+
+-- a cut of chunks behind these
+abbrev pub cut_behind : List (Spanned Chunk) → Option (List (Spanned Chunk) × List (Spanned Chunk)) → Option (List (Spanned Chunk) × List (Spanned Chunk))
+cut_behind chunks None = None
+cut_behind chunks (Some cut) = Some (chunks ++ cut.0, cut.1)
+
+-- the cut of a chunk and what follows it, given the halves of the chunk and the cut of what follows
+abbrev pub cut_first : Spanned Chunk → List (Spanned Chunk) → Option (Spanned Chunk × Spanned Chunk) → Option (List (Spanned Chunk) × List (Spanned Chunk)) → Option (List (Spanned Chunk) × List (Spanned Chunk))
+cut_first c rest (Some both) later = Some (both.0 ∷ [], both.1 ∷ rest)
+cut_first c rest None later = cut_behind (c ∷ []) later
+
+-- what stands before and behind the first such character of a normal chunk, if there is one
+abbrev pub cut_at : ℕ → List (Spanned Chunk) → Option (List (Spanned Chunk) × List (Spanned Chunk))
+cut_at separator [] = None
+cut_at separator (c ∷ rest) = cut_first c rest (halves separator c.v c.span) (cut_at separator rest)

@@ -9,6 +9,7 @@ use Rattle.std.specs.Char.Unicode.ToUppercase.{to_uppercase}
 use Rattle.bib_chunks.specs.declared.chunk.Chunk.{Chunk}
 use Rattle.bib_chunks.specs.declared.chunk.Chunk.TheVariants.{Normal, Verbatim, Math}
 use Rattle.bib_text.specs.declared.spanned.Spanned.{Spanned}
+use Rattle.bib_chunks.specs.Styled.{Atom}
 
 -- the characters that break a line: line feed and carriage return
 abbrev pub is_break : ℕ → Bool
@@ -51,6 +52,14 @@ formatted_behind space (c ∷ rest) = formatted_chunk (λ cs. cs) space c.v ++ f
 -- chunks formatted verbatim
 abbrev pub formatted : List (Spanned Chunk) → List ℕ
 formatted = formatted_behind false
+
+-- a styled text, formatted: normal characters on one line, math between dollar signs; the flag says whether white space
+-- stands before it
+abbrev pub formatted_atoms : Bool → List Atom → List ℕ
+formatted_atoms space [] = []
+formatted_atoms space (Atom.normal c ∷ rest) = unbroken space c ++ formatted_atoms (ends_in_space space (unbroken space c)) rest
+formatted_atoms space (Atom.verbatim c ∷ rest) = c ∷ formatted_atoms (is_whitespace c) rest
+formatted_atoms space (Atom.math text ∷ rest) = 36 ∷ (text ++ 36 ∷ formatted_atoms space rest)
 
 -- a character in lower case, or in upper case where it begins a sentence; by Unicode's mappings, in which a character
 -- of ASCII becomes one of ASCII

@@ -1,7 +1,9 @@
 pub mod Cuts
 pub mod Cutting
 pub mod Formatted
+pub mod Joining
 pub mod Lending
+pub mod Lists
 pub mod Settled
 pub mod Settling
 pub mod Styled

@@ -1,6 +1,6 @@
 -- Meaning: words of public contracts.
 -- Styled text: what a list of chunks says once the borders between chunks are forgotten.
-use Rattle.std.specs.Prelude.{ℕ, List, [], ◌∷◌, map}
+use Rattle.std.specs.Prelude.{ℕ, ◌==◌, Bool, true, false, not, List, [], ◌∷◌, length, map}
 use Rattle.std.specs.declared.ops.Range.{Range}
 use Rattle.std.specs.List.{flat_map}
 use Rattle.std.specs.Str.{chars}
@@ -29,6 +29,22 @@ atoms_of (Math text) = Atom.math (chars text) ∷ []
 -- the styled text of chunks: their characters and math texts in order
 abbrev pub styled : List (Spanned Chunk) → List Atom
 styled = flat_map (λ c. atoms_of c.v)
+
+-- whether a chunk shows in the styled text: an empty normal or verbatim one doesn't
+abbrev pub is_shown : Chunk → Bool
+is_shown (Normal text) = not (length text == 0)
+is_shown (Verbatim text) = not (length text == 0)
+is_shown (Math text) = true
+
+-- whether two chunks are both normal or both verbatim
+abbrev pub is_same_kind : Chunk → Chunk → Bool
+is_same_kind (Normal text) (Normal more) = true
+is_same_kind (Verbatim text) (Verbatim more) = true
+is_same_kind (Normal text) (Verbatim more) = false
+is_same_kind (Normal text) (Math more) = false
+is_same_kind (Verbatim text) (Normal more) = false
+is_same_kind (Verbatim text) (Math more) = false
+is_same_kind (Math text) other = false
 
 -- the end of the last of some chunks, behind one that ends here
 abbrev pub last_end : ℕ → List (Spanned Chunk) → ℕ

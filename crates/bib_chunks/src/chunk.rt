@@ -9,6 +9,7 @@ ghost use Rattle.bib_chunks.specs.Written.{written_chunk};
 pub mod cuts;
 mod ext;
 mod formatting;
+pub mod lists;
 mod settling;
 mod writing;
 
@@ -16,6 +17,7 @@ use bib_text::items::Items;
 pub use bib_text::spanned::{Span, Spanned};
 use bib_text::text::Text;
 pub use ext::ChunksExt;
+pub use formatting::format_styled;
 pub use settling::is_settled;
 use std::alloc::{AllocError, Global};
 

@@ -5,8 +5,8 @@ use Rattle.std.specs.Prelude.{IsTrue, ◌==◌}
 use Rattle.std.proofs.lemmas.List.Concat.{flat_map-append}
 use Rattle.bib_chunks.specs.declared.chunk.Chunk.{Chunk}
 use Rattle.bib_text.specs.declared.spanned.Spanned.{Spanned}
-use Rattle.bib_chunks.specs.Styled.{atoms_of, styled}
-use Rattle.bib_contents.specs.Joined.{is_same_kind, AreJoined, ArePlaced, IsWhole}
+use Rattle.bib_chunks.specs.Styled.{atoms_of, styled, is_same_kind}
+use Rattle.bib_contents.specs.Joined.{AreJoined, ArePlaced, IsWhole}
 
 suc_not_zero : (n : ℕ) → IsTrue (suc n == 0) → ⊥
 suc_not_zero n blank = grind (arith, nat_tests)

@@ -1,21 +1,17 @@
 -- Facts on reading contents unit by unit.
-use Rattle.std.proofs.Common.{◌≡◌, ℕ, zero, suc, ◌+◌, ◌<◌, ◌≤◌, Bool, true, false, not, List, [], ◌∷◌, ◌++◌, length, map, refl, sym, ap, ◌∙◌, subst, arith, append_assoc, inl, inr, None, Some, length-append, add-one}
-use Rattle.std.specs.Prelude.{string_bytes, filter}
+use Rattle.std.proofs.Common.{◌≡◌, ℕ, zero, suc, ◌+◌, ◌<◌, ◌≤◌, Bool, true, false, List, [], ◌∷◌, ◌++◌, length, map, refl, sym, ap, ◌∙◌, subst, arith, append_assoc, inl, inr, None, Some, length-append, add-one}
+use Rattle.std.specs.Prelude.{string_bytes}
 use Rattle.std.specs.List.{list_all}
 use Rattle.std.specs.Str.{chars}
-use Rattle.std.proofs.lemmas.Bool.{and_parts, both_ways, cases_Bool}
+use Rattle.std.proofs.lemmas.Bool.{and_parts, both_ways}
 use Rattle.std.proofs.lemmas.List.{append-nil}
-use Rattle.bib_chunks.specs.Styled.{Atom, styled, atoms_of}
-use Rattle.bib_chunks.specs.Formatted.{flowing, unbroken, ends_in_space, space_behind, formatted_chunk, formatted_behind}
+use Rattle.bib_chunks.specs.Styled.{Atom, styled}
 use Rattle.bib_chunks.specs.declared.chunk.Chunk.{Chunk}
-use Rattle.bib_chunks.specs.declared.chunk.Chunk.TheVariants.{Normal, Verbatim, Math}
 use Rattle.bib_text.specs.declared.spanned.Spanned.{Spanned}
-use Rattle.std.specs.Char.{is_whitespace}
-use Rattle.bib_chunks.proofs.FormattedFacts.{ends-append}
-use Rattle.bib_contents.specs.Contents.{ContentUnit, Argument, Reads, IsNext, fits, unit_spelling, is_ordinary, is_empty, character, meaning, is_closable, depth_after, held, atoms_text}
+use Rattle.bib_contents.specs.Contents.{ContentUnit, Argument, Reads, IsNext, fits, unit_spelling, is_ordinary, character, meaning, is_closable, depth_after, held}
 use Rattle.bib_contents.specs.Contents.Reads.{end, next}
 use Rattle.bib_contents.specs.Joined.{ArePlaced}
-use Rattle.bib_contents.specs.Passing.{Goes, IsStuck, IsUntaken, Took, is_shown, so_far}
+use Rattle.bib_contents.specs.Passing.{Goes, IsStuck, IsUntaken, Took, so_far}
 use Rattle.bib_contents.specs.declared.resolve.growing.Open.{Open}
 use Rattle.std.proofs.lemmas.Str.{chars-nil}
 use Rattle.bib_contents.proofs.ContentFacts.{unit_same, rest_same, no_unit_at_end}
@@ -105,48 +101,6 @@ stuck_taken {u = u} {depth = depth} read one (inl closed) atoms whole = both_way
 stuck_taken {u = u} {depth = depth} read one (inr held_stuck) atoms whole =
     let inside = (unit_back one (read.goes.back atoms whole).1).1 held_stuck.0 held_stuck.1 in
     held_stuck.2 inside.0 inside.1
-
--- normal characters, formatted
-normal_text : (space : Bool) (cs : List ℕ) (more : List Atom) → atoms_text space (map Atom.normal cs ++ more) ≡ flowing space cs ++ atoms_text (ends_in_space space (flowing space cs)) more
-normal_text space [] more = refl
-normal_text space (c ∷ cs) more =
-    let one = unbroken space c in
-    ap (λ xs. one ++ xs) (normal_text (ends_in_space space one) cs more)
-    ∙ sym (append_assoc one (flowing (ends_in_space space one) cs) _)
-    ∙ ap (λ b. (one ++ flowing (ends_in_space space one) cs) ++ atoms_text b more) (sym (ends-append space one (flowing (ends_in_space space one) cs)))
-
-verbatim_text : (space : Bool) (cs : List ℕ) (more : List Atom) → atoms_text space (map Atom.verbatim cs ++ more) ≡ cs ++ atoms_text (ends_in_space space cs) more
-verbatim_text space [] more = refl
-verbatim_text space (c ∷ cs) more = ap (λ xs. c ∷ xs) (verbatim_text (is_whitespace c) cs more)
-
-some_space : (space : Bool) (cs : List ℕ) → not (is_empty cs) ≡ true → ends_in_space space cs ≡ ends_in_space false cs
-some_space space [] shown = absurd (both_ways false refl shown)
-some_space space (c ∷ cs) shown = refl
-
--- a chunk that shows, formatted as its atoms are
-chunk_text : (space : Bool) (v : Chunk) (more : List Atom) → is_shown v ≡ true → atoms_text space (atoms_of v ++ more) ≡ formatted_chunk (λ cs. cs) space v ++ atoms_text (space_behind space v) more
-chunk_text space (Normal text) more shown = normal_text space (chars text) more
-chunk_text space (Verbatim text) more shown = verbatim_text space (chars text) more ∙ ap (λ b. chars text ++ atoms_text b more) (some_space space (chars text) shown)
-chunk_text space (Math text) more shown = ap (λ xs. 36 ∷ xs) (sym (append_assoc (chars text) (36 ∷ []) _))
-
-none_of : (cs : List ℕ) → not (is_empty cs) ≡ false → cs ≡ []
-none_of [] hidden = refl
-none_of (c ∷ cs) hidden = absurd (both_ways true hidden refl)
-
--- one that doesn't show
-nothing_shown : (v : Chunk) (more : List Atom) → is_shown v ≡ false → atoms_of v ++ more ≡ more
-nothing_shown (Normal text) more hidden = ap (λ cs. map Atom.normal cs ++ more) (none_of (chars text) hidden)
-nothing_shown (Verbatim text) more hidden = ap (λ cs. map Atom.verbatim cs ++ more) (none_of (chars text) hidden)
-nothing_shown (Math text) more hidden = absurd (both_ways true hidden refl)
-
--- the chunks that show, formatted, are the atoms formatted
-pub formatted_shown : (space : Bool) (cs : List (Spanned Chunk)) → formatted_behind space (filter (λ c. is_shown c.v) cs) ≡ atoms_text space (styled cs)
-formatted_shown space [] = refl
-formatted_shown space (c ∷ rest) =
-    elim (cases_Bool (is_shown c.v)) [
-      | inl shown ↦ rw shown (ap (λ xs. formatted_chunk (λ ds. ds) space c.v ++ xs) (formatted_shown (space_behind space c.v) rest) ∙ sym (chunk_text space c.v (styled rest) shown))
-      | inr hidden ↦ rw hidden (formatted_shown space rest ∙ ap (atoms_text space) (sym (nothing_shown c.v (styled rest) hidden)))
-    ]
 
 -- chunks that stand before a place stand before a later one
 pub placed_wider : (low high higher : ℕ) (cs : List (Spanned Chunk)) → ArePlaced low high cs → high ≤ higher → ArePlaced low higher cs

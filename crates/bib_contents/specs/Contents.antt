@@ -4,7 +4,7 @@
 use Rattle.std.specs.Prelude.{◌≡◌, ℕ, zero, suc, ◌-◌, ◌/◌, ◌%◌, Bool, true, false, not, ◌&&◌, ◌||◌, ◌==◌, nat_lt, ◌⊎◌, if◌then◌else◌, List, [], ◌∷◌, ◌++◌, map, replicate, Option, None, Some}
 use Rattle.std.specs.Char.{is_whitespace, is_control}
 use Rattle.std.specs.List.{list_any, list_all}
-use Rattle.bib_chunks.specs.Formatted.{unbroken, ends_in_space}
+use Rattle.bib_chunks.specs.Formatted.{formatted_atoms}
 use Rattle.bib_chunks.specs.Styled.{Atom}
 use Rattle.bib_chunks.specs.Written.{is_grouping, is_reserved}
 use Rattle.bib_syntax.specs.Characters.{is_id_continue}
@@ -156,20 +156,12 @@ pub record IsNext (is_verbatim : Bool) (u : ContentUnit) (text rest : List ℕ) 
   pub fits : fits is_verbatim u rest ≡ true
   pub spells : text ≡ unit_spelling u ++ rest
 
--- the text of atoms as it is formatted: normal characters on one line, math between dollar signs; the flag says
--- whether white space stands before them
-abbrev pub atoms_text : Bool → List Atom → List ℕ
-atoms_text space [] = []
-atoms_text space (Atom.normal c ∷ rest) = unbroken space c ++ atoms_text (ends_in_space space (unbroken space c)) rest
-atoms_text space (Atom.verbatim c ∷ rest) = c ∷ atoms_text (is_whitespace c) rest
-atoms_text space (Atom.math text ∷ rest) = 36 ∷ (text ++ 36 ∷ atoms_text space rest)
-
 -- what is given to a command, where its argument in braces was read as these atoms
 abbrev pub argument_text : Argument → List Atom → Option (List ℕ)
 argument_text Argument.without inner = None
 argument_text Argument.empty inner = Some []
 argument_text (Argument.single c) inner = Some (c ∷ [])
-argument_text (Argument.braced text) inner = Some (atoms_text false inner)
+argument_text (Argument.braced text) inner = Some (formatted_atoms false inner)
 
 -- hyphens, cut from the left: em dashes for threes, then an en dash for two or a hyphen for one
 abbrev pub dashes : ℕ → List ℕ

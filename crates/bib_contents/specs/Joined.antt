@@ -1,16 +1,9 @@
 -- Meaning: words of public contracts.
 -- Chunks as a reader gives them: joined where they are of one kind, and in the order in which they stand.
-use Rattle.std.specs.Prelude.{◌≡◌, ℕ, ◌≤◌, Bool, true, false, List, [], ◌∷◌, ◌++◌, Option, Some, None}
+use Rattle.std.specs.Prelude.{◌≡◌, ℕ, ◌≤◌, false, List, [], ◌∷◌, ◌++◌, Option, Some, None}
 use Rattle.bib_chunks.specs.declared.chunk.Chunk.{Chunk}
-use Rattle.bib_chunks.specs.declared.chunk.Chunk.TheVariants.{Normal, Verbatim}
 use Rattle.bib_text.specs.declared.spanned.Spanned.{Spanned}
-use Rattle.bib_chunks.specs.Styled.{atoms_of}
-
--- whether two chunks are both normal or both verbatim
-abbrev pub is_same_kind : Chunk → Chunk → Bool
-is_same_kind (Normal text) (Normal more) = true
-is_same_kind (Verbatim text) (Verbatim more) = true
-is_same_kind c d = false
+use Rattle.bib_chunks.specs.Styled.{atoms_of, is_same_kind}
 
 -- no two neighbouring chunks are both normal or both verbatim
 abbrev pub AreJoined : List (Spanned Chunk) → Type 0

@@ -1,13 +1,12 @@
 -- Machinery: words of private contracts.
 -- Characters that a cursor passes, and how far contents were read.
-use Rattle.std.specs.Prelude.{◌≡◌, ◌⊎◌, ℕ, ◌+◌, ◌-◌, ◌^◌, ◌≤◌, min, Bool, true, false, not, List, ◌++◌, length, drop, map, Some, string_bytes, encode_utf8_all}
+use Rattle.std.specs.Prelude.{◌≡◌, ◌⊎◌, ℕ, ◌+◌, ◌-◌, ◌^◌, ◌≤◌, min, Bool, true, false, List, ◌++◌, length, drop, map, Some, string_bytes, encode_utf8_all}
 use Rattle.std.specs.Str.{chars}
 use Rattle.bib_text.specs.Places.{Place}
 use Rattle.bib_chunks.specs.Styled.{Atom, styled}
 use Rattle.bib_chunks.specs.declared.chunk.Chunk.{Chunk}
-use Rattle.bib_chunks.specs.declared.chunk.Chunk.TheVariants.{Normal, Verbatim, Math}
 use Rattle.bib_text.specs.declared.spanned.Spanned.{Spanned}
-use Rattle.bib_contents.specs.Contents.{ContentUnit, Reads, character, is_empty, meaning, is_closable, depth_after, held}
+use Rattle.bib_contents.specs.Contents.{ContentUnit, Reads, character, meaning, is_closable, depth_after, held}
 use Rattle.bib_contents.specs.Joined.{ArePlaced}
 use Rattle.bib_contents.specs.declared.resolve.growing.Open.{Open}
 
@@ -56,9 +55,3 @@ IsUntaken u depth = (is_closable depth u ≡ false) ⊎ ((text : List ℕ) × (h
 abbrev pub IsMoved : List (Spanned Chunk) → Open → ℕ → List (Spanned Chunk) → Open → ℕ → Type 0
 IsMoved chunks growing end more grown behind =
     (low : ℕ) → ArePlaced low growing.start chunks → growing.start ≤ end → ArePlaced low grown.start more × (grown.start ≤ behind)
-
--- whether a chunk shows in the styled text
-abbrev pub is_shown : Chunk → Bool
-is_shown (Normal text) = not (is_empty (chars text))
-is_shown (Verbatim text) = not (is_empty (chars text))
-is_shown (Math text) = true

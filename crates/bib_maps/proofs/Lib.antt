@@ -1,6 +1,5 @@
 pub mod ClaimsFacts
 pub mod CopyFacts
-pub mod ListFacts
 pub mod NamesFacts
 pub mod SortedFacts
 pub mod SortingFacts

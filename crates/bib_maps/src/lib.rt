@@ -1,8 +1,7 @@
-//! Maps by text, names that point to places, and comma lists in a styled text.
+//! Maps by text, and names that point to places.
 #![tactic(auto)]
 
 pub mod claims;
-pub mod lists;
 pub mod names;
 mod sorted;
 pub mod text_map;

@@ -19,7 +19,7 @@ ghost use Rattle.biblatex.specs.SameLibrary.{same_library, same_library_per, sam
 
 use crate::entry::Entry;
 use crate::reading::load;
-use bib_maps::lists::comma_texts;
+use bib_chunks::chunk::lists::comma_texts;
 use bib_maps::names::Names;
 use bib_syntax::raw::{ParseError, RawBibliography};
 use bib_text::text::Text;

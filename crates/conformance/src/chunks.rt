@@ -282,6 +282,138 @@ fn cuts_at_the_first_separator(rt: HostRuntime) -> Result<(), Fail> {
     Ok(())
 }
 
+// A chunk of these parts with its text and bytes.
+fn write_chunk(out: &mut String, alloc: Global, chunk: &Spanned<Chunk>) -> Result<(), AllocError> {
+    let text = chunk.v.get();
+    let place = format!(in alloc; "<{text} {}..{}>", chunk.span.start, chunk.span.end)?;
+    out.push_str(place.as_str())?;
+    Ok(())
+}
+
+// The chunks of the parts of a list, each with its text and bytes; a bar stands before each part.
+fn places(alloc: Global, list: &Items<Chunks>) -> Result<String, AllocError> {
+    let mut out = String::new(alloc);
+    for part in list.as_slice() {
+        out.push('|')?;
+        for chunk in part.as_slice() {
+            write_chunk(&mut out, alloc, chunk)?;
+        }
+    }
+    Ok(out)
+}
+
+#[test]
+fn places_pieces_of_comma_lists(rt: HostRuntime) -> Result<(), Fail> {
+    let alloc = rt.alloc();
+    let rows: [(Parts, &str); 5] = [
+        (&[], "|"),
+        (&[('n', " a , b ")], "|< a 0..2>|<b  5..7>"),
+        (
+            &[('n', "31--43,4-6,  194 --- 245")],
+            "|<31--43 0..6>|<4-6 7..10>|<194 --- 245 13..24>",
+        ),
+        (
+            &[('n', "x, "), ('v', "y,z"), ('n', " , w")],
+            "|<x 0..1>|< 3..3><y,z 3..6>< 6..6>|<w 9..10>",
+        ),
+        (&[('n', "é\u{2003},ü")], "|<é 0..2>|<ü 6..8>"),
+    ];
+    for (parts, text) in rows {
+        let all = chunks(alloc, parts)?;
+        let list = cuts::comma_list(alloc, all.as_slice())?;
+        agrees(&rt, places(alloc, &list)?.as_str(), text);
+    }
+    Ok(())
+}
+
+#[test]
+fn places_pieces_of_and_lists(rt: HostRuntime) -> Result<(), Fail> {
+    let alloc = rt.alloc();
+    let rows: [(Parts, &str); 5] = [
+        (&[], "|"),
+        (&[('n', "  A and B ")], "|<A 2..3>|<B 8..9>"),
+        (&[('n', "A and and B")], "|<A 0..1>|< 6..6>|<B 10..11>"),
+        (
+            &[('n', " x and  "), ('v', " y and z"), ('n', " w ")],
+            "|<x 1..2>|< 8..8>< y and z 8..16>< w 16..18>",
+        ),
+        (&[('n', "é\u{2003}and\u{2003}ü")], "|<é 0..2>|<ü 11..13>"),
+    ];
+    for (parts, text) in rows {
+        let all = chunks(alloc, parts)?;
+        let list = cuts::and_list(alloc, all.as_slice())?;
+        agrees(&rt, places(alloc, &list)?.as_str(), text);
+    }
+    Ok(())
+}
+
+// A normal chunk in these bytes, cut at its commas, with the places of the pieces.
+fn comma_places(alloc: Global, text: &str, start: usize, end: usize) -> Result<String, AllocError> {
+    let mut all = Items::new(alloc);
+    let text = Text::from_str(alloc, text)?;
+    all.push(Spanned::new(Chunk::Normal(text), start..end))?;
+    places(alloc, &cuts::comma_list(alloc, all.as_slice())?)
+}
+
+// A chunk's bytes need not be as many as those of its text.
+#[test]
+fn counts_places_from_the_start(rt: HostRuntime) -> Result<(), Fail> {
+    let alloc = rt.alloc();
+    let rows: [(&str, usize, usize, &str); 5] = [
+        ("a , b", 7, 12, "|<a 7..8>|<b 11..12>"),
+        ("a,b", 7, 20, "|<a 7..8>|<b 9..10>"),
+        ("a,b", 7, 8, "|<a 7..8>|<b 9..10>"),
+        ("a b", 7, 20, "|<a b 7..20>"),
+        (
+            "a,b",
+            usize::MAX - 1,
+            usize::MAX,
+            "|<a 18446744073709551614..18446744073709551615>\
+            |<b 18446744073709551615..18446744073709551615>",
+        ),
+    ];
+    for (text, start, end, places) in rows {
+        let found = comma_places(alloc, text, start, end)?;
+        agrees(&rt, found.as_str(), places);
+    }
+    Ok(())
+}
+
+// The chunks of both sides of a cut, with their places.
+fn cut_places(alloc: Global, parts: Parts, separator: char) -> Result<String, AllocError> {
+    let all = chunks(alloc, parts)?;
+    let Some((before, behind)) = cuts::cut_at(alloc, all.as_slice(), separator)? else {
+        return String::from_str(alloc, "-");
+    };
+    let mut both = Items::new(alloc);
+    both.push(before)?;
+    both.push(behind)?;
+    places(alloc, &both)
+}
+
+#[test]
+fn places_both_sides_of_a_cut(rt: HostRuntime) -> Result<(), Fail> {
+    let alloc = rt.alloc();
+    let rows: [(Parts, char, &str); 4] = [
+        (
+            &[('n', " given = Simon")],
+            '=',
+            "|< given 0..6>|<Simon 9..14>",
+        ),
+        (
+            &[('v', "a=b"), ('n', "c=d=e"), ('m', "f")],
+            '=',
+            "|<a=b 0..3><c 3..4>|<d=e 5..8><f 8..9>",
+        ),
+        (&[('n', "a é b")], 'é', "|<a 0..1>|<b 5..6>"),
+        (&[('n', "a\u{1f600}b")], '\u{1f601}', "-"),
+    ];
+    for (parts, separator, text) in rows {
+        agrees(&rt, cut_places(alloc, parts, separator)?.as_str(), text);
+    }
+    Ok(())
+}
+
 #[test]
 fn gets_and_changes_texts(rt: HostRuntime) -> Result<(), Fail> {
     let alloc = rt.alloc();

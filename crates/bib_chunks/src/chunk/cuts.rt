@@ -1,16 +1,23 @@
 //! Lists in the value of a field, and where they are cut.
 
-ghost use Rattle.std.specs.Prelude.{◌≡◌, ◌∷◌, [], ◌++◌, ◌==◌, ◌<◌, false, OnOk, IfOk, MatchOption};
-ghost use Rattle.std.specs.List.{slice_split};
+ghost use Rattle.std.specs.Prelude.{◌≡◌, ◌∷◌, [], ◌++◌, ◌≤◌, length, false, OnOk, IfOk, MatchOption};
 ghost use Rattle.std.specs.Str.{chars};
-ghost use Rattle.bib_chunks.specs.Cuts.{behind_separator, placed, between_commas, comma_pieces, comma_list, halves, cut_at, begins_with_space, between_ands, placed_between_ands, and_pieces, and_parts, before_end, trimmed, trimmed_ends, and_list};
-ghost use Rattle.bib_chunks.specs.Cutting.{Reads, NoAnd, IsAnd, IsFirstAnd};
+ghost use Rattle.bib_chunks.specs.Cuts.{placed, trimmed_start, trimmed_end, part_of, piece, pieces, pieces_between, list_parts, comma_list, halves, cut_at, begins_with_space, between_ands, trimmed, trimmed_ends, and_list};
+ghost use Rattle.bib_chunks.specs.Cutting.{between, width, Reads, IsFirstCut, NoAnd, IsAnd, IsFirstAnd};
 
 use super::{Chunk, Chunks, ChunksRef, Span, Spanned};
 use bib_text::items::Items;
 use bib_text::text::Text;
 use std::alloc::{AllocError, Global};
 use std::mem;
+
+// What parts a list.
+#[derive(Clone, Copy)]
+enum Separator {
+    Comma,
+    // The word `and` between white space.
+    And,
+}
 
 // The parts of a list that are done, and the one that goes on.
 #[derive(Drop)]
@@ -72,143 +79,59 @@ fn normal(alloc: Global, text: &str, start: usize, end: usize) -> Result<Spanned
     })
 }
 
-// The text without the white space at its start, if a separator stands before it.
-fn behind_separator(text: &str, behind: bool) -> &str
-    ensures { result.now ≡ behind_separator behind text.now }
+// The text without the white space at its start, if something is cut off or begins there.
+fn trimmed_start(text: &str, first: bool) -> &str
+    ensures value { result.now ≡ trimmed_start first text.now }
+    ensures shorter { length result.now ≤ length text.now }
 {
-    if behind {
+    if first {
         return text.trim_start();
     }
     text
 }
 
-// Cuts a normal chunk at its commas.
-fn cut_at_commas(
+// The text without the white space at its end, if something is cut off or ends there.
+fn trimmed_end(text: &str, last: bool) -> &str
+    ensures { result.now ≡ trimmed_end last text.now }
+{
+    if last {
+        return text.trim_end();
+    }
+    text
+}
+
+// A part of the text of a normal chunk, before which so many bytes of that text stand, as a chunk.
+fn part_of(
     alloc: Global,
-    parts: &mut Parts,
-    text: &str,
+    whole: &str,
     span: &Span,
-) -> Result<(), AllocError>
-    ensures { OnOk result (Reads parts.old parts.new
-        (between_commas false span.now.start span.now.end (slice_split (λ b. b == 44) text.now))) }
+    at: usize,
+    text: &str,
+) -> Result<Spanned<Chunk>, AllocError>
+    ensures { IfOk result (λ c. c ≡ part_of whole.now span.now at text.now) }
 {
-    let mut rest = text;
-    let mut start = span.start;
-    let mut behind = false;
-    'pieces: while let Some((before, after)) = rest.split_once(',') {
-        let comma = start.saturating_add(before.len());
-        parts.add(normal(
-            alloc,
-            behind_separator(before, behind).trim_end(),
-            start,
-            comma,
-        )?)?;
-        parts.end(alloc)?;
-        rest = after;
-        start = comma.saturating_add(1);
-        behind = true;
+    if text.len() == whole.len() {
+        return normal(alloc, text, span.start, span.end);
     }
-    parts.add(normal(alloc, behind_separator(rest, behind), start, span.end)?)?;
-    Ok(())
+    let start = span.start.saturating_add(at);
+    normal(alloc, text, start, start.saturating_add(text.len()))
 }
 
-// Reads a chunk of a comma list.
-fn cut_comma_chunk(
+// The same, without the white space at the part's start, at its end, or at both.
+fn piece(
     alloc: Global,
-    parts: &mut Parts,
-    chunk: &Spanned<Chunk>,
-) -> Result<(), AllocError>
-    ensures { OnOk result (Reads parts.old parts.new (comma_pieces chunk.now.v chunk.now.span)) }
+    whole: &str,
+    span: &Span,
+    at: usize,
+    text: &str,
+    first: bool,
+    last: bool,
+) -> Result<Spanned<Chunk>, AllocError>
+    ensures { IfOk result (λ c. c ≡ piece whole.now span.now at first last text.now) }
 {
-    if let Chunk::Normal(list) = &chunk.v {
-        return cut_at_commas(alloc, parts, list.as_str(), &chunk.span);
-    }
-    parts.add(copy(chunk)?)
-}
-
-/// The parts of a comma list. It is cut at each comma of a normal chunk, and the white space next to such a comma in
-/// that chunk is left out; no chunks are one empty part.
-pub fn comma_list(alloc: Global, chunks: ChunksRef<'_>) -> Result<Items<Chunks>, AllocError>
-    ensures { IfOk result (λ parts. parts ≡ comma_list chunks.now) }
-{
-    let mut parts = Parts::new(alloc);
-    'chunks: for chunk in chunks {
-        cut_comma_chunk(alloc, &mut parts, chunk)?;
-    }
-    parts.end(alloc)?;
-    Ok(parts.done)
-}
-
-// A normal chunk in two, at the first such character.
-fn halves(
-    alloc: Global,
-    chunk: &Spanned<Chunk>,
-    separator: char,
-) -> Result<Option<(Spanned<Chunk>, Spanned<Chunk>)>, AllocError>
-    requires { separator < 128 }
-    ensures { IfOk result (λ both. both ≡ halves separator chunk.now.v chunk.now.span) }
-{
-    let Chunk::Normal(text) = &chunk.v else {
-        return Ok(None);
-    };
-    let Some((before, behind)) = text.as_str().split_once(separator) else {
-        return Ok(None);
-    };
-    let end = chunk.span.start.saturating_add(before.len());
-    let first = normal(alloc, before.trim_end(), chunk.span.start, end)?;
-    let second = normal(
-        alloc,
-        behind.trim_start(),
-        end.saturating_add(1),
-        chunk.span.end,
-    )?;
-    Ok(Some((first, second)))
-}
-
-// Appends copies of chunks.
-fn append(all: &mut Chunks, chunks: ChunksRef<'_>) -> Result<(), AllocError>
-    ensures { OnOk result (all.new ≡ all.old ++ chunks.now) }
-{
-    'chunks: for chunk in chunks {
-        all.push(copy(chunk)?)?;
-    }
-    Ok(())
-}
-
-// What follows a cut: the second half of a chunk, and copies of the chunks behind it.
-fn behind_cut(
-    alloc: Global,
-    second: Spanned<Chunk>,
-    rest: ChunksRef<'_>,
-) -> Result<Chunks, AllocError>
-    ensures { IfOk result (λ chunks. chunks ≡ second ∷ rest.now) }
-{
-    let mut chunks = Items::new(alloc);
-    chunks.push(second)?;
-    append(&mut chunks, rest)?;
-    Ok(chunks)
-}
-
-/// What stands before and behind the first such character, one of ASCII, of a normal chunk; the white space next to it
-/// in that chunk is left out. `None` where no normal chunk holds it.
-pub fn cut_at(
-    alloc: Global,
-    chunks: ChunksRef<'_>,
-    separator: char,
-) -> Result<Option<(Chunks, Chunks)>, AllocError>
-    requires { separator < 128 }
-    ensures { IfOk result (λ cut. cut ≡ cut_at separator chunks.now) }
-{
-    let mut before = Items::new(alloc);
-    'chunks: for (i, chunk) in chunks.iter().enumerate() {
-        if let Some((first, second)) = halves(alloc, chunk, separator)? {
-            before.push(first)?;
-            let behind = behind_cut(alloc, second, &chunks[i + 1..])?;
-            return Ok(Some((before, behind)));
-        }
-        before.push(copy(chunk)?)?;
-    }
-    Ok(None)
+    let begun = trimmed_start(text, first);
+    let at = at.saturating_add(text.len() - begun.len());
+    part_of(alloc, whole, span, at, trimmed_end(begun, last))
 }
 
 // Whether the text begins with white space.
@@ -255,43 +178,81 @@ fn first_and(text: &str) -> Option<(&str, &str)>
     None
 }
 
-// Cuts a normal chunk at its words `and`.
-fn cut_at_ands(alloc: Global, parts: &mut Parts, text: &str, span: &Span) -> Result<(), AllocError>
-    ensures { OnOk result (Reads parts.old parts.new
-        (placed_between_ands span.now.start span.now.end (between_ands false (chars text.now)))) }
+// What stands before and behind the first separator of a text.
+fn first_cut(text: &str, separator: Separator) -> Option<(&str, &str)>
+    ensures { MatchOption result (between separator (chars text.now) ≡ chars text.now ∷ [])
+        (λ both. IsFirstCut separator text.now both.0.now both.1.now) }
 {
-    let mut rest = text;
-    let mut start = span.start;
-    'pieces: while let Some((before, behind)) = first_and(rest) {
-        let end = start.saturating_add(before.len());
-        parts.add(normal(alloc, before, start, end)?)?;
-        parts.end(alloc)?;
-        rest = behind;
-        start = end.saturating_add(3);
+    match separator {
+        Separator::Comma => text.split_once(','),
+        Separator::And => first_and(text),
     }
-    parts.add(normal(alloc, rest, start, span.end)?)?;
+}
+
+// Cuts a normal chunk at its separators.
+fn cut_text(
+    alloc: Global,
+    parts: &mut Parts,
+    whole: &str,
+    span: &Span,
+    separator: Separator,
+) -> Result<(), AllocError>
+    ensures { OnOk result (Reads parts.old parts.new (pieces_between (width separator) whole.now
+        span.now 0 false (between separator (chars whole.now)))) }
+{
+    let mut rest = whole;
+    let mut behind = false;
+    'pieces: while let Some((before, after)) = first_cut(rest, separator) {
+        let at = whole.len() - rest.len();
+        parts.add(piece(alloc, whole, span, at, before, behind, true)?)?;
+        parts.end(alloc)?;
+        rest = after;
+        behind = true;
+    }
+    let at = whole.len() - rest.len();
+    parts.add(piece(alloc, whole, span, at, rest, behind, false)?)?;
     Ok(())
 }
 
-// Reads a chunk of an `and` list.
-fn cut_and_chunk(alloc: Global, parts: &mut Parts, chunk: &Spanned<Chunk>) -> Result<(), AllocError>
-    ensures { OnOk result (Reads parts.old parts.new (and_pieces chunk.now.v chunk.now.span)) }
+// Cuts a chunk of a list.
+fn cut_chunk(
+    alloc: Global,
+    parts: &mut Parts,
+    chunk: &Spanned<Chunk>,
+    separator: Separator,
+) -> Result<(), AllocError>
+    ensures { OnOk result (Reads parts.old parts.new
+        (pieces (width separator) (between separator) chunk.now.v chunk.now.span)) }
 {
-    match &chunk.v {
-        Chunk::Normal(text) => cut_at_ands(alloc, parts, text.as_str(), &chunk.span),
-        Chunk::Verbatim(_) => parts.add(copy(chunk)?),
-        Chunk::Math(_) => parts.add(copy(chunk)?),
+    if let Chunk::Normal(list) = &chunk.v {
+        return cut_text(alloc, parts, list.as_str(), &chunk.span, separator);
     }
+    parts.add(copy(chunk)?)
 }
 
-// The text without the white space at its end, if it ends something.
-fn before_end(text: &str, ends: bool) -> &str
-    ensures { result.now ≡ before_end ends text.now }
+// The parts of a list that is cut at such separators.
+fn list_parts(
+    alloc: Global,
+    chunks: ChunksRef<'_>,
+    separator: Separator,
+) -> Result<Items<Chunks>, AllocError>
+    ensures { IfOk result (λ parts. parts ≡
+        list_parts (width separator) (between separator) chunks.now) }
 {
-    if ends {
-        return text.trim_end();
+    let mut parts = Parts::new(alloc);
+    'chunks: for chunk in chunks {
+        cut_chunk(alloc, &mut parts, chunk, separator)?;
     }
-    text
+    parts.end(alloc)?;
+    Ok(parts.done)
+}
+
+/// The parts of a comma list. It is cut at each comma of a normal chunk, and the white space next to such a comma in
+/// that chunk is left out; no chunks are one empty part. Each piece of a chunk stands where its text does.
+pub fn comma_list(alloc: Global, chunks: ChunksRef<'_>) -> Result<Items<Chunks>, AllocError>
+    ensures { IfOk result (λ parts. parts ≡ comma_list chunks.now) }
+{
+    list_parts(alloc, chunks, Separator::Comma)
 }
 
 // A copy of a chunk; of a normal one without the white space at its start, at its end, or at both.
@@ -301,19 +262,13 @@ fn trimmed(
     first: bool,
     last: bool,
 ) -> Result<Spanned<Chunk>, AllocError>
-    ensures { IfOk result (λ c. c ≡ placed
-        (trimmed first last chunk.now.v) chunk.now.span.start chunk.now.span.end) }
+    ensures { IfOk result (λ c. c ≡ trimmed first last chunk.now.v chunk.now.span) }
 {
-    match &chunk.v {
-        Chunk::Normal(text) => normal(
-            alloc,
-            before_end(behind_separator(text.as_str(), first), last),
-            chunk.span.start,
-            chunk.span.end,
-        ),
-        Chunk::Verbatim(_) => copy(chunk),
-        Chunk::Math(_) => copy(chunk),
+    if let Chunk::Normal(text) = &chunk.v {
+        let text = text.as_str();
+        return piece(alloc, text, &chunk.span, 0, text, first, last);
     }
+    copy(chunk)
 }
 
 // A copy of chunks without the white space at their start and end, where that is normal.
@@ -330,29 +285,78 @@ fn trimmed_ends(alloc: Global, chunks: ChunksRef<'_>) -> Result<Chunks, AllocErr
     Ok(all)
 }
 
-// The parts of chunks that are cut at each word `and`.
-fn and_parts(alloc: Global, chunks: ChunksRef<'_>) -> Result<Items<Chunks>, AllocError>
-    ensures { IfOk result (λ parts. parts ≡ and_parts chunks.now) }
-{
-    let mut parts = Parts::new(alloc);
-    'chunks: for chunk in chunks {
-        cut_and_chunk(alloc, &mut parts, chunk)?;
-    }
-    parts.end(alloc)?;
-    Ok(parts.done)
-}
-
 /// The parts of an `and` list. It is cut at each word `and` that has white space just before it and just behind it inside
 /// one normal chunk. The white space at both ends of the list and of each part is left out, where it is normal; no
-/// chunks are one empty part.
+/// chunks are one empty part. Each piece of a chunk stands where its text does.
 pub fn and_list(alloc: Global, chunks: ChunksRef<'_>) -> Result<Items<Chunks>, AllocError>
     ensures { IfOk result (λ parts. parts ≡ and_list chunks.now) }
 {
     let whole = trimmed_ends(alloc, chunks)?;
-    let parts = and_parts(alloc, whole.as_slice())?;
-    let mut list = Items::new(alloc);
-    'parts: for part in parts.as_slice() {
-        list.push(trimmed_ends(alloc, part.as_slice())?)?;
+    list_parts(alloc, whole.as_slice(), Separator::And)
+}
+
+// A normal chunk in two, at the first such character.
+fn halves(
+    alloc: Global,
+    chunk: &Spanned<Chunk>,
+    separator: char,
+) -> Result<Option<(Spanned<Chunk>, Spanned<Chunk>)>, AllocError>
+    ensures { IfOk result (λ both. both ≡ halves separator chunk.now.v chunk.now.span) }
+{
+    let Chunk::Normal(text) = &chunk.v else {
+        return Ok(None);
+    };
+    let whole = text.as_str();
+    let Some((before, behind)) = whole.split_once(separator) else {
+        return Ok(None);
+    };
+    let first = piece(alloc, whole, &chunk.span, 0, before, false, true)?;
+    let at = whole.len() - behind.len();
+    let second = piece(alloc, whole, &chunk.span, at, behind, true, false)?;
+    Ok(Some((first, second)))
+}
+
+// Appends copies of chunks.
+fn append(all: &mut Chunks, chunks: ChunksRef<'_>) -> Result<(), AllocError>
+    ensures { OnOk result (all.new ≡ all.old ++ chunks.now) }
+{
+    'chunks: for chunk in chunks {
+        all.push(copy(chunk)?)?;
     }
-    Ok(list)
+    Ok(())
+}
+
+// What follows a cut: the second half of a chunk, and copies of the chunks behind it.
+fn behind_cut(
+    alloc: Global,
+    second: Spanned<Chunk>,
+    rest: ChunksRef<'_>,
+) -> Result<Chunks, AllocError>
+    ensures { IfOk result (λ chunks. chunks ≡ second ∷ rest.now) }
+{
+    let mut chunks = Items::new(alloc);
+    chunks.push(second)?;
+    append(&mut chunks, rest)?;
+    Ok(chunks)
+}
+
+/// What stands before and behind the first such character of a normal chunk; the white space next to it in that chunk is
+/// left out, and both pieces of the chunk stand where their text does. `None` where no normal chunk holds it.
+pub fn cut_at(
+    alloc: Global,
+    chunks: ChunksRef<'_>,
+    separator: char,
+) -> Result<Option<(Chunks, Chunks)>, AllocError>
+    ensures { IfOk result (λ cut. cut ≡ cut_at separator chunks.now) }
+{
+    let mut before = Items::new(alloc);
+    'chunks: for (i, chunk) in chunks.iter().enumerate() {
+        if let Some((first, second)) = halves(alloc, chunk, separator)? {
+            before.push(first)?;
+            let behind = behind_cut(alloc, second, &chunks[i + 1..])?;
+            return Ok(Some((before, behind)));
+        }
+        before.push(copy(chunk)?)?;
+    }
+    Ok(None)
 }

@@ -1,9 +1,10 @@
 //! Chunks as plain text.
 
-ghost use Rattle.std.specs.Prelude.{◌≡◌, ◌∷◌, [], ◌++◌, OnOk, IfOk, option_to_list, if◌then◌else◌, string_bytes, encode_utf8_all};
+ghost use Rattle.std.specs.Prelude.{◌≡◌, false, ◌∷◌, [], ◌++◌, OnOk, IfOk, option_to_list, if◌then◌else◌, string_bytes, encode_utf8_all};
 ghost use Rattle.std.specs.Char.Iter.{case_mapping_chars};
-ghost use Rattle.std.specs.Str.{chars};
-ghost use Rattle.bib_chunks.specs.Formatted.{is_break, ends_in_space, unbroken, flowing, formatted, formatted_chunk, space_behind, cased, sentence_case, sentence};
+ghost use Rattle.std.specs.Str.{IsUtf8, chars};
+ghost use Rattle.bib_chunks.specs.Formatted.{is_break, ends_in_space, unbroken, flowing, formatted, formatted_atoms, formatted_chunk, space_behind, cased, sentence_case, sentence};
+ghost use Rattle.bib_chunks.specs.Styled.{styled, text_of, is_shown};
 ghost use Rattle.bib_chunks.specs.Writing.{Writes};
 
 use super::{Chunk, ChunksRef};
@@ -98,6 +99,34 @@ pub(super) fn format_verbatim(alloc: Global, chunks: ChunksRef<'_>) -> Result<St
     let mut space = false;
     'chunks: for chunk in chunks {
         space = write_chunk(&mut out, &chunk.v, space)?;
+    }
+    Ok(out)
+}
+
+// Whether a chunk shows in the styled text: it isn't normal or verbatim and empty.
+pub(super) fn is_shown(chunk: &Chunk) -> bool
+    ensures value { result ≡ is_shown chunk.now }
+    ensures text { IsUtf8 (text_of chunk.now) }
+{
+    let text = chunk.get();
+    match chunk {
+        Chunk::Math(_) => true,
+        _ => !text.is_empty(),
+    }
+}
+
+/// The text of what chunks say, as `format_verbatim` gives it with empty chunks passed over: it depends on their styled
+/// text alone.
+pub fn format_styled(alloc: Global, chunks: ChunksRef<'_>) -> Result<String, AllocError>
+    ensures { IfOk result (λ text. string_bytes text ≡
+        encode_utf8_all (formatted_atoms false (styled chunks.now))) }
+{
+    let mut out = String::new(alloc);
+    let mut space = false;
+    'chunks: for chunk in chunks {
+        if is_shown(&chunk.v) {
+            space = write_chunk(&mut out, &chunk.v, space)?;
+        }
     }
     Ok(out)
 }

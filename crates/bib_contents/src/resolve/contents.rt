@@ -2,13 +2,14 @@
 
 ghost use Rattle.std.specs.Prelude.{◌≡◌, false, ◌∷◌, [], ◌++◌, ◌+◌, ◌-◌, ◌≤◌, ◌<◌, ◌^◌, ◌⊎◌, ℕ, List, length, min, replicate, OnOk, IfOk, IfErr, Some, string_bytes, encode_utf8_all};
 ghost use Rattle.std.specs.Str.{chars};
+ghost use Rattle.bib_chunks.specs.Formatted.{formatted_atoms};
 ghost use Rattle.bib_chunks.specs.Styled.{Atom, styled};
 ghost use Rattle.bib_chunks.specs.Writing.{Writes};
 ghost use Rattle.bib_contents.specs.Commands.{given};
-ghost use Rattle.bib_contents.specs.Contents.{IsContent, IsUnread, Reads, atoms_text, dashes, held, unit_spelling, unit_text};
+ghost use Rattle.bib_contents.specs.Contents.{IsContent, IsUnread, Reads, dashes, held, unit_spelling, unit_text};
 ghost use Rattle.bib_syntax.specs.Faults.{out_of_memory};
 ghost use Rattle.bib_contents.specs.Joined.{AreJoined, ArePlaced};
-ghost use Rattle.bib_contents.specs.Passing.{IsMoved, IsStuck, IsUntaken, Took, is_shown, saturated, so_far};
+ghost use Rattle.bib_contents.specs.Passing.{IsMoved, IsStuck, IsUntaken, Took, saturated, so_far};
 ghost use Rattle.bib_contents.specs.UnitViews.{text_unit_of, unit_of};
 
 use crate::resolve::characters::Characters;
@@ -16,7 +17,7 @@ use crate::resolve::classes::is_ordinary;
 use crate::resolve::commands::write_command;
 use crate::resolve::growing::{Open, finish, turn, turn_at_math};
 use crate::resolve::units::{Argument, TextUnit, Unit, eat_unit};
-use bib_chunks::chunk::{Chunk, Chunks, ChunksExt, Span};
+use bib_chunks::chunk::{Chunks, Span, format_styled};
 use bib_syntax::raw::{ParseError, ParseErrorKind, Token};
 use bib_text::items::Items;
 use std::alloc::{AllocError, Global};
@@ -44,39 +45,18 @@ fn write_single(text: &mut String, name: &str, c: char) -> Result<(), AllocError
     write_command(text, name, Some(c.encode_utf8(&mut room)))
 }
 
-// Whether a chunk shows in the styled text.
-fn is_shown(chunk: &Chunk) -> bool
-    ensures { result ≡ is_shown chunk.now }
-{
-    match chunk {
-        Chunk::Normal(text) => !text.as_str().is_empty(),
-        Chunk::Verbatim(text) => !text.as_str().is_empty(),
-        Chunk::Math(_) => true,
-    }
-}
-
-// The text of an argument: empty chunks are passed over, so that it depends on the styled text alone.
-fn format_argument(alloc: Global, chunks: Chunks) -> Result<String, AllocError>
-    ensures { IfOk result (λ text. string_bytes text ≡
-        encode_utf8_all (atoms_text false (styled chunks))) }
-{
-    let mut filled = chunks.into_vec();
-    filled.retain(|chunk| is_shown(&chunk.v));
-    filled.as_slice().format_verbatim(alloc)
-}
-
-// The text of an argument in braces, which is read as contents that are not verbatim.
+// The text of an argument in braces: it is read as contents that are not verbatim, and their styled text is formatted.
 #[cycle(contents)]
 fn inner_text(alloc: Global, text: &str, offset: usize) -> Result<String, ParseError>
     ensures read { IfOk result (λ inside. (inner : List Atom) ×
         Reads false 0 (chars text.now) inner ×
-        (string_bytes inside ≡ encode_utf8_all (atoms_text false inner))) }
+        (string_bytes inside ≡ encode_utf8_all (formatted_atoms false inner))) }
     ensures refused { IfErr result (λ e. (e ≡ out_of_memory) ⊎
         (IsUnread e.kind × IsStuck false 0 (chars text.now))) }
 {
     let mut chunks = Items::new(alloc);
     contents(&mut chunks, alloc, text, offset, false)?;
-    Ok(format_argument(alloc, chunks)?)
+    Ok(format_styled(alloc, chunks.as_slice())?)
 }
 
 // Writes the characters that a unit stands for, which ends at `behind` in the file.

@@ -4,7 +4,8 @@ use Rattle.std.specs.Str.{chars}
 use Rattle.std.proofs.lemmas.Result.{err_from_is_err_and}
 use Rattle.std.proofs.lemmas.Str.{IsUtf8-string_bytes, chars-nil}
 use Rattle.bib_text.proofs.TextFacts.{pushed_part, pushed_chars, encode_one, two_parts, chars_whole}
-use Rattle.bib_contents.specs.Contents.{Reads, atoms_text, is_ordinary, unit_spelling}
+use Rattle.bib_chunks.specs.Formatted.{formatted_atoms}
+use Rattle.bib_contents.specs.Contents.{Reads, is_ordinary, unit_spelling}
 use Rattle.bib_contents.specs.Passing.{left}
 use Rattle.bib_contents.specs.UnitViews.{unit_of}
 use Rattle.bib_contents.specs.declared.resolve.growing.Open.{Open}
@@ -165,7 +166,7 @@ write_unit-returns-clause-written t c = elim c.match-unit.branch [
       rw (w.text-is, command_is (given.Single w.in-Single.c) w.in-Command.is w.in-Single.is) ([], (λ argument holds. absurd (no_argument holds)), w.in_ok-write_single-in-Single.ensures)
   | write_unit-in-Command+in-Braced+in_ok-inside-in-Braced+in_ok-write_command-in-Braced w ↦
       let read = w.in_ok-inside-in-Braced.ensures.read in
-      let same = chars_whole (atoms_text false read.0) w.as_str.result.now w.as_str.utf8 (w.as_str.ensures.value ∙ read.2) in
+      let same = chars_whole (formatted_atoms false read.0) w.as_str.result.now w.as_str.utf8 (w.as_str.ensures.value ∙ read.2) in
       rw (w.text-is, command_is (given.Braced w.in-Braced.given) w.in-Command.is w.in-Braced.is)
       (read.0, (λ argument holds. subst (λ text. Reads false 0 text read.0) (held_is holds) read.1), rw same at w.in_ok-write_command-in-Braced.ensures)
   | write_unit-in-Other+in_ok-push-in-Other w ↦
