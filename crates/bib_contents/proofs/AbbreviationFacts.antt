@@ -182,7 +182,7 @@ module _ {definitions : Definitions} {is_verbatim : Bool} {field : List Piece} w
 
   no_fault_met : {path : List (List ℕ)} {pieces : List Piece} {e : ParseError} → IsReadable definitions is_verbatim field
       → IsMet definitions is_verbatim field path pieces → IsFirstFault definitions is_verbatim path pieces e → ⊥
-  no_fault_met can met (first_fault.unread {p = p} none kind) = let x = met.texts p.text (inl refl) in none x.0 x.1
+  no_fault_met can met (first_fault.unread {p = p} none kind place) = let x = met.texts p.text (inl refl) in none x.0 x.1
   no_fault_met can met (first_fault.unknown {p = p} d m is) = unknown_clash definitions p.text (can.known p.text (met.names p.text (inl refl))) d m
   no_fault_met can met (first_fault.circle {p = p} on is) = let l = met.on_path p.text on in can.no_circle p.text l.definition l.reached l.is (l.leads p.text (inl refl))
   no_fault_met can met (first_fault.inside off d fault) = no_fault_met can (met_inside can met d) fault

@@ -26,16 +26,34 @@ use Rattle.bib_contents.specs.declared.resolve.definitions.LookUp.{LookUp}
 use Rattle.bib_contents.specs.declared.resolve.definitions.LookUp.TheVariants.{Hashed, Sorted}
 use Rattle.bib_contents.specs.declared.resolve.abbreviations.Progress.{Progress}
 use Rattle.bib_contents.specs.declared.resolve.abbreviations.Progress.TheVariants.{Begun, Done}
-use Rattle.bib_contents.specs.Contents.{IsContent, IsUnread}
+use Rattle.bib_contents.specs.Contents.{IsContent, IsUnread, LiesBetween}
+use Rattle.bib_contents.specs.Passing.{StaysBetween}
+use Rattle.bib_syntax.specs.declared.raw.ParseErrorKind.TheVariants.{OutOfMemory}
 use Rattle.bib_syntax.specs.Faults.{out_of_memory}
 use Rattle.bib_contents.specs.Joined.{AreJoined, ArePlaced}
 use Rattle.bib_syntax.specs.Reading.{Part, Piece}
 use Rattle.bib_syntax.specs.Reading.Piece.{literal, abbreviation}
-use Rattle.bib_contents.specs.Abbreviations.{Definitions, month, Evaluates, IsOnPath, IsFirstFault, definition_among}
+use Rattle.bib_contents.specs.Abbreviations.{Definitions, month, Evaluates, IsOnPath, IsFirstFault, StandsIn, definition_among}
 use Rattle.bib_contents.specs.Abbreviations.{Evaluates as evaluates, IsFirstFault as first_fault}
 use Rattle.bib_contents.specs.Expanding.{found_in, progress, noted, chunks_between, AreWithin, IsValue, IsSound, Expands, Opens}
 use Rattle.bib_syntax.specs.Views.{piece_of, piece_at}
 use Rattle.bib_contents.proofs.JoinedFacts.{styled-append, placed_up}
+
+-- a text that can't be read is no want of memory
+no_memory : (e : ParseError) → IsUnread e.kind → e ≡ out_of_memory → ⊥
+no_memory e (inl eof) memory = let kind : e.kind ≡ OutOfMemory = ap (λ x. x.kind) memory in cc (eof, kind)
+no_memory e (inr brace) memory = let kind : e.kind ≡ OutOfMemory = ap (λ x. x.kind) memory in cc (brace, kind)
+
+lies_in : (p : Part) (low high : ℕ) (e : ParseError) → IsUnread e.kind → p.start ≡ low → p.end ≡ high → StaysBetween low high e → LiesBetween p.start p.end e
+lies_in p low high e unread starts ends (inl memory) = absurd (no_memory e unread memory)
+lies_in p low high e unread starts ends (inr lies) = (omega (arith, starts, lies.0), lies.1, omega (arith, ends, lies.2))
+
+-- the fault of a text lies in the text's place
+stands_in : (p : Part) (text : List ℕ) (offset : ℕ) (e : ParseError) → p.text ≡ text → p.start ≡ offset → IsUnread e.kind
+    → (offset + length text < 2 ^ 64 → StaysBetween offset (offset + length text) e) → StandsIn p e
+stands_in p text offset e same starts unread within long fits =
+    let size : length p.text ≡ length text = ap length same in
+    lies_in p offset (offset + length text) e unread starts (omega (arith, long, starts, size)) (within (omega (arith, long, fits, starts, size)))
 
 module _ {definitions : Definitions} {is_verbatim : Bool} where
   evaluates_as : {pieces : List Piece} {atoms same : List Atom} → atoms ≡ same → Evaluates definitions is_verbatim pieces atoms
@@ -89,11 +107,13 @@ module _ {definitions : Definitions} {is_verbatim : Bool} where
   }
 
   -- a text that was not read
-  pub unread_told : (text : List ℕ) (e : ParseError)
+  pub unread_told : (text : List ℕ) (offset : ℕ) (e : ParseError)
       → (e ≡ out_of_memory) ⊎ (IsUnread e.kind × ((atoms : List Atom) → IsContent is_verbatim (chars text) atoms → ⊥))
-      → (e ≡ out_of_memory) ⊎ ((p : Part) (path : List (List ℕ)) (rest : List Piece) → p.text ≡ text → IsFirstFault definitions is_verbatim path (literal p ∷ rest) e)
-  unread_told text e (inl memory) = inl memory
-  unread_told text e (inr x) = inr (λ p path rest same. first_fault.unread (λ atoms read. x.1 atoms (subst (λ t. IsContent is_verbatim (chars t) atoms) same read)) x.0)
+      → (offset + length text < 2 ^ 64 → StaysBetween offset (offset + length text) e)
+      → (e ≡ out_of_memory) ⊎ ((p : Part) (path : List (List ℕ)) (rest : List Piece) → p.text ≡ text → p.start ≡ offset → IsFirstFault definitions is_verbatim path (literal p ∷ rest) e)
+  unread_told text offset e (inl memory) within = inl memory
+  unread_told text offset e (inr x) within =
+      inr (λ p path rest same starts. first_fault.unread (λ atoms read. x.1 atoms (subst (λ t. IsContent is_verbatim (chars t) atoms) same read)) x.0 (stands_in p text offset e same starts x.0 within))
 
 -- the names of frames
 abbrev pub names_of : List Frame → List (List ℕ)
@@ -679,10 +699,12 @@ module _ {definitions : Definitions} {is_verbatim : Bool} where
 
   pub text_refused : (piece : Spanned RawChunk) (text : Bor (List ℕ)) (e : ParseError) → piece.v ≡ RawText text
       → (e ≡ out_of_memory) ⊎ (IsUnread e.kind × ((atoms : List Atom) → IsContent is_verbatim (chars text.now) atoms → ⊥))
+      → (piece.span.start + length text.now < 2 ^ 64 → StaysBetween piece.span.start (piece.span.start + length text.now) e)
       → (e ≡ out_of_memory) ⊎ ((rest : List Piece) → IsFirstFault definitions is_verbatim [] (piece_of piece ∷ rest) e)
-  text_refused piece text e is (inl memory) = inl memory
-  text_refused piece text e is (inr x) =
-      inr (λ rest. subst (λ one. IsFirstFault definitions is_verbatim [] (one ∷ rest) e) (sym (text_piece piece text is)) (first_fault.unread x.1 x.0))
+  text_refused piece text e is (inl memory) within = inl memory
+  text_refused piece text e is (inr x) within =
+      let stands = stands_in (record { text = text.now; start = piece.span.start; end = piece.span.end }) text.now piece.span.start e refl refl x.0 within in
+      inr (λ rest. subst (λ one. IsFirstFault definitions is_verbatim [] (one ∷ rest) e) (sym (text_piece piece text is)) (first_fault.unread x.1 x.0 stands))
 
 -- the chunks of a text whose span is as long as the text
 pub text_placed : (old new : List (Spanned Chunk)) (piece : Spanned RawChunk) (text : Bor (List ℕ)) (p : Part) (low : ℕ) → piece.v ≡ RawText text

@@ -92,7 +92,7 @@ module _ {definitions : Definitions} {is_verbatim : Bool} where
   -- pieces with a fault say nothing
   pub fault_not_said : {path : List (List ℕ)} {pieces : List Piece} {e : ParseError} {atoms : List Atom} → IsFirstFault definitions is_verbatim path pieces e
       → AllLeadOn definitions path pieces → Evaluates definitions is_verbatim pieces atoms → ⊥
-  fault_not_said (first_fault.unread none kind) lead (evaluates.text x rest) = none _ x
+  fault_not_said (first_fault.unread none kind place) lead (evaluates.text x rest) = none _ x
   fault_not_said (first_fault.unknown absent m is) lead (evaluates.defined d x rest) = cc (d, absent)
   fault_not_said (first_fault.unknown absent m is) lead (evaluates.month_name absent' m' rest) = cc (m, m')
   fault_not_said (first_fault.circle on is) lead says = no_circle_said lead on (said_first says).1
@@ -105,9 +105,9 @@ module _ {definitions : Definitions} {is_verbatim : Bool} where
   -- the first fault is one
   fault_same : {path : List (List ℕ)} {pieces : List Piece} {e f : ParseError} → AllLeadOn definitions path pieces
       → IsFirstFault definitions is_verbatim path pieces e → IsFirstFault definitions is_verbatim path pieces f → AreOneFault e f
-  fault_same lead (first_fault.unread none kind) (first_fault.unread none' kind') = inr (kind, kind')
-  fault_same lead (first_fault.unread none kind) (first_fault.behind (evaluates.text x rest) fault) = absurd (none _ x)
-  fault_same lead (first_fault.behind (evaluates.text x rest) fault) (first_fault.unread none kind) = absurd (none _ x)
+  fault_same lead (first_fault.unread none kind place) (first_fault.unread none' kind' place') = inr (kind, kind')
+  fault_same lead (first_fault.unread none kind place) (first_fault.behind (evaluates.text x rest) fault) = absurd (none _ x)
+  fault_same lead (first_fault.behind (evaluates.text x rest) fault) (first_fault.unread none kind place) = absurd (none _ x)
   fault_same lead (first_fault.unknown absent m is) (first_fault.unknown absent' m' is') = inl (is ∙ sym is')
   fault_same lead (first_fault.unknown {p = p} absent m is) (first_fault.circle on is') = let l = lead.on p.text on in absurd (cc (absent, l.is))
   fault_same lead (first_fault.unknown absent m is) (first_fault.inside off d fault) = absurd (cc (absent, d))

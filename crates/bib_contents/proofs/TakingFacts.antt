@@ -10,7 +10,7 @@ use Rattle.bib_chunks.specs.Writing.{Writes}
 use Rattle.bib_chunks.specs.declared.chunk.Chunk.{Chunk}
 use Rattle.bib_text.specs.declared.spanned.Spanned.{Spanned}
 use Rattle.bib_text.proofs.TextFacts.{chars_whole}
-use Rattle.bib_contents.specs.Contents.{ContentUnit, Reads, character, meaning, is_closable, depth_after, held, unit_text}
+use Rattle.bib_contents.specs.Contents.{Argument, ContentUnit, unit_spelling, Reads, character, meaning, is_closable, depth_after, held, unit_text}
 use Rattle.bib_contents.specs.Joined.{ArePlaced}
 use Rattle.bib_contents.specs.Passing.{Took, so_far}
 use Rattle.bib_contents.specs.UnitViews.{text_unit_of, argument_of}
@@ -99,6 +99,23 @@ formula_wide text =
     let characters : length (36 ∷ (text ++ 36 ∷ [])) ≤ length (encode_utf8_all (36 ∷ (text ++ 36 ∷ []))) = length-le-encodes (36 ∷ (text ++ 36 ∷ [])) in
     let inside : length (text ++ 36 ∷ []) ≡ length text + 1 = length-append text (36 ∷ []) in
     omega arith
+
+-- the bytes of characters behind others
+sizes : (a b : List ℕ) → length (encode_utf8_all (a ++ b)) ≡ length (encode_utf8_all a) + length (encode_utf8_all b)
+sizes a b = ap length (encodes-append a b) ∙ length-append (encode_utf8_all a) (encode_utf8_all b)
+
+-- a command is longer than its argument in braces: one byte stands behind that at least, and two before it
+pub braced_wide : (name space text : List ℕ) → length (encode_utf8_all text) + 3 ≤ length (encode_utf8_all (unit_spelling (ContentUnit.command name space (Argument.braced text))))
+braced_wide name space text =
+    let one : 1 ≤ length (encode_utf8_all (125 ∷ [])) = length-le-encodes (125 ∷ []) in
+    let two : 1 ≤ length (encode_utf8_all (123 ∷ [])) = length-le-encodes (123 ∷ []) in
+    let three : 1 ≤ length (encode_utf8_all (92 ∷ [])) = length-le-encodes (92 ∷ []) in
+    let closed = sizes text (125 ∷ []) in
+    let opened = sizes (123 ∷ []) (text ++ 125 ∷ []) in
+    let spaced = sizes space (123 ∷ (text ++ 125 ∷ [])) in
+    let named = sizes name (space ++ 123 ∷ (text ++ 125 ∷ [])) in
+    let whole = sizes (92 ∷ []) (name ++ (space ++ 123 ∷ (text ++ 125 ∷ []))) in
+    omega (arith, one, two, three, closed, opened, spaced, named, whole)
 
 -- the next chunk begins behind the last one
 pub placed_behind : (low end behind start : ℕ) (out : List (Spanned Chunk)) → ArePlaced low end out → end ≤ behind → start ≡ behind → ArePlaced low start out × (start ≤ behind)

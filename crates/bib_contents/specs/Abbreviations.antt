@@ -1,7 +1,7 @@
 -- Meaning: words of public contracts.
 -- Abbreviations: what a field says once each name in it is replaced by its definition. Names and texts are given by
 -- their bytes.
-use Rattle.std.specs.Prelude.{◌≡◌, ℕ, Bool, List, [], ◌∷◌, ◌++◌, map, ◌⊎◌, Option, Some, None, codes, if◌then◌else◌, bytes_eq}
+use Rattle.std.specs.Prelude.{◌≡◌, ◌+◌, ◌<◌, ◌^◌, ℕ, Bool, List, [], ◌∷◌, ◌++◌, length, map, ◌⊎◌, Option, Some, None, codes, if◌then◌else◌, bytes_eq}
 use Rattle.std.specs.List.{list_any}
 use Rattle.std.specs.Option.{option_map}
 use Rattle.std.specs.Borrow.{Bor}
@@ -16,7 +16,7 @@ use Rattle.bib_syntax.specs.declared.raw.RawChunk.{RawChunk}
 use Rattle.bib_syntax.specs.declared.raw.ParseErrorKind.{ParseErrorKind}
 use Rattle.bib_syntax.specs.declared.raw.ParseErrorKind.TheVariants.{UnknownAbbreviation, AbbreviationCycle}
 use Rattle.bib_syntax.specs.declared.raw.ParseError.{ParseError}
-use Rattle.bib_contents.specs.Contents.{IsContent, IsUnread}
+use Rattle.bib_contents.specs.Contents.{IsContent, IsUnread, LiesBetween}
 use Rattle.bib_syntax.specs.Grammar.{is_word}
 use Rattle.bib_syntax.specs.Reading.{Part, Piece}
 use Rattle.bib_syntax.specs.Reading.Piece.{literal, abbreviation}
@@ -110,11 +110,15 @@ IsOnPath (one ∷ path) name = (one ≡ name) ⊎ IsOnPath path name
 abbrev pub fault_at : Part → ParseErrorKind → ParseError
 fault_at p kind = record { span = record { start = p.start; end = p.end }; kind = kind }
 
+-- a fault of a text lies in the text's place, where that is as long as the text (and places are numbers of 64 bits)
+abbrev pub StandsIn : Part → ParseError → Type 0
+StandsIn p e = p.end ≡ p.start + length p.text → p.end < 2 ^ 64 → LiesBetween p.start p.end e
+
 -- the first fault of pieces, from left to right and into definitions as they are met, while the names of a path are
 -- being expanded: a text that is not read, a name that stands for nothing, or one that is being expanded
 pub data IsFirstFault (definitions : Definitions) (is_verbatim : Bool) : List (List ℕ) → List Piece → ParseError → Type 0 where
   unread : {path : List (List ℕ)} {p : Part} {rest : List Piece} {e : ParseError}
-      → ((atoms : List Atom) → IsContent is_verbatim (chars p.text) atoms → ⊥) → IsUnread e.kind
+      → ((atoms : List Atom) → IsContent is_verbatim (chars p.text) atoms → ⊥) → IsUnread e.kind → StandsIn p e
       → IsFirstFault definitions is_verbatim path (literal p ∷ rest) e
   unknown : {path : List (List ℕ)} {p : Part} {rest : List Piece} {e : ParseError} → definitions p.text ≡ None → month p.text ≡ None
       → e ≡ fault_at p (UnknownAbbreviation p.text) → IsFirstFault definitions is_verbatim path (abbreviation p ∷ rest) e

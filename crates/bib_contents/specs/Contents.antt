@@ -1,7 +1,7 @@
 -- Meaning: words of public contracts.
 -- The contents of a field: how the text of a piece is cut into units, and what each unit means. Contents are LaTeX
 -- source, as the Rust crate `biblatex` reads it. A text is given by its characters.
-use Rattle.std.specs.Prelude.{◌≡◌, ℕ, zero, suc, ◌-◌, ◌/◌, ◌%◌, Bool, true, false, not, ◌&&◌, ◌||◌, ◌==◌, nat_lt, ◌⊎◌, if◌then◌else◌, List, [], ◌∷◌, ◌++◌, map, replicate, Option, None, Some}
+use Rattle.std.specs.Prelude.{◌≡◌, ◌≤◌, ℕ, zero, suc, ◌-◌, ◌/◌, ◌%◌, Bool, true, false, not, ◌&&◌, ◌||◌, ◌==◌, nat_lt, ◌⊎◌, if◌then◌else◌, List, [], ◌∷◌, ◌++◌, map, replicate, Option, None, Some}
 use Rattle.std.specs.Char.{is_whitespace, is_control}
 use Rattle.std.specs.List.{list_any, list_all}
 use Rattle.bib_chunks.specs.Formatted.{formatted_atoms}
@@ -10,6 +10,7 @@ use Rattle.bib_chunks.specs.Written.{is_grouping, is_reserved}
 use Rattle.bib_syntax.specs.Characters.{is_id_continue}
 use Rattle.bib_contents.specs.Commands.{given}
 use Rattle.bib_syntax.specs.declared.raw.Token.TheVariants.{ClosingBrace}
+use Rattle.bib_syntax.specs.declared.raw.ParseError.{ParseError}
 use Rattle.bib_syntax.specs.declared.raw.ParseErrorKind.{ParseErrorKind}
 use Rattle.bib_syntax.specs.declared.raw.ParseErrorKind.TheVariants.{UnexpectedEof, Unexpected}
 
@@ -222,3 +223,7 @@ IsContent is_verbatim text atoms = Reads is_verbatim 0 text atoms
 -- a fault of contents: a closing brace that nothing opened, or a text that ends too soon
 abbrev pub IsUnread : ParseErrorKind → Type 0
 IsUnread kind = (kind ≡ UnexpectedEof) ⊎ (kind ≡ Unexpected ClosingBrace)
+
+-- the bytes at fault lie between two places
+abbrev pub LiesBetween : ℕ → ℕ → ParseError → Type 0
+LiesBetween low high e = (low ≤ e.span.start) × (e.span.start ≤ e.span.end) × (e.span.end ≤ high)

@@ -6,7 +6,9 @@ use Rattle.bib_text.specs.Places.{Place}
 use Rattle.bib_chunks.specs.Styled.{Atom, styled}
 use Rattle.bib_chunks.specs.declared.chunk.Chunk.{Chunk}
 use Rattle.bib_text.specs.declared.spanned.Spanned.{Spanned}
-use Rattle.bib_contents.specs.Contents.{ContentUnit, Reads, character, meaning, is_closable, depth_after, held}
+use Rattle.bib_syntax.specs.Faults.{out_of_memory}
+use Rattle.bib_syntax.specs.declared.raw.ParseError.{ParseError}
+use Rattle.bib_contents.specs.Contents.{LiesBetween, ContentUnit, Reads, character, meaning, is_closable, depth_after, held}
 use Rattle.bib_contents.specs.Joined.{ArePlaced}
 use Rattle.bib_contents.specs.declared.resolve.growing.Open.{Open}
 
@@ -55,3 +57,7 @@ IsUntaken u depth = (is_closable depth u ≡ false) ⊎ ((text : List ℕ) × (h
 abbrev pub IsMoved : List (Spanned Chunk) → Open → ℕ → List (Spanned Chunk) → Open → ℕ → Type 0
 IsMoved chunks growing end more grown behind =
     (low : ℕ) → ArePlaced low growing.start chunks → growing.start ≤ end → ArePlaced low grown.start more × (grown.start ≤ behind)
+
+-- want of memory, or a fault between two places
+abbrev pub StaysBetween : ℕ → ℕ → ParseError → Type 0
+StaysBetween low high e = (e ≡ out_of_memory) ⊎ LiesBetween low high e

@@ -289,7 +289,7 @@ impl<'m, 'f, 's> Source<'m, 'f, 's> {
             Adds self.entry memo.old memo.new (literal p ∷ [])) }
         ensures refused { IfErr result (λ e. (e ≡ out_of_memory) ⊎
             ((p : Part) (path : List (List ℕ)) (rest : List Piece) → p.text ≡ text.now →
-            IsFirstFault (known_to self.entry) self.entry.is_verbatim path (literal p ∷ rest) e)) }
+            p.start ≡ offset → IsFirstFault (known_to self.entry) self.entry.is_verbatim path (literal p ∷ rest) e)) }
     {
         let mut part = Chunks::new(self.alloc);
         contents(&mut part, self.alloc, text, offset, self.is_verbatim)?;

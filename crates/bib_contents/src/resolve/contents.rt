@@ -9,7 +9,7 @@ ghost use Rattle.bib_contents.specs.Commands.{given};
 ghost use Rattle.bib_contents.specs.Contents.{IsContent, IsUnread, Reads, dashes, held, unit_spelling, unit_text};
 ghost use Rattle.bib_syntax.specs.Faults.{out_of_memory};
 ghost use Rattle.bib_contents.specs.Joined.{AreJoined, ArePlaced};
-ghost use Rattle.bib_contents.specs.Passing.{IsMoved, IsStuck, IsUntaken, Took, saturated, so_far};
+ghost use Rattle.bib_contents.specs.Passing.{IsMoved, IsStuck, IsUntaken, StaysBetween, Took, saturated, so_far};
 ghost use Rattle.bib_contents.specs.UnitViews.{text_unit_of, unit_of};
 
 use crate::resolve::characters::Characters;
@@ -45,6 +45,14 @@ fn write_single(text: &mut String, name: &str, c: char) -> Result<(), AllocError
     write_command(text, name, Some(c.encode_utf8(&mut room)))
 }
 
+// Where the text of an argument in braces begins, whose unit ends at `behind` in the file.
+fn argument_start(given: &str, behind: usize) -> usize
+    ensures place { length given.now < behind → result + length given.now + 1 ≡ behind }
+    ensures bytes { encode_utf8_all (chars given.now) ≡ given.now }
+{
+    behind.saturating_sub(given.len()).saturating_sub(1)
+}
+
 // The text of an argument in braces: it is read as contents that are not verbatim, and their styled text is formatted.
 #[cycle(contents)]
 fn inner_text(alloc: Global, text: &str, offset: usize) -> Result<String, ParseError>
@@ -53,6 +61,8 @@ fn inner_text(alloc: Global, text: &str, offset: usize) -> Result<String, ParseE
         (string_bytes inside ≡ encode_utf8_all (formatted_atoms false inner))) }
     ensures refused { IfErr result (λ e. (e ≡ out_of_memory) ⊎
         (IsUnread e.kind × IsStuck false 0 (chars text.now))) }
+    ensures within { offset + length text.now < 2 ^ 64 →
+        IfErr result (StaysBetween offset (offset + length text.now)) }
 {
     let mut chunks = Items::new(alloc);
     contents(&mut chunks, alloc, text, offset, false)?;
@@ -74,6 +84,9 @@ fn write_unit(
     ensures refused { IfErr result (λ e. (e ≡ out_of_memory) ⊎
         (IsUnread e.kind × ((argument : List ℕ) × (held (text_unit_of unit.entry) ≡ Some argument) ×
         IsStuck false 0 argument))) }
+    ensures within { length (encode_utf8_all (unit_spelling (text_unit_of unit.entry))) ≤ behind →
+        IfErr result (StaysBetween (behind -
+        length (encode_utf8_all (unit_spelling (text_unit_of unit.entry)))) behind) }
 {
     match unit {
         TextUnit::Hyphens(count) => write_dashes(text, count)?,
@@ -89,7 +102,7 @@ fn write_unit(
             Argument::Empty => write_command(text, name, Some(""))?,
             Argument::Single(c) => write_single(text, name, c)?,
             Argument::Braced(given) => {
-                let start = behind.saturating_sub(given.len()).saturating_sub(1);
+                let start = argument_start(given, behind);
                 let inside = inner_text(alloc, given, start)?;
                 write_command(text, name, Some(inside.as_str()))?;
             }
@@ -101,7 +114,8 @@ fn write_unit(
 
 // The fault of a closing brace that nothing opened.
 fn unopened(start: usize, end: usize) -> ParseError
-    ensures { IsUnread result.kind }
+    ensures kind { IsUnread result.kind }
+    ensures place { result.span ≡ record { start = start; end = end } }
 {
     ParseError {
         span: start..end,
@@ -111,7 +125,8 @@ fn unopened(start: usize, end: usize) -> ParseError
 
 // The fault of a text that ends too soon, at its end.
 fn ended(end: usize) -> ParseError
-    ensures { IsUnread result.kind }
+    ensures kind { IsUnread result.kind }
+    ensures place { result.span ≡ record { start = end; end = end } }
 {
     ParseError {
         span: end..end,
@@ -136,6 +151,8 @@ fn take(
         (so_far out.old growing.old) growing.new.depth (so_far out.new growing.new)) }
     ensures refused { IfErr result (λ e. (e ≡ out_of_memory) ⊎
         (IsUnread e.kind × IsUntaken (unit_of unit.entry) growing.old.depth)) }
+    ensures within { offset + span.end < 2 ^ 64 →
+        IfErr result (StaysBetween (offset + span.start) (offset + span.end)) }
     ensures joined { OnOk result (AreJoined out.old → AreJoined out.new) }
     ensures placed { OnOk result (IsMoved out.old growing.old
         (saturated (offset + span.start)) out.new growing.new (saturated (offset + span.end))) }
@@ -181,6 +198,8 @@ pub(crate) fn contents(
     ensures refused { IfErr result (λ e. (e ≡ out_of_memory) ⊎
         (IsUnread e.kind × ((atoms : List Atom) →
         IsContent is_verbatim (chars text.now) atoms → ⊥))) }
+    ensures within { offset + length text.now < 2 ^ 64 →
+        IfErr result (StaysBetween offset (offset + length text.now)) }
 {
     let end = offset.saturating_add(text.len());
     let mut s = Characters::new(text);

@@ -7,10 +7,10 @@ use Rattle.bib_text.proofs.TextFacts.{pushed_part, pushed_chars, encode_one, two
 use Rattle.bib_chunks.specs.Formatted.{formatted_atoms}
 use Rattle.bib_contents.specs.Contents.{Reads, is_ordinary, unit_spelling}
 use Rattle.bib_contents.specs.Passing.{left}
-use Rattle.bib_contents.specs.UnitViews.{unit_of}
+use Rattle.bib_contents.specs.UnitViews.{unit_of, text_unit_of}
 use Rattle.bib_contents.specs.declared.resolve.growing.Open.{Open}
 use Rattle.bib_contents.proofs.ReaderFacts.{unit_shorter, held_length, stuck_unit, stuck_taken, no_argument}
-use Rattle.bib_contents.proofs.TakingFacts.{took_text, took_formula, took_opening, took_closing, formula_wide, placed_behind, held_is, command_is}
+use Rattle.bib_contents.proofs.TakingFacts.{braced_wide, took_text, took_formula, took_opening, took_closing, formula_wide, placed_behind, held_is, command_is}
 use Rattle.bib_contents.specs.declared.resolve.units.Argument.TheVariants as given
 use Rattle.bib_contents.proofs.ReadingContents.{Reading, reading_none, reading_run, reading_unit, reading_all, reading_ends, unit_place}
 use Rattle.bib_contents.proofs.resolve.contents.+contents.Goals as goal
@@ -49,7 +49,7 @@ contents-returns-in_default-clause-refused t c =
     let run : Reading c.args.is_verbatim c.args.text.now c.args.offset c.args.out.now c.eat_while-run.new.self grown c.units.out =
     reading_run c.units.growing grown c.eat_while-run.result.now c.units.invariant c.eat_while-run.ensures.passed all.0
     (pushed_part _ _ _ _ c.eat_while-run.result.now c.in_ok-push_str.was c.push_str.ensures.bytes refl) (IsUtf8-string_bytes c.units.growing.text) refl refl in
-    inr (c.ended.ensures, stuck_unit run.read c.if-done.ensures c.in_default.ensures.found)
+    inr (c.ended.ensures.kind, stuck_unit run.read c.if-done.ensures c.in_default.ensures.found)
 
 pub contents-take-requires : goal.contents-take-requires
 contents-take-requires t c =
@@ -172,3 +172,17 @@ write_unit-returns-clause-written t c = elim c.match-unit.branch [
   | write_unit-in-Other+in_ok-push-in-Other w ↦
       rw (w.text-is, w.in-Other.is) ([], (λ argument holds. absurd (no_argument holds)), pushed_chars _ _ _ _ (w.in-Other.c ∷ []) w.in_ok-push-in-Other.was w.push-in-Other.ensures.bytes (encode_one w.in-Other.c))
 ]
+
+pub write_unit-returns-in_err-inside-in-Braced-clause-within : goal.write_unit-returns-in_err-inside-in-Braced-clause-within
+write_unit-returns-in_err-inside-in-Braced-clause-within t c fits =
+    let p = err_from_is_err_and c.from_residual-in_err-inside-in-Braced.result c.from_residual-in_err-inside-in-Braced.ensures.1 in
+    let is = command_is (given.Braced c.in-Braced.given) c.in-Command.is c.in-Braced.is in
+    let size : length (encode_utf8_all (chars c.in-Braced.given.now)) ≡ length c.in-Braced.given.now = ap length c.argument_start-start.ensures.bytes in
+    let wide = braced_wide (chars c.in-Command.name.now) (chars c.in-Command.field-1.now) (chars c.in-Braced.given.now) in
+    let whole : length (encode_utf8_all (unit_spelling (text_unit_of c.args.unit))) ≤ c.args.behind = fits in
+    let spelt = ap (λ u. length (encode_utf8_all (unit_spelling u))) is in
+    let place = c.argument_start-start.ensures.place (omega (arith, size, wide, spelt, whole)) in
+    rw (p.1, p.2) (elim (c.in_err-inside-in-Braced.ensures.within (omega (arith, place, c.ranges.behind.fits))) [
+      | inl memory ↦ inl memory
+      | inr lies ↦ inr (omega (arith, lies.0, place, size, wide, spelt, whole), lies.1, omega (arith, lies.2, place))
+    ])
