@@ -5,4 +5,5 @@ pub mod LawFacts
 pub mod ModeFacts
 pub mod QuoteFacts
 pub mod ReadingFacts
+pub mod StandingFacts
 pub mod WordFacts

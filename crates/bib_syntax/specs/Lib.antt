@@ -4,3 +4,4 @@ pub mod Faults
 pub mod Grammar
 pub mod Views
 pub mod Reading
+pub mod Standing

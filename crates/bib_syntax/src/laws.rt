@@ -3,6 +3,7 @@
 ghost use Rattle.std.specs.Prelude.{◌≡◌, ◌↔◌, ℕ, List};
 ghost use Rattle.bib_syntax.specs.Grammar.{IsFile, IsRawReading};
 ghost use Rattle.bib_syntax.specs.Reading.{FileReading};
+ghost use Rattle.bib_syntax.specs.Standing.{ReadingStandsIn};
 
 /// A text has at most one raw reading.
 pub fn one_reading()
@@ -14,4 +15,10 @@ pub fn one_reading()
 /// run is as long as it can be.
 pub fn same_texts()
     ensures { (text : List ℕ) → IsFile text ↔ ((says : FileReading) × IsRawReading text says) }
+{}
+
+/// Each key, kind, field name and element of a raw reading is the text between its ends.
+pub fn parts_stand()
+    ensures { (text : List ℕ) (says : FileReading) → IsRawReading text says →
+        ReadingStandsIn text says }
 {}

@@ -1,0 +1,6 @@
+use Rattle.std.proofs.Common.{refl}
+use Rattle.bib_syntax.proofs.StandingFacts.{file_stands}
+use Rattle.bib_syntax.proofs.laws.parts_stand.Goals as goal
+
+pub returns : goal.returns
+returns c text says reads = file_stands text refl reads
