@@ -1,4 +1,5 @@
 pub mod EntryFacts
+pub mod InsideFacts
 pub mod LibraryFacts
 pub mod LoadedFacts
 pub mod LoadingFacts

@@ -17,7 +17,7 @@ use Rattle.bib_chunks.specs.declared.chunk.Chunk.{Chunk}
 use Rattle.bib_text.specs.declared.spanned.Spanned.{Spanned}
 use Rattle.bib_contents.specs.Abbreviations.{Definitions, Evaluates}
 use Rattle.bib_syntax.specs.Reading.{Piece, FieldReading, EntryReading}
-use Rattle.bib_contents.proofs.ContentFacts.{read_same}
+use Rattle.bib_contents.proofs.LawFacts.{evaluates_same}
 use Rattle.biblatex.specs.declared.entry.Entry.{Entry}
 use Rattle.biblatex.specs.Library.{Library, claims, aliases, appended, nothing}
 use Rattle.bib_chunks.specs.Lists.{comma_texts}
@@ -26,33 +26,13 @@ use Rattle.bib_maps.specs.Names.{ArePlacesBelow, claimed, claims_for}
 use Rattle.bib_maps.specs.Sorted.{ByText, by_bytes}
 use Rattle.biblatex.proofs.LibraryFacts.{below_empty, below_claimed, below_more}
 
-some_same : {A : Type 0} {x y : A} → Some x ≡ Some y → x ≡ y
-some_same same = cc
-
-none_some : {A : Type 0} {x : A} {o : Option A} → o ≡ None → o ≡ Some x → ⊥
-none_some none some = cc
-
--- pieces say one thing at most
-pub evaluates_same : {definitions : Definitions} {is_verbatim : Bool} {pieces : List Piece} {first second : List Atom} → Evaluates definitions is_verbatim pieces first → Evaluates definitions is_verbatim pieces second → first ≡ second
-evaluates_same Evaluates.none Evaluates.none = refl
-evaluates_same (Evaluates.text {first = a} {more = later} content rest) (Evaluates.text {first = b} {more = bs} content' rest') =
-    ap (λ xs. xs ++ later) (read_same content content') ∙ ap (λ xs. b ++ xs) (evaluates_same rest rest')
-evaluates_same {definitions} {is_verbatim} (Evaluates.defined {definition = d} {first = a} {more = later} is inside rest) (Evaluates.defined {definition = d'} {first = b} {more = bs} is' inside' rest') =
-    let same : d ≡ d' = some_same (sym is ∙ is') in
-    ap (λ xs. xs ++ later) (evaluates_same inside (subst (λ x. Evaluates definitions is_verbatim x b) (sym same) inside')) ∙ ap (λ xs. b ++ xs) (evaluates_same rest rest')
-evaluates_same (Evaluates.defined is inside rest) (Evaluates.month_name none month rest') = absurd (none_some none is)
-evaluates_same (Evaluates.month_name none month rest) (Evaluates.defined is inside rest') = absurd (none_some none is)
-evaluates_same (Evaluates.month_name {english = m} {more = later} none month rest) (Evaluates.month_name {english = m'} {more = bs} none' month' rest') =
-    let same : m ≡ m' = some_same (sym month ∙ month') in
-    ap (λ x. map Atom.normal (chars x) ++ later) same ∙ ap (λ xs. map Atom.normal (chars m') ++ xs) (evaluates_same rest rest')
-
 -- what a field `ids` of two entries claims
 aliases_found : (definitions : Definitions) (found : Option FieldReading) (one two : Option (List (Spanned Chunk)))
     → MatchOption found (one ≡ None) (λ f. (chunks : List (Spanned Chunk)) × (one ≡ Some chunks) × Says definitions f chunks)
     → MatchOption found (two ≡ None) (λ f. (chunks : List (Spanned Chunk)) × (two ≡ Some chunks) × Says definitions f chunks)
     → option_map_or (λ chunks. comma_texts (styled chunks)) one [] ≡ option_map_or (λ chunks. comma_texts (styled chunks)) two []
 aliases_found definitions None one two first second = rw (first, second) refl
-aliases_found definitions (Some f) one two first second = rw (first.1, second.1) (ap comma_texts (evaluates_same first.2 second.2))
+aliases_found definitions (Some f) one two first second = rw (first.1, second.1) (ap comma_texts (evaluates_same first.2.says second.2.says))
 
 -- what an entry claims is what the file says of it
 pub claims_same : {definitions : Definitions} {said : EntryReading} (one two : Entry) → IsEntry definitions said one → IsEntry definitions said two → claims one ≡ claims two

@@ -1,6 +1,6 @@
 -- Meaning: words of public contracts.
 -- What a file says as a bibliography: its entries with their fields read, and the first fault if they can't be.
-use Rattle.std.specs.Prelude.{◌≡◌, ℕ, Bool, true, false, List, [], ◌∷◌, ◌++◌, map, reverse, find, bytes_eq, option_map, Option, Some, None, MatchOption}
+use Rattle.std.specs.Prelude.{◌≡◌, ◌+◌, length, ℕ, Bool, true, false, List, [], ◌∷◌, ◌++◌, map, reverse, find, bytes_eq, option_map, Option, Some, None, MatchOption}
 use Rattle.std.specs.Char.{to_ascii_lowercase}
 use Rattle.std.specs.FinMap as by_name
 use Rattle.std.specs.List.{list_any}
@@ -8,7 +8,9 @@ use Rattle.bib_chunks.specs.Styled.{styled}
 use Rattle.bib_chunks.specs.declared.chunk.Chunk.{Chunk}
 use Rattle.bib_text.specs.declared.spanned.Spanned.{Spanned}
 use Rattle.bib_contents.specs.Abbreviations.{Definitions, Evaluates, IsFirstFault, IsReadable, is_verbatim_field}
-use Rattle.bib_syntax.specs.Reading.{FieldReading, EntryReading, FileReading}
+use Rattle.bib_contents.specs.Joined.{AreJoined, ArePlaced}
+use Rattle.bib_syntax.specs.Reading.{Part, Piece, FieldReading, EntryReading, FileReading}
+use Rattle.bib_syntax.specs.Reading.Piece.{literal}
 use Rattle.bib_syntax.specs.declared.raw.ParseError.{ParseError}
 use Rattle.bib_syntax.specs.declared.raw.ParseErrorKind.TheVariants.{DuplicateKey}
 use Rattle.bib_tables.specs.EntryType.{entry_type_of}
@@ -27,9 +29,16 @@ name_of f = map to_ascii_lowercase f.name.text
 abbrev pub field_in : List FieldReading → List ℕ → Option FieldReading
 field_in fields name = find (λ f. bytes_eq name (name_of f)) (reverse fields)
 
--- a field says this styled text
+-- chunks are the contents of a field: their styled text is what its elements say, no two neighbours are both normal or
+-- both verbatim, and where the field is one text, in a place as long as the text, they stand in that place, in order
+pub record AreContents (definitions : Definitions) (is_verbatim : Bool) (pieces : List Piece) (chunks : List (Spanned Chunk)) : Type 0 where
+  pub says : Evaluates definitions is_verbatim pieces (styled chunks)
+  pub joined : AreJoined chunks
+  pub placed : (p : Part) → pieces ≡ literal p ∷ [] → p.end ≡ p.start + length p.text → ArePlaced p.start p.end chunks
+
+-- chunks are what a field says
 abbrev pub Says : Definitions → FieldReading → List (Spanned Chunk) → Type 0
-Says definitions f chunks = Evaluates definitions (is_verbatim_field (name_of f)) f.value.pieces (styled chunks)
+Says definitions f chunks = AreContents definitions (is_verbatim_field (name_of f)) f.value.pieces chunks
 
 -- a field can be read
 abbrev pub CanBeRead : Definitions → FieldReading → Type 0

@@ -3,10 +3,9 @@
 use Rattle.std.specs.Prelude.{◌≡◌, ℕ, List, [], ◌∷◌, map, reverse, find, bytes_eq, option_map, Option, Some, None, MatchOption}
 use Rattle.std.specs.Char.{to_ascii_lowercase}
 use Rattle.std.specs.FinMap as by_name
-use Rattle.bib_chunks.specs.Styled.{styled}
 use Rattle.bib_chunks.specs.declared.chunk.Chunk.{Chunk}
 use Rattle.bib_text.specs.declared.spanned.Spanned.{Spanned}
-use Rattle.bib_contents.specs.Abbreviations.{Definitions, Evaluates, IsFirstFault, IsReadable, is_verbatim_field}
+use Rattle.bib_contents.specs.Abbreviations.{Definitions, IsFirstFault, IsReadable, is_verbatim_field}
 use Rattle.bib_syntax.specs.Reading.{Piece}
 use Rattle.bib_syntax.specs.Views.{piece_of}
 use Rattle.bib_syntax.specs.declared.raw.Pair.{Pair}
@@ -14,6 +13,7 @@ use Rattle.bib_syntax.specs.declared.raw.ParseError.{ParseError}
 use Rattle.bib_syntax.specs.declared.raw.RawEntry.{RawEntry}
 use Rattle.bib_tables.specs.EntryType.{entry_type_of}
 use Rattle.biblatex.specs.declared.entry.Entry.{Entry}
+use Rattle.biblatex.specs.Loaded.{AreContents}
 
 -- the elements of a value
 abbrev pub pieces_of : Pair → List Piece
@@ -33,7 +33,7 @@ last_field fields name = find (λ p. bytes_eq name (field_name p)) (reverse fiel
 
 -- these chunks are what a field says
 abbrev pub IsFieldOf : Definitions → Pair → List (Spanned Chunk) → Type 0
-IsFieldOf definitions p chunks = Evaluates definitions (is_verbatim_field (field_name p)) (pieces_of p) (styled chunks)
+IsFieldOf definitions p chunks = AreContents definitions (is_verbatim_field (field_name p)) (pieces_of p) chunks
 
 -- a field can be read
 abbrev pub IsFieldReadable : Definitions → Pair → Type 0

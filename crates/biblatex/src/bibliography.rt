@@ -6,6 +6,7 @@ ghost use Rattle.std.specs.Option.{option_copied, option_copied_mut};
 ghost use Rattle.std.specs.Slice.Iter.{iter_rest, iter_mut_rest};
 ghost use Rattle.std.specs.Vec.Iter.{into_iter_items};
 ghost use Rattle.std.specs.Iterator.{YieldsFirstRef, item_count};
+ghost use Rattle.bib_contents.specs.Contents.{LiesBetween};
 ghost use Rattle.bib_syntax.specs.Faults.{Refuses, out_of_memory};
 ghost use Rattle.bib_syntax.specs.Grammar.{IsFile, IsRawReading};
 ghost use Rattle.bib_syntax.specs.Reading.{FileReading};
@@ -108,7 +109,7 @@ impl Bibliography {
     ///
     /// Refused with a syntax fault where the file grammar doesn't read the text; otherwise, in the order of the file, for
     /// the first entry whose key an earlier one claimed (`DuplicateKey`, at the entry) or which has a field that can't be
-    /// read. Spans are in bytes of the text.
+    /// read. Spans are in bytes of the text, and lie in it.
     pub fn parse(alloc: Global, src: &str) -> Result<Self, ParseError>
         ensures loaded { IfOk result (λ library. (says : FileReading) × IsRawReading src.now says ×
             IsLoaded says library) }
@@ -116,6 +117,8 @@ impl Bibliography {
         ensures refused { IfErr result (λ e. Refuses src.now e (IsFile src.now → ⊥) ⊎
             ((says : FileReading) × IsRawReading src.now says × IsFaultOf says e ×
             (IsAccepted says → ⊥))) }
+        ensures inside { IfErr result (λ e. (e ≡ out_of_memory) ⊎
+            LiesBetween 0 (length src.now) e) }
     {
         let raw = RawBibliography::parse(alloc, src)?;
         Self::from_raw(alloc, raw)

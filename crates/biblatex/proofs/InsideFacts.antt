@@ -1,0 +1,98 @@
+-- A fault of what a text says lies in the text.
+use Rattle.std.proofs.Common.{◌≡◌, ℕ, ◌+◌, ◌<◌, ◌≤◌, ◌^◌, Bool, true, false, List, [], ◌∷◌, length, refl, sym, ap, ◌∙◌, subst, arith, inl, inr, ◌⊎◌, Option, None, Some, Result, Ok, Err}
+use Rattle.std.specs.Prelude.{reverse, find, bytes_eq, option_map, cond, if◌then◌else◌}
+use Rattle.std.specs.Prelude.{IfErr}
+use Rattle.std.specs.List.{AllByRecursion}
+use Rattle.bib_syntax.specs.Faults.{out_of_memory}
+use Rattle.bib_syntax.specs.Grammar.{IsRawReading}
+use Rattle.bib_syntax.proofs.StandingFacts.{file_stands}
+use mathlib.Core.List.{reverse_aux}
+use Rattle.std.proofs.lemmas.Bool.{cases_Bool}
+use Rattle.bib_contents.specs.Abbreviations.{Definitions, IsFirstFault}
+use Rattle.bib_contents.specs.Abbreviations.{IsFirstFault as first_fault}
+use Rattle.bib_contents.specs.Contents.{LiesBetween}
+use Rattle.bib_syntax.specs.Reading.{Part, Piece, FieldReading, EntryReading, FileReading}
+use Rattle.bib_syntax.specs.Reading.Piece.{literal, abbreviation}
+use Rattle.bib_syntax.specs.Standing.{StandsIn, PieceStandsIn, FieldStandsIn, EntryStandsIn, ReadingStandsIn}
+use Rattle.bib_syntax.specs.declared.raw.ParseError.{ParseError}
+use Rattle.biblatex.specs.Loaded.{IsFaultOf, IsFaultOfEntries, IsFaultOfFields, definition_in}
+
+-- what each of some holds, the one that is found holds
+found_holds : {A : Type 0} (P : A → Type 0) (test : A → Bool) (xs : List A) (x : A) → AllByRecursion P xs → find test xs ≡ Some x → P x
+found_holds P test [] x all found = absurd (none_found found) where
+  none_found : {A : Type 0} {x : A} → None ≡ Some x → ⊥
+  none_found none = cc
+found_holds P test (y ∷ ys) x all found =
+    elim (cases_Bool (test y)) [
+      | inl here ↦ subst P (first (test y) y (find test ys) x here found) all.0
+      | inr other ↦ found_holds P test ys x all.1 (later (test y) y (find test ys) x other found)
+    ]
+  where
+    first : {A : Type 0} (b : Bool) (y : A) (rest : Option A) (x : A) → b ≡ true → cond b (Some y) rest ≡ Some x → y ≡ x
+    first true y rest x is found = cc
+    first false y rest x is found = cc
+
+    later : {A : Type 0} (b : Bool) (y : A) (rest : Option A) (x : A) → b ≡ false → cond b (Some y) rest ≡ Some x → rest ≡ Some x
+    later true y rest x is found = cc
+    later false y rest x is found = found
+
+turned_all : {A : Type 0} (P : A → Type 0) (xs ys : List A) → AllByRecursion P xs → AllByRecursion P ys → AllByRecursion P (reverse_aux xs ys)
+turned_all P [] ys all more = more
+turned_all P (x ∷ xs) ys all more = turned_all P xs (x ∷ ys) all.1 (all.0, more)
+
+-- each definition's elements stand in the text
+abbrev DefinitionsStandIn : List ℕ → Definitions → Type 0
+DefinitionsStandIn text definitions = (name : List ℕ) (definition : List Piece) → definitions name ≡ Some definition → AllByRecursion (PieceStandsIn text) definition
+
+definition_stands : (text : List ℕ) (definition : List Piece) (found : Option FieldReading) → ((f : FieldReading) → found ≡ Some f → FieldStandsIn text f)
+    → option_map (λ (f : FieldReading). f.value.pieces) found ≡ Some definition → AllByRecursion (PieceStandsIn text) definition
+definition_stands text definition None stands is = absurd (none_found is) where
+  none_found : {A : Type 0} {x : A} → None ≡ Some x → ⊥
+  none_found none = cc
+definition_stands text definition (Some f) stands is = subst (AllByRecursion (PieceStandsIn text)) (same is) (stands f refl).pieces where
+  same : {A : Type 0} {x y : A} → Some x ≡ Some y → x ≡ y
+  same e = cc
+
+definitions_stand : (text : List ℕ) (abbreviations : List FieldReading) → AllByRecursion (FieldStandsIn text) abbreviations → DefinitionsStandIn text (definition_in abbreviations)
+definitions_stand text abbreviations all name definition is =
+    definition_stands text definition (find (λ f. bytes_eq name f.name.text) (reverse abbreviations))
+    (λ f found. found_holds (FieldStandsIn text) (λ f. bytes_eq name f.name.text) (reverse abbreviations) f (turned_all (FieldStandsIn text) abbreviations [] all tt) found) is
+
+part_lies : {text : List ℕ} {p : Part} → StandsIn text p → (e : ParseError) → e.span.start ≡ p.start → e.span.end ≡ p.end → LiesBetween 0 (length text) e
+part_lies stands e starts ends = (omega arith, omega (arith, stands.size, starts, ends), omega (arith, stands.within, ends))
+
+first_fault_lies : {definitions : Definitions} {is_verbatim : Bool} {path : List (List ℕ)} {pieces : List Piece} {e : ParseError} (text : List ℕ) → length text < 2 ^ 64
+    → DefinitionsStandIn text definitions → AllByRecursion (PieceStandsIn text) pieces → IsFirstFault definitions is_verbatim path pieces e → LiesBetween 0 (length text) e
+first_fault_lies text small definitions all (first_fault.unread none kind place) =
+    let stands = all.0 in
+    let lies = place stands.size (omega (arith, small, stands.within)) in
+    (omega arith, lies.1, omega (arith, lies.2, stands.within))
+first_fault_lies {e = e} text small definitions all (first_fault.unknown absent m is) = part_lies all.0 e (ap (λ x. x.span.start) is) (ap (λ x. x.span.end) is)
+first_fault_lies {e = e} text small definitions all (first_fault.circle on is) = part_lies all.0 e (ap (λ x. x.span.start) is) (ap (λ x. x.span.end) is)
+first_fault_lies text small definitions all (first_fault.inside {definition = definition} off d fault) = first_fault_lies text small definitions (definitions _ definition d) fault
+first_fault_lies text small definitions all (first_fault.behind says fault) = first_fault_lies text small definitions all.1 fault
+
+fields_fault_lies : {definitions : Definitions} {fields : List FieldReading} {e : ParseError} (text : List ℕ) → length text < 2 ^ 64 → DefinitionsStandIn text definitions
+    → AllByRecursion (FieldStandsIn text) fields → IsFaultOfFields definitions fields e → LiesBetween 0 (length text) e
+fields_fault_lies text small definitions all (IsFaultOfFields.here fault unread) = first_fault_lies text small definitions all.0.pieces fault
+fields_fault_lies text small definitions all (IsFaultOfFields.behind read fault) = fields_fault_lies text small definitions all.1 fault
+
+entries_fault_lies : {definitions : Definitions} {claimed : List (List ℕ)} {said : List EntryReading} {e : ParseError} (text : List ℕ) → length text < 2 ^ 64
+    → DefinitionsStandIn text definitions → AllByRecursion (EntryStandsIn text) said → IsFaultOfEntries definitions claimed said e → LiesBetween 0 (length text) e
+entries_fault_lies text small definitions all (IsFaultOfEntries.duplicate was is) =
+    let entry = all.0 in
+    let starts = ap (λ x. x.span.start) is in
+    let ends = ap (λ x. x.span.end) is in
+    (omega arith, omega (arith, entry.ordered, starts, ends), omega (arith, entry.within, ends))
+entries_fault_lies text small definitions all (IsFaultOfEntries.unreadable fresh fault) = fields_fault_lies text small definitions all.0.fields fault
+entries_fault_lies text small definitions all (IsFaultOfEntries.behind fresh read fault) = entries_fault_lies text small definitions all.1 fault
+
+-- the first fault of what a text says
+pub fault_lies : {says : FileReading} {e : ParseError} (text : List ℕ) → length text < 2 ^ 64 → ReadingStandsIn text says → IsFaultOf says e → LiesBetween 0 (length text) e
+fault_lies {says} text small stands fault = entries_fault_lies text small (definitions_stand text says.abbreviations stands.abbreviations) stands.entries fault
+
+pub refused_inside : {T : Type 0} (X : Type 0) {says : FileReading} (text : List ℕ) (r : Result T ParseError) → length text < 2 ^ 64 → IsRawReading text says
+    → IfErr r (λ e. (e ≡ out_of_memory) ⊎ (IsFaultOf says e × X)) → IfErr r (λ e. (e ≡ out_of_memory) ⊎ LiesBetween 0 (length text) e)
+refused_inside X text (Ok x) small reads refused = tt
+refused_inside X text (Err e) small reads (inl memory) = inl memory
+refused_inside X text (Err e) small reads (inr fault) = inr (fault_lies text small (file_stands text refl reads) fault.0)
