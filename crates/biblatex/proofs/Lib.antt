@@ -3,4 +3,5 @@ pub mod InsideFacts
 pub mod LibraryFacts
 pub mod LoadedFacts
 pub mod LoadingFacts
+pub mod PlaceLaws
 pub mod RawFacts

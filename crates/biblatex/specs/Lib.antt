@@ -2,6 +2,7 @@ pub mod Claiming
 pub mod Keys
 pub mod Lending
 pub mod Library
+pub mod Places
 pub mod Loaded
 pub mod Loading
 pub mod Reading

@@ -3,12 +3,13 @@
 
 pub mod bibliography;
 pub mod entry;
+pub mod laws;
 mod loading;
 mod reading;
 pub mod sink;
 
 pub use bib_chunks::chunk::{Chunk, Chunks, ChunksExt, ChunksRef, Span, Spanned, is_settled};
-pub use bib_contents::resolve::{is_escapable, is_verbatim_field, parse_field};
+pub use bib_contents::resolve::{FieldReader, is_escapable, is_verbatim_field, parse_field};
 pub use bib_maps::text_map::TextMap;
 pub use bib_syntax::raw::{
     BiblatexParser, Field, Pair, ParseError, ParseErrorKind, RawBibliography, RawChunk, RawEntry,
