@@ -6,7 +6,7 @@ use Rattle.bib.specs.Output.{IsKeysAnswer, error_line}
 use Rattle.bib.specs.Output.IsKeysAnswer.{no_file}
 use Rattle.bib.specs.declared.run.Answer.{Answer}
 use Rattle.std.specs.Prelude.{IfOk, string_bytes, ◌≢◌}
-use Rattle.std.proofs.Common.{Result, Ok, Err, inl, inr, ◌≡◌, ◌<◌, ◌≤◌, ℕ, Bool, true, false, List, [], ◌∷◌, length, get_or, map, refl, sym, ap, ◌∙◌, subst, arith}
+use Rattle.std.proofs.Common.{Result, Ok, Err, inl, inr, ◌≡◌, ◌<◌, ◌≤◌, ℕ, Bool, true, List, [], ◌∷◌, length, get_or, map, sym, ap, ◌∙◌, arith}
 
 -- a list of one item
 pub one_item : {X Y : Type 0} (f : X → Y) (xs : List X) (x : X) → 1 ≤ length xs → length xs < 2 → x ≡ get_or xs 0 x → map f xs ≡ f x ∷ []

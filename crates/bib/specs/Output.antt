@@ -3,7 +3,7 @@
 use Rattle.std.specs.Prelude.{◌≡◌, ℕ, List, [], ◌∷◌, ◌++◌, codes}
 use Rattle.std.specs.List.{flat_map}
 use Rattle.std.specs.Str.{IsUtf8}
-use Rattle.biblatex.specs.Syntax.{IsSyntaxFault, error_text, IsFile, IsRawReading, EntryReading, FileReading, ParseError}
+use Rattle.biblatex.specs.Syntax.{IsSyntaxFault, error_text, IsFile, IsRawReading, FileReading, ParseError}
 
 -- a text and a line feed
 abbrev pub line : List ℕ → List ℕ

@@ -2,22 +2,18 @@
 #![tactic(auto)]
 
 mod run;
+mod start;
 mod streams;
 #[cfg(test)]
 mod tests;
 
-use run::run;
+use start::start;
 use std::process::ExitCode;
 use std::{env, io};
 use streams::{Input, Output};
 
 fn main(rt: HostRuntime) -> ExitCode {
-    let words = match env::args(&rt) {
-        Ok(words) => words.skip(1).collect(rt.alloc()),
-        Err(_) => Ok(Vec::new(rt.alloc())),
-    };
-    let words = words.unwrap_or(Vec::new(rt.alloc()));
     let mut input = Input::new(rt.reader());
     let mut output = Output::new(io::writer(&rt));
-    ExitCode::from(run(rt.alloc(), &words, &mut input, &mut output))
+    ExitCode::from(start(rt.alloc(), env::args(&rt), &mut input, &mut output))
 }

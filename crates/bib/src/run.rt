@@ -32,7 +32,8 @@ pub trait Source {
     fn read_all(&mut self, alloc: Global) -> Result<Vec<u8>, SourceError>
         ensures given { IfOk result (λ bytes. gives self.old bytes.items) }
         ensures failed { result ≡ Err SourceError.Failed → failures self.old < 2 ^ 64 - 1 →
-            failures self.old < failures self.new };
+            failures self.old < failures self.new }
+        ensures same { result ≢ Err SourceError.Failed → failures self.new ≡ failures self.old };
 }
 
 // What is printed, and the status.
@@ -100,7 +101,7 @@ fn fault(alloc: Global, error: &ParseError) -> Result<Answer, AllocError>
 }
 
 // Prints a text, and answers the status: 1 if the text was refused.
-fn print<K: Sink>(output: &mut K, text: &str, status: u8) -> u8
+pub(crate) fn print<K: Sink>(output: &mut K, text: &str, status: u8) -> u8
     ensures printed { K.refusals output.old < 2 ^ 64 - 1 →
         K.refusals output.new ≡ K.refusals output.old →
         Appends (K.taken output.old) (K.taken output.new) text.now × (result ≡ status) }

@@ -1,10 +1,12 @@
 //! Standard input and output, as what the engine reads and writes.
 
-ghost use Rattle.std.specs.Prelude.{◌≡◌, ℕ, List, IfSome};
+ghost use Rattle.std.specs.Prelude.{◌≡◌, ◌≢◌, ◌+◌, ◌-◌, ◌^◌, min, ℕ, List, IfSome, IsOk, IsErr, OnOk, IfErr, IsTrue, ◌↔◌};
+ghost use Rattle.std.specs.IoError.{error_kind};
 
 use crate::run::{Source, SourceError};
 use biblatex::Sink;
 use std::alloc::Global;
+use std::io;
 use std::io::{ErrorKind, Read, Write};
 
 /// A reader as an input. What it gives is not known.
@@ -36,6 +38,29 @@ impl<R> Input<R> {
         } = self;
         reader
     }
+
+    // Tells what a read gave: these bytes, or why there are none. A failure is counted, and want of memory is not.
+    fn tell(&mut self, read: io::Result<usize>, bytes: Vec<u8>) -> Result<Vec<u8>, SourceError>
+        ensures given { OnOk read (result ≡ Ok bytes) }
+        ensures failed { IfErr read (λ error. error_kind error ≢ ErrorKind.OutOfMemory →
+            result ≡ Err SourceError.Failed) }
+        ensures lacking { IfErr read (λ error. error_kind error ≡ ErrorKind.OutOfMemory →
+            result ≡ Err SourceError.OutOfMemory) }
+        ensures counted { result ≡ Err SourceError.Failed →
+            self.new.failures ≡ min (self.old.failures + 1) (2 ^ 64 - 1) }
+        ensures same { result ≢ Err SourceError.Failed →
+            self.new.failures ≡ self.old.failures }
+        ensures reader { self.new.reader ≡ self.old.reader }
+    {
+        match read {
+            Ok(_) => Ok(bytes),
+            Err(error) if error.kind() == ErrorKind::OutOfMemory => Err(SourceError::OutOfMemory),
+            Err(_) => {
+                self.failures = self.failures.saturating_add(1);
+                Err(SourceError::Failed)
+            }
+        }
+    }
 }
 
 impl<R: Read> Source for Input<R> {
@@ -45,14 +70,8 @@ impl<R: Read> Source for Input<R> {
 
     fn read_all(&mut self, alloc: Global) -> Result<Vec<u8>, SourceError> {
         let mut bytes = Vec::new(alloc);
-        match self.reader.read_to_end(&mut bytes) {
-            Ok(_) => Ok(bytes),
-            Err(error) if error.kind() == ErrorKind::OutOfMemory => Err(SourceError::OutOfMemory),
-            Err(_) => {
-                self.failures = self.failures.saturating_add(1);
-                Err(SourceError::Failed)
-            }
-        }
+        let read = self.reader.read_to_end(&mut bytes);
+        self.tell(read, bytes)
     }
 }
 
@@ -85,6 +104,23 @@ impl<W> Output<W> {
         } = self;
         writer
     }
+
+    // Tells whether a write was done. One that was not is counted.
+    fn tell(&mut self, written: io::Result<()>) -> bool
+        ensures done { IsTrue result ↔ IsOk written }
+        ensures counted { IsErr written →
+            self.new.refusals ≡ min (self.old.refusals + 1) (2 ^ 64 - 1) }
+        ensures same { IsOk written → self.new.refusals ≡ self.old.refusals }
+        ensures writer { self.new.writer ≡ self.old.writer }
+    {
+        match written {
+            Ok(()) => true,
+            Err(_) => {
+                self.refusals = self.refusals.saturating_add(1);
+                false
+            }
+        }
+    }
 }
 
 impl<W: Write> Sink for Output<W> {
@@ -93,12 +129,7 @@ impl<W: Write> Sink for Output<W> {
     ghost refusals = { λ output. output.refusals };
 
     fn write_str(&mut self, text: &str) -> bool {
-        match self.writer.write_all(text.as_bytes()) {
-            Ok(()) => true,
-            Err(_) => {
-                self.refusals = self.refusals.saturating_add(1);
-                false
-            }
-        }
+        let written = self.writer.write_all(text.as_bytes());
+        self.tell(written)
     }
 }

@@ -1,8 +1,10 @@
-//! The program on worked examples, on inputs that fail and on outputs that refuse.
+//! The program on worked examples, on large ones, on inputs that fail and on outputs that refuse.
 
 use crate::run::run;
+use crate::start::start;
 use crate::streams::{Input, Output};
 use std::alloc::Global;
+use std::env::Args;
 use std::io::{ErrorKind, Read, Write};
 use std::process::Abort;
 use std::test::Fail;
@@ -22,6 +24,16 @@ impl Read for Failing {
         self.left -= 1;
         buf[0] = b'@';
         Ok(1)
+    }
+}
+
+// A reader that finds no memory.
+#[derive(Drop)]
+struct Starved;
+
+impl Read for Starved {
+    fn read(&mut self, _buf: &mut [u8]) -> io::Result<usize> {
+        Err(io::Error::from(ErrorKind::OutOfMemory))
     }
 }
 
@@ -68,6 +80,25 @@ fn prints(
     Ok(())
 }
 
+// Asserts what the program prints for these arguments, or for their failure, and its status.
+fn starts(
+    rt: &impl Abort,
+    alloc: Global,
+    arguments: io::Result<Args>,
+    want: &str,
+    status: u8,
+) -> Result<(), Fail> {
+    let text: &[u8] = b"@article{test, author={A}}";
+    let mut input = Input::new(text);
+    let mut output = Output::new(Vec::new(alloc));
+    assert_eq!(rt; start(alloc, arguments, &mut input, &mut output), status);
+    let written = output.into_writer();
+    assert_eq!(rt; str::from_utf8(&written)?, want);
+    Ok(())
+}
+
+const USAGE: &str = "usage: bib keys|biblatex|bibtex|check|settled\n";
+
 #[test]
 fn prints_keys(rt: HostRuntime) -> Result<(), Fail> {
     let rows = [
@@ -103,10 +134,50 @@ fn prints_keys(rt: HostRuntime) -> Result<(), Fail> {
 
 #[test]
 fn tells_its_usage(rt: HostRuntime) -> Result<(), Fail> {
-    let usage = "usage: bib keys|biblatex|bibtex|check|settled\n";
-    prints(&rt, rt.alloc(), &[], b"@article{a}", usage, 2)?;
-    prints(&rt, rt.alloc(), &["key"], b"", usage, 2)?;
-    prints(&rt, rt.alloc(), &["keys", "keys"], b"", usage, 2)
+    prints(&rt, rt.alloc(), &[], b"@article{a}", USAGE, 2)?;
+    prints(&rt, rt.alloc(), &["key"], b"", USAGE, 2)?;
+    prints(&rt, rt.alloc(), &["keys", "keys"], b"", USAGE, 2)
+}
+
+#[test]
+fn takes_the_words_behind_its_name(rt: HostRuntime) -> Result<(), Fail> {
+    let rows: [(&[&str], &str, u8); 6] = [
+        (&[], USAGE, 2),
+        (&["bib"], USAGE, 2),
+        (&["keys"], USAGE, 2),
+        (&["bib", "keys"], "test\n", 0),
+        (&["bib", "keys", "keys"], USAGE, 2),
+        (&["bib", "keys", ""], USAGE, 2),
+    ];
+    for (texts, want, status) in rows {
+        let arguments = words(rt.alloc(), texts)?.into_iter();
+        starts(&rt, rt.alloc(), Ok(arguments), want, status)?;
+    }
+    Ok(())
+}
+
+#[test]
+fn tells_why_it_has_no_words(rt: HostRuntime) -> Result<(), Fail> {
+    let no_text = io::Error::from(ErrorKind::InvalidData);
+    starts(&rt, rt.alloc(), Err(no_text), USAGE, 2)?;
+    let no_memory = io::Error::from(ErrorKind::OutOfMemory);
+    starts(&rt, rt.alloc(), Err(no_memory), "error: out of memory\n", 3)
+}
+
+// Over 2 MiB are read and printed: 32 entries, each with a key of 64 KiB and a byte.
+#[test]
+fn reads_and_prints_mebibytes(rt: HostRuntime) -> Result<(), Fail> {
+    let key = "k".repeat(rt.alloc(), 65_537)?;
+    let mut text = String::new(rt.alloc());
+    let mut want = String::new(rt.alloc());
+    for _ in 0..32u8 {
+        text.push_str("@misc{")?;
+        text.push_str(&key)?;
+        text.push_str(",}")?;
+        want.push_str(&key)?;
+        want.push('\n')?;
+    }
+    prints(&rt, rt.alloc(), &["keys"], text.as_bytes(), &want, 0)
 }
 
 #[test]
@@ -127,6 +198,17 @@ fn tells_that_its_input_failed(rt: HostRuntime) -> Result<(), Fail> {
     assert_eq!(rt; run(rt.alloc(), &words, &mut input, &mut output), 1);
     let written = output.into_writer();
     assert_eq!(rt; str::from_utf8(&written)?, "error: input failed\n");
+    Ok(())
+}
+
+#[test]
+fn tells_that_its_input_found_no_memory(rt: HostRuntime) -> Result<(), Fail> {
+    let words = words(rt.alloc(), &["keys"])?;
+    let mut input = Input::new(Starved);
+    let mut output = Output::new(Vec::new(rt.alloc()));
+    assert_eq!(rt; run(rt.alloc(), &words, &mut input, &mut output), 3);
+    let written = output.into_writer();
+    assert_eq!(rt; str::from_utf8(&written)?, "error: out of memory\n");
     Ok(())
 }
 

@@ -1,4 +1,4 @@
-use Rattle.std.proofs.Common.{refl, ap, sym, Err}
+use Rattle.std.proofs.Common.{refl, ap, Err}
 use Rattle.std.proofs.lemmas.Bool.{false≢true}
 use Rattle.bib.specs.Output.{IsAnswer as answer}
 use Rattle.bib.proofs.run.run.Goals as goal

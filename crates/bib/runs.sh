@@ -1,0 +1,68 @@
+#!/usr/bin/env bash
+# Runs a built program, and compares what it prints and its status with what is wanted: runs.sh PROGRAM
+set -u
+export LC_ALL=C
+program=$1
+files=$(mktemp -d)
+trap 'rm -rf "$files"' EXIT
+passed=0
+failed=0
+
+# counts a run that wrote the file `output`: its name, its status, and the status and the output that are wanted
+count() {
+    if [ "$2" = "$3" ] && printf %s "$4" | cmp -s - "$files/output"; then
+        passed=$((passed + 1))
+    else
+        failed=$((failed + 1))
+        echo "failed: $1 (status $2)"
+    fi
+}
+
+# runs the program on the file `input`: a name, the status and the output that are wanted, and the words
+run() {
+    local name=$1 status=$2 want=$3
+    shift 3
+    "$program" "$@" <"$files/input" >"$files/output"
+    count "$name" $? "$status" "$want"
+}
+
+usage=$'usage: bib keys|biblatex|bibtex|check|settled\n'
+
+printf '@article{test, author={A}}' >"$files/input"
+run 'no word' 2 "$usage"
+run 'another word' 2 "$usage" key
+run 'two words' 2 "$usage" keys keys
+run 'a second word that is empty' 2 "$usage" keys ''
+run 'a word that is not UTF-8' 2 "$usage" $'\xff'
+run 'keys and a word that is not UTF-8' 2 "$usage" keys $'\xff'
+run 'one key' 0 $'test\n' keys
+
+: >"$files/output"
+"$program" keys <"$files/input" >&-
+count 'a closed output' $? 1 ''
+"$program" keys <"$files/input" >/dev/full
+count 'a full disk' $? 1 ''
+"$program" >/dev/full
+count 'usage on a full disk' $? 1 ''
+"$program" keys <&- >"$files/output"
+count 'a closed input' $? 1 $'error: input failed\n'
+
+printf '@misc{a,} %% @misc{b,}\n@book{c, title = "d"}' >"$files/input"
+run 'two keys' 0 $'a\nc\n' keys
+printf '' >"$files/input"
+run 'an empty file' 0 '' keys
+printf '@article{a}' >"$files/input"
+run 'a fault' 1 $'error: expected comma: 10-10\n' keys
+printf '@article{a,}\xff' >"$files/input"
+run 'bytes that are not UTF-8' 1 $'error: input is not UTF-8\n' keys
+
+key=$(head -c 2097152 /dev/zero | tr '\0' k)
+printf '@misc{%s,}' "$key" >"$files/input"
+run 'a key of 2 MiB' 0 "$key"$'\n' keys
+
+# 64 MiB of input, and at most 32 MiB of memory
+head -c 67108864 /dev/zero | (ulimit -v 32768 && exec "$program" keys) >"$files/output"
+count 'no memory for the input' $? 3 $'error: out of memory\n'
+
+echo "$passed passed, $failed failed"
+[ "$failed" = 0 ]
