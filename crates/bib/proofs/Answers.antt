@@ -1,8 +1,8 @@
 -- How what the program prints follows from what its parts found.
 use Rattle.std.specs.Str.{bytes_eq}
 use Rattle.std.proofs.lemmas.Slice.Eq.{bytes_eq-Decides}
-use Rattle.biblatex.specs.Syntax.{Refuses, IsFile, ParseError, OutOfMemory, error_text}
-use Rattle.bib.specs.Output.{IsKeysAnswer, error_line}
+use Rattle.biblatex.specs.Syntax.{Refuses, IsFile, ParseError, OutOfMemory}
+use Rattle.bib.specs.Output.{IsKeysAnswer, TellsFault}
 use Rattle.bib.specs.Output.IsKeysAnswer.{no_file}
 use Rattle.bib.specs.declared.run.Answer.{Answer}
 use Rattle.std.specs.Prelude.{IfOk, string_bytes, ◌≢◌}
@@ -24,13 +24,13 @@ decides_one b word text words named tests one same =
       head_same e = cc
 
 -- a fault of the text, where memory was there
-pub fault_told : {bytes : List ℕ} {e : ParseError} → Refuses bytes e (IsFile bytes → ⊥) → (e.kind ≡ OutOfMemory → ⊥) → IsKeysAnswer bytes (error_line (error_text e)) 1
-fault_told (inl memory) other = absurd (other (ap (λ x. x.kind) memory))
-fault_told (inr fault) other = no_file fault.0 fault.1
+pub fault_told : {bytes text : List ℕ} {e : ParseError} → Refuses bytes e (IsFile bytes → ⊥) → (e.kind ≡ OutOfMemory → ⊥) → TellsFault e text → IsKeysAnswer bytes text 1
+fault_told (inl memory) other told = absurd (other (ap (λ x. x.kind) memory))
+fault_told (inr fault) other told = no_file fault.0 fault.1 told
 
 -- the answer for a fault
 pub fault_answered : {E : Type 0} {bytes : List ℕ} (e : ParseError) (r : Result Answer E)
-    → IfOk r (λ answer. (e.kind ≢ OutOfMemory) × (string_bytes answer.text ≡ error_line (error_text e)) × (answer.status ≡ 1))
+    → IfOk r (λ answer. (e.kind ≢ OutOfMemory) × TellsFault e (string_bytes answer.text) × (answer.status ≡ 1))
     → Refuses bytes e (IsFile bytes → ⊥) → IfOk r (λ answer. IsKeysAnswer bytes (string_bytes answer.text) answer.status)
-fault_answered e (Ok answer) told refused = rw (told.1, told.2) (fault_told refused told.0)
+fault_answered e (Ok answer) told refused = rw told.2 (fault_told refused told.0 told.1)
 fault_answered e (Err x) told refused = tt

@@ -4,8 +4,8 @@ ghost use Rattle.std.specs.Prelude.{◌≡◌, ◌≢◌, ℕ, ◌-◌, ◌^◌,
 ghost use Rattle.std.specs.Io.KnownBytes.{Appends};
 ghost use Rattle.std.specs.String.{string_bytes};
 ghost use Rattle.biblatex.specs.Syntax.{IsFile, IsRawReading, FileReading, file_of};
-ghost use Rattle.biblatex.specs.Syntax.{OutOfMemory, error_text};
-ghost use Rattle.bib.specs.Output.{IsAnswer, IsKeys, IsKeysAnswer, key_lines, error_line};
+ghost use Rattle.biblatex.specs.Syntax.{OutOfMemory};
+ghost use Rattle.bib.specs.Output.{IsAnswer, IsKeys, IsKeysAnswer, TellsFault, key_lines};
 
 use biblatex::{ParseError, ParseErrorKind, RawBibliography, Sink};
 use std::alloc::{AllocError, Global};
@@ -89,7 +89,7 @@ fn keys(alloc: Global, bytes: &[u8]) -> Result<Answer, AllocError>
 // The answer for an input with a fault.
 fn fault(alloc: Global, error: &ParseError) -> Result<Answer, AllocError>
     ensures { IfOk result (λ answer. (error.now.kind ≢ OutOfMemory) ×
-        (string_bytes answer.text ≡ error_line (error_text error.now)) × (answer.status ≡ 1)) }
+        TellsFault error.now (string_bytes answer.text) × (answer.status ≡ 1)) }
 {
     match &error.kind {
         ParseErrorKind::OutOfMemory => Err(AllocError),

@@ -1,7 +1,7 @@
 -- Meaning: words of public contracts.
 -- Faults of a text, and how they are printed, as the Rust crate `biblatex` prints them.
-use Rattle.std.specs.Prelude.{◌≡◌, ℕ, ◌≤◌, Bool, true, false, List, [], ◌∷◌, ◌++◌, unwrap_or, length, codes, IsTrue, ◌⊎◌}
-use Rattle.std.specs.Fmt.{decimal, debug_str}
+use Rattle.std.specs.Prelude.{◌≡◌, ℕ, ◌≤◌, Bool, true, false, List, [], ◌∷◌, ◌++◌, Option, Some, length, codes, IsTrue, ◌⊎◌}
+use Rattle.std.specs.Fmt.{◌++?◌, decimal, debug_str}
 use Rattle.bib_syntax.specs.declared.raw.Token.{Token}
 use Rattle.bib_syntax.specs.declared.raw.Token.TheVariants as token
 use Rattle.bib_syntax.specs.declared.raw.ParseErrorKind.{ParseErrorKind}
@@ -17,23 +17,24 @@ token_text token.QuotationMark = codes "double quote"
 token_text token.Equals = codes "equals"
 token_text token.DecimalPoint = codes "decimal point"
 
--- a name between quotes: one of ASCII characters as Rust's `{:?}` prints it, another as it is
-abbrev pub quoted : List ℕ → List ℕ
-quoted name = unwrap_or (debug_str name) (34 ∷ (name ++ 34 ∷ []))
+-- a name between quotes, as Rust's `{:?}` prints it; of a name past ASCII nothing is said
+abbrev pub quoted : List ℕ → Option (List ℕ)
+quoted name = debug_str name
 
-abbrev pub kind_text : ParseErrorKind → List ℕ
-kind_text UnexpectedEof = codes "unexpected end of file"
-kind_text (Unexpected t) = codes "unexpected " ++ token_text t
-kind_text (Expected t) = codes "expected " ++ token_text t
-kind_text (UnknownAbbreviation name) = codes "unknown abbreviation " ++ quoted name
-kind_text MalformedCommand = codes "malformed command"
-kind_text (DuplicateKey key) = codes "duplicate key " ++ quoted key
-kind_text (AbbreviationCycle name) = codes "circular abbreviation " ++ quoted name
-kind_text OutOfMemory = codes "out of memory"
+-- what is printed of a kind, where that is said
+abbrev pub kind_text : ParseErrorKind → Option (List ℕ)
+kind_text UnexpectedEof = Some (codes "unexpected end of file")
+kind_text (Unexpected t) = Some (codes "unexpected " ++ token_text t)
+kind_text (Expected t) = Some (codes "expected " ++ token_text t)
+kind_text (UnknownAbbreviation name) = Some (codes "unknown abbreviation ") ++? quoted name
+kind_text MalformedCommand = Some (codes "malformed command")
+kind_text (DuplicateKey key) = Some (codes "duplicate key ") ++? quoted key
+kind_text (AbbreviationCycle name) = Some (codes "circular abbreviation ") ++? quoted name
+kind_text OutOfMemory = Some (codes "out of memory")
 
 -- the kind, and the bytes at fault
-abbrev pub error_text : ParseError → List ℕ
-error_text e = kind_text e.kind ++ codes ": " ++ decimal e.span.start ++ codes "-" ++ decimal e.span.end
+abbrev pub error_text : ParseError → Option (List ℕ)
+error_text e = kind_text e.kind ++? Some (codes ": " ++ decimal e.span.start ++ codes "-" ++ decimal e.span.end)
 
 -- the fault that is no fault of the text
 abbrev pub out_of_memory : ParseError

@@ -2,7 +2,7 @@
 
 ghost use Rattle.std.specs.Prelude.{◌≡◌, [], ◌∷◌, ◌++◌, codes, Some, IfOk, IfErr, OnOk};
 ghost use Rattle.bib_syntax.specs.Characters as characters;
-ghost use Rattle.bib_syntax.specs.Faults.{token_text, quoted, kind_text, error_text, out_of_memory, Refuses};
+ghost use Rattle.bib_syntax.specs.Faults.{token_text, kind_text, error_text, out_of_memory, Refuses};
 ghost use Rattle.bib_syntax.specs.Grammar.{IsFile, IsRawReading};
 ghost use Rattle.bib_syntax.specs.Views.{file_of};
 
@@ -209,26 +209,8 @@ impl fmt::Display for Token {
     }
 }
 
-// A name between quotes: one of ASCII characters as `{:?}` prints it, another as it is.
-#[derive(Drop)]
-struct Quoted<'a> {
-    name: &'a str,
-}
-
-impl<'a> fmt::Display for Quoted<'a> {
-    ghost output = { λ q. Some (quoted q.name.now) };
-
-    fn fmt<W: fmt::Write>(&self, f: &mut fmt::Formatter<W>) -> fmt::Result {
-        if self.name.is_ascii() {
-            write!(f, "{:?}", self.name)
-        } else {
-            write!(f, "\"{}\"", self.name)
-        }
-    }
-}
-
 impl fmt::Display for ParseErrorKind {
-    ghost output = { λ kind. Some (kind_text kind) };
+    ghost output = { λ kind. kind_text kind };
 
     fn fmt<W: fmt::Write>(&self, f: &mut fmt::Formatter<W>) -> fmt::Result {
         match self {
@@ -236,26 +218,12 @@ impl fmt::Display for ParseErrorKind {
             ParseErrorKind::Unexpected(token) => write!(f, "unexpected {token}"),
             ParseErrorKind::Expected(token) => write!(f, "expected {token}"),
             ParseErrorKind::UnknownAbbreviation(name) => {
-                write!(
-                    f,
-                    "unknown abbreviation {}",
-                    Quoted {
-                        name: name.as_str()
-                    }
-                )
+                write!(f, "unknown abbreviation {:?}", name.as_str())
             }
             ParseErrorKind::MalformedCommand => f.write_str("malformed command"),
-            ParseErrorKind::DuplicateKey(key) => {
-                write!(f, "duplicate key {}", Quoted { name: key.as_str() })
-            }
+            ParseErrorKind::DuplicateKey(key) => write!(f, "duplicate key {:?}", key.as_str()),
             ParseErrorKind::AbbreviationCycle(name) => {
-                write!(
-                    f,
-                    "circular abbreviation {}",
-                    Quoted {
-                        name: name.as_str()
-                    }
-                )
+                write!(f, "circular abbreviation {:?}", name.as_str())
             }
             ParseErrorKind::OutOfMemory => f.write_str("out of memory"),
         }
@@ -263,7 +231,7 @@ impl fmt::Display for ParseErrorKind {
 }
 
 impl fmt::Display for ParseError {
-    ghost output = { λ error. Some (error_text error) };
+    ghost output = { λ error. error_text error };
 
     fn fmt<W: fmt::Write>(&self, f: &mut fmt::Formatter<W>) -> fmt::Result {
         write!(f, "{}: {}-{}", self.kind, self.span.start, self.span.end)
