@@ -6,6 +6,7 @@ pub mod ListFacts
 pub mod PartFacts
 pub mod SettledFacts
 pub mod SpanFacts
+pub mod StandFacts
 pub mod StyledFacts
 pub mod TrimFacts
 pub mod WholeFacts

@@ -30,6 +30,21 @@ texts_valid separator (text ∷ after ∷ more) valid =
     let rest = scalars_parts separator _ parts.1 in
     (parts.0, texts_valid separator (after ∷ more) rest.1)
 
+-- what holds of each piece, holds of each chunk of each part
+module _ (P : Spanned Chunk → Type 0) where
+  onto_hold : (front : List (Spanned Chunk)) (parts : List (List (Spanned Chunk))) → AllByRecursion P front → AllByRecursion (AllByRecursion P) parts → AllByRecursion (AllByRecursion P) (onto front parts)
+  onto_hold front [] one hold = (one, tt)
+  onto_hold front (part ∷ parts) one hold = (all-append P front part one hold.0, hold.1)
+
+  joined_hold : (ps : List (Spanned Chunk)) (parts : List (List (Spanned Chunk))) → AllByRecursion P ps → AllByRecursion (AllByRecursion P) parts → AllByRecursion (AllByRecursion P) (joined ps parts)
+  joined_hold [] parts one hold = hold
+  joined_hold (p ∷ []) parts one hold = onto_hold (p ∷ []) parts one hold
+  joined_hold (p ∷ q ∷ more) parts one hold = ((one.0, tt), joined_hold (q ∷ more) parts one.1 hold)
+
+  pub list_hold : (w : ℕ) (cut : List ℕ → List (List ℕ)) (chunks : List (Spanned Chunk)) → AllByRecursion (λ c. AllByRecursion P (pieces w cut c.v c.span)) chunks → AllByRecursion (AllByRecursion P) (list_parts w cut chunks)
+  list_hold w cut [] hold = (tt, tt)
+  list_hold w cut (c ∷ rest) hold = joined_hold (pieces w cut c.v c.span) (list_parts w cut rest) hold.0 (list_hold w cut rest hold.1)
+
 -- what holds of texts, holds of what is left of them, and then of the chunk of that
 module _ (R : List ℕ → Type 0) (P : Chunk → Type 0)
     (left_holds : (first last : Bool) (text left : List ℕ) → IsTrimmed first last text left → R text → R left)
@@ -46,17 +61,6 @@ module _ (R : List ℕ → Type 0) (P : Chunk → Type 0)
   between_hold w whole span at behind (text ∷ after ∷ more) valid hold =
       (piece_holds whole span at behind true text valid.0 hold.0, between_hold w whole span (at + (length (encode_utf8_all text) + w)) true (after ∷ more) valid.1 hold.1)
 
-  onto_hold : (front : List (Spanned Chunk)) (parts : List (List (Spanned Chunk))) → AllByRecursion (λ x. P x.v) front → AllByRecursion (AllByRecursion (λ x. P x.v)) parts
-      → AllByRecursion (AllByRecursion (λ x. P x.v)) (onto front parts)
-  onto_hold front [] one hold = (one, tt)
-  onto_hold front (part ∷ parts) one hold = (all-append (λ x. P x.v) front part one hold.0, hold.1)
-
-  joined_hold : (ps : List (Spanned Chunk)) (parts : List (List (Spanned Chunk))) → AllByRecursion (λ x. P x.v) ps → AllByRecursion (AllByRecursion (λ x. P x.v)) parts
-      → AllByRecursion (AllByRecursion (λ x. P x.v)) (joined ps parts)
-  joined_hold [] parts one hold = hold
-  joined_hold (p ∷ []) parts one hold = onto_hold (p ∷ []) parts one hold
-  joined_hold (p ∷ q ∷ more) parts one hold = ((one.0, tt), joined_hold (q ∷ more) parts one.1 hold)
-
   module _ (separator : List ℕ) (w : ℕ) (cut : List ℕ → List (List ℕ)) (whole_again : (cs : List ℕ) → rejoined separator (cut cs) ≡ cs)
       (cut_holds : (cs : List ℕ) → AllByRecursion R (cut cs)) (verbatim_holds : (text : List ℕ) → P (Verbatim text)) (math_holds : (text : List ℕ) → P (Math text)) where
     pieces_hold : (v : Chunk) (span : Range ℕ) → IsUtf8 (text_of v) → AllByRecursion (λ x. P x.v) (pieces w cut v span)
@@ -65,9 +69,12 @@ module _ (R : List ℕ → Type 0) (P : Chunk → Type 0)
     pieces_hold (Verbatim text) span utf8 = (verbatim_holds text, tt)
     pieces_hold (Math text) span utf8 = (math_holds text, tt)
 
+    all_pieces_hold : (chunks : List (Spanned Chunk)) → AreTexts chunks → AllByRecursion (λ c. AllByRecursion (λ x. P x.v) (pieces w cut c.v c.span)) chunks
+    all_pieces_hold [] texts = tt
+    all_pieces_hold (c ∷ rest) texts = (pieces_hold c.v c.span texts.0, all_pieces_hold rest texts.1)
+
     pub parts_hold : (chunks : List (Spanned Chunk)) → AreTexts chunks → AllByRecursion (AllByRecursion (λ x. P x.v)) (list_parts w cut chunks)
-    parts_hold [] texts = (tt, tt)
-    parts_hold (c ∷ rest) texts = joined_hold (pieces w cut c.v c.span) (list_parts w cut rest) (pieces_hold c.v c.span texts.0) (parts_hold rest texts.1)
+    parts_hold chunks texts = list_hold (λ x. P x.v) w cut chunks (all_pieces_hold chunks texts)
 
 neither : (a b : Bool) → (a || b) ≡ false → (a ≡ false) × (b ≡ false)
 neither true b none = absurd (false≢true (sym none))

@@ -1,5 +1,5 @@
 -- Facts on texts without the white space at their ends.
-use Rattle.std.proofs.Common.{◌≡◌, ℕ, Bool, true, false, cond, ◌&&◌, List, [], ◌∷◌, ◌++◌, length, map, refl, sym, ap, ◌∙◌, append-nil}
+use Rattle.std.proofs.Common.{◌≡◌, ℕ, Bool, true, false, cond, ◌&&◌, List, [], ◌∷◌, ◌++◌, length, map, refl, sym, ap, ◌∙◌, append-nil, ◌+◌, ◌-◌, arith, length-append}
 use Rattle.std.specs.Prelude.{◌==◌, encode_utf8_all, if◌then◌else◌}
 use Rattle.std.specs.Char.{is_whitespace}
 use Rattle.std.specs.List.{list_all}
@@ -8,7 +8,7 @@ use Rattle.std.specs.declared.ops.Range.{Range}
 use Rattle.std.proofs.Math.Utf8.{scalar, scalars}
 use Rattle.std.proofs.lemmas.Bool.{and_parts, eqb-true, false≢true}
 use Rattle.std.proofs.lemmas.List.{nil_from_length}
-use Rattle.std.proofs.lemmas.Str.{chars-encodes}
+use Rattle.std.proofs.lemmas.Str.{chars-encodes, encodes-append}
 use Rattle.bib_chunks.specs.declared.chunk.Chunk.{Chunk}
 use Rattle.bib_chunks.specs.declared.chunk.Chunk.TheVariants.{Normal}
 use Rattle.bib_text.specs.declared.spanned.Spanned.{Spanned}
@@ -93,6 +93,33 @@ part_chunk whole span at text =
       | false ↦ refl
     ]
 
+-- a piece, by what is left of its text
+pub record IsPiece (whole : List ℕ) (span : Range ℕ) (at : ℕ) (first last : Bool) (text : List ℕ) (here : Spanned Chunk) : Type 0 where
+  pub left : List ℕ
+  pub trimmed : IsTrimmed first last text left
+  pub valid : scalars left ≡ true
+  pub is : here ≡ part_of whole span (at + length (encode_utf8_all trimmed.lead)) (encode_utf8_all left)
+
+pub piece_is : (whole : List ℕ) (span : Range ℕ) (at : ℕ) (first last : Bool) (text : List ℕ) → scalars text ≡ true → IsPiece whole span at first last text (piece whole span at first last (encode_utf8_all text))
+piece_is whole span at first last text valid =
+    let start = start_parts first text in
+    let begun = start_left first text in
+    let begun_valid : scalars begun ≡ true = (scalars_parts start.0 begun (ap scalars (sym start.1) ∙ valid)).1 in
+    let end = end_parts last begun in
+    let left = end_left last begun in
+    let left_valid : scalars left ≡ true = (scalars_parts left end.0 (ap scalars (sym end.1) ∙ begun_valid)).0 in
+    let begun_bytes : trimmed_start first (encode_utf8_all text) ≡ encode_utf8_all begun = start_bytes first text valid in
+    let bytes : trimmed_end last (trimmed_start first (encode_utf8_all text)) ≡ encode_utf8_all left = ap (trimmed_end last) begun_bytes ∙ end_bytes last begun begun_valid in
+    let size : length (encode_utf8_all text) ≡ length (encode_utf8_all start.0) + length (encode_utf8_all begun) =
+    ap (λ cs. length (encode_utf8_all cs)) start.1 ∙ ap length (encodes-append start.0 begun) ∙ length-append (encode_utf8_all start.0) (encode_utf8_all begun) in
+    let skipped_bytes : length (encode_utf8_all text) - length (trimmed_start first (encode_utf8_all text)) ≡ length (encode_utf8_all start.0) = omega (arith, size, ap length begun_bytes) in
+    record {
+      left = left;
+      trimmed = record { lead = start.0; trail = end.0; is = start.1 ∙ ap (λ l. start.0 ++ l) end.1; white = start.2; blank = end.2; begins = start.3; ends = end.3 };
+      valid = left_valid;
+      is = ap (λ n. part_of whole span (at + n) (trimmed_end last (trimmed_start first (encode_utf8_all text)))) skipped_bytes ∙ ap (part_of whole span (at + length (encode_utf8_all start.0))) bytes;
+    }
+
 -- what a piece says
 pub record SaysPiece (first last : Bool) (text : List ℕ) (here : Spanned Chunk) : Type 0 where
   pub left : List ℕ
@@ -103,18 +130,12 @@ pub record SaysPiece (first last : Bool) (text : List ℕ) (here : Spanned Chunk
 
 pub piece_says : (whole : List ℕ) (span : Range ℕ) (at : ℕ) (first last : Bool) (text : List ℕ) → scalars text ≡ true → SaysPiece first last text (piece whole span at first last (encode_utf8_all text))
 piece_says whole span at first last text valid =
-    let start = start_parts first text in
-    let begun = start_left first text in
-    let begun_valid : scalars begun ≡ true = (scalars_parts start.0 begun (ap scalars (sym start.1) ∙ valid)).1 in
-    let end = end_parts last begun in
-    let left = end_left last begun in
-    let left_valid : scalars left ≡ true = (scalars_parts left end.0 (ap scalars (sym end.1) ∙ begun_valid)).0 in
-    let bytes : trimmed_end last (trimmed_start first (encode_utf8_all text)) ≡ encode_utf8_all left = ap (trimmed_end last) (start_bytes first text valid) ∙ end_bytes last begun begun_valid in
-    let chunk : (piece whole span at first last (encode_utf8_all text)).v ≡ Normal (encode_utf8_all left) = part_chunk whole span _ _ ∙ ap Normal bytes in
+    let one = piece_is whole span at first last text valid in
+    let chunk : (piece whole span at first last (encode_utf8_all text)).v ≡ Normal (encode_utf8_all one.left) = ap (λ c. c.v) one.is ∙ part_chunk whole span _ _ in
     record {
-      left = left;
-      trimmed = record { lead = start.0; trail = end.0; is = start.1 ∙ ap (λ l. start.0 ++ l) end.1; white = start.2; blank = end.2; begins = start.3; ends = end.3 };
-      valid = left_valid;
+      left = one.left;
+      trimmed = one.trimmed;
+      valid = one.valid;
       is = chunk;
-      says = ap atoms_of chunk ∙ ap (map Atom.normal) (chars-encodes left left_valid);
+      says = ap atoms_of chunk ∙ ap (map Atom.normal) (chars-encodes one.left one.valid);
     }

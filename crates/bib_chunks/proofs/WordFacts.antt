@@ -146,7 +146,7 @@ trimmed_text first last (Normal text) span utf8 =
 trimmed_text first last (Verbatim text) span utf8 = utf8
 trimmed_text first last (Math text) span utf8 = utf8
 
-trimmed_texts : (first : Bool) (chunks : List (Spanned Chunk)) → AreTexts chunks → AreTexts (trimmed_from first chunks)
+pub trimmed_texts : (first : Bool) (chunks : List (Spanned Chunk)) → AreTexts chunks → AreTexts (trimmed_from first chunks)
 trimmed_texts first [] texts = tt
 trimmed_texts first (c ∷ []) texts = (trimmed_text first true c.v c.span texts.0, tt)
 trimmed_texts first (c ∷ after ∷ more) texts = (trimmed_text first false c.v c.span texts.0, trimmed_texts false (after ∷ more) texts.1)

@@ -1,7 +1,7 @@
 -- What the parts of a list say: words of laws.
-use Rattle.std.specs.Prelude.{◌≡◌, ℕ, ◌==◌, Bool, true, false, List, [], ◌∷◌, ◌++◌}
+use Rattle.std.specs.Prelude.{◌≡◌, ℕ, ◌==◌, Bool, true, false, List, [], ◌∷◌, ◌++◌, ◌+◌, ◌<◌, ◌^◌, length}
 use Rattle.std.specs.Char.{is_whitespace}
-use Rattle.std.specs.List.{list_all, list_any, AllByRecursion}
+use Rattle.std.specs.List.{list_all, list_any, AllByRecursion, Contains}
 use Rattle.std.specs.Str.{IsUtf8, chars}
 use Rattle.bib_chunks.specs.declared.chunk.Chunk.{Chunk}
 use Rattle.bib_chunks.specs.declared.chunk.Chunk.TheVariants.{Normal, Verbatim, Math}
@@ -11,6 +11,22 @@ use Rattle.bib_chunks.specs.Styled.{Atom, styled, text_of}
 -- the texts of chunks are UTF-8, as each `Text` is
 abbrev pub AreTexts : List (Spanned Chunk) → Type 0
 AreTexts = AllByRecursion (λ c. IsUtf8 (text_of c.v))
+
+-- a chunk's bytes are as many as those of its text, below the highest number
+abbrev pub IsAsLong : Spanned Chunk → Type 0
+IsAsLong c = (c.span.end ≡ c.span.start + length (text_of c.v)) × (c.span.end < 2 ^ 64)
+
+-- a piece stands in the bytes of a chunk where its text stands in the chunk's text
+pub record StandsIn (c here : Spanned Chunk) : Type 0 where
+  pub before : List ℕ
+  pub behind : List ℕ
+  pub is : text_of c.v ≡ before ++ (text_of here.v ++ behind)
+  pub start : here.span.start ≡ c.span.start + length before
+  pub end : here.span.end ≡ here.span.start + length (text_of here.v)
+
+-- it does in one of these
+abbrev pub StandsInOne : List (Spanned Chunk) → Spanned Chunk → Type 0
+StandsInOne chunks here = (c : Spanned Chunk) × Contains chunks c × StandsIn c here
 
 -- whether an atom is normal white space
 abbrev pub is_normal_space : Atom → Bool

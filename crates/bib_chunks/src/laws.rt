@@ -5,7 +5,7 @@ ghost use Rattle.std.specs.List.{AllByRecursion};
 ghost use Rattle.bib_chunks.specs.declared.chunk.Chunk.{Chunk as AChunk};
 ghost use Rattle.bib_text.specs.declared.spanned.Spanned.{Spanned as APlaced};
 ghost use Rattle.bib_chunks.specs.Cuts.{comma_list, and_list};
-ghost use Rattle.bib_chunks.specs.Parted.{AreTexts, HoldsNoAnd, HoldsNoComma, IsList, IsSpaced, and_word, comma};
+ghost use Rattle.bib_chunks.specs.Parted.{AreTexts, HoldsNoAnd, HoldsNoComma, IsAsLong, IsList, IsSpaced, StandsInOne, and_word, comma};
 ghost use Rattle.bib_chunks.specs.Styled.{Atom, styled};
 
 /// The parts of a comma list with commas between them are its styled text again, but for white space next to the commas.
@@ -31,4 +31,15 @@ pub fn and_list_is_whole()
 pub fn no_and_in_parts()
     ensures { (chunks : List (APlaced AChunk)) → AreTexts chunks →
         AllByRecursion HoldsNoAnd (and_list chunks) }
+{}
+
+/// In a list of chunks whose bytes are as many as those of their texts, each piece of a part stands in the bytes of one
+/// of the chunks where its text stands in the text of that chunk.
+pub fn pieces_stand_where_their_texts_do()
+    ensures commas { (chunks : List (APlaced AChunk)) → AreTexts chunks →
+        AllByRecursion IsAsLong chunks →
+        AllByRecursion (AllByRecursion (StandsInOne chunks)) (comma_list chunks) }
+    ensures ands { (chunks : List (APlaced AChunk)) → AreTexts chunks →
+        AllByRecursion IsAsLong chunks →
+        AllByRecursion (AllByRecursion (StandsInOne chunks)) (and_list chunks) }
 {}
