@@ -19,7 +19,7 @@ abbrev pub word_here : Bool → List ℕ → Bool
 word_here space (a ∷ n ∷ d ∷ rest) = space && is_and a n d && begins_with_space rest
 word_here space rest = false
 
-word_letters : (space : Bool) (cs : List ℕ) → word_here space cs ≡ true → (rest : List ℕ) × (cs ≡ 97 ∷ 110 ∷ 100 ∷ rest) × (begins_with_space rest ≡ true)
+pub word_letters : (space : Bool) (cs : List ℕ) → word_here space cs ≡ true → (rest : List ℕ) × (cs ≡ 97 ∷ 110 ∷ 100 ∷ rest) × (begins_with_space rest ≡ true)
 word_letters space [] here = absurd (false≢true here)
 word_letters space (a ∷ []) here = absurd (false≢true here)
 word_letters space (a ∷ n ∷ []) here = absurd (false≢true here)

@@ -142,7 +142,7 @@ between_some : (separator : Separator) (cs : List ℕ) → (text : List ℕ) × 
 between_some Comma cs = commas_some cs
 between_some And cs = ands_some false cs
 
-pieces_some : (w : ℕ) (whole : List ℕ) (span : Range ℕ) (at : ℕ) (behind : Bool) (text : List ℕ) (more : List (List ℕ))
+pub pieces_some : (w : ℕ) (whole : List ℕ) (span : Range ℕ) (at : ℕ) (behind : Bool) (text : List ℕ) (more : List (List ℕ))
     → (x : Spanned Chunk) × (xs : List (Spanned Chunk)) × (pieces_between w whole span at behind (text ∷ more) ≡ x ∷ xs)
 pieces_some w whole span at behind text [] = (_, _, refl)
 pieces_some w whole span at behind text (next ∷ more) = (_, _, refl)

@@ -3,7 +3,12 @@ pub mod BraceFacts
 pub mod CutFacts
 pub mod FormattedFacts
 pub mod ListFacts
+pub mod PartFacts
 pub mod SettledFacts
 pub mod SpanFacts
+pub mod StandFacts
 pub mod StyledFacts
+pub mod TrimFacts
+pub mod WholeFacts
+pub mod WordFacts
 pub mod WrittenFacts

@@ -4,6 +4,7 @@ pub mod Formatted
 pub mod Joining
 pub mod Lending
 pub mod Lists
+pub mod Parted
 pub mod Settled
 pub mod Settling
 pub mod Styled

@@ -2,3 +2,4 @@
 #![tactic(auto)]
 
 pub mod chunk;
+pub mod laws;

@@ -1,7 +1,9 @@
 //! Chunks: formatting, writing, settled values and cuts.
 
 use crate::checks::agrees;
-use bib_chunks::chunk::{Chunk, Chunks, ChunksExt, Spanned, cuts, is_settled};
+use bib_chunks::chunk::{
+    Chunk, Chunks, ChunksExt, Spanned, cuts, format_styled, is_settled, lists,
+};
 use bib_text::items::Items;
 use bib_text::text::Text;
 use std::alloc::{AllocError, Global};
@@ -161,6 +163,27 @@ fn formats_verbatim(rt: HostRuntime) -> Result<(), Fail> {
     Ok(())
 }
 
+// The styled text of chunks of these parts, formatted.
+fn styled(alloc: Global, parts: Parts) -> Result<String, AllocError> {
+    format_styled(alloc, chunks(alloc, parts)?.as_slice())
+}
+
+#[test]
+fn formats_styled_texts(rt: HostRuntime) -> Result<(), Fail> {
+    let alloc = rt.alloc();
+    let rows: [(Parts, &str); 5] = [
+        (&[], ""),
+        (&[('n', "a "), ('v', ""), ('n', "\nb")], "a b"),
+        (&[('v', ""), ('n', "a\n"), ('n', ""), ('n', "\rb")], "a b"),
+        (&[('v', "a\n"), ('n', "\nb"), ('m', "")], "a\nb$$"),
+        (&[('n', "é\u{2003}\nü")], "é\u{2003}ü"),
+    ];
+    for (parts, text) in rows {
+        agrees(&rt, styled(alloc, parts)?.as_str(), text);
+    }
+    Ok(())
+}
+
 // Chunks of these parts, formatted as a sentence.
 fn sentence(alloc: Global, parts: Parts) -> Result<String, AllocError> {
     chunks(alloc, parts)?.as_slice().format_sentence(alloc)
@@ -215,6 +238,32 @@ fn cuts_at_commas(rt: HostRuntime) -> Result<(), Fail> {
     ];
     for (parts, text) in rows {
         agrees(&rt, comma_list(alloc, parts)?.as_str(), text);
+    }
+    Ok(())
+}
+
+// The texts between the commas of a styled text, a bar before each.
+fn comma_texts(alloc: Global, parts: Parts) -> Result<String, AllocError> {
+    let all = chunks(alloc, parts)?;
+    let mut out = String::new(alloc);
+    for text in &lists::comma_texts(alloc, all.as_slice())? {
+        out.push('|')?;
+        out.push_str(text.as_str())?;
+    }
+    Ok(out)
+}
+
+#[test]
+fn cuts_styled_texts_at_commas(rt: HostRuntime) -> Result<(), Fail> {
+    let alloc = rt.alloc();
+    let rows: [(Parts, &str); 4] = [
+        (&[], "|"),
+        (&[('n', "a"), ('n', " ,b"), ('n', ", c ")], "|a|b|c "),
+        (&[('n', "a ,"), ('v', ""), ('n', " b")], "|a|b"),
+        (&[('n', "a , "), ('v', "b,c"), ('m', "x,y")], "|a|b,c$x,y$"),
+    ];
+    for (parts, text) in rows {
+        agrees(&rt, comma_texts(alloc, parts)?.as_str(), text);
     }
     Ok(())
 }

@@ -1,0 +1,45 @@
+//! Laws of lists. These functions do nothing: what they ensure is proved of the definitions alone.
+
+ghost use Rattle.std.specs.Prelude.{◌≡◌, List, map};
+ghost use Rattle.std.specs.List.{AllByRecursion};
+ghost use Rattle.bib_chunks.specs.declared.chunk.Chunk.{Chunk as AChunk};
+ghost use Rattle.bib_text.specs.declared.spanned.Spanned.{Spanned as APlaced};
+ghost use Rattle.bib_chunks.specs.Cuts.{comma_list, and_list};
+ghost use Rattle.bib_chunks.specs.Parted.{AreTexts, HoldsNoAnd, HoldsNoComma, IsAsLong, IsList, IsSpaced, StandsInOne, and_word, comma};
+ghost use Rattle.bib_chunks.specs.Styled.{Atom, styled};
+
+/// The parts of a comma list with commas between them are its styled text again, but for white space next to the commas.
+pub fn comma_list_is_whole()
+    ensures { (chunks : List (APlaced AChunk)) → AreTexts chunks →
+        IsList comma (map styled (comma_list chunks)) (styled chunks) }
+{}
+
+/// No part of a comma list holds a normal comma.
+pub fn no_comma_in_parts()
+    ensures { (chunks : List (APlaced AChunk)) → AreTexts chunks →
+        AllByRecursion HoldsNoComma (comma_list chunks) }
+{}
+
+/// The parts of an `and` list with the word `and` between them are its styled text again, but for white space next to the
+/// words and at both ends.
+pub fn and_list_is_whole()
+    ensures { (chunks : List (APlaced AChunk)) → AreTexts chunks → (inside : List Atom) ×
+        IsSpaced inside (styled chunks) × IsList and_word (map styled (and_list chunks)) inside }
+{}
+
+/// No normal chunk in a part of an `and` list holds a word `and` between white space.
+pub fn no_and_in_parts()
+    ensures { (chunks : List (APlaced AChunk)) → AreTexts chunks →
+        AllByRecursion HoldsNoAnd (and_list chunks) }
+{}
+
+/// In a list of chunks whose bytes are as many as those of their texts, each piece of a part stands in the bytes of one
+/// of the chunks where its text stands in the text of that chunk.
+pub fn pieces_stand_where_their_texts_do()
+    ensures commas { (chunks : List (APlaced AChunk)) → AreTexts chunks →
+        AllByRecursion IsAsLong chunks →
+        AllByRecursion (AllByRecursion (StandsInOne chunks)) (comma_list chunks) }
+    ensures ands { (chunks : List (APlaced AChunk)) → AreTexts chunks →
+        AllByRecursion IsAsLong chunks →
+        AllByRecursion (AllByRecursion (StandsInOne chunks)) (and_list chunks) }
+{}
