@@ -1,5 +1,5 @@
 -- How the name in a file is read: as it is written, or in small letters.
-use Rattle.std.proofs.Common.{◌≡◌, ℕ, Bool, true, false, inl, inr, subst, List, [], ◌∷◌, ◌++◌, Option, None, Some, refl, sym, ap, ◌∙◌, map, cond}
+use Rattle.std.proofs.Common.{◌≡◌, ℕ, Bool, true, false, inl, inr, subst, List, [], ◌∷◌, Option, None, Some, refl, sym, ap, ◌∙◌, map, cond}
 use Rattle.std.specs.Prelude.{bytes_eq, unwrap_or}
 use Rattle.std.specs.Char.{to_ascii_lowercase}
 use Rattle.std.specs.List.{list_all}
@@ -9,7 +9,7 @@ use Rattle.bib_text.specs.Enums.{named}
 use Rattle.bib_text.proofs.EnumFacts.{named-append-some}
 use Rattle.bib_tables.specs.declared.mechanics.EntryType.{EntryType}
 use Rattle.bib_tables.specs.declared.mechanics.EntryType.TheVariants.{Article, Book, Booklet, InBook, InCollection, InProceedings, Manual, MastersThesis, PhdThesis, Misc, Proceedings, TechReport, Unpublished, MvBook, BookInBook, SuppBook, Periodical, SuppPeriodical, Collection, MvCollection, SuppCollection, Reference, MvReference, InReference, MvProceedings, Report, Patent, Thesis, Online, Software, Dataset, Set, XData, Unknown}
-use Rattle.bib_tables.specs.EntryType.{entry_type_named, named_or_alias, entry_type_of, bibtex_names, volume_names, other_names, alias_names, entry_type_name, biblatex_type}
+use Rattle.bib_tables.specs.EntryType.{entry_type_named, named_or_alias, entry_type_of, type_names, alias_names, entry_type_name, biblatex_type}
 
 -- a table's names are all in small letters
 abbrev pub is_lowered : {A : Type 0} → List (List ℕ × A) → Bool
@@ -44,8 +44,8 @@ type_unknown name lowered is none =
 pub type_as_written : (name : List ℕ) (type : EntryType) → entry_type_named name ≡ Some type → entry_type_of name ≡ type
 unfolding entry_type_named named_or_alias
 type_as_written name type found =
-    type_as_lowered name name type (sym (named_is_lowered (bibtex_names ++ (volume_names ++ other_names)) name type refl found))
-    (named-append-some (bibtex_names ++ (volume_names ++ other_names)) alias_names name type found)
+    type_as_lowered name name type (sym (named_is_lowered type_names name type refl found))
+    (named-append-some type_names alias_names name type found)
 
 -- a type of BibLaTeX's own is read again from its name
 pub type_reread : (type : EntryType) → entry_type_of (entry_type_name (biblatex_type type)) ≡ biblatex_type type

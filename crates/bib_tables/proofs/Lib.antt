@@ -1,1 +1,2 @@
 pub mod EntryTypeFacts
+pub mod RequirementsFacts

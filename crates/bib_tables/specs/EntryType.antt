@@ -43,22 +43,13 @@ entry_type_name Set = codes "set"
 entry_type_name XData = codes "xdata"
 entry_type_name (Unknown name) = codes "unknown"
 
--- BibTeX's types, each beside its name
-abbrev pub bibtex_names : List (List ℕ × EntryType)
-bibtex_names = by_name entry_type_name
+-- the named types, each beside its name
+abbrev pub type_names : List (List ℕ × EntryType)
+type_names = by_name entry_type_name
     (Article ∷ Book ∷ Booklet ∷ InBook ∷ InCollection ∷ InProceedings ∷ Manual ∷ MastersThesis ∷ PhdThesis ∷
-    Misc ∷ Proceedings ∷ TechReport ∷ Unpublished ∷ [])
-
--- BibLaTeX's further types of books, periodicals and collections, their parts and volumes, each beside its name
-abbrev pub volume_names : List (List ℕ × EntryType)
-volume_names = by_name entry_type_name
-    (MvBook ∷ BookInBook ∷ SuppBook ∷ Periodical ∷ SuppPeriodical ∷ Collection ∷ MvCollection ∷
-    SuppCollection ∷ Reference ∷ MvReference ∷ InReference ∷ MvProceedings ∷ [])
-
--- BibLaTeX's other types, each beside its name
-abbrev pub other_names : List (List ℕ × EntryType)
-other_names = by_name entry_type_name
-    (Report ∷ Patent ∷ Thesis ∷ Online ∷ Software ∷ Dataset ∷ Set ∷ XData ∷ [])
+    Misc ∷ Proceedings ∷ TechReport ∷ Unpublished ∷ MvBook ∷ BookInBook ∷ SuppBook ∷ Periodical ∷
+    SuppPeriodical ∷ Collection ∷ MvCollection ∷ SuppCollection ∷ Reference ∷ MvReference ∷ InReference ∷
+    MvProceedings ∷ Report ∷ Patent ∷ Thesis ∷ Online ∷ Software ∷ Dataset ∷ Set ∷ XData ∷ [])
 
 -- other names that BibLaTeX knows
 abbrev pub alias_names : List (List ℕ × EntryType)
@@ -66,11 +57,11 @@ alias_names = (codes "conference", InProceedings) ∷ (codes "electronic", Onlin
 
 -- the named type that has this name, exactly
 unfoldable pub entry_type_named : List ℕ → Option EntryType
-entry_type_named = named (bibtex_names ++ (volume_names ++ other_names))
+entry_type_named = named type_names
 
 -- the named type that has this name or alias, exactly
 unfoldable pub named_or_alias : List ℕ → Option EntryType
-named_or_alias = named ((bibtex_names ++ (volume_names ++ other_names)) ++ alias_names)
+named_or_alias = named (type_names ++ alias_names)
 
 -- the type that a file means by a name, in any ASCII case
 unfoldable pub entry_type_of : List ℕ → EntryType

@@ -1,7 +1,8 @@
 -- Meaning: words of public contracts.
 -- The fields that each type of entry asks for, by the BibLaTeX manual's tables of entry types. The lists are those
 -- by which this crate checks entries and lets them inherit.
-use Rattle.std.specs.Prelude.{ℕ, Bool, true, false, List, [], ◌∷◌, ◌++◌, codes, map}
+use Rattle.std.specs.Prelude.{ℕ, Bool, true, false, not, ◌&&◌, ◌||◌, List, [], ◌∷◌, ◌++◌, bytes_eq, codes, map}
+use Rattle.std.specs.List.{list_any}
 use Prim.Native.String.{String}
 use denote.Ref.{Bor}
 use Rattle.bib_text.specs.Enums.{words}
@@ -216,6 +217,24 @@ page_names pages.BothForbidden = []
 page_names pages.PagesOptional = fields "pages"
 page_names pages.PagesRequired = fields "pages"
 
--- the fields that an entry of a type may take over from the entries that it refers to
-abbrev pub inheritable : EntryType → Names
-inheritable type = (rules_of type).required ++ (rules_of type).optional ++ page_names (rules_of type).pages ++ author_names (rules_of type).author
+-- the fields that such rules name, required, optional, of pages and chapters, and of authors and editors
+abbrev pub named_in : Rules → Names
+named_in asked = asked.required ++ asked.optional ++ page_names asked.pages ++ author_names asked.author
+
+-- whether a name is one of these
+abbrev pub is_one_of : Names → List ℕ → Bool
+is_one_of names name = list_any (λ each. bytes_eq each name) names
+
+-- the fields that no entry takes over
+abbrev pub never_inherited : Names
+never_inherited = fields "title addendum note"
+
+-- a container of fields
+abbrev pub is_container : EntryType → Bool
+is_container XData = true
+is_container _ = false
+
+-- whether an entry of a type takes over a field of this name, which it lacks, from an entry that it refers to: but for
+-- the three above, a container of fields takes over every field, and any other entry the fields that its type's rules name
+abbrev pub inherits : EntryType → List ℕ → Bool
+inherits type name = not (is_one_of never_inherited name) && (is_container type || is_one_of (named_in (rules_of type)) name)

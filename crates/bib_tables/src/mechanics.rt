@@ -3,7 +3,7 @@
 ghost use Rattle.std.specs.Prelude.{◌≡◌, Some, IsOk, IsSome, IfOk};
 ghost use Rattle.std.specs.Option.{ok_or};
 ghost use Rattle.bib_text.specs.Enums.{named};
-ghost use Rattle.bib_tables.specs.EntryType.{entry_type_name, entry_type_named, bibtex_names, volume_names, other_names, alias_names, named_or_alias, entry_type_of, known_type, biblatex_type, bibtex_type, is_multi_volume, is_collection};
+ghost use Rattle.bib_tables.specs.EntryType.{entry_type_name, entry_type_named, alias_names, named_or_alias, entry_type_of, known_type, biblatex_type, bibtex_type, is_multi_volume, is_collection};
 
 mod requirements;
 
@@ -85,6 +85,77 @@ pub enum EntryType {
     XData,
     /// Any other, by its name in small letters.
     Unknown(Text),
+}
+
+// The table of the named types, each with its name. It is handed to one of the macros below, which makes a match of it.
+macro_rules! with_named_types {
+    ($make:ident, $value:expr) => {
+        $make! { $value;
+            Article => "article",
+            Book => "book",
+            Booklet => "booklet",
+            InBook => "inbook",
+            InCollection => "incollection",
+            InProceedings => "inproceedings",
+            Manual => "manual",
+            MastersThesis => "mastersthesis",
+            PhdThesis => "phdthesis",
+            Misc => "misc",
+            Proceedings => "proceedings",
+            TechReport => "techreport",
+            Unpublished => "unpublished",
+            MvBook => "mvbook",
+            BookInBook => "bookinbook",
+            SuppBook => "suppbook",
+            Periodical => "periodical",
+            SuppPeriodical => "suppperiodical",
+            Collection => "collection",
+            MvCollection => "mvcollection",
+            SuppCollection => "suppcollection",
+            Reference => "reference",
+            MvReference => "mvreference",
+            InReference => "inreference",
+            MvProceedings => "mvproceedings",
+            Report => "report",
+            Patent => "patent",
+            Thesis => "thesis",
+            Online => "online",
+            Software => "software",
+            Dataset => "dataset",
+            Set => "set",
+            XData => "xdata",
+        }
+    };
+}
+
+// The name of a type.
+macro_rules! name_of {
+    ($kind:expr; $($variant:ident => $name:literal,)*) => {
+        match $kind {
+            $(Self::$variant => $name,)*
+            Self::Unknown(_) => "unknown",
+        }
+    };
+}
+
+// The named type that has this name.
+macro_rules! type_named {
+    ($text:expr; $($variant:ident => $name:literal,)*) => {
+        match $text {
+            $($name => Some(Self::$variant),)*
+            _ => None,
+        }
+    };
+}
+
+// A named type as it is, and `Misc` in place of any other.
+macro_rules! known_or_misc {
+    ($kind:expr; $($variant:ident => $name:literal,)*) => {
+        match $kind {
+            $(Self::$variant => Self::$variant,)*
+            Self::Unknown(_) => Self::Misc,
+        }
+    };
 }
 
 impl EntryType {
@@ -170,84 +241,14 @@ impl EntryType {
     fn name(&self) -> &'static str
         ensures { result.now ≡ entry_type_name self.now }
     {
-        match self {
-            Self::Article => "article",
-            Self::Book => "book",
-            Self::Booklet => "booklet",
-            Self::InBook => "inbook",
-            Self::InCollection => "incollection",
-            Self::InProceedings => "inproceedings",
-            Self::Manual => "manual",
-            Self::MastersThesis => "mastersthesis",
-            Self::PhdThesis => "phdthesis",
-            Self::Misc => "misc",
-            Self::Proceedings => "proceedings",
-            Self::TechReport => "techreport",
-            Self::Unpublished => "unpublished",
-            Self::MvBook => "mvbook",
-            Self::BookInBook => "bookinbook",
-            Self::SuppBook => "suppbook",
-            Self::Periodical => "periodical",
-            Self::SuppPeriodical => "suppperiodical",
-            Self::Collection => "collection",
-            Self::MvCollection => "mvcollection",
-            Self::SuppCollection => "suppcollection",
-            Self::Reference => "reference",
-            Self::MvReference => "mvreference",
-            Self::InReference => "inreference",
-            Self::MvProceedings => "mvproceedings",
-            Self::Report => "report",
-            Self::Patent => "patent",
-            Self::Thesis => "thesis",
-            Self::Online => "online",
-            Self::Software => "software",
-            Self::Dataset => "dataset",
-            Self::Set => "set",
-            Self::XData => "xdata",
-            Self::Unknown(_) => "unknown",
-        }
+        with_named_types!(name_of, self)
     }
 
     /// The type itself if it is named, and `Misc` if it isn't.
     fn known(&self) -> Self
         ensures { result ≡ known_type self.now }
     {
-        match self {
-            Self::Article => Self::Article,
-            Self::Book => Self::Book,
-            Self::Booklet => Self::Booklet,
-            Self::InBook => Self::InBook,
-            Self::InCollection => Self::InCollection,
-            Self::InProceedings => Self::InProceedings,
-            Self::Manual => Self::Manual,
-            Self::MastersThesis => Self::MastersThesis,
-            Self::PhdThesis => Self::PhdThesis,
-            Self::Misc => Self::Misc,
-            Self::Proceedings => Self::Proceedings,
-            Self::TechReport => Self::TechReport,
-            Self::Unpublished => Self::Unpublished,
-            Self::MvBook => Self::MvBook,
-            Self::BookInBook => Self::BookInBook,
-            Self::SuppBook => Self::SuppBook,
-            Self::Periodical => Self::Periodical,
-            Self::SuppPeriodical => Self::SuppPeriodical,
-            Self::Collection => Self::Collection,
-            Self::MvCollection => Self::MvCollection,
-            Self::SuppCollection => Self::SuppCollection,
-            Self::Reference => Self::Reference,
-            Self::MvReference => Self::MvReference,
-            Self::InReference => Self::InReference,
-            Self::MvProceedings => Self::MvProceedings,
-            Self::Report => Self::Report,
-            Self::Patent => Self::Patent,
-            Self::Thesis => Self::Thesis,
-            Self::Online => Self::Online,
-            Self::Software => Self::Software,
-            Self::Dataset => Self::Dataset,
-            Self::Set => Self::Set,
-            Self::XData => Self::XData,
-            Self::Unknown(_) => Self::Misc,
-        }
+        with_named_types!(known_or_misc, self)
     }
 
     fn named_or_alias(name: &str) -> Option<Self>
@@ -259,6 +260,12 @@ impl EntryType {
         Self::alias(name)
     }
 
+    fn named(name: &str) -> Option<Self>
+        ensures { result ≡ entry_type_named name.now }
+    {
+        with_named_types!(type_named, name)
+    }
+
     fn alias(name: &str) -> Option<Self>
         ensures { result ≡ named alias_names name.now }
     {
@@ -266,75 +273,6 @@ impl EntryType {
             "conference" => Some(Self::InProceedings),
             "electronic" => Some(Self::Online),
             "www" => Some(Self::Online),
-            _ => None,
-        }
-    }
-
-    fn named(name: &str) -> Option<Self>
-        ensures { result ≡ entry_type_named name.now }
-    {
-        if let Some(bibtex) = Self::bibtex_named(name) {
-            return Some(bibtex);
-        }
-        if let Some(volume) = Self::volume_named(name) {
-            return Some(volume);
-        }
-        Self::other_named(name)
-    }
-
-    fn bibtex_named(name: &str) -> Option<Self>
-        ensures { result ≡ named bibtex_names name.now }
-    {
-        match name {
-            "article" => Some(Self::Article),
-            "book" => Some(Self::Book),
-            "booklet" => Some(Self::Booklet),
-            "inbook" => Some(Self::InBook),
-            "incollection" => Some(Self::InCollection),
-            "inproceedings" => Some(Self::InProceedings),
-            "manual" => Some(Self::Manual),
-            "mastersthesis" => Some(Self::MastersThesis),
-            "phdthesis" => Some(Self::PhdThesis),
-            "misc" => Some(Self::Misc),
-            "proceedings" => Some(Self::Proceedings),
-            "techreport" => Some(Self::TechReport),
-            "unpublished" => Some(Self::Unpublished),
-            _ => None,
-        }
-    }
-
-    fn volume_named(name: &str) -> Option<Self>
-        ensures { result ≡ named volume_names name.now }
-    {
-        match name {
-            "mvbook" => Some(Self::MvBook),
-            "bookinbook" => Some(Self::BookInBook),
-            "suppbook" => Some(Self::SuppBook),
-            "periodical" => Some(Self::Periodical),
-            "suppperiodical" => Some(Self::SuppPeriodical),
-            "collection" => Some(Self::Collection),
-            "mvcollection" => Some(Self::MvCollection),
-            "suppcollection" => Some(Self::SuppCollection),
-            "reference" => Some(Self::Reference),
-            "mvreference" => Some(Self::MvReference),
-            "inreference" => Some(Self::InReference),
-            "mvproceedings" => Some(Self::MvProceedings),
-            _ => None,
-        }
-    }
-
-    fn other_named(name: &str) -> Option<Self>
-        ensures { result ≡ named other_names name.now }
-    {
-        match name {
-            "report" => Some(Self::Report),
-            "patent" => Some(Self::Patent),
-            "thesis" => Some(Self::Thesis),
-            "online" => Some(Self::Online),
-            "software" => Some(Self::Software),
-            "dataset" => Some(Self::Dataset),
-            "set" => Some(Self::Set),
-            "xdata" => Some(Self::XData),
             _ => None,
         }
     }

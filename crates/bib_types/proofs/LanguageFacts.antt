@@ -1,15 +1,9 @@
--- The code's table of languages is the definition's, and each language is read from its name.
-use Rattle.std.proofs.Common.{◌≡◌, Some, map, refl}
+-- Each language is read from its name.
+use Rattle.std.proofs.Common.{◌≡◌, Some, refl}
 use Rattle.std.specs.Char.{encode_utf8}
-use Rattle.bib_types.specs.declared.types.lang.TheConstants.{NAMES}
 use Rattle.bib_types.specs.declared.types.lang.Language.{Language}
 use Rattle.bib_types.specs.declared.types.lang.Language.TheVariants.{Basque, Bulgarian, Catalan, Croatian, Czech, Danish, Dutch, EnglishUS, EnglishUK, EnglishCA, EnglishAUS, EnglishNZ, Estonian, Finnish, French, German, GermanAT, GermanCH, GermanNew, GermanATNew, GermanCHNew, Greek, Hungarian, Icelandic, Italian, Latvian, Lithuanian, Marathi, NorwegianBokmal, NorwegainNynorsk, Polish, PortugueseBR, Portuguese, Romanian, Russian, SerbianLatin, SerbianCyrillic, Slovak, Slovene, Spanish, Swedish, Turkish, Ukrainian}
-use Rattle.bib_types.specs.Language.{language_row, language_names, language_named}
-
--- row for row
-pub names_are : map (λ row. (row.0.now, row.1)) NAMES ≡ language_names
-unfolding encode_utf8
-names_are = refl
+use Rattle.bib_types.specs.Language.{language_row, language_named}
 
 -- a language's name is read as the language
 pub language_named-name : (language : Language) → language_named (language_row language).name ≡ Some language

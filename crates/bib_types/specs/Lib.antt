@@ -2,3 +2,4 @@ pub mod EditorType
 pub mod Gender
 pub mod Language
 pub mod Pagination
+pub mod LanguageRows

@@ -1,9 +1,8 @@
 //! Small enumerations of BibLaTeX: how pages are counted, what an editor did, the gender of a name.
 
-ghost use Rattle.std.specs.Prelude.{◌≡◌, ◌↔◌, Some, IsOk, IsSome, IsTrue, IfOk, IsOkUnless, map};
+ghost use Rattle.std.specs.Prelude.{◌≡◌, ◌↔◌, Some, IsOk, IsSome, IsTrue, IfOk, IsOkUnless};
 ghost use Rattle.std.specs.List.{list_all};
 ghost use Rattle.std.specs.Option.{ok_or};
-ghost use Rattle.bib_text.specs.Enums.{named};
 ghost use Rattle.bib_types.specs.Pagination.{pagination_name, pagination_named};
 ghost use Rattle.bib_types.specs.EditorType.{editor_type_name, named_editor_type, editor_type_of};
 ghost use Rattle.bib_types.specs.Gender.{gender_name, plural_of, singular_of, coalesced, group_gender, is_female, is_male};
@@ -25,18 +24,6 @@ pub enum NameError {
     /// The memory for a copy of the name was refused.
     #[error("out of memory")]
     OutOfMemory,
-}
-
-/// The value beside a name in a table.
-pub(crate) fn find_named<T: Copy>(table: &[(&str, T)], name: &str) -> Option<T>
-    ensures { result ≡ named (map (λ row. (row.0.now, row.1)) table.entry.now) name.now }
-{
-    for (text, value) in table {
-        if *text == name {
-            return Some(*value);
-        }
-    }
-    None
 }
 
 /// What the numbers of `pages` count.

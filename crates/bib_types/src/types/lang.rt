@@ -3,8 +3,9 @@
 ghost use Rattle.std.specs.Prelude.{◌≡◌, Some, Option};
 ghost use Rattle.std.specs.Option.{ok_or};
 ghost use Rattle.bib_types.specs.Language.{language_row, language_named};
+ghost use Rattle.bib_types.specs.LanguageRows.{is_read_by, row_named};
 
-use crate::types::{NameError, find_named};
+use crate::types::NameError;
 use std::fmt;
 use std::str::FromStr;
 
@@ -99,113 +100,182 @@ pub enum Language {
     Ukrainian,
 }
 
+/// A language, its name, its tag, and the other names by which it is read.
+type Row = (
+    Language,
+    &'static str,
+    &'static str,
+    &'static [&'static str],
+);
+
+/// The languages, in the order of the variants.
+static LANGUAGES: [Row; 43] = [
+    (Language::Basque, "Basque", "eu", &["basque"]),
+    (Language::Bulgarian, "Bulgarian", "bg", &["bulgarian"]),
+    (Language::Catalan, "Catalan", "ca", &["catalan"]),
+    (Language::Croatian, "Croatian", "hr", &["croatian"]),
+    (Language::Czech, "Czech", "cs", &["czech"]),
+    (Language::Danish, "Danish", "da", &["danish"]),
+    (Language::Dutch, "Dutch", "nl", &["dutch"]),
+    (
+        Language::EnglishUS,
+        "American English",
+        "en-US",
+        &["american", "USenglish", "english"],
+    ),
+    (
+        Language::EnglishUK,
+        "British English",
+        "en-UK",
+        &["british", "UKenglish"],
+    ),
+    (
+        Language::EnglishCA,
+        "Canadian English",
+        "en-CA",
+        &["canadian"],
+    ),
+    (
+        Language::EnglishAUS,
+        "Australian English",
+        "en-AU",
+        &["australian"],
+    ),
+    (
+        Language::EnglishNZ,
+        "New Zealand English",
+        "en-NZ",
+        &["newzealand"],
+    ),
+    (Language::Estonian, "Estonian", "et", &["estonian"]),
+    (Language::Finnish, "Finnish", "fi", &["finnish"]),
+    (Language::French, "French", "fr", &["french"]),
+    (Language::German, "German", "de", &["german"]),
+    (Language::GermanAT, "Austrian", "de-AT", &["austrian"]),
+    (
+        Language::GermanCH,
+        "Swiss German",
+        "de-CH",
+        &["swissgerman"],
+    ),
+    (Language::GermanNew, "New German", "de", &["ngerman"]),
+    (
+        Language::GermanATNew,
+        "New Austrian",
+        "de-AT",
+        &["naustrian"],
+    ),
+    (
+        Language::GermanCHNew,
+        "New Swiss German",
+        "de-CH",
+        &["nswissgerman"],
+    ),
+    (Language::Greek, "Greek", "el", &["greek"]),
+    (
+        Language::Hungarian,
+        "Hungarian",
+        "hu",
+        &["hungarian", "magyar"],
+    ),
+    (Language::Icelandic, "Icelandic", "is", &["icelandic"]),
+    (Language::Italian, "Italian", "it", &["italian"]),
+    (Language::Latvian, "Latvian", "lv", &["latvian"]),
+    (Language::Lithuanian, "Lithuanian", "lt", &["lithuanian"]),
+    (Language::Marathi, "Marathi", "mr", &["marathi"]),
+    (
+        Language::NorwegianBokmal,
+        "Norwegian (Bokmål)",
+        "nb",
+        &["norsk"],
+    ),
+    (
+        Language::NorwegainNynorsk,
+        "Norwegian (Nynorsk)",
+        "nn",
+        &["nynorsk"],
+    ),
+    (Language::Polish, "Polish", "pl", &["polish"]),
+    (
+        Language::PortugueseBR,
+        "Brazilian Portuguese",
+        "pt-BR",
+        &["brazil"],
+    ),
+    (
+        Language::Portuguese,
+        "Portuguese",
+        "pt-PT",
+        &["portuguese", "portuges"],
+    ),
+    (Language::Romanian, "Romanian", "ro", &["romanian"]),
+    (Language::Russian, "Russian", "ru", &["russian"]),
+    (
+        Language::SerbianLatin,
+        "Serbian (Latin)",
+        "sr-Latn",
+        &["serbian"],
+    ),
+    (
+        Language::SerbianCyrillic,
+        "Serbian (Cyrillic)",
+        "sr-Cyrl",
+        &["serbianc"],
+    ),
+    (Language::Slovak, "Slovak", "sk", &["slovak"]),
+    (
+        Language::Slovene,
+        "Slovene",
+        "sl",
+        &["slovene", "slovenian"],
+    ),
+    (Language::Spanish, "Spanish", "es", &["spanish"]),
+    (Language::Swedish, "Swedish", "sv", &["swedish"]),
+    (Language::Turkish, "Turkish", "tr", &["turkish"]),
+    (Language::Ukrainian, "Ukrainian", "uk", &["ukrainian"]),
+];
+
 impl Language {
     /// The language tag.
     pub fn tag(self) -> &'static str
         ensures { result.now ≡ (language_row self).tag }
     {
-        match self {
-            Self::Basque => "eu",
-            Self::Bulgarian => "bg",
-            Self::Catalan => "ca",
-            Self::Croatian => "hr",
-            Self::Czech => "cs",
-            Self::Danish => "da",
-            Self::Dutch => "nl",
-            Self::EnglishUS => "en-US",
-            Self::EnglishUK => "en-UK",
-            Self::EnglishCA => "en-CA",
-            Self::EnglishAUS => "en-AU",
-            Self::EnglishNZ => "en-NZ",
-            Self::Estonian => "et",
-            Self::Finnish => "fi",
-            Self::French => "fr",
-            Self::German => "de",
-            Self::GermanAT => "de-AT",
-            Self::GermanCH => "de-CH",
-            Self::GermanNew => "de",
-            Self::GermanATNew => "de-AT",
-            Self::GermanCHNew => "de-CH",
-            Self::Greek => "el",
-            Self::Hungarian => "hu",
-            Self::Icelandic => "is",
-            Self::Italian => "it",
-            Self::Latvian => "lv",
-            Self::Lithuanian => "lt",
-            Self::Marathi => "mr",
-            Self::NorwegianBokmal => "nb",
-            Self::NorwegainNynorsk => "nn",
-            Self::Polish => "pl",
-            Self::PortugueseBR => "pt-BR",
-            Self::Portuguese => "pt-PT",
-            Self::Romanian => "ro",
-            Self::Russian => "ru",
-            Self::SerbianLatin => "sr-Latn",
-            Self::SerbianCyrillic => "sr-Cyrl",
-            Self::Slovak => "sk",
-            Self::Slovene => "sl",
-            Self::Spanish => "es",
-            Self::Swedish => "sv",
-            Self::Turkish => "tr",
-            Self::Ukrainian => "uk",
-        }
+        let (_, _, tag, _) = LANGUAGES[self as usize];
+        tag
     }
 
     fn name(self) -> &'static str
         ensures { result.now ≡ (language_row self).name }
     {
-        match self {
-            Self::Basque => "Basque",
-            Self::Bulgarian => "Bulgarian",
-            Self::Catalan => "Catalan",
-            Self::Croatian => "Croatian",
-            Self::Czech => "Czech",
-            Self::Danish => "Danish",
-            Self::Dutch => "Dutch",
-            Self::EnglishUS => "American English",
-            Self::EnglishUK => "British English",
-            Self::EnglishCA => "Canadian English",
-            Self::EnglishAUS => "Australian English",
-            Self::EnglishNZ => "New Zealand English",
-            Self::Estonian => "Estonian",
-            Self::Finnish => "Finnish",
-            Self::French => "French",
-            Self::German => "German",
-            Self::GermanAT => "Austrian",
-            Self::GermanCH => "Swiss German",
-            Self::GermanNew => "New German",
-            Self::GermanATNew => "New Austrian",
-            Self::GermanCHNew => "New Swiss German",
-            Self::Greek => "Greek",
-            Self::Hungarian => "Hungarian",
-            Self::Icelandic => "Icelandic",
-            Self::Italian => "Italian",
-            Self::Latvian => "Latvian",
-            Self::Lithuanian => "Lithuanian",
-            Self::Marathi => "Marathi",
-            Self::NorwegianBokmal => "Norwegian (Bokmål)",
-            Self::NorwegainNynorsk => "Norwegian (Nynorsk)",
-            Self::Polish => "Polish",
-            Self::PortugueseBR => "Brazilian Portuguese",
-            Self::Portuguese => "Portuguese",
-            Self::Romanian => "Romanian",
-            Self::Russian => "Russian",
-            Self::SerbianLatin => "Serbian (Latin)",
-            Self::SerbianCyrillic => "Serbian (Cyrillic)",
-            Self::Slovak => "Slovak",
-            Self::Slovene => "Slovene",
-            Self::Spanish => "Spanish",
-            Self::Swedish => "Swedish",
-            Self::Turkish => "Turkish",
-            Self::Ukrainian => "Ukrainian",
-        }
+        let (_, name, _, _) = LANGUAGES[self as usize];
+        name
     }
 
     fn named(text: &str) -> Option<Self>
         ensures { result ≡ language_named text.now }
     {
-        find_named(&NAMES, text)
+        find_named(&LANGUAGES, text)
     }
+}
+
+/// The language of the first row with this name.
+fn find_named(rows: &[Row], text: &str) -> Option<Language>
+    ensures { result ≡ row_named rows.entry.now text.now }
+{
+    for row in rows {
+        if is_read_by(row, text) {
+            return Some(row.0);
+        }
+    }
+    None
+}
+
+/// Whether the language of this row has this name.
+fn is_read_by(row: &Row, text: &str) -> bool
+    ensures { result ≡ is_read_by row.entry.now text.now }
+{
+    let (_, name, _, others) = row;
+    *name == text || others.contains(&text)
 }
 
 /// Writes the language's name.
@@ -229,98 +299,3 @@ impl FromStr for Language {
         Self::named(text).ok_or(NameError::Unknown)
     }
 }
-
-static NAMES: [(&str, Language); 92] = [
-    ("Basque", Language::Basque),
-    ("basque", Language::Basque),
-    ("Bulgarian", Language::Bulgarian),
-    ("bulgarian", Language::Bulgarian),
-    ("Catalan", Language::Catalan),
-    ("catalan", Language::Catalan),
-    ("Croatian", Language::Croatian),
-    ("croatian", Language::Croatian),
-    ("Czech", Language::Czech),
-    ("czech", Language::Czech),
-    ("Danish", Language::Danish),
-    ("danish", Language::Danish),
-    ("Dutch", Language::Dutch),
-    ("dutch", Language::Dutch),
-    ("American English", Language::EnglishUS),
-    ("american", Language::EnglishUS),
-    ("USenglish", Language::EnglishUS),
-    ("english", Language::EnglishUS),
-    ("British English", Language::EnglishUK),
-    ("british", Language::EnglishUK),
-    ("UKenglish", Language::EnglishUK),
-    ("Canadian English", Language::EnglishCA),
-    ("canadian", Language::EnglishCA),
-    ("Australian English", Language::EnglishAUS),
-    ("australian", Language::EnglishAUS),
-    ("New Zealand English", Language::EnglishNZ),
-    ("newzealand", Language::EnglishNZ),
-    ("Estonian", Language::Estonian),
-    ("estonian", Language::Estonian),
-    ("Finnish", Language::Finnish),
-    ("finnish", Language::Finnish),
-    ("French", Language::French),
-    ("french", Language::French),
-    ("German", Language::German),
-    ("german", Language::German),
-    ("Austrian", Language::GermanAT),
-    ("austrian", Language::GermanAT),
-    ("Swiss German", Language::GermanCH),
-    ("swissgerman", Language::GermanCH),
-    ("New German", Language::GermanNew),
-    ("ngerman", Language::GermanNew),
-    ("New Austrian", Language::GermanATNew),
-    ("naustrian", Language::GermanATNew),
-    ("New Swiss German", Language::GermanCHNew),
-    ("nswissgerman", Language::GermanCHNew),
-    ("Greek", Language::Greek),
-    ("greek", Language::Greek),
-    ("Hungarian", Language::Hungarian),
-    ("hungarian", Language::Hungarian),
-    ("magyar", Language::Hungarian),
-    ("Icelandic", Language::Icelandic),
-    ("icelandic", Language::Icelandic),
-    ("Italian", Language::Italian),
-    ("italian", Language::Italian),
-    ("Latvian", Language::Latvian),
-    ("latvian", Language::Latvian),
-    ("Lithuanian", Language::Lithuanian),
-    ("lithuanian", Language::Lithuanian),
-    ("Marathi", Language::Marathi),
-    ("marathi", Language::Marathi),
-    ("Norwegian (Bokmål)", Language::NorwegianBokmal),
-    ("norsk", Language::NorwegianBokmal),
-    ("Norwegian (Nynorsk)", Language::NorwegainNynorsk),
-    ("nynorsk", Language::NorwegainNynorsk),
-    ("Polish", Language::Polish),
-    ("polish", Language::Polish),
-    ("Brazilian Portuguese", Language::PortugueseBR),
-    ("brazil", Language::PortugueseBR),
-    ("Portuguese", Language::Portuguese),
-    ("portuguese", Language::Portuguese),
-    ("portuges", Language::Portuguese),
-    ("Romanian", Language::Romanian),
-    ("romanian", Language::Romanian),
-    ("Russian", Language::Russian),
-    ("russian", Language::Russian),
-    ("Serbian (Latin)", Language::SerbianLatin),
-    ("serbian", Language::SerbianLatin),
-    ("Serbian (Cyrillic)", Language::SerbianCyrillic),
-    ("serbianc", Language::SerbianCyrillic),
-    ("Slovak", Language::Slovak),
-    ("slovak", Language::Slovak),
-    ("Slovene", Language::Slovene),
-    ("slovene", Language::Slovene),
-    ("slovenian", Language::Slovene),
-    ("Spanish", Language::Spanish),
-    ("spanish", Language::Spanish),
-    ("Swedish", Language::Swedish),
-    ("swedish", Language::Swedish),
-    ("Turkish", Language::Turkish),
-    ("turkish", Language::Turkish),
-    ("Ukrainian", Language::Ukrainian),
-    ("ukrainian", Language::Ukrainian),
-];

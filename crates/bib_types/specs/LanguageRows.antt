@@ -1,0 +1,18 @@
+-- The code's table of languages, as the definition's.
+use Rattle.std.specs.Prelude.{ℕ, Bool, List, [], ◌∷◌, Option, Some, None, if◌then◌else◌, ◌||◌, bytes_eq}
+use Rattle.std.specs.List.{list_any}
+use denote.Ref.{Bor}
+use Rattle.bib_types.specs.declared.types.lang.Language.{Language}
+
+-- a row: a language, its name, its tag, and the other names by which it is read
+abbrev pub Row : Type 0
+Row = Language × Bor (List ℕ) × Bor (List ℕ) × Bor (List (Bor (List ℕ)))
+
+-- whether a row's language is read by this name
+abbrev pub is_read_by : Row → List ℕ → Bool
+is_read_by row text = bytes_eq row.1.now text || list_any (λ other. bytes_eq other.now text) row.3.now
+
+-- the language of the first row with this name
+abbrev pub row_named : List Row → List ℕ → Option Language
+row_named [] text = None
+row_named (row ∷ rows) text = if is_read_by row text then Some row.0 else row_named rows text
