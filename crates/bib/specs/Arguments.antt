@@ -1,3 +1,4 @@
+-- Meaning: words of public contracts.
 -- What the program is started with, and what it prints for that.
 use Rattle.std.specs.Prelude.{◌≡◌, ◌≢◌, ℕ, List, [], map, drop, codes, IfErr, Result, Ok, Err}
 use Rattle.std.specs.Result.{result_map_both}

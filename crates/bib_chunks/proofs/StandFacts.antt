@@ -13,18 +13,18 @@ use Rattle.bib_chunks.specs.declared.chunk.Chunk.TheVariants.{Normal, Verbatim, 
 use Rattle.bib_text.specs.declared.spanned.Spanned.{Spanned}
 use Rattle.bib_chunks.specs.Styled.{text_of}
 use Rattle.bib_chunks.specs.Cuts.{further, placed, part_of, piece, pieces, pieces_between, list_parts, between_commas, comma_list, between_ands, trimmed, trimmed_from, trimmed_ends, and_list}
-use Rattle.bib_chunks.specs.Parted.{AreTexts, IsAsLong, StandsIn, StandsInOne}
+use Rattle.bib_chunks.specs.Parted.{AreTexts, IsAsLong, StandsInChunk, StandsInOne}
 use Rattle.bib_chunks.proofs.TrimFacts.{IsPiece, piece_is, scalars_parts}
 use Rattle.bib_chunks.proofs.PartFacts.{list_hold}
 use Rattle.bib_chunks.proofs.WholeFacts.{rejoined, commas_whole}
 use Rattle.bib_chunks.proofs.WordFacts.{letters, ands_whole, trimmed_texts}
 
 -- a chunk stands in itself
-stands_whole : (c : Spanned Chunk) → IsAsLong c → StandsIn c c
+stands_whole : (c : Spanned Chunk) → IsAsLong c → StandsInChunk c c
 stands_whole c long = record { before = []; behind = []; is = sym (append-nil (text_of c.v)); start = omega arith; end = long.0 }
 
 -- what stands in a chunk that stands in another one
-stands_twice : (c d here : Spanned Chunk) → StandsIn c d → StandsIn d here → StandsIn c here
+stands_twice : (c d here : Spanned Chunk) → StandsInChunk c d → StandsInChunk d here → StandsInChunk c here
 stands_twice c d here outer inner = record {
   before = outer.before ++ inner.before;
   behind = inner.behind ++ outer.behind;
@@ -37,18 +37,18 @@ stands_twice c d here outer inner = record {
 }
 
 -- its bytes are as many as those of its text
-stands_long : (c here : Spanned Chunk) → IsAsLong c → StandsIn c here → IsAsLong here
+stands_long : (c here : Spanned Chunk) → IsAsLong c → StandsInChunk c here → IsAsLong here
 stands_long c here long stands =
     let size : length (text_of c.v) ≡ length stands.before + (length (text_of here.v) + length stands.behind) =
     ap length stands.is ∙ length-append stands.before (text_of here.v ++ stands.behind) ∙ ap (λ n. length stands.before + n) (length-append (text_of here.v) stands.behind) in
     (stands.end, omega (arith, size, stands.start, stands.end, long.0, long.1))
 
 module _ (whole : List ℕ) (span : Range ℕ) (long : IsAsLong (record { v = Normal whole; span = span })) where
-  part_stands : (before part after : List ℕ) (at : ℕ) → whole ≡ before ++ (part ++ after) → at ≡ length before → StandsIn (record { v = Normal whole; span = span }) (part_of whole span at part)
+  part_stands : (before part after : List ℕ) (at : ℕ) → whole ≡ before ++ (part ++ after) → at ≡ length before → StandsInChunk (record { v = Normal whole; span = span }) (part_of whole span at part)
   part_stands before part after at is at_is =
       let size : length whole ≡ length before + (length part + length after) = ap length is ∙ length-append before (part ++ after) ∙ ap (λ n. length before + n) (length-append part after) in
       elim (length part == length whole)
-      as (λ b. (length part == length whole) ≡ b → StandsIn (record { v = Normal whole; span = span }) (if b then placed (Normal part) span.start span.end else placed (Normal part) (further span.start at) (further (further span.start at) (length part)))) [
+      as (λ b. (length part == length whole) ≡ b → StandsInChunk (record { v = Normal whole; span = span }) (if b then placed (Normal part) span.start span.end else placed (Normal part) (further span.start at) (further (further span.start at) (length part)))) [
         | true ↦ λ same.
             let equal : length part ≡ length whole = eqb-true (length part) (length whole) same in
             record { before = before; behind = after; is = is; start = omega (arith, equal, size); end = omega (arith, equal, long.0) }
@@ -56,7 +56,7 @@ module _ (whole : List ℕ) (span : Range ℕ) (long : IsAsLong (record { v = No
       ] refl
 
   piece_stands : (before after text : List ℕ) (at : ℕ) (first last : Bool) → scalars text ≡ true → whole ≡ before ++ (encode_utf8_all text ++ after) → at ≡ length before
-      → StandsIn (record { v = Normal whole; span = span }) (piece whole span at first last (encode_utf8_all text))
+      → StandsInChunk (record { v = Normal whole; span = span }) (piece whole span at first last (encode_utf8_all text))
   piece_stands before after text at first last valid is at_is =
       let one : IsPiece whole span at first last text (piece whole span at first last (encode_utf8_all text)) = piece_is whole span at first last text valid in
       let lead = encode_utf8_all one.trimmed.lead in
@@ -65,10 +65,10 @@ module _ (whole : List ℕ) (span : Range ℕ) (long : IsAsLong (record { v = No
       let bytes : encode_utf8_all text ≡ lead ++ (left ++ trail) = ap encode_utf8_all one.trimmed.is ∙ encodes-append one.trimmed.lead (one.left ++ one.trimmed.trail) ∙ ap (λ l. lead ++ l) (encodes-append one.left one.trimmed.trail) in
       let parted : whole ≡ (before ++ lead) ++ (left ++ (trail ++ after)) =
       is ∙ ap (λ l. before ++ (l ++ after)) bytes ∙ ap (λ l. before ++ l) (append_assoc lead (left ++ trail) after ∙ ap (λ l. lead ++ l) (append_assoc left trail after)) ∙ sym (append_assoc before lead _) in
-      subst (StandsIn (record { v = Normal whole; span = span })) (sym one.is) (part_stands (before ++ lead) left (trail ++ after) _ parted (omega (arith, at_is, length-append before lead)))
+      subst (StandsInChunk (record { v = Normal whole; span = span })) (sym one.is) (part_stands (before ++ lead) left (trail ++ after) _ parted (omega (arith, at_is, length-append before lead)))
 
   between_stand : (separator : List ℕ) (w : ℕ) → w ≡ length (encode_utf8_all separator) → (before : List ℕ) (at : ℕ) (behind : Bool) (texts : List (List ℕ)) → scalars (rejoined separator texts) ≡ true
-      → whole ≡ before ++ encode_utf8_all (rejoined separator texts) → at ≡ length before → AllByRecursion (StandsIn (record { v = Normal whole; span = span })) (pieces_between w whole span at behind texts)
+      → whole ≡ before ++ encode_utf8_all (rejoined separator texts) → at ≡ length before → AllByRecursion (StandsInChunk (record { v = Normal whole; span = span })) (pieces_between w whole span at behind texts)
   between_stand separator w width before at behind [] valid is at_is = tt
   between_stand separator w width before at behind (text ∷ []) valid is at_is =
       (piece_stands before [] text at behind false valid (is ∙ ap (λ l. before ++ l) (sym (append-nil _))) at_is, tt)
@@ -90,7 +90,7 @@ all_map P Q onward [] all = tt
 all_map P Q onward (x ∷ xs) all = (onward x all.0, all_map P Q onward xs all.1)
 
 module _ (separator : List ℕ) (w : ℕ) (width : w ≡ length (encode_utf8_all separator)) (cut : List ℕ → List (List ℕ)) (whole_again : (cs : List ℕ) → rejoined separator (cut cs) ≡ cs) where
-  pieces_stand : (v : Chunk) (span : Range ℕ) → IsUtf8 (text_of v) → IsAsLong (record { v = v; span = span }) → AllByRecursion (StandsIn (record { v = v; span = span })) (pieces w cut v span)
+  pieces_stand : (v : Chunk) (span : Range ℕ) → IsUtf8 (text_of v) → IsAsLong (record { v = v; span = span }) → AllByRecursion (StandsInChunk (record { v = v; span = span })) (pieces w cut v span)
   pieces_stand (Normal text) span utf8 long =
       between_stand text span long separator w width [] 0 false (cut (chars text)) (ap scalars (whole_again (chars text)) ∙ scalars-chars text utf8)
       (sym (ap encode_utf8_all (whole_again (chars text)) ∙ encodes-chars text utf8)) refl
@@ -101,7 +101,7 @@ module _ (separator : List ℕ) (w : ℕ) (width : w ≡ length (encode_utf8_all
   pieces_in : (all chunks : List (Spanned Chunk)) → AreTexts chunks → AllByRecursion IsAsLong chunks → AllByRecursion (StandsInOne all) chunks → AllByRecursion (λ c. AllByRecursion (StandsInOne all) (pieces w cut c.v c.span)) chunks
   pieces_in all [] texts long stand = tt
   pieces_in all (c ∷ rest) texts long stand = (
-    all_map (StandsIn c) (StandsInOne all) (λ here inner. (stand.0.0, stand.0.1, stands_twice stand.0.0 c here stand.0.2 inner)) (pieces w cut c.v c.span) (pieces_stand c.v c.span texts.0 long.0),
+    all_map (StandsInChunk c) (StandsInOne all) (λ here inner. (stand.0.0, stand.0.1, stands_twice stand.0.0 c here stand.0.2 inner)) (pieces w cut c.v c.span) (pieces_stand c.v c.span texts.0 long.0),
     pieces_in all rest texts.1 long.1 stand.1,
   )
 
@@ -133,9 +133,9 @@ pub comma_list_stands : (chunks : List (Spanned Chunk)) → AreTexts chunks → 
 comma_list_stands chunks texts long = list_stands (44 ∷ []) 1 comma_width between_commas commas_whole chunks chunks texts long (stand_all chunks chunks long (contains_all chunks))
 
 -- a trimmed chunk stands in its chunk
-trimmed_stands : (first last : Bool) (v : Chunk) (span : Range ℕ) → IsUtf8 (text_of v) → IsAsLong (record { v = v; span = span }) → StandsIn (record { v = v; span = span }) (trimmed first last v span)
+trimmed_stands : (first last : Bool) (v : Chunk) (span : Range ℕ) → IsUtf8 (text_of v) → IsAsLong (record { v = v; span = span }) → StandsInChunk (record { v = v; span = span }) (trimmed first last v span)
 trimmed_stands first last (Normal text) span utf8 long =
-    subst (λ bs. StandsIn (record { v = Normal text; span = span }) (piece text span 0 first last bs)) (encodes-chars text utf8)
+    subst (λ bs. StandsInChunk (record { v = Normal text; span = span }) (piece text span 0 first last bs)) (encodes-chars text utf8)
     (piece_stands text span long [] [] (chars text) 0 first last (scalars-chars text utf8) (sym (append-nil _ ∙ encodes-chars text utf8)) refl)
 trimmed_stands first last (Verbatim text) span utf8 long = stands_whole (record { v = Verbatim text; span = span }) long
 trimmed_stands first last (Math text) span utf8 long = stands_whole (record { v = Math text; span = span }) long

@@ -1,3 +1,4 @@
+-- Meaning: words of public contracts.
 -- What the parts of a list say: words of laws.
 use Rattle.std.specs.Prelude.{◌≡◌, ℕ, ◌==◌, Bool, true, false, List, [], ◌∷◌, ◌++◌, ◌+◌, ◌<◌, ◌^◌, length}
 use Rattle.std.specs.Char.{is_whitespace}
@@ -17,7 +18,7 @@ abbrev pub IsAsLong : Spanned Chunk → Type 0
 IsAsLong c = (c.span.end ≡ c.span.start + length (text_of c.v)) × (c.span.end < 2 ^ 64)
 
 -- a piece stands in the bytes of a chunk where its text stands in the chunk's text
-pub record StandsIn (c here : Spanned Chunk) : Type 0 where
+pub record StandsInChunk (c here : Spanned Chunk) : Type 0 where
   pub before : List ℕ
   pub behind : List ℕ
   pub is : text_of c.v ≡ before ++ (text_of here.v ++ behind)
@@ -26,7 +27,7 @@ pub record StandsIn (c here : Spanned Chunk) : Type 0 where
 
 -- it does in one of these
 abbrev pub StandsInOne : List (Spanned Chunk) → Spanned Chunk → Type 0
-StandsInOne chunks here = (c : Spanned Chunk) × Contains chunks c × StandsIn c here
+StandsInOne chunks here = (c : Spanned Chunk) × Contains chunks c × StandsInChunk c here
 
 -- whether an atom is normal white space
 abbrev pub is_normal_space : Atom → Bool

@@ -33,7 +33,7 @@ use Rattle.bib_syntax.specs.Faults.{out_of_memory}
 use Rattle.bib_contents.specs.Joined.{AreJoined, ArePlaced}
 use Rattle.bib_syntax.specs.Reading.{Part, Piece}
 use Rattle.bib_syntax.specs.Reading.Piece.{literal, abbreviation}
-use Rattle.bib_contents.specs.Abbreviations.{Definitions, month, Evaluates, IsOnPath, IsFirstFault, StandsIn, definition_among}
+use Rattle.bib_contents.specs.Abbreviations.{Definitions, month, Evaluates, IsOnPath, IsFirstFault, LiesInPart, definition_among}
 use Rattle.bib_contents.specs.Abbreviations.{Evaluates as evaluates, IsFirstFault as first_fault}
 use Rattle.bib_contents.specs.Expanding.{found_in, progress, noted, chunks_between, AreWithin, IsValue, IsSound, Expands, Opens}
 use Rattle.bib_syntax.specs.Views.{piece_of, piece_at}
@@ -50,7 +50,7 @@ lies_in p low high e unread starts ends (inr lies) = (omega (arith, starts, lies
 
 -- the fault of a text lies in the text's place
 stands_in : (p : Part) (text : List ℕ) (offset : ℕ) (e : ParseError) → p.text ≡ text → p.start ≡ offset → IsUnread e.kind
-    → (offset + length text < 2 ^ 64 → StaysBetween offset (offset + length text) e) → StandsIn p e
+    → (offset + length text < 2 ^ 64 → StaysBetween offset (offset + length text) e) → LiesInPart p e
 stands_in p text offset e same starts unread within long fits =
     let size : length p.text ≡ length text = ap length same in
     lies_in p offset (offset + length text) e unread starts (omega (arith, long, starts, size)) (within (omega (arith, long, fits, starts, size)))

@@ -111,14 +111,14 @@ abbrev pub fault_at : Part → ParseErrorKind → ParseError
 fault_at p kind = record { span = record { start = p.start; end = p.end }; kind = kind }
 
 -- a fault of a text lies in the text's place, where that is as long as the text (and places are numbers of 64 bits)
-abbrev pub StandsIn : Part → ParseError → Type 0
-StandsIn p e = p.end ≡ p.start + length p.text → p.end < 2 ^ 64 → LiesBetween p.start p.end e
+abbrev pub LiesInPart : Part → ParseError → Type 0
+LiesInPart p e = p.end ≡ p.start + length p.text → p.end < 2 ^ 64 → LiesBetween p.start p.end e
 
 -- the first fault of pieces, from left to right and into definitions as they are met, while the names of a path are
 -- being expanded: a text that is not read, a name that stands for nothing, or one that is being expanded
 pub data IsFirstFault (definitions : Definitions) (is_verbatim : Bool) : List (List ℕ) → List Piece → ParseError → Type 0 where
   unread : {path : List (List ℕ)} {p : Part} {rest : List Piece} {e : ParseError}
-      → ((atoms : List Atom) → IsContent is_verbatim (chars p.text) atoms → ⊥) → IsUnread e.kind → StandsIn p e
+      → ((atoms : List Atom) → IsContent is_verbatim (chars p.text) atoms → ⊥) → IsUnread e.kind → LiesInPart p e
       → IsFirstFault definitions is_verbatim path (literal p ∷ rest) e
   unknown : {path : List (List ℕ)} {p : Part} {rest : List Piece} {e : ParseError} → definitions p.text ≡ None → month p.text ≡ None
       → e ≡ fault_at p (UnknownAbbreviation p.text) → IsFirstFault definitions is_verbatim path (abbreviation p ∷ rest) e

@@ -1,3 +1,4 @@
+-- Machinery: words of private contracts.
 -- The code's table of languages, as the definition's.
 use Rattle.std.specs.Prelude.{ℕ, Bool, List, [], ◌∷◌, Option, Some, None, if◌then◌else◌, ◌||◌, bytes_eq}
 use Rattle.std.specs.List.{list_any}
