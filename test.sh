@@ -1,7 +1,9 @@
 #!/usr/bin/env bash
-# Checks that wrong bodies fit and that docs/ name what there is, and then proves every crate from nothing, tries the
-# wrong bodies that must be refused, and runs every test and the program.
+# Looks, without the prover, whether wrong bodies fit and docs/ name what there is; then proves every crate from nothing,
+# tries the wrong bodies that must be refused, and runs every test and the program; and runs the program that it built
+# on more inputs.
 set -eu
 cd "$(dirname "$0")"
 python3 check.py
-exec rt ci
+rt ci
+bash crates/bib/runs.sh crates/bib/out/bib

@@ -64,5 +64,5 @@ run 'a key of 2 MiB' 0 "$key"$'\n' keys
 head -c 67108864 /dev/zero | (ulimit -v 32768 && exec "$program" keys) >"$files/output"
 count 'no memory for the input' $? 3 $'error: out of memory\n'
 
-echo "$passed passed, $failed failed"
+echo "runs: $passed passed, $failed failed"
 [ "$failed" = 0 ]
