@@ -195,13 +195,13 @@ cut_here c [] rest free = cond-true (c == c) _ _ (eq-eqb c c refl)
 cut_here c (d ∷ cs) rest free = cond-false (d == c) _ _ free.0 ∙ ap (option_map (λ both. (d ∷ both.0, both.1))) (cut_here c cs rest free.1)
 
 -- a chunk without that character
-pub no_halves : (c : ℕ) (text : List ℕ) (span : Range ℕ) → IsUtf8 text → IsSplitOnceResult c text None → None ≡ halves c (Normal text) span
+pub no_halves : (c : ℕ) (text : List ℕ) (span : Range ℕ) → IsUtf8 text → IsSplitOnceResult c text None → None ≡ halves (Normal text) span c
 no_halves c text span utf8 none = sym (ap (option_map (both_pieces (len_utf8 c) text span)) (cut_free c (chars text) (char_free c text utf8 none)))
 
 -- its two pieces
 pub two_halves : (c : ℕ) (text : List ℕ) (span : Range ℕ) (before after : Bor (List ℕ)) (first second : Spanned Chunk) (at : ℕ)
     → IsUtf8 text → IsSplitOnceResult c text (Some (before, after)) → at ≡ length text - length after.now
-    → first ≡ piece text span 0 false true before.now → second ≡ piece text span at true false after.now → Some (first, second) ≡ halves c (Normal text) span
+    → first ≡ piece text span 0 false true before.now → second ≡ piece text span at true false after.now → Some (first, second) ≡ halves (Normal text) span c
 two_halves c text span before after first second at utf8 found at_is first_is second_is =
     let is = char_cut c text before after utf8 found in
     let here : at ≡ length before.now + len_utf8 c = omega (arith, is.size) in

@@ -85,7 +85,7 @@ apart_from v before [] settled = tt
 apart_from v before (a ∷ []) settled = tt
 apart_from v before (a ∷ b ∷ rest) settled = (sym (same_runs a b) ∙ settled.2.1, apart_from v (behind a) (b ∷ rest) settled.2)
 
-pub settled_whole : (v : Bool) (atoms : List Atom) → IsSettled v atoms ↔ AreSettledBehind v Nothing atoms
+pub settled_whole : (v : Bool) (atoms : List Atom) → IsSettled atoms v ↔ AreSettledBehind v Nothing atoms
 settled_whole v [] = (λ s. tt, λ s. record { each = tt; apart = tt })
 settled_whole v (a ∷ rest) = (
   λ s. behind_from v Nothing a rest s.each s.apart refl,

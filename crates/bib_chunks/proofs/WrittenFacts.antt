@@ -86,8 +86,8 @@ written_run_end out one total {u} {w} v run utf8 end first before =
     written_all one total (spelling v (chars (ahead w))) (ap (spelling v) (chars_at_end w end)) after
 
 -- a chunk's text of bytes is the bytes of its characters
-pub written_math : (v : Bool) (chunk : Chunk) (text bytes : List ℕ) → v ≡ false → chunk ≡ Math text → bytes ≡ text → written_chunk v chunk ≡ chars bytes
-written_math v chunk text bytes normal is same = ap (λ b. written_chunk b chunk) normal ∙ ap (written_chunk false) is ∙ ap chars (sym same)
+pub written_math : (v : Bool) (chunk : Chunk) (text bytes : List ℕ) → v ≡ false → chunk ≡ Math text → bytes ≡ text → written_chunk chunk v ≡ chars bytes
+written_math v chunk text bytes normal is same = ap (λ b. written_chunk chunk b) normal ∙ ap (λ x. written_chunk x false) is ∙ ap chars (sym same)
 
 -- what stands before and behind a chunk is ASCII
 pub lead_bytes : (o : Bool) (chunk : Chunk) → lead o chunk ≡ encode_utf8_all (lead o chunk)
@@ -106,12 +106,12 @@ trail_bytes (Math text) = refl
 
 -- one chunk of a value was written
 pub written_part : (v o behind : Bool) (chunks : List (Spanned Chunk)) (i : ℕ) (x : Spanned Chunk) (out more total : List ℕ) → i < length chunks → x ≡ get_or chunks i x
-    → more ≡ out ++ encode_utf8_all (lead o x.v ++ written_chunk v x.v ++ trail x.v) → behind ≡ is_open_behind o x.v
+    → more ≡ out ++ encode_utf8_all (lead o x.v ++ written_chunk x.v v ++ trail x.v) → behind ≡ is_open_behind o x.v
     → out ++ encode_utf8_all (written_chunks v o (drop i chunks)) ≡ total
     → more ++ encode_utf8_all (written_chunks v behind (drop (i + 1) chunks)) ≡ total
 written_part v o behind chunks i x out more total within is written closes before =
     let split : drop i chunks ≡ x ∷ drop (i + 1) chunks = drop_more chunks i x within ∙ ap (λ y. y ∷ drop (i + 1) chunks) (sym is) in
-    let part = lead o x.v ++ written_chunk v x.v ++ trail x.v in
+    let part = lead o x.v ++ written_chunk x.v v ++ trail x.v in
     let cut : written_chunks v o (drop i chunks) ≡ part ++ written_chunks v behind (drop (i + 1) chunks) = ap (written_chunks v o) split ∙ ap (λ b. part ++ written_chunks v b (drop (i + 1) chunks)) (sym closes) in
     written_more out more total part _ _ written cut before
 

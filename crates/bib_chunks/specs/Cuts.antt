@@ -141,10 +141,10 @@ both_pieces width whole span both = (
 
 -- a normal chunk in two, at the first of its characters that is this one: the white space next to it is left out;
 -- nothing where the chunk isn't normal or has no such character
-abbrev pub halves : ℕ → Chunk → Range ℕ → Option (Spanned Chunk × Spanned Chunk)
-halves separator (Normal text) span = option_map (both_pieces (len_utf8 separator) text span) (cut_characters separator (chars text))
-halves separator (Verbatim text) span = None
-halves separator (Math text) span = None
+abbrev pub halves : Chunk → Range ℕ → ℕ → Option (Spanned Chunk × Spanned Chunk)
+halves (Normal text) span separator = option_map (both_pieces (len_utf8 separator) text span) (cut_characters separator (chars text))
+halves (Verbatim text) span separator = None
+halves (Math text) span separator = None
 
 -- a cut of chunks behind these
 abbrev pub cut_behind : List (Spanned Chunk) → Option (List (Spanned Chunk) × List (Spanned Chunk)) → Option (List (Spanned Chunk) × List (Spanned Chunk))
@@ -157,6 +157,6 @@ cut_first c rest (Some both) later = Some (both.0 ∷ [], both.1 ∷ rest)
 cut_first c rest None later = cut_behind (c ∷ []) later
 
 -- what stands before and behind the first such character of a normal chunk, if there is one
-abbrev pub cut_at : ℕ → List (Spanned Chunk) → Option (List (Spanned Chunk) × List (Spanned Chunk))
-cut_at separator [] = None
-cut_at separator (c ∷ rest) = cut_first c rest (halves separator c.v c.span) (cut_at separator rest)
+abbrev pub cut_at : List (Spanned Chunk) → ℕ → Option (List (Spanned Chunk) × List (Spanned Chunk))
+cut_at [] separator = None
+cut_at (c ∷ rest) separator = cut_first c rest (halves c.v c.span separator) (cut_at rest separator)

@@ -31,6 +31,6 @@ AreApart (a ∷ []) = Unit {0}
 AreApart (a ∷ b ∷ rest) = (runs_together a b ≡ false) × AreApart (b ∷ rest)
 
 -- the styled text of a field, verbatim or not, is settled
-pub record IsSettled (is_verbatim : Bool) (atoms : List Atom) : Type 0 where
+pub record IsSettled (atoms : List Atom) (is_verbatim : Bool) : Type 0 where
   pub each : AllByRecursion (IsSettledAtom is_verbatim) atoms
   pub apart : AreApart atoms

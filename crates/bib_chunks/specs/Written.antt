@@ -38,11 +38,11 @@ abbrev pub spelling : Bool → List ℕ → List ℕ
 spelling is_verbatim = flat_map (spelled is_verbatim)
 
 -- how a chunk is written by itself; math outside verbatim fields stays as it is
-abbrev pub written_chunk : Bool → Chunk → List ℕ
-written_chunk is_verbatim (Normal text) = spelling is_verbatim (chars text)
-written_chunk is_verbatim (Verbatim text) = spelling is_verbatim (chars text)
-written_chunk true (Math text) = spelling true (chars text)
-written_chunk false (Math text) = chars text
+abbrev pub written_chunk : Chunk → Bool → List ℕ
+written_chunk (Normal text) is_verbatim = spelling is_verbatim (chars text)
+written_chunk (Verbatim text) is_verbatim = spelling is_verbatim (chars text)
+written_chunk (Math text) true = spelling true (chars text)
+written_chunk (Math text) false = chars text
 
 -- what stands before a chunk, where the pair of braces round verbatim chunks is or isn't open: it opens before a
 -- verbatim chunk, and closes before a normal one
@@ -69,8 +69,8 @@ is_open_behind is_open (Math text) = is_open
 abbrev pub written_chunks : Bool → Bool → List (Spanned Chunk) → List ℕ
 written_chunks is_verbatim is_open [] = if is_open then 125 ∷ [] else []
 written_chunks is_verbatim is_open (c ∷ rest) =
-    lead is_open c.v ++ written_chunk is_verbatim c.v ++ trail c.v ++ written_chunks is_verbatim (is_open_behind is_open c.v) rest
+    lead is_open c.v ++ written_chunk c.v is_verbatim ++ trail c.v ++ written_chunks is_verbatim (is_open_behind is_open c.v) rest
 
 -- how a value is written: its chunks between braces
-abbrev pub written_value : Bool → List (Spanned Chunk) → List ℕ
-written_value is_verbatim chunks = 123 ∷ (written_chunks is_verbatim false chunks ++ 125 ∷ [])
+abbrev pub written_value : List (Spanned Chunk) → Bool → List ℕ
+written_value chunks is_verbatim = 123 ∷ (written_chunks is_verbatim false chunks ++ 125 ∷ [])

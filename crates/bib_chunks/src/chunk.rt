@@ -63,7 +63,7 @@ impl Chunk {
     /// The text of the chunk as it is written in a field, verbatim or not, without braces and dollar signs round it.
     pub fn to_biblatex_string(&self, alloc: Global, is_verbatim: bool) -> Result<String, AllocError>
         ensures { IfOk result (λ text. string_bytes text ≡
-            encode_utf8_all (written_chunk is_verbatim self.now)) }
+            encode_utf8_all (written_chunk self.now is_verbatim)) }
     {
         writing::chunk_text(alloc, self, is_verbatim)
     }

@@ -13,7 +13,7 @@ use Rattle.bib_maps.specs.Names.{claimed, claims_for, moved, moved_pair, without
 use Rattle.bib_maps.proofs.SortedFacts.{first, second, both, less, tied, holds, is_true, entries_are}
 
 -- one more name is claimed behind others
-pub claimed_next : (names : ByText ℕ) (place : ℕ) (done : List (List ℕ)) (name : List ℕ) → claimed names (claims_for place (done ++ name ∷ [])) ≡ map.insert (claimed names (claims_for place done)) name place
+pub claimed_next : (names : ByText ℕ) (place : ℕ) (done : List (List ℕ)) (name : List ℕ) → claimed names (claims_for (done ++ name ∷ []) place) ≡ map.insert (claimed names (claims_for done place)) name place
 claimed_next names place [] name = refl
 claimed_next names place (d ∷ done) name = claimed_next (map.insert names d place) place done name
 
@@ -73,11 +73,11 @@ pub moved_sorted : (taken : ℕ) (es : List (List ℕ × ℕ)) → IsSorted es �
 moved_sorted taken es sorted = is_true _ (sorted-revalued by_bytes (moved taken) es (holds _ sorted))
 
 -- they are the names without that place
-pub moved_names : (taken : ℕ) (m : ByText ℕ) (es : List (List ℕ × ℕ)) → map_of es ≡ m → IsSorted es → map_of (filter_map (moved_pair taken) es) ≡ without_place taken m
+pub moved_names : (taken : ℕ) (m : ByText ℕ) (es : List (List ℕ × ℕ)) → map_of es ≡ m → IsSorted es → map_of (filter_map (moved_pair taken) es) ≡ without_place m taken
 moved_names taken m es is sorted = ap (λ l. map_of (filter_map (moved_pair taken) l)) (sym (entries_are m es is sorted))
 
 -- where a name points once a place is taken out
-pub get-without_place : (taken : ℕ) (m : ByText ℕ) (q : List ℕ) → map.get (without_place taken m) q ≡ option_and_then (moved taken) (map.get m q)
+pub get-without_place : (taken : ℕ) (m : ByText ℕ) (q : List ℕ) → map.get (without_place m taken) q ≡ option_and_then (moved taken) (map.get m q)
 get-without_place taken m q =
     get-from_sorted by_bytes _ q (sorted-revalued by_bytes (moved taken) (map.entries m) (entries_sorted m))
     ∙ find-revalued by_bytes (moved taken) nat_list_cmp_total q (map.entries m) (entries_sorted m)

@@ -11,8 +11,8 @@ claimed names [] = names
 claimed names (claim ∷ claims) = claimed (insert names claim.0 claim.1) claims
 
 -- claims of all these names for one place
-abbrev pub claims_for : ℕ → List (List ℕ) → List (List ℕ × ℕ)
-claims_for place = map (λ name. (name, place))
+abbrev pub claims_for : List (List ℕ) → ℕ → List (List ℕ × ℕ)
+claims_for names place = map (λ name. (name, place)) names
 
 -- where a name points once a place is taken out: nowhere if it pointed there, and one lower if it pointed behind it
 abbrev pub moved : ℕ → ℕ → Option ℕ
@@ -27,8 +27,8 @@ abbrev pub IsMoved : ℕ → List ℕ × ℕ → Bool → List ℕ × ℕ → Ty
 IsMoved taken old kept new = MatchBool kept (moved_pair taken old ≡ Some new) (moved_pair taken old ≡ None)
 
 -- the names once a place is taken out
-abbrev pub without_place : ℕ → ByText ℕ → ByText ℕ
-without_place taken names = from_sorted (filter_map (moved_pair taken) (entries names))
+abbrev pub without_place : ByText ℕ → ℕ → ByText ℕ
+without_place names taken = from_sorted (filter_map (moved_pair taken) (entries names))
 
 -- every name points below this
 abbrev pub ArePlacesBelow : ℕ → ByText ℕ → Type 0

@@ -59,9 +59,9 @@ impl Claims {
 
     /// Lets names point to a place, one after another. A refusal leaves some first ones of them claimed.
     pub fn claim_all(&mut self, names: Vec<Text>, place: usize) -> Result<(), AllocError>
-        ensures claimed { OnOk result (self.new ≡ claimed self.old (claims_for place names.items)) }
+        ensures claimed { OnOk result (self.new ≡ claimed self.old (claims_for names.items place)) }
         ensures refused { OnErr result ((n : ℕ) ×
-            (self.new ≡ claimed self.old (claims_for place (take n names.items)))) }
+            (self.new ≡ claimed self.old (claims_for (take n names.items) place))) }
     {
         'names: for name in names {
             self.claim(name, place)?;

@@ -91,7 +91,7 @@ impl Names {
 
     /// Lets names point to a place, all of them or, at a refusal, none.
     pub fn claim_all(&mut self, names: Vec<Text>, place: usize) -> Result<(), AllocError>
-        ensures claimed { OnOk result (self.new ≡ claimed self.old (claims_for place names.items)) }
+        ensures claimed { OnOk result (self.new ≡ claimed self.old (claims_for names.items place)) }
         ensures refused { OnErr result (self.new ≡ self.old) }
     {
         self.pairs.reserve(names.len())?;
@@ -103,7 +103,7 @@ impl Names {
 
     /// Takes a place out: drops the names that point to it, and lowers the places behind it. Takes no memory.
     pub fn close_gap(&mut self, place: usize)
-        ensures { self.new ≡ without_place place self.old }
+        ensures { self.new ≡ without_place self.old place }
     {
         self.pairs.retain_mut(
             |pair: &mut (Text, usize)| -> bool

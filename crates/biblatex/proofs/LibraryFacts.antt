@@ -31,7 +31,7 @@ pub below_insert : (n : ℕ) (m : ByText ℕ) (name : List ℕ) (place : ℕ) �
 below_insert n m name place below lt q p is = one_of (eq_by_cmp by_bytes q name) place p n (map.get m q) lt (below q p) (sym (get-insert nat_list_cmp_total m name place q) ∙ is)
 
 -- names that all point below
-pub below_claimed : (n : ℕ) (names : List (List ℕ)) (m : ByText ℕ) (place : ℕ) → ArePlacesBelow n m → place < n → ArePlacesBelow n (claimed m (claims_for place names))
+pub below_claimed : (n : ℕ) (names : List (List ℕ)) (m : ByText ℕ) (place : ℕ) → ArePlacesBelow n m → place < n → ArePlacesBelow n (claimed m (claims_for names place))
 below_claimed n [] m place below lt = below
 below_claimed n (name ∷ names) m place below lt = below_claimed n names (map.insert m name place) place (below_insert n m name place below lt) lt
 
@@ -50,7 +50,7 @@ kept_below n taken p None below lt is = no_value is
 kept_below n taken p (Some place) below lt is = still_below n taken place p (below place refl) lt is
 
 -- names once a place is taken out
-pub below_without_place : (n : ℕ) (m : ByText ℕ) (taken : ℕ) → ArePlacesBelow n m → taken < n → ArePlacesBelow (n - 1) (without_place taken m)
+pub below_without_place : (n : ℕ) (m : ByText ℕ) (taken : ℕ) → ArePlacesBelow n m → taken < n → ArePlacesBelow (n - 1) (without_place m taken)
 below_without_place n m taken below lt q p is = kept_below n taken p (map.get m q) (below q) lt (sym (get-without_place taken m q) ∙ is)
 
 -- the entry at the place that a name points to

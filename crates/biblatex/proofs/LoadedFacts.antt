@@ -68,7 +68,7 @@ one_more false place had later = refl
 
 -- a name is there once names were claimed for a place if it was there, or is one of them
 pub names_claimed : (place : ℕ) (more : List (List ℕ)) (names : ByText ℕ) (name : List ℕ)
-    → is_some (by_name.get (claimed names (claims_for place more)) name) ≡ (is_some (by_name.get names name) || is_claimed more name)
+    → is_some (by_name.get (claimed names (claims_for more place)) name) ≡ (is_some (by_name.get names name) || is_claimed more name)
 names_claimed place [] names name = sym (or_false (is_some (by_name.get names name)))
 names_claimed place (one ∷ more) names name =
     names_claimed place more (by_name.insert names one place) name
@@ -97,7 +97,7 @@ loaded_none definitions said = record {
 
 pub loaded_next : {definitions : Definitions} {said : List EntryReading} {one : EntryReading} {rest : List EntryReading} {found : List Entry} {names : ByText ℕ} (entry : Entry)
     → LoadedSoFar definitions said (one ∷ rest) found names → is_some (by_name.get names one.key.text) ≡ false → IsEntry definitions one entry
-    → LoadedSoFar definitions said rest (found ++ entry ∷ []) (claimed names (claims_for (length found) (claims entry)))
+    → LoadedSoFar definitions said rest (found ++ entry ∷ []) (claimed names (claims_for (claims entry) (length found)))
 loaded_next {definitions} {said} {one} {rest} {found} {names} entry loaded absent read =
     let fresh : is_claimed loaded.earlier one.key.text ≡ false = sym (loaded.same one.key.text) ∙ absent in
     let count : length (found ++ entry ∷ []) ≡ length found + 1 = length-append found (entry ∷ []) in

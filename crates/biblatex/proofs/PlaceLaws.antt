@@ -52,7 +52,7 @@ one_claim false place had later = refl
 
 -- where a name points once names were claimed for a place
 get_claimed : (place : ℕ) (more : List (List ℕ)) (names : ByText ℕ) (name : List ℕ)
-    → by_name.get (claimed names (claims_for place more)) name ≡ cond (is_claimed more name) (Some place) (by_name.get names name)
+    → by_name.get (claimed names (claims_for more place)) name ≡ cond (is_claimed more name) (Some place) (by_name.get names name)
 get_claimed place [] names name = refl
 get_claimed place (one ∷ more) names name =
     get_claimed place more (by_name.insert names one place) name

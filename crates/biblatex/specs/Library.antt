@@ -46,7 +46,7 @@ entry_of library name = option_and_then (λ place. slice_get library.entries pla
 abbrev pub appended : Library → Entry → Library
 appended library entry = record {
   entries = library.entries ++ entry ∷ [];
-  names = claimed library.names (claims_for (length library.entries) (claims entry));
+  names = claimed library.names (claims_for (claims entry) (length library.entries));
 }
 
 -- another entry at a place, with all names as they were
@@ -63,7 +63,7 @@ inserted library entry = inserted_at library entry (place_of library entry.key)
 
 -- a place taken out, with the names that point to it; greater places become one less
 abbrev pub without_entry : Library → ℕ → Library
-without_entry library place = record { entries = remove library.entries place; names = without_place place library.names }
+without_entry library place = record { entries = remove library.entries place; names = without_place library.names place }
 
 -- a name's entry taken out, if it has one
 abbrev pub removed_at : Library → Option ℕ → Library

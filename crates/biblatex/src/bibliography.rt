@@ -86,7 +86,7 @@ fn claim_next(entries: &mut Vec<Entry>, names: &mut Names, entry: &Entry) -> Res
     ensures same_entries { entries.new.items ≡ entries.old.items }
     ensures room { OnOk result (vec_len entries.new < vec_capacity entries.new) }
     ensures claimed { OnOk result (names.new ≡ claimed names.old
-        (claims_for (length entries.old.items) (claims entry.now))) }
+        (claims_for (claims entry.now) (length entries.old.items))) }
     ensures refused { OnErr result (names.new ≡ names.old) }
 {
     let claims = claims(*entries.allocator(), entry)?;

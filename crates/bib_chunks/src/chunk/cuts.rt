@@ -301,7 +301,7 @@ fn halves(
     chunk: &Spanned<Chunk>,
     separator: char,
 ) -> Result<Option<(Spanned<Chunk>, Spanned<Chunk>)>, AllocError>
-    ensures { IfOk result (λ both. both ≡ halves separator chunk.now.v chunk.now.span) }
+    ensures { IfOk result (λ both. both ≡ halves chunk.now.v chunk.now.span separator) }
 {
     let Chunk::Normal(text) = &chunk.v else {
         return Ok(None);
@@ -347,7 +347,7 @@ pub fn cut_at(
     chunks: ChunksRef<'_>,
     separator: char,
 ) -> Result<Option<(Chunks, Chunks)>, AllocError>
-    ensures { IfOk result (λ cut. cut ≡ cut_at separator chunks.now) }
+    ensures { IfOk result (λ cut. cut ≡ cut_at chunks.now separator) }
 {
     let mut before = Items::new(alloc);
     'chunks: for (i, chunk) in chunks.iter().enumerate() {

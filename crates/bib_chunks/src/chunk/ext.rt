@@ -34,7 +34,7 @@ pub trait ChunksExt {
     /// The value as it is written in a file, in its braces, for a verbatim field or another.
     fn to_biblatex_string(&self, alloc: Global, is_verbatim: bool) -> Result<String, AllocError>
         ensures { IfOk result (λ text. string_bytes text ≡
-            encode_utf8_all (written_value is_verbatim (contents self.now))) };
+            encode_utf8_all (written_value (contents self.now) is_verbatim)) };
 }
 
 impl ChunksExt for ChunksRef<'_> {

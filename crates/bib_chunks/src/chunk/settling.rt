@@ -137,7 +137,7 @@ fn behind_chunk(chunk: &Chunk, is_verbatim: bool, before: Before) -> Option<Befo
 /// space is U+0020 alone, no two spaces or hyphens of one kind are neighbours, and math, outside verbatim fields only,
 /// holds no dollar sign and has its braces in balance. Takes no memory.
 pub fn is_settled(chunks: ChunksRef<'_>, is_verbatim: bool) -> bool
-    ensures { IsTrue result ↔ IsSettled is_verbatim (styled chunks.now) }
+    ensures { IsTrue result ↔ IsSettled (styled chunks.now) is_verbatim }
 {
     let mut before = Before::Nothing;
     'chunks: for chunk in chunks {

@@ -27,7 +27,7 @@ fn is_reserved(c: char) -> bool
 
 // Whether the character stands for itself.
 #[tactic(auto, unfolding(crate::specs::Written::is_bare, crate::specs::Written::is_grouping, crate::specs::Written::is_reserved))]
-fn is_bare(c: char, is_verbatim: bool) -> bool
+fn is_bare(is_verbatim: bool, c: char) -> bool
     ensures { result ≡ is_bare is_verbatim c }
 {
     if c.is_ascii_lowercase() {
@@ -52,7 +52,7 @@ fn write_hidden(out: &mut String, c: char) -> Result<(), AllocError>
 }
 
 // Writes one character.
-fn write_char(out: &mut String, c: char, is_verbatim: bool) -> Result<(), AllocError>
+fn write_char(out: &mut String, is_verbatim: bool, c: char) -> Result<(), AllocError>
     ensures { OnOk result (Writes out.old out.new (spelled is_verbatim c)) }
 {
     if is_grouping(c) {
@@ -78,16 +78,16 @@ fn write_char(out: &mut String, c: char, is_verbatim: bool) -> Result<(), AllocE
 }
 
 // Writes a text, each character as it is spelled.
-fn write_text(out: &mut String, text: &str, is_verbatim: bool) -> Result<(), AllocError>
+fn write_text(out: &mut String, is_verbatim: bool, text: &str) -> Result<(), AllocError>
     ensures { OnOk result (Writes out.old out.new (spelling is_verbatim (chars text.now))) }
 {
     let mut scanner = Scanner::new(text);
     'text: loop {
-        out.push_str(scanner.eat_while(|c| is_bare(c, is_verbatim)))?;
+        out.push_str(scanner.eat_while(|c| is_bare(is_verbatim, c)))?;
         let Some(c) = scanner.eat() else {
             return Ok(());
         };
-        write_char(out, c, is_verbatim)?;
+        write_char(out, is_verbatim, c)?;
     }
 }
 
@@ -135,14 +135,14 @@ fn is_open_behind(chunk: &Chunk, is_open: bool) -> bool
 
 // Writes a chunk by itself.
 fn write_chunk(out: &mut String, chunk: &Chunk, is_verbatim: bool) -> Result<(), AllocError>
-    ensures { OnOk result (Writes out.old out.new (written_chunk is_verbatim chunk.now)) }
+    ensures { OnOk result (Writes out.old out.new (written_chunk chunk.now is_verbatim)) }
 {
     match chunk {
-        Chunk::Normal(text) => write_text(out, text.as_str(), is_verbatim),
-        Chunk::Verbatim(text) => write_text(out, text.as_str(), is_verbatim),
+        Chunk::Normal(text) => write_text(out, is_verbatim, text.as_str()),
+        Chunk::Verbatim(text) => write_text(out, is_verbatim, text.as_str()),
         Chunk::Math(text) => {
             if is_verbatim {
-                return write_text(out, text.as_str(), true);
+                return write_text(out, true, text.as_str());
             }
             out.push_str(text.as_str())?;
             Ok(())
@@ -158,7 +158,7 @@ fn write_part(
     is_verbatim: bool,
 ) -> Result<(), AllocError>
     ensures { OnOk result (Writes out.old out.new
-        (lead is_open chunk.now ++ written_chunk is_verbatim chunk.now ++ trail chunk.now)) }
+        (lead is_open chunk.now ++ written_chunk chunk.now is_verbatim ++ trail chunk.now)) }
 {
     out.push_str(lead(chunk, is_open))?;
     write_chunk(out, chunk, is_verbatim)?;
@@ -188,7 +188,7 @@ pub(super) fn chunk_text(
     is_verbatim: bool,
 ) -> Result<String, AllocError>
     ensures { IfOk result (λ text. string_bytes text ≡
-        encode_utf8_all (written_chunk is_verbatim chunk.now)) }
+        encode_utf8_all (written_chunk chunk.now is_verbatim)) }
 {
     let mut out = String::new(alloc);
     write_chunk(&mut out, chunk, is_verbatim)?;
@@ -202,7 +202,7 @@ pub(super) fn value_text(
     is_verbatim: bool,
 ) -> Result<String, AllocError>
     ensures { IfOk result (λ text. string_bytes text ≡
-        encode_utf8_all (written_value is_verbatim chunks.now)) }
+        encode_utf8_all (written_value chunks.now is_verbatim)) }
 {
     let mut out = String::new(alloc);
     out.push('{')?;

@@ -7,7 +7,7 @@ use bib_syntax::raw::is_id_continue;
 
 // Whether a backslash and this character are the character.
 #[tactic(auto, unfolding(crate::specs::Contents::is_escaped, crate::specs::Contents::is_escapable, bib_chunks::specs::Written::is_grouping, bib_chunks::specs::Written::is_reserved))]
-pub(crate) fn is_escaped(c: char, is_verbatim: bool) -> bool
+pub(crate) fn is_escaped(is_verbatim: bool, c: char) -> bool
     ensures { result ≡ contents.is_escaped is_verbatim c }
 {
     match c {
@@ -67,7 +67,7 @@ pub(crate) fn is_sign(c: char) -> bool
 
 // Whether a character neither begins nor ends anything.
 #[tactic(auto, unfolding(crate::specs::Contents::is_ordinary, crate::specs::Contents::is_space, bib_chunks::specs::Written::is_grouping))]
-pub(crate) fn is_ordinary(c: char, is_verbatim: bool) -> bool
+pub(crate) fn is_ordinary(is_verbatim: bool, c: char) -> bool
     ensures { result ≡ contents.is_ordinary is_verbatim c }
 {
     if c.is_ascii_lowercase() {

@@ -210,7 +210,7 @@ pub(crate) fn contents(
         is_first: true,
     };
     'units: loop {
-        let run = s.eat_while(|c| is_ordinary(c, is_verbatim));
+        let run = s.eat_while(|c| is_ordinary(is_verbatim, c));
         growing.text.push_str(run)?;
         if s.done() {
             finish(out, growing, end)?;

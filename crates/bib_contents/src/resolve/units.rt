@@ -188,7 +188,7 @@ fn escape<'s>(s: &mut Characters<'s>, is_verbatim: bool) -> Option<Unit<'s>>
         }
         return None;
     };
-    if is_escaped(c, is_verbatim) {
+    if is_escaped(is_verbatim, c) {
         s.eat();
         return Some(Unit::Shown(TextUnit::Escaped(c)));
     }
@@ -211,7 +211,7 @@ pub(crate) fn eat_unit<'s>(s: &mut Characters<'s>, is_verbatim: bool) -> Option<
     let Some(c) = s.peek() else {
         return None;
     };
-    if is_ordinary(c, is_verbatim) {
+    if is_ordinary(is_verbatim, c) {
         s.eat();
         return Some(Unit::Shown(TextUnit::Other(c)));
     }

@@ -39,8 +39,8 @@ entries-preserved c =
     let same : given_by c.entries.reader ≡ sorted_in c.args.definitions = ap given_by c.entries.invariant.reader ∙ sym (sorted_given c.args.definitions) in
     let absent : is_some (get c.entries.names c.in-Some.said.v.key.v.now) ≡ false = ap is_some (sym c.get.ensures) ∙ sym c.is_some.ensures ∙ c.if-is_some.false in
     let count : c.len-in-entries.result ≡ length c.entries.entries.items = search rules in
-    let more : c.claim_all.new.self ≡ claimed c.entries.names (claims_for (length c.entries.entries.items) (claims c.in_ok-entry.entry)) =
-    c.in_ok-claim_all.ensures.claimed ∙ ap (λ n. claimed c.entries.names (claims_for n c.in_ok-claims.field-0.items)) count ∙ ap (λ l. claimed c.entries.names (claims_for (length c.entries.entries.items) l)) c.in_ok-claims.ensures in
+    let more : c.claim_all.new.self ≡ claimed c.entries.names (claims_for (claims c.in_ok-entry.entry) (length c.entries.entries.items)) =
+    c.in_ok-claim_all.ensures.claimed ∙ ap (λ n. claimed c.entries.names (claims_for c.in_ok-claims.field-0.items n)) count ∙ ap (λ l. claimed c.entries.names (claims_for l (length c.entries.entries.items))) c.in_ok-claims.ensures in
     record {
       can_next = tt;
       is_finite = tt;

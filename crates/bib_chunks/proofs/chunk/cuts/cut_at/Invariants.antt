@@ -4,4 +4,4 @@ use Rattle.bib_chunks.proofs.chunk.cuts.cut_at.Given as goal
 
 -- the cut is that of the chunks that are left, behind those that were passed
 abbrev pub invariant-chunks : goal.invariant-chunks
-invariant-chunks l = cut_behind l.before (cut_at l.separator (drop l.i l.chunks)) ≡ cut_at l.separator l.chunks
+invariant-chunks l = cut_behind l.before (cut_at (drop l.i l.chunks) l.separator) ≡ cut_at l.chunks l.separator

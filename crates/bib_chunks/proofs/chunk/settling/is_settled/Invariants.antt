@@ -7,4 +7,4 @@ use Rattle.bib_chunks.proofs.chunk.settling.is_settled.Given as goal
 
 -- the chunks are settled where the rest of them is, behind what was passed
 abbrev pub invariant-chunks : goal.invariant-chunks
-invariant-chunks l = IsSettled l.is_verbatim (styled l.chunks) ↔ AreSettledBehind l.is_verbatim l.before (styled (drop l.chunk-index l.chunks))
+invariant-chunks l = IsSettled (styled l.chunks) l.is_verbatim ↔ AreSettledBehind l.is_verbatim l.before (styled (drop l.chunk-index l.chunks))

@@ -27,5 +27,5 @@ returns-in_err-claim-clause-refused c =
     let p = err_from_is_err_and c.from_residual.result c.from_residual.ensures.1 in
     rw (p.1) (
       length so_far.0,
-      c.in_err-claim.ensures.refused ∙ so_far.2 ∙ ap (λ l. claimed c.args.self.now (claims_for c.args.place l)) (sym (take-append_seam so_far.0 (into_iter_items c.names.name-iterator)) ∙ ap (λ l. take (length so_far.0) l) (sym so_far.1)),
+      c.in_err-claim.ensures.refused ∙ so_far.2 ∙ ap (λ l. claimed c.args.self.now (claims_for l c.args.place)) (sym (take-append_seam so_far.0 (into_iter_items c.names.name-iterator)) ∙ ap (λ l. take (length so_far.0) l) (sym so_far.1)),
     )
