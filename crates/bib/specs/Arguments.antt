@@ -21,11 +21,11 @@ abbrev pub words_of : Result (List (List ℕ)) ErrorKind → List (List ℕ)
 words_of (Ok texts) = drop 1 texts
 words_of (Err fault) = []
 
--- the words are known: no lack of memory kept the texts back
+-- the words are known: it wasn't want of memory that kept the texts back
 abbrev pub IsKnown : Result (List (List ℕ)) ErrorKind → Type 0
 IsKnown texts = IfErr texts (λ fault. fault ≢ OutOfMemory)
 
--- memory may be lacking for the words: another fault didn't keep the texts back
+-- memory may be lacking for the words: it wasn't another fault that kept the texts back
 abbrev pub IsMemoryLacking : Result (List (List ℕ)) ErrorKind → Type 0
 IsMemoryLacking texts = IfErr texts (λ fault. fault ≡ OutOfMemory)
 
