@@ -4,7 +4,7 @@ use Rattle.std.specs.Prelude.{not, ◌&&◌}
 use Rattle.std.specs.List.{list_any}
 use denote.Ref.{Bor}
 use Rattle.bib_tables.specs.declared.mechanics.EntryType.{EntryType}
-use Rattle.bib_tables.specs.Requirements.{texts, rules_of, named_in, is_one_of, never_inherited, is_container, inherits}
+use Rattle.bib_tables.specs.Requirements.{texts, inheritable, is_one_of, never_inherited, is_container, inherits}
 
 -- a name among those that a list refers to
 pub is_one_of-texts : (names : List (Bor (List ℕ))) (name : List ℕ) → is_one_of (texts names) name ≡ list_any (λ each. bytes_eq each.now name) names
@@ -13,8 +13,8 @@ is_one_of-texts (each ∷ names) name = ap (λ later. bytes_eq each.now name || 
 
 -- one of the three that are never taken over
 pub inherits-never : (type : EntryType) (name : List ℕ) → is_one_of never_inherited name ≡ true → inherits type name ≡ false
-inherits-never type name never = ap (λ b. not b && (is_container type || is_one_of (named_in (rules_of type)) name)) never
+inherits-never type name never = ap (λ b. not b && (is_container type || is_one_of (inheritable type) name)) never
 
 -- a name that is none of the three
-pub inherits-other : (type : EntryType) (name : List ℕ) → is_one_of never_inherited name ≡ false → inherits type name ≡ (is_container type || is_one_of (named_in (rules_of type)) name)
-inherits-other type name other = ap (λ b. not b && (is_container type || is_one_of (named_in (rules_of type)) name)) other
+pub inherits-other : (type : EntryType) (name : List ℕ) → is_one_of never_inherited name ≡ false → inherits type name ≡ (is_container type || is_one_of (inheritable type) name)
+inherits-other type name other = ap (λ b. not b && (is_container type || is_one_of (inheritable type) name)) other

@@ -217,13 +217,13 @@ page_names pages.BothForbidden = []
 page_names pages.PagesOptional = fields "pages"
 page_names pages.PagesRequired = fields "pages"
 
--- the fields that such rules name, required, optional, of pages and chapters, and of authors and editors
+-- the fields that the rules of a type name, those of pages and chapters and of authors and editors too
 abbrev pub named_in : Rules → Names
 named_in asked = asked.required ++ asked.optional ++ page_names asked.pages ++ author_names asked.author
 
--- whether a name is one of these
-abbrev pub is_one_of : Names → List ℕ → Bool
-is_one_of names name = list_any (λ each. bytes_eq each name) names
+-- the fields that an entry of a type may take over from the entries that it refers to, but for those that none does
+abbrev pub inheritable : EntryType → Names
+inheritable type = named_in (rules_of type)
 
 -- the fields that no entry takes over
 abbrev pub never_inherited : Names
@@ -234,7 +234,11 @@ abbrev pub is_container : EntryType → Bool
 is_container XData = true
 is_container _ = false
 
+-- whether a name is one of these
+abbrev pub is_one_of : Names → List ℕ → Bool
+is_one_of names name = list_any (λ each. bytes_eq each name) names
+
 -- whether an entry of a type takes over a field of this name, which it lacks, from an entry that it refers to: but for
--- the three above, a container of fields takes over every field, and any other entry the fields that its type's rules name
+-- the three above, a container takes over every field, and any other entry those that are inheritable for its type
 abbrev pub inherits : EntryType → List ℕ → Bool
-inherits type name = not (is_one_of never_inherited name) && (is_container type || is_one_of (named_in (rules_of type)) name)
+inherits type name = not (is_one_of never_inherited name) && (is_container type || is_one_of (inheritable type) name)

@@ -514,6 +514,76 @@ fn possible_names(rt: HostRuntime) -> Result<(), Fail> {
     Ok(())
 }
 
+/// The type, names of fields that an entry of it takes over, and names of fields that it doesn't.
+static INHERITED: [(&str, &str, &str); 10] = [
+    (
+        "article",
+        "journaltitle subtitle author editor pages eid",
+        "title note addendum location chapter booktitle",
+    ),
+    (
+        "inbook",
+        "publisher booktitle maintitle bookauthor editor chapter isbn",
+        "title note addendum pagetotal journaltitle",
+    ),
+    (
+        "inreference",
+        "publisher booktitle booksubtitle author editor chapter pages",
+        "title note addendum bookauthor pagetotal",
+    ),
+    (
+        "phdthesis",
+        "school type author",
+        "institution editor pages",
+    ),
+    (
+        "patent",
+        "number holder type author",
+        "title editor chapter",
+    ),
+    (
+        "mvbook",
+        "volumes author editor pages",
+        "volume part maintitle",
+    ),
+    ("periodical", "issue issn editor", "author pages title"),
+    ("set", "entryset", "author title note crossref"),
+    (
+        "xdata",
+        "crossref ids entryset booktitle pages author any",
+        "title note addendum",
+    ),
+    (
+        "foo",
+        "publisher editor volumes",
+        "author pages chapter volume",
+    ),
+];
+
+fn takes_over(
+    rt: &impl Abort,
+    alloc: Global,
+    kind: &str,
+    names: &str,
+    wanted: bool,
+) -> Result<(), Fail> {
+    let kind = EntryType::new(alloc, kind)?;
+    for name in names.split(' ') {
+        assert!(rt; kind.inherits(name) == wanted, "{kind}: {name}");
+    }
+    Ok(())
+}
+
+#[test]
+fn inherited_fields(rt: HostRuntime) -> Result<(), Fail> {
+    let alloc = rt.alloc();
+    for (kind, names, others) in INHERITED.iter() {
+        takes_over(&rt, alloc, kind, names, true)?;
+        takes_over(&rt, alloc, kind, others, false)?;
+    }
+    Ok(())
+}
+
 /// The language, its name, the other names by which it is read, and its tag.
 static LANGUAGES: [(Language, &str, &str, &str); 43] = [
     (Language::Basque, "Basque", "basque", "eu"),

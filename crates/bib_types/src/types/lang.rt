@@ -3,7 +3,7 @@
 ghost use Rattle.std.specs.Prelude.{◌≡◌, Some, Option};
 ghost use Rattle.std.specs.Option.{ok_or};
 ghost use Rattle.bib_types.specs.Language.{language_row, language_named};
-ghost use Rattle.bib_types.specs.LanguageRows.{is_read_by, row_named};
+ghost use Rattle.bib_types.specs.LanguageRows.{row_meaning, is_read_by, row_named};
 
 use crate::types::NameError;
 use std::fmt;
@@ -240,15 +240,21 @@ impl Language {
     pub fn tag(self) -> &'static str
         ensures { result.now ≡ (language_row self).tag }
     {
-        let (_, _, tag, _) = LANGUAGES[self as usize];
+        let (_, _, tag, _) = self.row();
         tag
     }
 
     fn name(self) -> &'static str
         ensures { result.now ≡ (language_row self).name }
     {
-        let (_, name, _, _) = LANGUAGES[self as usize];
+        let (_, name, _, _) = self.row();
         name
+    }
+
+    fn row(self) -> &'static Row
+        ensures { row_meaning result.now ≡ language_row self }
+    {
+        &LANGUAGES[self as usize]
     }
 
     fn named(text: &str) -> Option<Self>

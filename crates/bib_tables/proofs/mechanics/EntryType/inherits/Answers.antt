@@ -1,5 +1,5 @@
 use Rattle.std.proofs.Common.{◌||◌, sym, ap, ◌∙◌}
-use Rattle.bib_tables.specs.Requirements.{rules_of, named_in, is_one_of}
+use Rattle.bib_tables.specs.Requirements.{inheritable, named_in, is_one_of}
 use Rattle.bib_tables.proofs.RequirementsFacts.{inherits-never, inherits-other}
 use Rattle.bib_tables.proofs.mechanics.EntryType.inherits.Goals as goal
 
@@ -10,10 +10,10 @@ pub returns-then-is_container : goal.returns-then-is_container
 returns-then-is_container c =
     c.if-is_container.true
     ∙ sym (inherits-other c.args.self.now c.args.name.now (sym c.is_one_of.ensures ∙ c.if-is_one_of.false)
-    ∙ ap (λ b. b || is_one_of (named_in (rules_of c.args.self.now)) c.args.name.now) (sym c.is_container.ensures ∙ c.if-is_container.true))
+    ∙ ap (λ b. b || is_one_of (inheritable c.args.self.now) c.args.name.now) (sym c.is_container.ensures ∙ c.if-is_container.true))
 
 pub returns-else-is_container : goal.returns-else-is_container
 returns-else-is_container c =
     c.names.ensures ∙ ap (λ asked. is_one_of (named_in asked) c.args.name.now) c.row.ensures
     ∙ sym (inherits-other c.args.self.now c.args.name.now (sym c.is_one_of.ensures ∙ c.if-is_one_of.false)
-    ∙ ap (λ b. b || is_one_of (named_in (rules_of c.args.self.now)) c.args.name.now) (sym c.is_container.ensures ∙ c.if-is_container.false))
+    ∙ ap (λ b. b || is_one_of (inheritable c.args.self.now) c.args.name.now) (sym c.is_container.ensures ∙ c.if-is_container.false))
