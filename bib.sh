@@ -8,7 +8,7 @@ log="$top/crates/bib/out/build.log"
 # Proves the crates up to the program, and builds it. Says in one line which of them stand.
 build() {
     mkdir -p "$(dirname "$log")"
-    printf 'bib: proving and building nine crates, which takes some minutes:' >&2
+    printf 'bib: proving and building its crates, which takes some minutes:' >&2
     for crate in $(sed -n 's/^\(bib[a-z_]*\):.*/\1/p' "$top/crates.txt"); do
         printf ' %s' "$crate" >&2
         verb=lib

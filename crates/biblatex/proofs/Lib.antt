@@ -1,4 +1,3 @@
-pub mod EntryFacts
 pub mod InsideFacts
 pub mod LibraryFacts
 pub mod LoadedFacts

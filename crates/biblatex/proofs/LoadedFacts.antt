@@ -18,7 +18,7 @@ use Rattle.bib_text.specs.declared.spanned.Spanned.{Spanned}
 use Rattle.bib_contents.specs.Abbreviations.{Definitions, Evaluates}
 use Rattle.bib_syntax.specs.Reading.{Piece, FieldReading, EntryReading}
 use Rattle.bib_contents.proofs.LawFacts.{evaluates_same}
-use Rattle.biblatex.specs.declared.entry.Entry.{Entry}
+use Rattle.bib_entry.specs.declared.entry.Entry.{Entry}
 use Rattle.biblatex.specs.Library.{Library, claims, aliases, appended, nothing}
 use Rattle.bib_chunks.specs.Lists.{comma_texts}
 use Rattle.biblatex.specs.Loaded.{AllCanBeRead, IsEntry, AreEntries, IsFaultOfFields, IsFaultOfEntries, Says, field_in, is_claimed, loaded_behind}

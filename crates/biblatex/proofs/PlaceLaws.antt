@@ -14,7 +14,7 @@ use Rattle.bib_syntax.specs.Reading.{FieldReading, EntryReading, FileReading}
 use Rattle.bib_syntax.specs.declared.raw.ParseError.{ParseError}
 use Rattle.bib_maps.specs.Names.{claimed, claims_for}
 use Rattle.bib_maps.specs.Sorted.{ByText, by_bytes}
-use Rattle.biblatex.specs.declared.entry.Entry.{Entry}
+use Rattle.bib_entry.specs.declared.entry.Entry.{Entry}
 use Rattle.biblatex.specs.Library.{Library, claims, appended, nothing, place_of}
 use Rattle.biblatex.specs.Loaded.{AreEntries, IsEntry, IsFaultOf, IsFaultOfEntries, IsFaultOfFields, IsLoaded, is_claimed, loaded_behind}
 use Rattle.biblatex.specs.Places.{ClaimsAt, IsLastClaim, PointsToLastClaims, HasFreshKeys}

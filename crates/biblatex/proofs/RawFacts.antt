@@ -12,7 +12,7 @@ use Rattle.bib_syntax.specs.Views.{field_of, entry_of}
 use Rattle.bib_syntax.specs.declared.raw.Pair.{Pair}
 use Rattle.bib_syntax.specs.declared.raw.RawEntry.{RawEntry}
 use Rattle.bib_syntax.specs.declared.raw.ParseError.{ParseError}
-use Rattle.biblatex.specs.declared.entry.Entry.{Entry}
+use Rattle.bib_entry.specs.declared.entry.Entry.{Entry}
 use Rattle.biblatex.specs.Loading.{IsEntryOf, IsFieldsFault, AreReadable, IsFieldOf, last_definition, last_field}
 use Rattle.biblatex.specs.Loaded.{IsEntry, IsFaultOfFields, AllCanBeRead, Says, definition_in, field_in, name_of}
 

@@ -3,7 +3,7 @@
 use Rattle.std.specs.Prelude.{◌≡◌, ℕ, List, []}
 use Rattle.bib_contents.specs.Abbreviations.{Definitions}
 use Rattle.bib_syntax.specs.Reading.{EntryReading}
-use Rattle.biblatex.specs.declared.entry.Entry.{Entry}
+use Rattle.bib_entry.specs.declared.entry.Entry.{Entry}
 use Rattle.biblatex.specs.Loaded.{AreEntries, loaded_behind}
 use Rattle.biblatex.specs.Library.{nothing}
 use Rattle.bib_maps.specs.Sorted.{ByText}

@@ -4,9 +4,9 @@ use Rattle.std.specs.Prelude.{ℕ, List, ◌++◌, length, take, drop, Option, S
 use Rattle.std.specs.Borrow.{LendsIf, MutBor, Fml, Array, follows}
 use Rattle.std.specs.declared.slice.IterMut.{IterMut}
 use Rattle.std.specs.Slice.Iter.{iter_mut_name}
-use Rattle.biblatex.specs.declared.entry.Entry.{Entry}
+use Rattle.bib_entry.specs.declared.entry.Entry.{Entry}
 use Rattle.biblatex.specs.Library.{Library, place_of, exchanged}
-use Rattle.biblatex.specs.contracts.entry.Entry.{the_row as entry_row}
+use Rattle.bib_entry.specs.contracts.entry.Entry.{the_row as entry_row}
 use Rattle.biblatex.specs.contracts.bibliography.Bibliography.{the_row as library_row}
 
 -- a library with another entry at a place, if there is one

@@ -6,8 +6,8 @@ use Rattle.std.specs.Option.{option_map_or}
 use Rattle.std.specs.FinMap as by_name
 use Rattle.std.specs.Coded.{Coded, code_by, coded×, coded_list, coded_ℕ}
 use Rattle.bib_chunks.specs.Styled.{styled}
-use Rattle.biblatex.specs.declared.entry.Entry.{Entry}
-use Rattle.biblatex.specs.contracts.entry.Entry as entry
+use Rattle.bib_entry.specs.declared.entry.Entry.{Entry}
+use Rattle.bib_entry.specs.contracts.entry.Entry as entry
 use Rattle.bib_maps.specs.Sorted.{ByText}
 use Rattle.bib_maps.specs.Names.{claimed, claims_for, without_place}
 use Rattle.bib_chunks.specs.Lists.{comma_texts}

@@ -14,7 +14,7 @@ use Rattle.bib_syntax.specs.Reading.Piece.{literal}
 use Rattle.bib_syntax.specs.declared.raw.ParseError.{ParseError}
 use Rattle.bib_syntax.specs.declared.raw.ParseErrorKind.TheVariants.{DuplicateKey}
 use Rattle.bib_tables.specs.EntryType.{entry_type_of}
-use Rattle.biblatex.specs.declared.entry.Entry.{Entry}
+use Rattle.bib_entry.specs.declared.entry.Entry.{Entry}
 use Rattle.biblatex.specs.Library.{Library, claims, appended, nothing}
 
 -- the definition of an abbreviation is its last one in the file, wherever it stands

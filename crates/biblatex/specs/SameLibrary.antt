@@ -3,9 +3,9 @@
 use Rattle.std.specs.Prelude.{Bool, ◌&&◌, nat_eq}
 use Rattle.std.specs.Cmp.{IsEquivalence, IsPartialEquivalence, and_per, and_equiv, on_per, on_equiv, partial_equiv_from_equiv, nat_eq_equiv}
 use Rattle.std.specs.Cmp.Lexicographic.{pointwise, lists_per, lists_equiv}
-use Rattle.biblatex.specs.contracts.entry.EntryPartialEq.TheImpl as entry
-use Rattle.biblatex.specs.contracts.entry.EntryPartialEq.TheImpl.Laws as entry_per
-use Rattle.biblatex.specs.contracts.entry.EntryEq.TheImpl.Laws as entry_equiv
+use Rattle.bib_entry.specs.contracts.entry.EntryPartialEq.TheImpl as entry
+use Rattle.bib_entry.specs.contracts.entry.EntryPartialEq.TheImpl.Laws as entry_per
+use Rattle.bib_entry.specs.contracts.entry.EntryEq.TheImpl.Laws as entry_equiv
 use Rattle.biblatex.specs.Library.{Library}
 use Rattle.bib_maps.specs.TextMap.{same_pairs, same_pairs_per, same_pairs_equiv}
 

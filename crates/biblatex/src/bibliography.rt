@@ -18,9 +18,9 @@ ghost use Rattle.bib_maps.specs.Names.{ArePlacesBelow, claimed, claims_for};
 ghost use Rattle.biblatex.specs.Library.{aliased, aliases, claims, entry_of, inserted, nothing, place_of, removed};
 ghost use Rattle.biblatex.specs.SameLibrary.{same_library, same_library_per, same_library_equiv};
 
-use crate::entry::Entry;
 use crate::reading::load;
 use bib_chunks::chunk::lists::comma_texts;
+use bib_entry::entry::Entry;
 use bib_maps::names::Names;
 use bib_syntax::raw::{ParseError, RawBibliography};
 use bib_text::text::Text;

@@ -2,7 +2,6 @@
 #![tactic(auto)]
 
 pub mod bibliography;
-pub mod entry;
 pub mod laws;
 mod loading;
 mod reading;
@@ -10,6 +9,7 @@ pub mod sink;
 
 pub use bib_chunks::chunk::{Chunk, Chunks, ChunksExt, ChunksRef, Span, Spanned, is_settled};
 pub use bib_contents::resolve::{FieldReader, is_escapable, is_verbatim_field, parse_field};
+pub use bib_entry::entry::{Entry, SetError};
 pub use bib_maps::text_map::TextMap;
 pub use bib_syntax::raw::{
     BiblatexParser, Field, Pair, ParseError, ParseErrorKind, RawBibliography, RawChunk, RawEntry,
@@ -22,5 +22,4 @@ pub use bib_text::text::Text;
 pub use bib_types::types::lang::Language;
 pub use bib_types::types::{EditorType, Gender, NameError, Pagination};
 pub use bibliography::{Bibliography, InsertError, Keys};
-pub use entry::{Entry, SetError};
 pub use sink::Sink;

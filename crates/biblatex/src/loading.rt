@@ -6,9 +6,9 @@ ghost use Rattle.bib_syntax.specs.Faults.{out_of_memory};
 ghost use Rattle.biblatex.specs.Loading.{IsEntryOf, IsFieldOf, IsFieldReadable, IsFieldsFault, field_name, last_definition};
 ghost use Rattle.biblatex.specs.Reading.{IsFieldFault};
 
-use crate::entry::Entry;
 use bib_chunks::chunk::Chunks;
 use bib_contents::resolve::FieldReader;
+use bib_entry::entry::Entry;
 use bib_maps::text_map::TextMap;
 use bib_syntax::raw::{Field, Pair, ParseError, RawEntry};
 use bib_tables::mechanics::EntryType;

@@ -10,10 +10,10 @@ ghost use Rattle.biblatex.specs.Loaded.{IsFaultOf, IsFaultOfEntries, definition_
 ghost use Rattle.bib_maps.specs.Names.{ArePlacesBelow};
 
 use crate::bibliography::claims;
-use crate::entry::Entry;
 use crate::loading::{definitions, read_entry};
 use bib_chunks::chunk::Spanned;
 use bib_contents::resolve::FieldReader;
+use bib_entry::entry::Entry;
 use bib_maps::claims::Claims;
 use bib_maps::names::Names;
 use bib_syntax::raw::{Field, ParseError, ParseErrorKind, RawBibliography, RawEntry};

@@ -1,0 +1,4 @@
+//! Entries of a bibliography.
+#![tactic(auto)]
+
+pub mod entry;

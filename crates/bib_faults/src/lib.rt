@@ -1,0 +1,4 @@
+//! The faults of typed values.
+#![tactic(auto)]
+
+pub mod type_error;
