@@ -9,4 +9,5 @@ pub mod RangeLaws
 pub mod RomanFacts
 pub mod RomanSteps
 pub mod ScannedFacts
+pub mod SeparatedFacts
 pub mod TextFacts

@@ -1,7 +1,7 @@
 -- Ranges are read from what they write.
 use Rattle.std.proofs.Common.{◌≡◌, ℕ, ◌<◌, ◌^◌, Bool, true, false, not, List, [], ◌∷◌, ◌++◌, map, refl, sym, ap, ◌∙◌, arith, append_assoc, append-nil, Some}
 use Rattle.std.specs.Prelude.{codes, ◌==◌, ◌||◌}
-use Rattle.std.specs.List.{list_all}
+use Rattle.std.specs.List.{list_all, AllByRecursion}
 use Rattle.std.specs.declared.ops.Range.{Range}
 use Rattle.std.specs.Char.{is_ascii_digit, is_whitespace}
 use Rattle.std.specs.Fmt.{decimal}
@@ -15,10 +15,10 @@ use Rattle.std.proofs.lemmas.Str.Parse.{digit_from_value}
 use Rattle.bib_chunks.specs.Formatted.{formatted}
 use Rattle.bib_chunks.specs.Cuts.{comma_list}
 use Rattle.bib_values.specs.Values.{Value}
-use Rattle.bib_values.specs.Lists.{is_plain, AllPlain}
+use Rattle.bib_values.specs.Lists.{is_plain, IsPlain, StringsKept}
 use Rattle.bib_values.proofs.TextFacts.{is_simple, simple_ascii}
-use Rattle.bib_values.proofs.CommaFacts.{all_whole, parts_format}
-use Rattle.bib_values.specs.Ranges.{front, behind, is_small, number, behind_dash, ends_at, up_to, starts_with, range_of, all_of, with_first, first_of, ranges_read, range_read, range_text, ranges_written, range_written, RangeKept, AllKept, RangesKept}
+use Rattle.bib_values.proofs.CommaFacts.{parts_format}
+use Rattle.bib_values.specs.Ranges.{front, behind, is_small, number, behind_dash, ends_at, up_to, starts_with, range_of, all_of, with_first, first_of, ranges_read, range_read, range_text, ranges_written, range_written, RangeKept, RangesKept}
 use Rattle.bib_values.proofs.ScannedFacts.{split_front, split_behind}
 use Rattle.bib_values.proofs.RangeFacts.{small_yes}
 
@@ -108,16 +108,29 @@ range_text_read r kept =
     let last : number (behind is_whitespace (decimal r.end)) ≡ Some (r.end, []) = ap number (white ∙ sym (append-nil (decimal r.end))) ∙ number_decimal r.end [] kept.1 refl refl in
     ap starts_with first ∙ ap (up_to r.start) (dash_passed r.end kept.1) ∙ ap (ends_at r.start) last
 
-texts_plain : (ranges : List (Range ℕ)) → AllKept ranges → AllPlain (map range_text ranges)
+range_chars : (r : Range ℕ) → RangeKept r → chars (range_text r) ≡ range_text r
+range_chars r kept = chars-IsAscii (range_text r) (simple_ascii (range_text r) (weaken is_byte is_simple byte_simple (range_text r) (range_bytes r kept)))
+
+range_plain : (r : Range ℕ) → RangeKept r → IsPlain (range_text r)
+range_plain r kept =
+    let bytes = range_bytes r kept in
+    record {
+      utf8 = IsUtf8-from_ascii (range_text r) (simple_ascii (range_text r) (weaken is_byte is_simple byte_simple (range_text r) bytes));
+      plain = ap (list_all is_plain) (range_chars r kept) ∙ weaken is_byte is_plain byte_plain (range_text r) bytes;
+    }
+
+texts_plain : (ranges : List (Range ℕ)) → AllByRecursion RangeKept ranges → AllByRecursion IsPlain (map range_text ranges)
 texts_plain [] kept = tt
-texts_plain (r ∷ rest) kept =
-    let bytes = range_bytes r kept.0 in
-    (IsUtf8-from_ascii (range_text r) (simple_ascii (range_text r) (weaken is_byte is_simple byte_simple (range_text r) bytes)), weaken is_byte is_plain byte_plain (range_text r) bytes, texts_plain rest kept.1)
+texts_plain (r ∷ rest) kept = (range_plain r kept.0, texts_plain rest kept.1)
+
+texts_kept : (ranges : List (Range ℕ)) → RangesKept ranges → StringsKept (map range_text ranges)
+texts_kept [] kept = absurd (omega (arith, kept.0))
+texts_kept (r ∷ rest) kept = (omega arith, texts_plain (r ∷ rest) kept.1)
 
 one_read : (r : Range ℕ) → RangeKept r → range_of (chars (range_text r)) ≡ Some r
-one_read r kept = ap range_of (chars-IsAscii (range_text r) (simple_ascii (range_text r) (weaken is_byte is_simple byte_simple (range_text r) (range_bytes r kept)))) ∙ range_text_read r kept
+one_read r kept = ap range_of (range_chars r kept) ∙ range_text_read r kept
 
-all_read : (ranges : List (Range ℕ)) → AllKept ranges → all_of (map range_of (map chars (map range_text ranges))) ≡ Some ranges
+all_read : (ranges : List (Range ℕ)) → AllByRecursion RangeKept ranges → all_of (map range_of (map chars (map range_text ranges))) ≡ Some ranges
 all_read [] kept = refl
 all_read (r ∷ rest) kept =
     ap (λ x. with_first x (all_of (map range_of (map chars (map range_text rest))))) (one_read r kept.0) ∙ ap (with_first (Some r)) (all_read rest kept.1)
@@ -128,10 +141,9 @@ composed (p ∷ parts) = ap (λ xs. range_of (formatted p) ∷ xs) (composed par
 
 pub ranges_survive : (ranges : List (Range ℕ)) → RangesKept ranges → ranges_read (ranges_written ranges) ≡ Some ranges
 unfolding ranges_read
-ranges_survive [] kept = absurd kept
-ranges_survive (r ∷ rest) kept =
-    ap all_of (composed (comma_list (ranges_written (r ∷ rest))) ∙ ap (map range_of) (parts_format (range_text r) (map range_text rest) (all_whole (map range_text (r ∷ rest)) (texts_plain (r ∷ rest) kept))))
-    ∙ all_read (r ∷ rest) kept
+ranges_survive ranges kept =
+    ap all_of (composed (comma_list (ranges_written ranges)) ∙ ap (map range_of) (parts_format (map range_text ranges) (texts_kept ranges kept)))
+    ∙ all_read ranges kept.1
 
 pub range_survives : (r : Range ℕ) → RangeKept r → range_read (range_written r) ≡ Some r
-range_survives r kept = ap first_of (ranges_survive (r ∷ []) (kept, tt))
+range_survives r kept = ap first_of (ranges_survive (r ∷ []) (omega arith, (kept, tt)))

@@ -1,9 +1,10 @@
 -- Meaning: words of public contracts.
 -- How lists are read and written.
-use Rattle.std.specs.Prelude.{◌≡◌, ℕ, Bool, true, false, not, ◌==◌, ◌||◌, map, List, [], ◌∷◌, ◌++◌, codes}
-use Rattle.std.specs.List.{flat_map, list_all}
-use Rattle.std.specs.Str.{IsUtf8}
+use Rattle.std.specs.Prelude.{◌≡◌, ◌<◌, ℕ, length, Bool, true, false, not, ◌==◌, ◌&&◌, map, List, [], ◌∷◌, ◌++◌, codes}
+use Rattle.std.specs.List.{flat_map, list_all, AllByRecursion}
+use Rattle.std.specs.Str.{IsUtf8, chars}
 use Rattle.bib_chunks.specs.declared.chunk.Chunk.TheVariants.{Normal}
+use Rattle.bib_chunks.specs.Formatted.{is_break}
 use Rattle.bib_chunks.specs.Cuts.{comma_list}
 use Rattle.bib_values.specs.Values.{Value, text, nowhere, alone}
 
@@ -33,16 +34,15 @@ strings_written texts = joined_by (codes ",") (map (λ t. alone (Normal t)) text
 abbrev pub parts_written : List Value → Value
 parts_written = joined_by (codes " and ")
 
--- whether a byte is no comma, CR or LF
+-- whether a character is no comma and breaks no line
 abbrev pub is_plain : ℕ → Bool
-is_plain b = not (b == 44 || b == 10 || b == 13)
+is_plain c = not (c == 44) && not (is_break c)
 
--- each text is UTF-8 without commas, CR and LF
-abbrev pub AllPlain : List (List ℕ) → Type 0
-AllPlain [] = Unit {0}
-AllPlain (t ∷ rest) = IsUtf8 t × (list_all is_plain t ≡ true) × AllPlain rest
+-- a text of such characters
+pub record IsPlain (text : List ℕ) : Type 0 where
+  pub utf8 : IsUtf8 text
+  pub plain : list_all is_plain (chars text) ≡ true
 
--- the lists of texts that are read back
+-- the lists of texts that are read back: at least one text, and each is such a text
 abbrev pub StringsKept : List (List ℕ) → Type 0
-StringsKept [] = ⊥
-StringsKept texts = AllPlain texts
+StringsKept texts = (0 < length texts) × AllByRecursion IsPlain texts

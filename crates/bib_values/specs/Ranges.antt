@@ -1,6 +1,7 @@
 -- Meaning: words of public contracts.
 -- How ranges of numbers are read and written.
 use Rattle.std.specs.Prelude.{ℕ, ◌^◌, ◌<◌, Bool, ◌==◌, ◌||◌, ◌&&◌, nat_lt, if◌then◌else◌, map, List, [], ◌∷◌, ◌++◌, length, Option, Some, None, codes}
+use Rattle.std.specs.List.{AllByRecursion}
 use Rattle.std.specs.Char.{is_ascii_digit, is_whitespace}
 use Rattle.std.specs.Str.Parse.{digits_value}
 use Rattle.std.specs.Fmt.{decimal}
@@ -103,11 +104,6 @@ ranges_written ranges = strings_written (map range_text ranges)
 abbrev pub RangeKept : Range ℕ → Type 0
 RangeKept range = (range.start < 2 ^ 32) × (range.end < 2 ^ 32)
 
-abbrev pub AllKept : List (Range ℕ) → Type 0
-AllKept [] = Unit {0}
-AllKept (range ∷ rest) = RangeKept range × AllKept rest
-
--- and the lists of them: nonempty ones
+-- and the lists of them: at least one range, and each is such a range
 abbrev pub RangesKept : List (Range ℕ) → Type 0
-RangesKept [] = ⊥
-RangesKept (range ∷ rest) = AllKept (range ∷ rest)
+RangesKept ranges = (0 < length ranges) × AllByRecursion RangeKept ranges
