@@ -1,0 +1,13 @@
+pub mod AndListFacts
+pub mod CommaFacts
+pub mod EnumFacts
+pub mod EnumReading
+pub mod JoinFacts
+pub mod NumberFacts
+pub mod RangeFacts
+pub mod RangeLaws
+pub mod RomanFacts
+pub mod RomanSteps
+pub mod ScannedFacts
+pub mod SeparatedFacts
+pub mod TextFacts

@@ -1,0 +1,149 @@
+-- Ranges are read from what they write.
+use Rattle.std.proofs.Common.{◌≡◌, ℕ, ◌<◌, ◌^◌, Bool, true, false, not, List, [], ◌∷◌, ◌++◌, map, refl, sym, ap, ◌∙◌, arith, append_assoc, append-nil, Some}
+use Rattle.std.specs.Prelude.{codes, ◌==◌, ◌||◌}
+use Rattle.std.specs.List.{list_all, AllByRecursion}
+use Rattle.std.specs.declared.ops.Range.{Range}
+use Rattle.std.specs.Char.{is_ascii_digit, is_whitespace}
+use Rattle.std.specs.Fmt.{decimal}
+use Rattle.std.specs.Str.{chars}
+use Rattle.std.specs.Str.Parse.{digits_value, AllDigits}
+use Rattle.std.proofs.lemmas.Bool.{cond-true, cond-false, and_from, and_parts}
+use Rattle.std.proofs.lemmas.Bool.Decides.{nat_tests}
+use Rattle.std.proofs.lemmas.Fmt.{decimal_is_IsNumeral}
+use Rattle.std.proofs.lemmas.Str.{chars-IsAscii, IsUtf8-from_ascii}
+use Rattle.std.proofs.lemmas.Str.Parse.{digit_from_value}
+use Rattle.bib_chunks.specs.Formatted.{formatted}
+use Rattle.bib_chunks.specs.Cuts.{comma_list}
+use Rattle.bib_values.specs.Values.{Value}
+use Rattle.bib_values.specs.Lists.{is_plain, IsPlain, StringsKept}
+use Rattle.bib_values.proofs.TextFacts.{is_simple, simple_ascii}
+use Rattle.bib_values.proofs.CommaFacts.{parts_format}
+use Rattle.bib_values.specs.Ranges.{front, behind, is_small, number, behind_dash, ends_at, up_to, starts_with, range_of, all_of, with_first, first_of, ranges_read, range_read, range_text, ranges_written, range_written, RangeKept, RangesKept}
+use Rattle.bib_values.proofs.ScannedFacts.{split_front, split_behind}
+use Rattle.bib_values.proofs.RangeFacts.{small_yes}
+
+-- the bytes of a range
+abbrev is_byte : ℕ → Bool
+is_byte b = is_ascii_digit b || b == 45
+
+weaken : (p q : ℕ → Bool) → ((c : ℕ) → p c ≡ true → q c ≡ true) → (cs : List ℕ) → list_all p cs ≡ true → list_all q cs ≡ true
+weaken p q each [] all = refl
+weaken p q each (c ∷ cs) all =
+    let parts = and_parts (p c) (list_all p cs) all in
+    and_from _ _ (each c parts.0) (weaken p q each cs parts.1)
+
+all_both : (p : ℕ → Bool) (xs ys : List ℕ) → list_all p xs ≡ true → list_all p ys ≡ true → list_all p (xs ++ ys) ≡ true
+all_both p [] ys first second = second
+all_both p (x ∷ xs) ys first second =
+    let parts = and_parts (p x) (list_all p xs) first in
+    and_from _ _ parts.0 (all_both p xs ys parts.1 second)
+
+digits_all : (ds : List ℕ) → AllDigits 10 ds → list_all is_ascii_digit ds ≡ true
+digits_all [] all = refl
+digits_all (d ∷ ds) all =
+    let range = digit_from_value d all.0 in
+    let here : is_ascii_digit d ≡ true = grind (arith, nat_tests) in
+    and_from _ _ here (digits_all ds all.1)
+
+decimal_digits : (n : ℕ) → n < 2 ^ 32 → list_all is_ascii_digit (decimal n) ≡ true
+decimal_digits n small = digits_all _ (decimal_is_IsNumeral n (omega arith)).0.1
+
+-- nothing is passed where no character passes
+stays : (p : ℕ → Bool) (cs : List ℕ) → list_all (λ c. not (p c)) cs ≡ true → behind p cs ≡ cs
+stays p [] all = refl
+stays p (c ∷ cs) all = here (p c) refl
+  where
+    here : (b : Bool) → p c ≡ b → behind p (c ∷ cs) ≡ c ∷ cs
+    here true is = let no = (and_parts (not (p c)) (list_all (λ x. not (p x)) cs) all).0 in cc
+    here false is = cond-false (p c) _ _ is
+
+byte_white : (c : ℕ) → is_byte c ≡ true → not (is_whitespace c) ≡ true
+byte_white c is = grind (arith, nat_tests)
+
+digit_white : (c : ℕ) → is_ascii_digit c ≡ true → not (is_whitespace c) ≡ true
+digit_white c is = grind (arith, nat_tests)
+
+digit_hyphen : (c : ℕ) → is_ascii_digit c ≡ true → not (c == 45) ≡ true
+digit_hyphen c is = grind (arith, nat_tests)
+
+digit_byte : (c : ℕ) → is_ascii_digit c ≡ true → is_byte c ≡ true
+digit_byte c is = grind (arith, nat_tests)
+
+byte_plain : (c : ℕ) → is_byte c ≡ true → is_plain c ≡ true
+byte_plain c is = grind (arith, nat_tests)
+
+byte_simple : (c : ℕ) → is_byte c ≡ true → is_simple c ≡ true
+byte_simple c is = grind (arith, nat_tests)
+
+-- a number is read from its digits, where no digit follows
+number_decimal : (n : ℕ) (rest : List ℕ) → n < 2 ^ 32 → front is_ascii_digit rest ≡ [] → behind is_ascii_digit rest ≡ rest → number (decimal n ++ rest) ≡ Some (n, rest)
+unfolding number
+number_decimal n rest small none left =
+    let spelt = decimal_is_IsNumeral n (omega arith) in
+    let digits : front is_ascii_digit (decimal n ++ rest) ≡ decimal n = split_front is_ascii_digit (decimal n) rest (decimal_digits n small) none in
+    let value : digits_value 10 (decimal n) ≡ n = spelt.1 in
+    let fits : digits_value 10 (decimal n) < 2 ^ 32 = omega arith in
+    cond-true (is_small (front is_ascii_digit (decimal n ++ rest))) _ _ (ap is_small digits ∙ small_yes (decimal n) (spelt.0.0, fits))
+    ∙ ap (λ ds. Some (digits_value 10 ds, behind is_ascii_digit (decimal n ++ rest))) digits
+    ∙ ap (λ v. Some (v, behind is_ascii_digit (decimal n ++ rest))) value
+    ∙ ap (λ xs. Some (n, xs)) (split_behind is_ascii_digit (decimal n) rest (decimal_digits n small) left)
+
+range_bytes : (r : Range ℕ) → RangeKept r → list_all is_byte (range_text r) ≡ true
+range_bytes r kept =
+    all_both is_byte (decimal r.start ++ codes "-") (decimal r.end)
+    (all_both is_byte (decimal r.start) (codes "-") (weaken is_ascii_digit is_byte digit_byte (decimal r.start) (decimal_digits r.start kept.0)) refl)
+    (weaken is_ascii_digit is_byte digit_byte (decimal r.end) (decimal_digits r.end kept.1))
+
+dash_passed : (b : ℕ) → b < 2 ^ 32 → behind_dash (45 ∷ decimal b) ≡ Some (decimal b)
+unfolding behind_dash
+dash_passed b small = ap (λ xs. Some xs) (stays (λ d. d == 45) (decimal b) (weaken is_ascii_digit (λ c. not (c == 45)) digit_hyphen (decimal b) (decimal_digits b small)))
+
+pub range_text_read : (r : Range ℕ) → RangeKept r → range_of (range_text r) ≡ Some r
+unfolding range_of
+range_text_read r kept =
+    let solid : behind is_whitespace (range_text r) ≡ range_text r = stays is_whitespace (range_text r) (weaken is_byte (λ c. not (is_whitespace c)) byte_white (range_text r) (range_bytes r kept)) in
+    let shape : range_text r ≡ decimal r.start ++ (45 ∷ decimal r.end) = append_assoc (decimal r.start) (codes "-") (decimal r.end) in
+    let first : number (behind is_whitespace (range_text r)) ≡ Some (r.start, 45 ∷ decimal r.end) = ap number (solid ∙ shape) ∙ number_decimal r.start (45 ∷ decimal r.end) kept.0 refl refl in
+    let white : behind is_whitespace (decimal r.end) ≡ decimal r.end = stays is_whitespace (decimal r.end) (weaken is_ascii_digit (λ c. not (is_whitespace c)) digit_white (decimal r.end) (decimal_digits r.end kept.1)) in
+    let last : number (behind is_whitespace (decimal r.end)) ≡ Some (r.end, []) = ap number (white ∙ sym (append-nil (decimal r.end))) ∙ number_decimal r.end [] kept.1 refl refl in
+    ap starts_with first ∙ ap (up_to r.start) (dash_passed r.end kept.1) ∙ ap (ends_at r.start) last
+
+range_chars : (r : Range ℕ) → RangeKept r → chars (range_text r) ≡ range_text r
+range_chars r kept = chars-IsAscii (range_text r) (simple_ascii (range_text r) (weaken is_byte is_simple byte_simple (range_text r) (range_bytes r kept)))
+
+range_plain : (r : Range ℕ) → RangeKept r → IsPlain (range_text r)
+range_plain r kept =
+    let bytes = range_bytes r kept in
+    record {
+      utf8 = IsUtf8-from_ascii (range_text r) (simple_ascii (range_text r) (weaken is_byte is_simple byte_simple (range_text r) bytes));
+      plain = ap (list_all is_plain) (range_chars r kept) ∙ weaken is_byte is_plain byte_plain (range_text r) bytes;
+    }
+
+texts_plain : (ranges : List (Range ℕ)) → AllByRecursion RangeKept ranges → AllByRecursion IsPlain (map range_text ranges)
+texts_plain [] kept = tt
+texts_plain (r ∷ rest) kept = (range_plain r kept.0, texts_plain rest kept.1)
+
+texts_kept : (ranges : List (Range ℕ)) → RangesKept ranges → StringsKept (map range_text ranges)
+texts_kept [] kept = absurd (omega (arith, kept.0))
+texts_kept (r ∷ rest) kept = (omega arith, texts_plain (r ∷ rest) kept.1)
+
+one_read : (r : Range ℕ) → RangeKept r → range_of (chars (range_text r)) ≡ Some r
+one_read r kept = ap range_of (range_chars r kept) ∙ range_text_read r kept
+
+all_read : (ranges : List (Range ℕ)) → AllByRecursion RangeKept ranges → all_of (map range_of (map chars (map range_text ranges))) ≡ Some ranges
+all_read [] kept = refl
+all_read (r ∷ rest) kept =
+    ap (λ x. with_first x (all_of (map range_of (map chars (map range_text rest))))) (one_read r kept.0) ∙ ap (with_first (Some r)) (all_read rest kept.1)
+
+composed : (parts : List Value) → map (λ part. range_of (formatted part)) parts ≡ map range_of (map formatted parts)
+composed [] = refl
+composed (p ∷ parts) = ap (λ xs. range_of (formatted p) ∷ xs) (composed parts)
+
+pub ranges_survive : (ranges : List (Range ℕ)) → RangesKept ranges → ranges_read (ranges_written ranges) ≡ Some ranges
+unfolding ranges_read
+ranges_survive ranges kept =
+    ap all_of (composed (comma_list (ranges_written ranges)) ∙ ap (map range_of) (parts_format (map range_text ranges) (texts_kept ranges kept)))
+    ∙ all_read ranges kept.1
+
+pub range_survives : (r : Range ℕ) → RangeKept r → range_read (range_written r) ≡ Some r
+range_survives r kept = ap first_of (ranges_survive (r ∷ []) (omega arith, (kept, tt)))

@@ -1,0 +1,65 @@
+-- Meaning: words of public contracts.
+-- How enumerations are read and written.
+use Rattle.std.specs.Prelude.{ℕ, ⊤, List, [], ◌∷◌, Option, codes}
+use Rattle.bib_chunks.specs.declared.chunk.Chunk.TheVariants.{Normal, Verbatim}
+use Rattle.bib_text.specs.Enums.{named, by_name}
+use Rattle.bib_types.specs.declared.types.Pagination.{Pagination}
+use Rattle.bib_types.specs.declared.types.Gender.{Gender}
+use Rattle.bib_types.specs.declared.types.Gender.TheVariants.{SingularFemale, SingularMale, SingularNeuter, PluralFemale, PluralMale, PluralNeuter}
+use Rattle.bib_types.specs.declared.types.EditorType.{EditorType}
+use Rattle.bib_types.specs.declared.types.EditorType.TheVariants.{Unknown}
+use Rattle.bib_types.specs.declared.types.lang.Language.{Language}
+use Rattle.bib_types.specs.Pagination.{pagination_name, pagination_named}
+use Rattle.bib_types.specs.EditorType.{editor_type_name, editor_type_of}
+use Rattle.bib_types.specs.Language.{language_row, language_named}
+use Rattle.bib_values.specs.Values.{Value, text, lowered, alone}
+
+-- a scheme is read from its name, capitals or not
+unfoldable pub pagination_read : Value → Option Pagination
+pagination_read chunks = pagination_named (lowered chunks)
+
+abbrev pub pagination_written : Pagination → Value
+pagination_written scheme = alone (Normal (pagination_name scheme))
+
+-- the code by which a gender is read and written
+abbrev pub gender_code : Gender → List ℕ
+gender_code SingularFemale = codes "sf"
+gender_code SingularMale = codes "sm"
+gender_code SingularNeuter = codes "sn"
+gender_code PluralFemale = codes "pf"
+gender_code PluralMale = codes "pm"
+gender_code PluralNeuter = codes "pn"
+
+-- the genders and their codes
+abbrev pub genders : List (List ℕ × Gender)
+genders = by_name gender_code (SingularFemale ∷ SingularMale ∷ SingularNeuter ∷ PluralFemale ∷ PluralMale ∷ PluralNeuter ∷ [])
+
+-- the gender that has this code
+abbrev pub gender_coded : List ℕ → Option Gender
+gender_coded = named genders
+
+-- a gender is read from its code, capitals or not
+unfoldable pub gender_read : Value → Option Gender
+gender_read chunks = gender_coded (lowered chunks)
+
+abbrev pub gender_written : Gender → Value
+gender_written gender = alone (Normal (gender_code gender))
+
+-- an editor's type is read from its name, capitals or not; any other text in small letters is a type of its own
+unfoldable pub editor_type_read : Value → EditorType
+editor_type_read chunks = editor_type_of (lowered chunks)
+
+abbrev pub editor_type_written : EditorType → Value
+editor_type_written role = alone (Normal (editor_type_name role))
+
+-- a type that has a name
+abbrev pub IsNamed : EditorType → Type 0
+IsNamed (Unknown text) = ⊥
+IsNamed role = ⊤
+
+-- a language is read from one of its names, exactly
+unfoldable pub language_read : Value → Option Language
+language_read chunks = language_named (text chunks)
+
+abbrev pub language_written : Language → Value
+language_written language = alone (Verbatim (language_row language).name)

@@ -1,0 +1,6 @@
+pub mod Enumerations
+pub mod Lists
+pub mod Numbers
+pub mod Ranges
+pub mod Roman
+pub mod Values

@@ -1,0 +1,109 @@
+-- Meaning: words of public contracts.
+-- How ranges of numbers are read and written.
+use Rattle.std.specs.Prelude.{ℕ, ◌^◌, ◌<◌, Bool, ◌==◌, ◌||◌, ◌&&◌, nat_lt, if◌then◌else◌, map, List, [], ◌∷◌, ◌++◌, length, Option, Some, None, codes}
+use Rattle.std.specs.List.{AllByRecursion}
+use Rattle.std.specs.Char.{is_ascii_digit, is_whitespace}
+use Rattle.std.specs.Str.Parse.{digits_value}
+use Rattle.std.specs.Fmt.{decimal}
+use Rattle.std.specs.declared.ops.Range.{Range}
+use Rattle.bib_chunks.specs.declared.chunk.Chunk.TheVariants.{Normal}
+use Rattle.bib_chunks.specs.Formatted.{formatted}
+use Rattle.bib_chunks.specs.Cuts.{comma_list}
+use Rattle.bib_values.specs.Values.{Value, alone}
+use Rattle.bib_values.specs.Lists.{strings_written}
+
+-- the characters at the start that pass a test, and those behind them
+abbrev pub front : (ℕ → Bool) → List ℕ → List ℕ
+front test [] = []
+front test (c ∷ cs) = if test c then c ∷ front test cs else []
+
+abbrev pub behind : (ℕ → Bool) → List ℕ → List ℕ
+behind test [] = []
+behind test (c ∷ cs) = if test c then behind test cs else c ∷ cs
+
+-- whether digits spell a number of 32 bits
+abbrev pub is_small : List ℕ → Bool
+is_small digits = nat_lt 0 (length digits) && nat_lt (digits_value 10 digits) (2 ^ 32)
+
+-- a number at the start of characters, and what stands behind it
+unfoldable pub number : List ℕ → Option (ℕ × List ℕ)
+number cs =
+    if is_small (front is_ascii_digit cs) then Some (digits_value 10 (front is_ascii_digit cs), behind is_ascii_digit cs) else None
+
+-- the characters that part two numbers, before any further hyphens: `-`, en dash, em dash
+abbrev pub is_dash : ℕ → Bool
+is_dash c = c == 45 || c == 8211 || c == 8212
+
+-- what stands behind a dash and further hyphens, if there is one
+unfoldable pub behind_dash : List ℕ → Option (List ℕ)
+behind_dash [] = None
+behind_dash (c ∷ cs) = if is_dash c then Some (behind (λ d. d == 45) cs) else None
+
+-- a range with this start, given its end and what stands behind it: nothing may
+abbrev pub ends_at : ℕ → Option (ℕ × List ℕ) → Option (Range ℕ)
+ends_at a None = None
+ends_at a (Some (b, [])) = Some (record { start = a; end = b })
+ends_at a (Some (b, c ∷ cs)) = None
+
+-- a range with this start, given what stands behind a dash
+abbrev pub up_to : ℕ → Option (List ℕ) → Option (Range ℕ)
+up_to a None = None
+up_to a (Some cs) = ends_at a (number (behind is_whitespace cs))
+
+-- a range with this start, given what stands behind it and white space: one number alone is both ends
+abbrev pub goes_on_with : ℕ → List ℕ → Option (Range ℕ)
+goes_on_with a [] = Some (record { start = a; end = a })
+goes_on_with a (c ∷ cs) = up_to a (behind_dash (c ∷ cs))
+
+-- a range, given its start and what stands behind it
+abbrev pub starts_with : Option (ℕ × List ℕ) → Option (Range ℕ)
+starts_with None = None
+starts_with (Some (a, cs)) = goes_on_with a (behind is_whitespace cs)
+
+-- the range that characters spell
+unfoldable pub range_of : List ℕ → Option (Range ℕ)
+range_of cs = starts_with (number (behind is_whitespace cs))
+
+-- all of some values, if each is there
+abbrev pub with_first : {A : Type 0} → Option A → Option (List A) → Option (List A)
+with_first (Some a) (Some rest) = Some (a ∷ rest)
+with_first (Some a) None = None
+with_first None rest = None
+
+abbrev pub all_of : {A : Type 0} → List (Option A) → Option (List A)
+all_of [] = Some []
+all_of (a ∷ rest) = with_first a (all_of rest)
+
+-- the first of some values
+abbrev pub first_of : {A : Type 0} → Option (List A) → Option A
+first_of None = None
+first_of (Some []) = None
+first_of (Some (a ∷ rest)) = Some a
+
+-- ranges are read from the parts of a comma list
+unfoldable pub ranges_read : Value → Option (List (Range ℕ))
+ranges_read chunks = all_of (map (λ part. range_of (formatted part)) (comma_list chunks))
+
+-- one is the first of them
+abbrev pub range_read : Value → Option (Range ℕ)
+range_read chunks = first_of (ranges_read chunks)
+
+-- the text of a range
+abbrev pub range_text : Range ℕ → List ℕ
+range_text range = (decimal range.start ++ codes "-") ++ decimal range.end
+
+-- a range as chunks
+abbrev pub range_written : Range ℕ → Value
+range_written range = alone (Normal (range_text range))
+
+-- ranges as chunks
+abbrev pub ranges_written : List (Range ℕ) → Value
+ranges_written ranges = strings_written (map range_text ranges)
+
+-- the ranges that are read back: both ends of 32 bits
+abbrev pub RangeKept : Range ℕ → Type 0
+RangeKept range = (range.start < 2 ^ 32) × (range.end < 2 ^ 32)
+
+-- and the lists of them: at least one range, and each is such a range
+abbrev pub RangesKept : List (Range ℕ) → Type 0
+RangesKept ranges = (0 < length ranges) × AllByRecursion RangeKept ranges

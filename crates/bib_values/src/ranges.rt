@@ -1,0 +1,179 @@
+//! Ranges of numbers.
+
+ghost use Rattle.std.specs.Prelude.{◌≡◌, ◌==◌, ◌++◌, Some, None, IfOk, MatchOption, codes, map, string_bytes, encode_utf8_all};
+ghost use Rattle.std.specs.Char.{is_ascii_digit, is_whitespace};
+ghost use Rattle.std.specs.Option.{option_map};
+ghost use Rattle.std.specs.Str.{chars};
+ghost use Rattle.std.specs.Fmt.{decimal};
+ghost use Rattle.bib_values.specs.Ranges.{front, behind, number, is_dash, behind_dash, up_to, goes_on_with, starts_with, range_of, ranges_read, range_read, range_text, range_written, ranges_written};
+
+use bib_chunks::chunk::cuts::comma_list;
+use bib_chunks::chunk::{Chunks, ChunksExt, ChunksRef};
+use bib_text::scanner::Scanner;
+use crate::lists::write_strings;
+use crate::text::normal;
+use std::alloc::{AllocError, Global};
+use std::ops::Range;
+
+// The digits at the start of a text, and what stands behind them.
+fn digits(text: &str) -> (&str, &str)
+    ensures digits { result.0.now ≡ front is_ascii_digit (chars text.now) }
+    ensures rest { chars result.1.now ≡ behind is_ascii_digit (chars text.now) }
+{
+    let mut scanner = Scanner::new(text);
+    let run = scanner.eat_while(|c| c.is_ascii_digit());
+    let at = scanner.cursor();
+    (run, &text[at..])
+}
+
+// What stands behind the hyphens at the start of a text.
+fn behind_hyphens(text: &str) -> &str
+    ensures { chars result.now ≡ behind (λ c. c == 45) (chars text.now) }
+{
+    let mut scanner = Scanner::new(text);
+    let _hyphens = scanner.eat_while(|c| c == '-');
+    let at = scanner.cursor();
+    &text[at..]
+}
+
+// What stands behind the white space at the start of a text.
+fn behind_white(text: &str) -> &str
+    ensures { chars result.now ≡ behind is_whitespace (chars text.now) }
+{
+    text.trim_start()
+}
+
+// The number at the start of a text, and what stands behind it.
+fn number(text: &str) -> Option<(u32, &str)>
+    ensures { MatchOption result (number (chars text.now) ≡ None)
+        (λ found. number (chars text.now) ≡ Some (found.0, chars found.1.now)) }
+{
+    let (run, rest) = digits(text);
+    let Ok(value) = run.parse::<u32>() else {
+        return None;
+    };
+    Some((value, rest))
+}
+
+// Whether the character parts two numbers.
+fn is_dash(c: char) -> bool
+    ensures { result ≡ is_dash c }
+{
+    c == '-' || c == '\u{2013}' || c == '\u{2014}'
+}
+
+// What stands behind a dash and further hyphens.
+fn behind_dash(text: &str) -> Option<&str>
+    ensures { MatchOption result (behind_dash (chars text.now) ≡ None)
+        (λ rest. behind_dash (chars text.now) ≡ Some (chars rest.now)) }
+{
+    let mut scanner = Scanner::new(text);
+    let Some(c) = scanner.eat() else {
+        return None;
+    };
+    let at = scanner.cursor();
+    let rest = behind_hyphens(&text[at..]);
+    if !is_dash(c) {
+        return None;
+    }
+    Some(rest)
+}
+
+// The range with this start, given what stands behind a dash.
+fn up_to(start: u32, text: &str) -> Option<Range<u32>>
+    ensures { result ≡ up_to start (Some (chars text.now)) }
+{
+    let Some(found) = number(behind_white(text)) else {
+        return None;
+    };
+    let rest = found.1.as_bytes();
+    if rest.len() > 0 {
+        return None;
+    }
+    Some(start..found.0)
+}
+
+// The range with this start, given what stands behind it and white space.
+fn goes_on_with(start: u32, text: &str) -> Option<Range<u32>>
+    ensures { result ≡ goes_on_with start (chars text.now) }
+{
+    if text.len() == 0 {
+        return Some(start..start);
+    }
+    let Some(rest) = behind_dash(text) else {
+        return None;
+    };
+    up_to(start, rest)
+}
+
+/// The range that a text spells.
+pub fn range_of(text: &str) -> Option<Range<u32>>
+    ensures { result ≡ range_of (chars text.now) }
+{
+    let Some(found) = number(behind_white(text)) else {
+        return None;
+    };
+    goes_on_with(found.0, behind_white(found.1))
+}
+
+/// The ranges that the parts of a comma list spell, if each spells one.
+pub fn read_ranges(
+    alloc: Global,
+    chunks: ChunksRef<'_>,
+) -> Result<Option<Vec<Range<u32>>>, AllocError>
+    ensures { IfOk result (λ ranges. option_map (λ v. v.items) ranges ≡ ranges_read chunks.now) }
+{
+    let list = comma_list(alloc, chunks)?;
+    let mut ranges = Vec::new(alloc);
+    'parts: for part in list.as_slice() {
+        let text = part.as_slice().format_verbatim(alloc)?;
+        let Some(range) = range_of(text.as_str()) else {
+            return Ok(None);
+        };
+        ranges.push(range)?;
+    }
+    Ok(Some(ranges))
+}
+
+/// The first of the ranges that the parts of a comma list spell, if each spells one.
+pub fn read_range(alloc: Global, chunks: ChunksRef<'_>) -> Result<Option<Range<u32>>, AllocError>
+    ensures { IfOk result (λ range. range ≡ range_read chunks.now) }
+{
+    let Some(ranges) = read_ranges(alloc, chunks)? else {
+        return Ok(None);
+    };
+    let Some(range) = ranges.first() else {
+        return Ok(None);
+    };
+    Ok(Some(range.start..range.end))
+}
+
+// The text of a range.
+fn range_text(alloc: Global, range: &Range<u32>) -> Result<String, AllocError>
+    ensures { IfOk result (λ text. string_bytes text ≡ range_text range.now) }
+{
+    let mut text = range.start.to_string(alloc)?;
+    let end = range.end.to_string(alloc)?;
+    text.push_str("-")?;
+    text.push_str(end.as_str())?;
+    Ok(text)
+}
+
+/// A range as chunks.
+pub fn write_range(alloc: Global, range: &Range<u32>) -> Result<Chunks, AllocError>
+    ensures { IfOk result (λ chunks. chunks ≡ range_written range.now) }
+{
+    let text = range_text(alloc, range)?;
+    normal(alloc, text.as_str())
+}
+
+/// Ranges as chunks.
+pub fn write_ranges(alloc: Global, ranges: &[Range<u32>]) -> Result<Chunks, AllocError>
+    ensures { IfOk result (λ chunks. chunks ≡ ranges_written ranges.now) }
+{
+    let mut texts = Vec::new(alloc);
+    'ranges: for range in ranges {
+        texts.push(range_text(alloc, range)?)?;
+    }
+    write_strings(alloc, texts.as_slice())
+}
