@@ -2,12 +2,11 @@
 
 ghost use Rattle.std.specs.Prelude.{◌≡◌, IfOk, string_bytes, encode_utf8_all};
 ghost use Rattle.std.specs.Borrow.{sem};
-ghost use Rattle.bib_chunks.specs.Styled.{text_of};
+ghost use Rattle.bib_chunks.specs.Styled.{text_of, whole_span};
 ghost use Rattle.bib_chunks.specs.Lending.{LendsText};
 ghost use Rattle.bib_chunks.specs.Written.{written_chunk};
 
 pub mod cuts;
-mod ext;
 mod formatting;
 pub mod lists;
 mod settling;
@@ -16,10 +15,10 @@ mod writing;
 use bib_text::items::Items;
 pub use bib_text::spanned::{Span, Spanned};
 use bib_text::text::Text;
-pub use ext::ChunksExt;
-pub use formatting::format_styled;
+pub use formatting::{format_sentence, format_styled, format_verbatim};
 pub use settling::is_settled;
 use std::alloc::{AllocError, Global};
+pub use writing::value_text;
 
 /// A part of a field's value.
 #[derive(Debug, PartialEq, Eq, Drop)]
@@ -79,4 +78,17 @@ impl Clone for Chunk {
             Chunk::Math(text) => Ok(Chunk::Math(text.clone()?)),
         }
     }
+}
+
+/// From the start of the first chunk to the end of the last, in bytes; `0..0` where there is none.
+pub fn whole_span(chunks: ChunksRef<'_>) -> Span
+    ensures { result ≡ whole_span chunks.now }
+{
+    let Some(first) = chunks.first() else {
+        return 0..0;
+    };
+    let Some(last) = chunks.last() else {
+        return 0..0;
+    };
+    first.span.start..last.span.end
 }

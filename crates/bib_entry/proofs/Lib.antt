@@ -1,1 +1,2 @@
 pub mod EntryFacts
+pub mod FieldFacts

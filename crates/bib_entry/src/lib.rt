@@ -1,4 +1,6 @@
-//! Entries of a bibliography.
+//! Entries of a bibliography, and their fields as typed values.
 #![tactic(auto)]
 
 pub mod entry;
+mod fields;
+pub mod retrieval;

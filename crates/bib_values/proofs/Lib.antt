@@ -4,6 +4,7 @@ pub mod EnumFacts
 pub mod EnumReading
 pub mod JoinFacts
 pub mod NumberFacts
+pub mod PermissiveFacts
 pub mod RangeFacts
 pub mod RangeLaws
 pub mod RomanFacts

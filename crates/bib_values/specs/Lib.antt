@@ -1,6 +1,7 @@
 pub mod Enumerations
 pub mod Lists
 pub mod Numbers
+pub mod Permissive
 pub mod Ranges
 pub mod Roman
 pub mod Values

@@ -7,11 +7,11 @@ ghost use Rattle.std.specs.Str.{chars};
 ghost use Rattle.std.specs.Fmt.{decimal};
 ghost use Rattle.bib_values.specs.Ranges.{front, behind, number, is_dash, behind_dash, up_to, goes_on_with, starts_with, range_of, ranges_read, range_read, range_text, range_written, ranges_written};
 
-use bib_chunks::chunk::cuts::comma_list;
-use bib_chunks::chunk::{Chunks, ChunksExt, ChunksRef};
-use bib_text::scanner::Scanner;
 use crate::lists::write_strings;
 use crate::text::normal;
+use bib_chunks::chunk::cuts::comma_list;
+use bib_chunks::chunk::{Chunks, ChunksRef, format_verbatim};
+use bib_text::scanner::Scanner;
 use std::alloc::{AllocError, Global};
 use std::ops::Range;
 
@@ -126,7 +126,7 @@ pub fn read_ranges(
     let list = comma_list(alloc, chunks)?;
     let mut ranges = Vec::new(alloc);
     'parts: for part in list.as_slice() {
-        let text = part.as_slice().format_verbatim(alloc)?;
+        let text = format_verbatim(alloc, part.as_slice())?;
         let Some(range) = range_of(text.as_str()) else {
             return Ok(None);
         };

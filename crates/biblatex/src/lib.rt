@@ -7,9 +7,11 @@ mod loading;
 mod reading;
 pub mod sink;
 
-pub use bib_chunks::chunk::{Chunk, Chunks, ChunksExt, ChunksRef, Span, Spanned, is_settled};
+pub use bib_chunks::chunk::{Chunk, Chunks, ChunksRef, Span, Spanned, is_settled};
 pub use bib_contents::resolve::{FieldReader, is_escapable, is_verbatim_field, parse_field};
 pub use bib_entry::entry::{Entry, SetError};
+pub use bib_entry::retrieval::RetrievalError;
+pub use bib_faults::type_error::{TypeError, TypeErrorKind};
 pub use bib_maps::text_map::TextMap;
 pub use bib_syntax::raw::{
     BiblatexParser, Field, Pair, ParseError, ParseErrorKind, RawBibliography, RawChunk, RawEntry,
@@ -19,6 +21,8 @@ pub use bib_tables::mechanics::{AuthorMode, EntryType, PagesChapterMode, Require
 pub use bib_text::items::Items;
 pub use bib_text::scanner::Scanner;
 pub use bib_text::text::Text;
+pub use bib_typed::ext::ChunksExt;
+pub use bib_typed::typed::{PermissiveType, Type};
 pub use bib_types::types::lang::Language;
 pub use bib_types::types::{EditorType, Gender, NameError, Pagination};
 pub use bibliography::{Bibliography, InsertError, Keys};

@@ -2,7 +2,8 @@
 
 use crate::checks::agrees;
 use bib_chunks::chunk::{
-    Chunk, Chunks, ChunksExt, Spanned, cuts, format_styled, is_settled, lists,
+    Chunk, Chunks, Spanned, cuts, format_sentence, format_styled, format_verbatim, is_settled,
+    lists, value_text, whole_span,
 };
 use bib_text::items::Items;
 use bib_text::text::Text;
@@ -33,7 +34,7 @@ fn chunks(alloc: Global, parts: Parts) -> Result<Chunks, AllocError> {
 // The value that is written for chunks of these parts.
 fn written(alloc: Global, parts: Parts, is_verbatim: bool) -> Result<String, AllocError> {
     let all = chunks(alloc, parts)?;
-    all.as_slice().to_biblatex_string(alloc, is_verbatim)
+    value_text(alloc, all.as_slice(), is_verbatim)
 }
 
 #[test]
@@ -132,7 +133,7 @@ fn joined(alloc: Global, list: &Items<Chunks>) -> Result<String, AllocError> {
     let mut out = String::new(alloc);
     for part in list.as_slice() {
         out.push('|')?;
-        let text = part.as_slice().format_verbatim(alloc)?;
+        let text = format_verbatim(alloc, part.as_slice())?;
         out.push_str(text.as_str())?;
     }
     Ok(out)
@@ -140,7 +141,7 @@ fn joined(alloc: Global, list: &Items<Chunks>) -> Result<String, AllocError> {
 
 // Chunks of these parts, formatted with their letters kept.
 fn verbatim(alloc: Global, parts: Parts) -> Result<String, AllocError> {
-    chunks(alloc, parts)?.as_slice().format_verbatim(alloc)
+    format_verbatim(alloc, chunks(alloc, parts)?.as_slice())
 }
 
 #[test]
@@ -186,7 +187,7 @@ fn formats_styled_texts(rt: HostRuntime) -> Result<(), Fail> {
 
 // Chunks of these parts, formatted as a sentence.
 fn sentence(alloc: Global, parts: Parts) -> Result<String, AllocError> {
-    chunks(alloc, parts)?.as_slice().format_sentence(alloc)
+    format_sentence(alloc, chunks(alloc, parts)?.as_slice())
 }
 
 #[test]
@@ -210,9 +211,9 @@ fn formats_as_sentence(rt: HostRuntime) -> Result<(), Fail> {
 fn spans_chunks(rt: HostRuntime) -> Result<(), Fail> {
     let alloc = rt.alloc();
     let none = chunks(alloc, &[])?;
-    assert!(rt; none.as_slice().span() == (0..0));
+    assert!(rt; whole_span(none.as_slice()) == (0..0));
     let some = chunks(alloc, &[('n', "ab"), ('v', "cde"), ('m', "f")])?;
-    assert!(rt; some.as_slice().span() == (0..6));
+    assert!(rt; whole_span(some.as_slice()) == (0..6));
     Ok(())
 }
 
@@ -308,9 +309,9 @@ fn cut(alloc: Global, parts: Parts) -> Result<String, AllocError> {
     let Some((before, behind)) = cuts::cut_at(alloc, all.as_slice(), '=')? else {
         return String::from_str(alloc, "-");
     };
-    let mut out = before.as_slice().format_verbatim(alloc)?;
+    let mut out = format_verbatim(alloc, before.as_slice())?;
     out.push('|')?;
-    let rest = behind.as_slice().format_verbatim(alloc)?;
+    let rest = format_verbatim(alloc, behind.as_slice())?;
     out.push_str(rest.as_str())?;
     Ok(out)
 }

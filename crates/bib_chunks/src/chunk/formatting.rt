@@ -91,8 +91,9 @@ fn write_math(out: &mut String, text: &str) -> Result<(), AllocError>
     Ok(())
 }
 
-// The text of chunks.
-pub(super) fn format_verbatim(alloc: Global, chunks: ChunksRef<'_>) -> Result<String, AllocError>
+/// The text of the chunks: math between dollar signs, and in normal text a line break as a space, or as nothing behind
+/// white space.
+pub fn format_verbatim(alloc: Global, chunks: ChunksRef<'_>) -> Result<String, AllocError>
     ensures { IfOk result (λ text. string_bytes text ≡ encode_utf8_all (formatted chunks.now)) }
 {
     let mut out = String::new(alloc);
@@ -219,8 +220,9 @@ fn write_sentence_chunk(
     }
 }
 
-// The text of chunks as a sentence.
-pub(super) fn format_sentence(alloc: Global, chunks: ChunksRef<'_>) -> Result<String, AllocError>
+/// The text of the chunks as a sentence has it: as `format_verbatim`, with the characters of normal chunks in lower case,
+/// and in upper case where the character is the first of the first chunk.
+pub fn format_sentence(alloc: Global, chunks: ChunksRef<'_>) -> Result<String, AllocError>
     ensures { IfOk result (λ text. string_bytes text ≡ encode_utf8_all (sentence chunks.now)) }
 {
     let mut out = String::new(alloc);

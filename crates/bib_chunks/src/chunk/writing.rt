@@ -195,8 +195,8 @@ pub(super) fn chunk_text(
     Ok(out)
 }
 
-// The text of a value.
-pub(super) fn value_text(
+/// A value as it is written in a file, in its braces, for a verbatim field or another.
+pub fn value_text(
     alloc: Global,
     chunks: ChunksRef<'_>,
     is_verbatim: bool,

@@ -6,14 +6,24 @@ ghost use Rattle.bib_text.specs.declared.spanned.Spanned.{Spanned as APlaced};
 ghost use Rattle.bib_chunks.specs.Formatted.{formatted, sentence};
 ghost use Rattle.bib_chunks.specs.Styled.{whole_span};
 ghost use Rattle.bib_chunks.specs.Written.{written_value};
+ghost use Rattle.bib_typed.specs.Typed.{IsReadAs};
 
-use super::{ChunksRef, Span, formatting, writing};
+use crate::typed::Type;
+use bib_chunks::chunk::{
+    ChunksRef, Span, format_sentence, format_verbatim, value_text, whole_span,
+};
+use bib_faults::type_error::TypeError;
 use std::alloc::{AllocError, Global};
 
 /// Calls on lists of chunks.
 pub trait ChunksExt {
     // The chunks.
     ghost contents: { Self → List (APlaced AChunk) };
+
+    /// The value of a type that the chunks are read as.
+    fn parse<T: Type>(&self, alloc: Global) -> Result<T, TypeError>
+        ensures { IsReadAs T.meaning (T.reads (contents self.now))
+            (T.may_refuse (contents self.now)) result };
 
     /// The text of the chunks: math between dollar signs, and in normal text a line break as a space, or as nothing
     /// behind white space.
@@ -40,25 +50,23 @@ pub trait ChunksExt {
 impl ChunksExt for ChunksRef<'_> {
     ghost contents = { λ chunks. chunks.now };
 
+    fn parse<T: Type>(&self, alloc: Global) -> Result<T, TypeError> {
+        T::from_chunks(alloc, self)
+    }
+
     fn format_verbatim(&self, alloc: Global) -> Result<String, AllocError> {
-        formatting::format_verbatim(alloc, self)
+        format_verbatim(alloc, self)
     }
 
     fn format_sentence(&self, alloc: Global) -> Result<String, AllocError> {
-        formatting::format_sentence(alloc, self)
+        format_sentence(alloc, self)
     }
 
     fn span(&self) -> Span {
-        let Some(first) = self.first() else {
-            return 0..0;
-        };
-        let Some(last) = self.last() else {
-            return 0..0;
-        };
-        first.span.start..last.span.end
+        whole_span(self)
     }
 
     fn to_biblatex_string(&self, alloc: Global, is_verbatim: bool) -> Result<String, AllocError> {
-        writing::value_text(alloc, self, is_verbatim)
+        value_text(alloc, self, is_verbatim)
     }
 }

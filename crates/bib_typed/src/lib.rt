@@ -1,0 +1,9 @@
+//! Typed values: what the chunks of a field are read as, and the chunks that are written for a value.
+#![tactic(auto)]
+
+mod enums;
+pub mod ext;
+mod lists;
+mod numbers;
+mod ranges;
+pub mod typed;
