@@ -1,6 +1,8 @@
 pub mod Enumerations
+pub mod Joining
 pub mod Lists
 pub mod Numbers
 pub mod Ranges
 pub mod Roman
+pub mod RomanLetters
 pub mod Values
