@@ -1,5 +1,6 @@
 -- Meaning: words of public contracts.
--- How enumerations are read and written.
+-- Enumerations, each by its names: what `pagination`, `editortype` and `langid` hold after the manual of BibLaTeX, and
+-- its codes for `gender`. Only a language is read exactly as it is spelled.
 use Rattle.std.specs.Prelude.{ℕ, ⊤, List, [], ◌∷◌, Option, codes}
 use Rattle.bib_chunks.specs.declared.chunk.Chunk.TheVariants.{Normal, Verbatim}
 use Rattle.bib_text.specs.Enums.{named, by_name}
@@ -14,14 +15,15 @@ use Rattle.bib_types.specs.EditorType.{editor_type_name, editor_type_of}
 use Rattle.bib_types.specs.Language.{language_row, language_named}
 use Rattle.bib_values.specs.Values.{Value, text, lowered, alone}
 
--- a scheme is read from its name, capitals or not
+-- the scheme that chunks name, in capitals or small letters
 unfoldable pub pagination_read : Value → Option Pagination
 pagination_read chunks = pagination_named (lowered chunks)
 
+-- how a scheme is written: its name, as one normal chunk
 abbrev pub pagination_written : Pagination → Value
 pagination_written scheme = alone (Normal (pagination_name scheme))
 
--- the code by which a gender is read and written
+-- the code by which a gender is read and written: singular or plural; feminine, masculine or neuter
 abbrev pub gender_code : Gender → List ℕ
 gender_code SingularFemale = codes "sf"
 gender_code SingularMale = codes "sm"
@@ -38,28 +40,31 @@ genders = by_name gender_code (SingularFemale ∷ SingularMale ∷ SingularNeute
 abbrev pub gender_coded : List ℕ → Option Gender
 gender_coded = named genders
 
--- a gender is read from its code, capitals or not
+-- the gender whose code chunks are, in capitals or small letters
 unfoldable pub gender_read : Value → Option Gender
 gender_read chunks = gender_coded (lowered chunks)
 
+-- how a gender is written: its code, as one normal chunk
 abbrev pub gender_written : Gender → Value
 gender_written gender = alone (Normal (gender_code gender))
 
--- an editor's type is read from its name, capitals or not; any other text in small letters is a type of its own
+-- the editor's type that chunks name, in capitals or small letters; any other text, in small letters, is an unknown type
 unfoldable pub editor_type_read : Value → EditorType
 editor_type_read chunks = editor_type_of (lowered chunks)
 
+-- how an editor's type is written: its name, or the text of an unknown one, as one normal chunk
 abbrev pub editor_type_written : EditorType → Value
 editor_type_written role = alone (Normal (editor_type_name role))
 
--- a type that has a name
+-- a type that is not unknown
 abbrev pub IsNamed : EditorType → Type 0
 IsNamed (Unknown text) = ⊥
 IsNamed role = ⊤
 
--- a language is read from one of its names, exactly
+-- the language that chunks name, exactly
 unfoldable pub language_read : Value → Option Language
 language_read chunks = language_named (text chunks)
 
+-- how a language is written: the name that it is displayed by, as one verbatim chunk
 abbrev pub language_written : Language → Value
 language_written language = alone (Verbatim (language_row language).name)

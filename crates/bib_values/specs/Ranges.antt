@@ -1,5 +1,6 @@
 -- Meaning: words of public contracts.
--- How ranges of numbers are read and written.
+-- Ranges of numbers, as in `pages`. The manual of BibLaTeX has a range as two numbers with one dash or more between
+-- them; which dashes there are, and where white space may stand, are rules of the Rust crate `biblatex`.
 use Rattle.std.specs.Prelude.{ℕ, ◌^◌, ◌<◌, Bool, ◌==◌, ◌||◌, ◌&&◌, nat_lt, if◌then◌else◌, map, List, [], ◌∷◌, ◌++◌, length, Option, Some, None, codes}
 use Rattle.std.specs.List.{AllByRecursion}
 use Rattle.std.specs.Char.{is_ascii_digit, is_whitespace}
@@ -12,7 +13,7 @@ use Rattle.bib_chunks.specs.Cuts.{comma_list}
 use Rattle.bib_values.specs.Values.{Value, alone}
 use Rattle.bib_values.specs.Lists.{strings_written}
 
--- the characters at the start that pass a test, and those behind them
+-- the characters at the start of a text that pass a test, and the characters behind those
 abbrev pub front : (ℕ → Bool) → List ℕ → List ℕ
 front test [] = []
 front test (c ∷ cs) = if test c then c ∷ front test cs else []
@@ -21,55 +22,57 @@ abbrev pub behind : (ℕ → Bool) → List ℕ → List ℕ
 behind test [] = []
 behind test (c ∷ cs) = if test c then behind test cs else c ∷ cs
 
--- whether digits spell a number of 32 bits
+-- whether digits spell a number that fits in 32 bits
 abbrev pub is_small : List ℕ → Bool
 is_small digits = nat_lt 0 (length digits) && nat_lt (digits_value 10 digits) (2 ^ 32)
 
--- a number at the start of characters, and what stands behind it
+-- the number at the start of a text, and what stands behind it: its digits are as many as there are
 unfoldable pub number : List ℕ → Option (ℕ × List ℕ)
 number cs =
     if is_small (front is_ascii_digit cs) then Some (digits_value 10 (front is_ascii_digit cs), behind is_ascii_digit cs) else None
 
--- the characters that part two numbers, before any further hyphens: `-`, en dash, em dash
+-- the characters that part two numbers: `-`, the en dash U+2013, the em dash U+2014
 abbrev pub is_dash : ℕ → Bool
 is_dash c = c == 45 || c == 8211 || c == 8212
 
--- what stands behind a dash and further hyphens, if there is one
+-- what stands behind such a character and any `-` that follow it, if the text begins with one
 unfoldable pub behind_dash : List ℕ → Option (List ℕ)
 behind_dash [] = None
 behind_dash (c ∷ cs) = if is_dash c then Some (behind (λ d. d == 45) cs) else None
 
--- a range with this start, given its end and what stands behind it: nothing may
+-- the range with this start, given its end and what stands behind that: nothing may
 abbrev pub ends_at : ℕ → Option (ℕ × List ℕ) → Option (Range ℕ)
 ends_at a None = None
 ends_at a (Some (b, [])) = Some (record { start = a; end = b })
 ends_at a (Some (b, c ∷ cs)) = None
 
--- a range with this start, given what stands behind a dash
+-- the range with this start, given what stands behind the dash: white space, and its end
 abbrev pub up_to : ℕ → Option (List ℕ) → Option (Range ℕ)
 up_to a None = None
 up_to a (Some cs) = ends_at a (number (behind is_whitespace cs))
 
--- a range with this start, given what stands behind it and white space: one number alone is both ends
+-- the range with this start, given what stands behind that and white space: nothing, and the one number is both ends,
+-- or a dash
 abbrev pub goes_on_with : ℕ → List ℕ → Option (Range ℕ)
 goes_on_with a [] = Some (record { start = a; end = a })
 goes_on_with a (c ∷ cs) = up_to a (behind_dash (c ∷ cs))
 
--- a range, given its start and what stands behind it
+-- the range, given its start and what stands behind that
 abbrev pub starts_with : Option (ℕ × List ℕ) → Option (Range ℕ)
 starts_with None = None
 starts_with (Some (a, cs)) = goes_on_with a (behind is_whitespace cs)
 
--- the range that characters spell
+-- the range that a text spells, by characters; white space may stand before it
 unfoldable pub range_of : List ℕ → Option (Range ℕ)
 range_of cs = starts_with (number (behind is_whitespace cs))
 
--- all of some values, if each is there
+-- a value before some others, if both are there
 abbrev pub with_first : {A : Type 0} → Option A → Option (List A) → Option (List A)
 with_first (Some a) (Some rest) = Some (a ∷ rest)
 with_first (Some a) None = None
 with_first None rest = None
 
+-- all of some values, if each is there
 abbrev pub all_of : {A : Type 0} → List (Option A) → Option (List A)
 all_of [] = Some []
 all_of (a ∷ rest) = with_first a (all_of rest)
@@ -80,27 +83,27 @@ first_of None = None
 first_of (Some []) = None
 first_of (Some (a ∷ rest)) = Some a
 
--- ranges are read from the parts of a comma list
+-- the ranges that are read from chunks: those of the parts of a comma list, if each part spells one
 unfoldable pub ranges_read : Value → Option (List (Range ℕ))
 ranges_read chunks = all_of (map (λ part. range_of (formatted part)) (comma_list chunks))
 
--- one is the first of them
+-- the one range that is read from chunks: the first of these
 abbrev pub range_read : Value → Option (Range ℕ)
 range_read chunks = first_of (ranges_read chunks)
 
--- the text of a range
+-- how a range is written: its ends in decimal digits, with `-` between them
 abbrev pub range_text : Range ℕ → List ℕ
 range_text range = (decimal range.start ++ codes "-") ++ decimal range.end
 
--- a range as chunks
+-- the same as one normal chunk
 abbrev pub range_written : Range ℕ → Value
 range_written range = alone (Normal (range_text range))
 
--- ranges as chunks
+-- how ranges are written: as a comma list of such texts
 abbrev pub ranges_written : List (Range ℕ) → Value
 ranges_written ranges = strings_written (map range_text ranges)
 
--- the ranges that are read back: both ends of 32 bits
+-- the ranges that are read back: both ends fit in 32 bits
 abbrev pub RangeKept : Range ℕ → Type 0
 RangeKept range = (range.start < 2 ^ 32) × (range.end < 2 ^ 32)
 

@@ -1,6 +1,7 @@
 -- Meaning: words of public contracts.
--- Chunks of values, and their texts.
-use Rattle.std.specs.Prelude.{ℕ, ◌-◌, ◌^◌, List, [], ◌∷◌, Option, Some, None, encode_utf8_all}
+-- Chunks as values: the text from which one is read, and the chunks that are written of one. A chunk that is written and
+-- not read from a file stands nowhere: at the highest number of 64 bits, as in the Rust crate `biblatex`.
+use Rattle.std.specs.Prelude.{ℕ, ◌-◌, ◌^◌, List, [], ◌∷◌, encode_utf8_all}
 use Rattle.std.specs.Str.{str_to_ascii_lowercase}
 use Rattle.bib_chunks.specs.declared.chunk.Chunk.{Chunk}
 use Rattle.bib_text.specs.declared.spanned.Spanned.{Spanned}
@@ -15,7 +16,7 @@ Value = List (Spanned Chunk)
 abbrev pub text : Value → List ℕ
 text chunks = encode_utf8_all (formatted chunks)
 
--- the same in small letters of ASCII
+-- the same, with `A` to `Z` in small letters
 abbrev pub lowered : Value → List ℕ
 lowered chunks = str_to_ascii_lowercase (text chunks)
 
@@ -26,8 +27,3 @@ nowhere chunk = placed chunk (2 ^ 64 - 1) (2 ^ 64 - 1)
 -- one chunk that stands nowhere
 abbrev pub alone : Chunk → Value
 alone chunk = nowhere chunk ∷ []
-
--- the first of two that is there
-abbrev pub either : {A : Type 0} → Option A → Option A → Option A
-either (Some a) second = Some a
-either None second = second

@@ -2,6 +2,7 @@
 #![tactic(auto)]
 
 pub mod enums;
+pub mod laws;
 pub mod lists;
 pub mod numbers;
 pub mod ranges;

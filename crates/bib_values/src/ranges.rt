@@ -1,4 +1,4 @@
-//! Ranges of numbers.
+//! Ranges of numbers, as of pages.
 
 ghost use Rattle.std.specs.Prelude.{◌≡◌, ◌==◌, ◌++◌, Some, None, IfOk, MatchOption, codes, map, string_bytes, encode_utf8_all};
 ghost use Rattle.std.specs.Char.{is_ascii_digit, is_whitespace};
@@ -106,8 +106,8 @@ fn goes_on_with(start: u32, text: &str) -> Option<Range<u32>>
     up_to(start, rest)
 }
 
-/// The range that a text spells.
-pub fn range_of(text: &str) -> Option<Range<u32>>
+// The range that a text spells.
+fn range_of(text: &str) -> Option<Range<u32>>
     ensures { result ≡ range_of (chars text.now) }
 {
     let Some(found) = number(behind_white(text)) else {
@@ -116,7 +116,9 @@ pub fn range_of(text: &str) -> Option<Range<u32>>
     goes_on_with(found.0, behind_white(found.1))
 }
 
-/// The ranges that the parts of a comma list spell, if each spells one.
+/// The ranges that the formatted parts of a comma list spell. `None` where a part spells none. A range is a number of 32
+/// bits in decimal digits, which is both its ends, or two of them with `-`, U+2013 or U+2014 between them and any `-`
+/// behind that. White space may stand before each number and before what parts the two, and behind a lone one.
 pub fn read_ranges(
     alloc: Global,
     chunks: ChunksRef<'_>,
@@ -135,7 +137,7 @@ pub fn read_ranges(
     Ok(Some(ranges))
 }
 
-/// The first of the ranges that the parts of a comma list spell, if each spells one.
+/// The first of the ranges that the formatted parts of a comma list spell. `None` where a part spells none.
 pub fn read_range(alloc: Global, chunks: ChunksRef<'_>) -> Result<Option<Range<u32>>, AllocError>
     ensures { IfOk result (λ range. range ≡ range_read chunks.now) }
 {
@@ -159,7 +161,7 @@ fn range_text(alloc: Global, range: &Range<u32>) -> Result<String, AllocError>
     Ok(text)
 }
 
-/// A range as chunks.
+/// A range as one normal chunk: its ends in decimal digits, with `-` between them.
 pub fn write_range(alloc: Global, range: &Range<u32>) -> Result<Chunks, AllocError>
     ensures { IfOk result (λ chunks. chunks ≡ range_written range.now) }
 {
@@ -167,7 +169,7 @@ pub fn write_range(alloc: Global, range: &Range<u32>) -> Result<Chunks, AllocErr
     normal(alloc, text.as_str())
 }
 
-/// Ranges as chunks.
+/// Ranges as a comma list: each is one normal chunk, with a normal chunk `,` between each two.
 pub fn write_ranges(alloc: Global, ranges: &[Range<u32>]) -> Result<Chunks, AllocError>
     ensures { IfOk result (λ chunks. chunks ≡ ranges_written ranges.now) }
 {

@@ -316,8 +316,8 @@ fn halves(
     Ok(Some((first, second)))
 }
 
-// Appends copies of chunks.
-fn append(all: &mut Chunks, chunks: ChunksRef<'_>) -> Result<(), AllocError>
+/// Appends copies of chunks, each in its place.
+pub fn append(all: &mut Chunks, chunks: ChunksRef<'_>) -> Result<(), AllocError>
     ensures { OnOk result (all.new ≡ all.old ++ chunks.now) }
 {
     'chunks: for chunk in chunks {

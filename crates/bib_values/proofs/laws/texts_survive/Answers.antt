@@ -1,0 +1,5 @@
+use Rattle.bib_values.proofs.TextFacts.{verbatim_text}
+use Rattle.bib_values.proofs.laws.texts_survive.Goals as goal
+
+pub returns : goal.returns
+returns c = verbatim_text c.args.t.now c.utf8.t

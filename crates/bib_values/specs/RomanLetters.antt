@@ -1,0 +1,32 @@
+-- Machinery: words of private contracts.
+-- The number of a roman numeral from its letters.
+use Rattle.std.specs.Prelude.{ℕ, ◌+◌, ◌-◌, ◌&&◌, ◌||◌, ◌==◌, nat_lt, nat_le, if◌then◌else◌, List, [], ◌∷◌, length, Option, Some, None}
+use Rattle.bib_values.specs.Roman.{spells}
+
+-- the value of a letter by itself, capital or small
+abbrev pub letter_value : ℕ → ℕ
+letter_value c =
+    if c == 73 || c == 105 then 1 else if c == 86 || c == 118 then 5 else if c == 88 || c == 120 then 10
+    else if c == 76 || c == 108 then 50 else if c == 67 || c == 99 then 100 else if c == 68 || c == 100 then 500
+    else if c == 77 || c == 109 then 1000 else 0
+
+-- the value of the first letter, if there is one
+abbrev pub first_value : List ℕ → ℕ
+first_value [] = 0
+first_value (c ∷ rest) = letter_value c
+
+-- the value of letters, given that of one more and those behind it: it is taken off before a greater one
+abbrev pub with_letter : ℕ → ℕ → ℕ → ℕ
+with_letter value next total = if nat_lt value next then total - value else total + value
+
+-- the value of letters
+unfoldable pub letters_value : List ℕ → ℕ
+letters_value [] = 0
+letters_value (c ∷ rest) = with_letter (letter_value c) (first_value rest) (letters_value rest)
+
+-- the number that the letters of a text add up to, if it is below 4,000 and the text is its numeral; a numeral has at
+-- most 15 letters
+unfoldable pub by_letters : List ℕ → Option ℕ
+by_letters text =
+    if nat_le (length text) 15 && nat_lt 0 (letters_value text) && nat_lt (letters_value text) 4000 && spells text (letters_value text)
+    then Some (letters_value text) else None

@@ -1,0 +1,64 @@
+//! Laws of values. These functions do nothing: what they ensure is proved of the definitions alone.
+
+ghost use Rattle.std.specs.Prelude.{◌≡◌, ◌<◌, ◌⊎◌, ℕ, ℤ, pos, List, Some, FitsSigned};
+ghost use Rattle.std.specs.Int.{w64};
+ghost use Rattle.std.specs.Str.{str_to_ascii_lowercase};
+ghost use Rattle.std.specs.declared.ops.Range.{Range as ARange};
+ghost use Rattle.bib_chunks.specs.declared.chunk.Chunk.TheVariants.{Verbatim as AVerbatim};
+ghost use Rattle.bib_types.specs.declared.types.Pagination.{Pagination as APagination};
+ghost use Rattle.bib_types.specs.declared.types.Gender.{Gender as AGender};
+ghost use Rattle.bib_types.specs.declared.types.EditorType.{EditorType as AnEditorType};
+ghost use Rattle.bib_types.specs.declared.types.lang.Language.{Language as ALanguage};
+ghost use Rattle.bib_values.specs.Values.{text, alone};
+ghost use Rattle.bib_values.specs.Numbers.{number_of, number_read, number_written};
+ghost use Rattle.bib_values.specs.Roman.{roman, roman_of};
+ghost use Rattle.bib_values.specs.Enumerations.{pagination_read, pagination_written, gender_read, gender_written, editor_type_read, editor_type_written, language_read, language_written, IsNamed};
+ghost use Rattle.bib_values.specs.Lists.{strings_read, strings_written, StringsKept};
+ghost use Rattle.bib_values.specs.Ranges.{range_read, range_written, ranges_read, ranges_written, RangeKept, RangesKept};
+
+/// Each text is read from its verbatim chunk.
+pub fn texts_survive(t: &str)
+    ensures { text (alone (AVerbatim t.now)) ≡ t.now }
+{}
+
+/// Each number of 64 bits is read from what is written of it.
+pub fn numbers_survive()
+    ensures { (z : ℤ) → FitsSigned w64 z → number_read (number_written z) ≡ Some z }
+{}
+
+/// Each numeral from 1 to 3,999, in capitals and in small letters, spells its number.
+pub fn numerals_spell_their_numbers()
+    ensures { (n : ℕ) → 0 < n → n < 4000 → (number_of (roman n) ≡ Some (pos n)) ×
+        (number_of (str_to_ascii_lowercase (roman n)) ≡ Some (pos n)) }
+{}
+
+/// No other text is a numeral.
+pub fn numerals_alone_are_read()
+    ensures { (t : List ℕ) (n : ℕ) → roman_of t ≡ Some n → (0 < n) × (n < 4000) ×
+        ((t ≡ roman n) ⊎ (t ≡ str_to_ascii_lowercase (roman n))) }
+{}
+
+/// Each value of an enumeration is read from what is written of it; of the editor's types, each named one.
+pub fn enumerations_survive()
+    ensures paginations { (scheme : APagination) →
+        pagination_read (pagination_written scheme) ≡ Some scheme }
+    ensures genders { (gender : AGender) → gender_read (gender_written gender) ≡ Some gender }
+    ensures languages { (language : ALanguage) →
+        language_read (language_written language) ≡ Some language }
+    ensures editor_types { (role : AnEditorType) → IsNamed role →
+        editor_type_read (editor_type_written role) ≡ role }
+{}
+
+/// Each list of texts is read from what is written of it, if it has a text, and none of them has a comma, CR or LF.
+pub fn lists_of_texts_survive()
+    ensures { (texts : List (List ℕ)) → StringsKept texts →
+        strings_read (strings_written texts) ≡ texts }
+{}
+
+/// Each range of numbers of 32 bits is read from what is written of it, and so is each list of one such range or more.
+pub fn ranges_survive()
+    ensures range { (range : ARange ℕ) → RangeKept range →
+        range_read (range_written range) ≡ Some range }
+    ensures ranges { (ranges : List (ARange ℕ)) → RangesKept ranges →
+        ranges_read (ranges_written ranges) ≡ Some ranges }
+{}
