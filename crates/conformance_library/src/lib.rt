@@ -1,5 +1,5 @@
-//! Tests of bibliographies, read and changed: worked examples, what no contract says, and a long run of changes
-//! against a plain list.
+//! Tests of bibliographies, read and changed, and of typed values: worked examples, what no contract says, and a long
+//! run of changes against a plain list.
 #![tactic(auto)]
 
 #[cfg(test)]
@@ -10,3 +10,5 @@ mod checks;
 mod library;
 #[cfg(test)]
 mod plain;
+#[cfg(test)]
+mod typed;
