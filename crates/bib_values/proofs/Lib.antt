@@ -5,6 +5,7 @@ pub mod EnumReading
 pub mod JoinFacts
 pub mod NumberFacts
 pub mod RangeFacts
+pub mod RangeGrammar
 pub mod RangeLaws
 pub mod RomanFacts
 pub mod RomanSteps

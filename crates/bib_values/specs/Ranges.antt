@@ -1,8 +1,8 @@
 -- Meaning: words of public contracts.
 -- Ranges of numbers, as in `pages`. The manual of BibLaTeX has a range as two numbers with one dash or more between
 -- them; which dashes there are, and where white space may stand, are rules of the Rust crate `biblatex`.
-use Rattle.std.specs.Prelude.{ℕ, ◌^◌, ◌<◌, Bool, ◌==◌, ◌||◌, ◌&&◌, nat_lt, if◌then◌else◌, map, List, [], ◌∷◌, ◌++◌, length, Option, Some, None, codes}
-use Rattle.std.specs.List.{AllByRecursion}
+use Rattle.std.specs.Prelude.{◌≡◌, ℕ, ◌^◌, ◌<◌, Bool, true, ◌==◌, ◌||◌, ◌&&◌, nat_lt, if◌then◌else◌, map, List, [], ◌∷◌, ◌++◌, length, Option, Some, None, codes}
+use Rattle.std.specs.List.{list_all, AllByRecursion}
 use Rattle.std.specs.Char.{is_ascii_digit, is_whitespace}
 use Rattle.std.specs.Str.Parse.{digits_value}
 use Rattle.std.specs.Fmt.{decimal}
@@ -65,6 +65,31 @@ starts_with (Some (a, cs)) = goes_on_with a (behind is_whitespace cs)
 -- the range that a text spells, by characters; white space may stand before it
 unfoldable pub range_of : List ℕ → Option (Range ℕ)
 range_of cs = starts_with (number (behind is_whitespace cs))
+
+-- digits that spell a number that fits in 32 bits
+pub record IsNumber (digits : List ℕ) (n : ℕ) : Type 0 where
+  pub some : 0 < length digits
+  pub each : list_all is_ascii_digit digits ≡ true
+  pub value : digits_value 10 digits ≡ n
+  pub fits : n < 2 ^ 32
+
+-- what ends a range with this start: nothing, and the start is its end too, or a dash, any `-`, white space, and the end
+pub data EndsRange (start : ℕ) : List ℕ → ℕ → Type 0 where
+  lone : EndsRange start [] start
+  dashed : (dash : ℕ) (hyphens white digits : List ℕ) {end : ℕ} → is_dash dash ≡ true → list_all (λ c. c == 45) hyphens ≡ true
+      → list_all is_whitespace white ≡ true → IsNumber digits end → EndsRange start (dash ∷ (hyphens ++ (white ++ digits))) end
+
+-- a text is a range: white space, its start, white space, and what ends it
+pub record IsRange (text : List ℕ) (range : Range ℕ) : Type 0 where
+  pub before : List ℕ
+  pub digits : List ℕ
+  pub between : List ℕ
+  pub rest : List ℕ
+  pub spells : text ≡ before ++ (digits ++ (between ++ rest))
+  pub blank : list_all is_whitespace before ≡ true
+  pub start : IsNumber digits range.start
+  pub gap : list_all is_whitespace between ≡ true
+  pub end : EndsRange range.start rest range.end
 
 -- a value before some others, if both are there
 abbrev pub with_first : {A : Type 0} → Option A → Option (List A) → Option (List A)
