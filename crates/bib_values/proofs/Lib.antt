@@ -1,9 +1,9 @@
 pub mod AndListFacts
 pub mod CommaFacts
 pub mod EnumFacts
-pub mod EnumReading
 pub mod JoinFacts
 pub mod NumberFacts
+pub mod OptionFacts
 pub mod RangeFacts
 pub mod RangeGrammar
 pub mod RangeLaws

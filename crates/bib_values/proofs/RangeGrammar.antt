@@ -9,6 +9,7 @@ use Rattle.std.proofs.lemmas.Bool.{and_parts, and_from, cond-true, cond-false}
 use Rattle.std.proofs.lemmas.Bool.Decides.{nat_tests}
 use Rattle.bib_values.specs.Ranges.{front, behind, is_small, number, is_dash, behind_dash, ends_at, up_to, goes_on_with, starts_with, range_of, IsNumber, EndsRange, IsRange}
 use Rattle.bib_values.proofs.ScannedFacts.{split_front, split_behind}
+use Rattle.bib_values.proofs.OptionFacts.{given}
 use Rattle.bib_values.proofs.RangeFacts.{small_yes}
 
 -- the first of these characters doesn't pass
@@ -122,10 +123,6 @@ front_passes test (c ∷ cs) = here (test c) refl (front_passes test cs)
     here : (b : Bool) → test c ≡ b → list_all test (front test cs) ≡ true → list_all test (cond b (c ∷ front test cs) []) ≡ true
     here true is more = and_from _ _ is more
     here false is more = refl
-
-given : {A : Type 0} (b : Bool) (v found : A) → cond b (Some v) None ≡ Some found → (b ≡ true) × (v ≡ found)
-given true v found is = (refl, cc)
-given false v found is = cc
 
 -- what a number that is read says of the characters
 number_spelt : (cs : List ℕ) (found : ℕ × List ℕ) → number cs ≡ Some found → IsNumber (front is_ascii_digit cs) found.0 × (behind is_ascii_digit cs ≡ found.1)
