@@ -96,7 +96,7 @@ char_cut c text before after utf8 (i, j, found, front, back, ordered, size, rest
 pub char_free : (c : ℕ) (text : List ℕ) → IsUtf8 text → IsSplitOnceResult c text None → NonePass (λ d. d == c) (chars text)
 char_free c text utf8 none = rw (chars_whole none.0 text utf8 (sym none.1)) none.2
 
-split_none : (test : ℕ → Bool) (cs : List ℕ) → NonePass test cs → slice_split test cs ≡ cs ∷ []
+pub split_none : (test : ℕ → Bool) (cs : List ℕ) → NonePass test cs → slice_split test cs ≡ cs ∷ []
 split_none test [] free = refl
 split_none test (c ∷ cs) free = slice_split-cons_no test c cs free.0 ∙ ap (onto_first c) (split_none test cs free.1)
 

@@ -1,11 +1,12 @@
 pub mod AndListFacts
 pub mod CommaFacts
 pub mod EnumFacts
-pub mod EnumReading
 pub mod JoinFacts
 pub mod NumberFacts
+pub mod OptionFacts
 pub mod PermissiveFacts
 pub mod RangeFacts
+pub mod RangeGrammar
 pub mod RangeLaws
 pub mod RomanFacts
 pub mod RomanSteps

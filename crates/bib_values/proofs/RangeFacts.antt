@@ -10,8 +10,9 @@ use Rattle.std.specs.Option.{option_map}
 use Rattle.bib_chunks.specs.Formatted.{formatted}
 use Rattle.bib_values.specs.Values.{Value}
 use Rattle.std.proofs.lemmas.List.{map_more, drop_more, take-append-drop, take_all, map-append}
-use Rattle.std.proofs.lemmas.Str.{chars-nil, encodes-chars, chars_from_encodes}
+use Rattle.std.proofs.lemmas.Str.{chars-nil, chars_from_encodes}
 use Rattle.std.proofs.lemmas.Str.Parse.{parse_digits}
+use Rattle.bib_chunks.proofs.StyledFacts.{no_characters}
 use Rattle.bib_values.proofs.NumberFacts.{digits_model}
 use Rattle.bib_values.specs.Ranges.{front, behind, is_small, number, is_dash, behind_dash, ends_at, up_to, goes_on_with, with_first, all_of}
 
@@ -67,7 +68,7 @@ pub chars_some : (bs : List ℕ) → IsUtf8 bs → 0 < length bs → (c : ℕ) �
 chars_some bs utf8 some = here (chars bs) refl
   where
     here : (xs : List ℕ) → chars bs ≡ xs → (c : ℕ) × (cs : List ℕ) × (chars bs ≡ c ∷ cs)
-    here [] is = let none : bs ≡ [] = sym (encodes-chars bs utf8) ∙ ap encode_utf8_all is in absurd (omega (arith, ap length none))
+    here [] is = let none : bs ≡ [] = no_characters bs utf8 is in absurd (omega (arith, ap length none))
     here (c ∷ cs) is = (c, cs, is)
 
 pub ended : (a b : ℕ) (rest : List ℕ) (found : Option (ℕ × List ℕ)) → found ≡ Some (b, chars rest) → length rest ≡ 0 → Some (record { start = a; end = b }) ≡ ends_at a found

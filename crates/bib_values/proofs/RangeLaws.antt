@@ -8,6 +8,7 @@ use Rattle.std.specs.Fmt.{decimal}
 use Rattle.std.specs.Str.{chars}
 use Rattle.std.specs.Str.Parse.{digits_value, AllDigits}
 use Rattle.std.proofs.lemmas.Bool.{cond-true, cond-false, and_from, and_parts}
+use Rattle.std.proofs.lemmas.List.Folds.{list_all-append}
 use Rattle.std.proofs.lemmas.Bool.Decides.{nat_tests}
 use Rattle.std.proofs.lemmas.Fmt.{decimal_is_IsNumeral}
 use Rattle.std.proofs.lemmas.Str.{chars-IsAscii, IsUtf8-from_ascii}
@@ -33,10 +34,7 @@ weaken p q each (c ∷ cs) all =
     and_from _ _ (each c parts.0) (weaken p q each cs parts.1)
 
 all_both : (p : ℕ → Bool) (xs ys : List ℕ) → list_all p xs ≡ true → list_all p ys ≡ true → list_all p (xs ++ ys) ≡ true
-all_both p [] ys first second = second
-all_both p (x ∷ xs) ys first second =
-    let parts = and_parts (p x) (list_all p xs) first in
-    and_from _ _ parts.0 (all_both p xs ys parts.1 second)
+all_both p xs ys first second = list_all-append p xs ys ∙ and_from _ _ first second
 
 digits_all : (ds : List ℕ) → AllDigits 10 ds → list_all is_ascii_digit ds ≡ true
 digits_all [] all = refl

@@ -1,8 +1,8 @@
 -- Meaning: words of public contracts.
 -- Ranges of numbers, as in `pages`. The manual of BibLaTeX has a range as two numbers with one dash or more between
 -- them; which dashes there are, and where white space may stand, are rules of the Rust crate `biblatex`.
-use Rattle.std.specs.Prelude.{ℕ, ◌^◌, ◌<◌, Bool, ◌==◌, ◌||◌, ◌&&◌, nat_lt, if◌then◌else◌, map, List, [], ◌∷◌, ◌++◌, length, Option, Some, None, codes}
-use Rattle.std.specs.List.{AllByRecursion}
+use Rattle.std.specs.Prelude.{◌≡◌, ℕ, ◌^◌, ◌<◌, Bool, true, ◌==◌, ◌||◌, ◌&&◌, nat_lt, if◌then◌else◌, map, List, [], ◌∷◌, ◌++◌, length, Option, Some, None, codes}
+use Rattle.std.specs.List.{list_all, AllByRecursion}
 use Rattle.std.specs.Char.{is_ascii_digit, is_whitespace}
 use Rattle.std.specs.Str.Parse.{digits_value}
 use Rattle.std.specs.Fmt.{decimal}
@@ -12,6 +12,35 @@ use Rattle.bib_chunks.specs.Formatted.{formatted}
 use Rattle.bib_chunks.specs.Cuts.{comma_list}
 use Rattle.bib_values.specs.Values.{Value, alone}
 use Rattle.bib_values.specs.Lists.{strings_written}
+
+-- the characters that part two numbers: `-`, the en dash U+2013, the em dash U+2014
+abbrev pub is_dash : ℕ → Bool
+is_dash c = c == 45 || c == 8211 || c == 8212
+
+-- digits that spell a number that fits in 32 bits
+pub record IsNumber (digits : List ℕ) (n : ℕ) : Type 0 where
+  pub some : 0 < length digits
+  pub each : list_all is_ascii_digit digits ≡ true
+  pub value : digits_value 10 digits ≡ n
+  pub fits : n < 2 ^ 32
+
+-- what ends a range with this start: nothing, and the start is its end too, or a dash, any `-`, white space, and the end
+pub data EndsRange (start : ℕ) : List ℕ → ℕ → Type 0 where
+  lone : EndsRange start [] start
+  dashed : (dash : ℕ) (hyphens white digits : List ℕ) {end : ℕ} → is_dash dash ≡ true → list_all (λ c. c == 45) hyphens ≡ true
+      → list_all is_whitespace white ≡ true → IsNumber digits end → EndsRange start (dash ∷ (hyphens ++ (white ++ digits))) end
+
+-- a text, given by its characters, is a range: white space, its start, white space, and what ends it
+pub record IsRange (text : List ℕ) (range : Range ℕ) : Type 0 where
+  pub before : List ℕ
+  pub digits : List ℕ
+  pub between : List ℕ
+  pub rest : List ℕ
+  pub spells : text ≡ before ++ (digits ++ (between ++ rest))
+  pub blank : list_all is_whitespace before ≡ true
+  pub start : IsNumber digits range.start
+  pub gap : list_all is_whitespace between ≡ true
+  pub end : EndsRange range.start rest range.end
 
 -- the characters at the start of a text that pass a test, and the characters behind those
 abbrev pub front : (ℕ → Bool) → List ℕ → List ℕ
@@ -31,11 +60,7 @@ unfoldable pub number : List ℕ → Option (ℕ × List ℕ)
 number cs =
     if is_small (front is_ascii_digit cs) then Some (digits_value 10 (front is_ascii_digit cs), behind is_ascii_digit cs) else None
 
--- the characters that part two numbers: `-`, the en dash U+2013, the em dash U+2014
-abbrev pub is_dash : ℕ → Bool
-is_dash c = c == 45 || c == 8211 || c == 8212
-
--- what stands behind such a character and any `-` that follow it, if the text begins with one
+-- what stands behind a dash and any `-` that follow it, if the text begins with one
 unfoldable pub behind_dash : List ℕ → Option (List ℕ)
 behind_dash [] = None
 behind_dash (c ∷ cs) = if is_dash c then Some (behind (λ d. d == 45) cs) else None
@@ -62,7 +87,7 @@ abbrev pub starts_with : Option (ℕ × List ℕ) → Option (Range ℕ)
 starts_with None = None
 starts_with (Some (a, cs)) = goes_on_with a (behind is_whitespace cs)
 
--- the range that a text spells, by characters; white space may stand before it
+-- the range that a text is, read from its start on; that it is the one of `IsRange` is a law of this crate
 unfoldable pub range_of : List ℕ → Option (Range ℕ)
 range_of cs = starts_with (number (behind is_whitespace cs))
 

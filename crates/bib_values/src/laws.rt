@@ -14,7 +14,7 @@ ghost use Rattle.bib_values.specs.Numbers.{number_of, number_read, number_writte
 ghost use Rattle.bib_values.specs.Roman.{roman, roman_of};
 ghost use Rattle.bib_values.specs.Enumerations.{pagination_read, pagination_written, gender_read, gender_written, editor_type_read, editor_type_written, language_read, language_written, IsNamed};
 ghost use Rattle.bib_values.specs.Lists.{strings_read, strings_written, StringsKept};
-ghost use Rattle.bib_values.specs.Ranges.{range_read, range_written, ranges_read, ranges_written, RangeKept, RangesKept};
+ghost use Rattle.bib_values.specs.Ranges.{range_of, IsRange, range_read, range_written, ranges_read, ranges_written, RangeKept, RangesKept};
 
 /// Each text is read from its verbatim chunk.
 pub fn texts_survive(t: &str)
@@ -53,6 +53,14 @@ pub fn enumerations_survive()
 pub fn lists_of_texts_survive()
     ensures { (texts : List (List ℕ)) → StringsKept texts →
         strings_read (strings_written texts) ≡ texts }
+{}
+
+/// The range that is read from a text, by its characters, is the one that the text is.
+pub fn ranges_are_read()
+    ensures read { (characters : List ℕ) (range : ARange ℕ) →
+        range_of characters ≡ Some range → IsRange characters range }
+    ensures spelt { (characters : List ℕ) (range : ARange ℕ) →
+        IsRange characters range → range_of characters ≡ Some range }
 {}
 
 /// Each range of numbers of 32 bits is read from what is written of it, and so is each list of one such range or more.
