@@ -7,6 +7,8 @@ mod changes;
 #[cfg(test)]
 mod checks;
 #[cfg(test)]
+mod chunks;
+#[cfg(test)]
 mod library;
 #[cfg(test)]
 mod plain;
