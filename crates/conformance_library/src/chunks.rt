@@ -1,25 +1,8 @@
 //! Chunks of fields as a bibliography holds them: which empty ones there are, and where each stands.
 
-use crate::checks::{agrees, parsed};
-use biblatex::{Chunk, ChunksRef};
-use std::alloc::{AllocError, Global};
+use crate::checks::{agrees, parsed, shown};
+use std::alloc::Global;
 use std::test::Fail;
-
-// The chunks, each in brackets behind the first letter of its kind: its text and its bytes.
-fn shown(alloc: Global, chunks: ChunksRef<'_>) -> Result<String, AllocError> {
-    let mut out = String::new(alloc);
-    for chunk in chunks {
-        out.push_str(match chunk.v {
-            Chunk::Normal(_) => "N[",
-            Chunk::Verbatim(_) => "V[",
-            Chunk::Math(_) => "M[",
-        })?;
-        out.push_str(chunk.v.get())?;
-        let place = format!(in alloc; " {}-{}]", chunk.span.start, chunk.span.end)?;
-        out.push_str(place.as_str())?;
-    }
-    Ok(out)
-}
 
 // The chunks of the field `t` of a file's entry `k`.
 fn chunks_of(alloc: Global, file: &str) -> Result<String, Fail> {

@@ -12,3 +12,5 @@ mod chunks;
 mod library;
 #[cfg(test)]
 mod plain;
+#[cfg(test)]
+mod raw;
