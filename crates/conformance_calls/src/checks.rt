@@ -14,14 +14,14 @@ pub(crate) type Answer = Result<bool, AllocError>;
 pub(crate) type Reading = Result<bool, ParseError>;
 
 // Each of these calls, told by its name, gave the right value.
-pub(crate) fn are_right<const N: usize>(rt: &impl Abort, calls: [(&str, Answer); N]) {
+pub(crate) fn are_right(rt: &impl Abort, calls: &[(&str, Answer)]) {
     for (call, answer) in calls {
         assert!(rt; matches!(answer, Ok(true)), "{call}");
     }
 }
 
 // Each of these readings, told by the call's name, gave the right value.
-pub(crate) fn are_read<const N: usize>(rt: &impl Abort, calls: [(&str, Reading); N]) {
+pub(crate) fn are_read(rt: &impl Abort, calls: &[(&str, Reading)]) {
     for (call, answer) in calls {
         assert!(rt; matches!(answer, Ok(true)), "{call}");
     }

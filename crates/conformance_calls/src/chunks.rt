@@ -103,5 +103,5 @@ fn chunks_and_lists(rt: HostRuntime) {
         ("cut_at", cuts_at_an_equals_sign(alloc)),
         ("comma_texts", cuts_a_styled_text(alloc)),
     ];
-    are_right(&rt, calls);
+    are_right(&rt, &calls);
 }

@@ -172,5 +172,5 @@ fn files_and_fields(rt: HostRuntime) {
         ("parse_field", reads_a_field(alloc)),
         ("FieldReader::read", reads_a_field_by_a_reader(alloc)),
     ];
-    are_read(&rt, calls);
+    are_read(&rt, &calls);
 }

@@ -111,5 +111,5 @@ fn entries_and_bibliographies(rt: HostRuntime) {
         ("Bibliography::insert of a new key", inserts_an_entry(alloc)),
         ("Bibliography::insert of a name", exchanges_an_entry(alloc)),
     ];
-    are_read(&rt, calls);
+    are_read(&rt, &calls);
 }

@@ -1,4 +1,4 @@
-//! Texts of 1 MiB in each reader and writer.
+//! Texts of 1 MiB in each reader and writer, and lists and files of many parts.
 
 use crate::checks::{Answer, Reading, are_read, are_right};
 use bib_chunks::chunk::{
@@ -114,6 +114,37 @@ fn cuts_a_styled_text(alloc: Global) -> Answer {
     }
 }
 
+// How many parts a long list has.
+const COUNT: usize = 70_000;
+
+// A text again and again.
+fn repeated(alloc: Global, text: &str) -> Result<String, AllocError> {
+    let mut all = String::new(alloc);
+    for _ in 0..COUNT {
+        all.push_str(text)?;
+    }
+    Ok(all)
+}
+
+// A normal chunk: a text again and again, and one character behind it.
+fn listed(alloc: Global, text: &str) -> Result<Chunks, AllocError> {
+    let mut all = repeated(alloc, text)?;
+    all.push('x')?;
+    let mut chunks = Items::new(alloc);
+    chunks.push(Spanned::zero(Chunk::Normal(Text::from_string(all))))?;
+    Ok(chunks)
+}
+
+fn cuts_at_many_commas(alloc: Global) -> Answer {
+    let all = listed(alloc, "a,")?;
+    Ok(cuts::comma_list(alloc, all.as_slice())?.len() == COUNT + 1)
+}
+
+fn cuts_at_many_words_and(alloc: Global) -> Answer {
+    let all = listed(alloc, "a and ")?;
+    Ok(cuts::and_list(alloc, all.as_slice())?.len() == COUNT + 1)
+}
+
 #[test]
 fn formats_writes_and_cuts(rt: HostRuntime) {
     let alloc = rt.alloc();
@@ -129,8 +160,10 @@ fn formats_writes_and_cuts(rt: HostRuntime) {
         ("and_list", cuts_at_words_and(alloc)),
         ("cut_at", cuts_at_an_equals_sign(alloc)),
         ("comma_texts", cuts_a_styled_text(alloc)),
+        ("comma_list of many parts", cuts_at_many_commas(alloc)),
+        ("and_list of many parts", cuts_at_many_words_and(alloc)),
     ];
-    are_right(&rt, calls);
+    are_right(&rt, &calls);
 }
 
 // A file with a long definition and, behind it, an entry with a long title.
@@ -198,6 +231,13 @@ fn reads_a_bibliography(alloc: Global) -> Reading {
     Ok(has_long(&library, "title", LENGTH) && has_long(&library, "note", 2 * LENGTH))
 }
 
+fn reads_many_elements(alloc: Global) -> Reading {
+    let elements = repeated(alloc, "s # ")?;
+    let file = format!(in alloc; "@string{{s = 12}} @misc{{k, note = {elements}{{x}}}}")?;
+    let library = Bibliography::parse(alloc, file.as_str())?;
+    Ok(has_long(&library, "note", 2 * COUNT + 1))
+}
+
 #[test]
 fn reads_files_and_fields(rt: HostRuntime) {
     let alloc = rt.alloc();
@@ -206,6 +246,10 @@ fn reads_files_and_fields(rt: HostRuntime) {
         ("parse_field", reads_a_field(alloc)),
         ("FieldReader::read", reads_a_field_by_a_reader(alloc)),
         ("Bibliography::parse", reads_a_bibliography(alloc)),
+        (
+            "Bibliography::parse of many elements",
+            reads_many_elements(alloc),
+        ),
     ];
-    are_read(&rt, calls);
+    are_read(&rt, &calls);
 }

@@ -117,5 +117,5 @@ fn maps_and_names(rt: HostRuntime) {
         ("Claims::claim_all", claims_names_so_far(alloc)),
         ("Claims::into_names", keeps_claims(alloc)),
     ];
-    are_right(&rt, calls);
+    are_right(&rt, &calls);
 }

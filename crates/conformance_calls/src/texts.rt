@@ -65,5 +65,5 @@ fn texts_and_lists(rt: HostRuntime) {
         ("Spanned::clone", clones_a_placed_value(alloc)),
         ("Scanner::clone", clones_a_cursor(alloc)),
     ];
-    are_right(&rt, calls);
+    are_right(&rt, &calls);
 }

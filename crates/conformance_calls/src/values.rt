@@ -97,5 +97,5 @@ fn types_and_enumerations(rt: HostRuntime) {
         ("Requirements::clone", clones_requirements(alloc)),
         ("clones of small values", clones_small_values(alloc)),
     ];
-    are_right(&rt, calls);
+    are_right(&rt, &calls);
 }
