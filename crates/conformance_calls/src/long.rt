@@ -18,7 +18,7 @@ const LENGTH: usize = 1_048_576;
 // A text of so many bytes: eight of them again and again.
 fn long(alloc: Global) -> Result<String, AllocError> {
     let mut text = String::new(alloc);
-    while text.len() < LENGTH {
+    for _ in 0..131_072 {
         text.push_str("aé bc d")?;
     }
     Ok(text)
