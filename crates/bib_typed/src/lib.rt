@@ -3,6 +3,7 @@
 
 mod enums;
 pub mod ext;
+pub mod laws;
 mod lists;
 mod numbers;
 mod ranges;

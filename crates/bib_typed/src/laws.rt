@@ -1,0 +1,61 @@
+//! Laws of typed values: which values are read back from what is written of them. These functions do nothing: what they
+//! ensure is proved of the definitions alone.
+
+ghost use Rattle.std.specs.Prelude.{ℕ, List};
+ghost use Rattle.std.specs.declared.ops.Range.{Range as ARange};
+ghost use Rattle.bib_types.specs.declared.types.lang.Language.{Language as ALanguage};
+ghost use Rattle.bib_values.specs.Enumerations.{IsNamed};
+ghost use Rattle.bib_values.specs.Lists.{StringsKept};
+ghost use Rattle.bib_values.specs.Permissive.{Permissive, LanguagesKept};
+ghost use Rattle.bib_values.specs.Ranges.{RangesKept};
+
+use crate::typed::{PermissiveType, Type};
+use bib_types::types::lang::Language;
+use bib_types::types::{EditorType, Gender, Pagination};
+use std::ops::Range;
+
+/// Each text is kept.
+pub fn texts_are_kept(text: &String)
+    ensures { ⟦<String as Type>⟧.kept (⟦<String as Type>⟧.meaning text.now) }
+{}
+
+/// Each number is kept.
+pub fn numbers_are_kept(number: i64)
+    ensures { ⟦<i64 as Type>⟧.kept (⟦<i64 as Type>⟧.meaning number) }
+{}
+
+/// Each value of an enumeration is kept; of the types of editors, each named one.
+pub fn enumerations_are_kept(
+    language: Language,
+    pagination: Pagination,
+    gender: Gender,
+    role: &EditorType,
+)
+    ensures language { ⟦<Language as Type>⟧.kept (⟦<Language as Type>⟧.meaning language) }
+    ensures pagination { ⟦<Pagination as Type>⟧.kept (⟦<Pagination as Type>⟧.meaning pagination) }
+    ensures gender { ⟦<Gender as Type>⟧.kept (⟦<Gender as Type>⟧.meaning gender) }
+    ensures role { IsNamed role.now →
+        ⟦<EditorType as Type>⟧.kept (⟦<EditorType as Type>⟧.meaning role.now) }
+{}
+
+/// Each range of numbers of 32 bits is kept.
+pub fn ranges_are_kept(start: u32, end: u32)
+    ensures { ⟦<Range<u32> as Type>⟧.kept (record { start = start; end = end }) }
+{}
+
+/// Each list of such ranges is kept that has one.
+pub fn lists_of_ranges_are_kept()
+    ensures { (ranges : List (ARange ℕ)) → RangesKept ranges →
+        ⟦<Vec<Range<u32>> as Type>⟧.kept ranges }
+{}
+
+/// Each list of texts is kept that has one, and no comma, CR or LF in any.
+pub fn lists_of_texts_are_kept()
+    ensures { (texts : List (List ℕ)) → StringsKept texts → ⟦<Vec<String> as Type>⟧.kept texts }
+{}
+
+/// Each list of languages is kept that has one, and nothing but languages.
+pub fn lists_of_languages_are_kept()
+    ensures { (languages : List (Permissive ALanguage)) → LanguagesKept languages →
+        ⟦<Vec<PermissiveType<Language>> as Type>⟧.kept languages }
+{}
