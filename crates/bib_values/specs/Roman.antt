@@ -1,6 +1,7 @@
 -- Meaning: words of public contracts.
--- Roman numerals from 1 to 3,999, as dates of printing and page numbers have them: a digit of the number is at most four
--- letters, and 4 and 9 are the one letter before the five or the ten.
+-- Roman numerals from 1 to 3,999, as in years and page numbers: one digit of the number after the other, each of at most
+-- four letters, where 4 and 9 are the letter for one before that for five or ten. I, V, X, L, C, D and M are the bytes
+-- 73, 86, 88, 76, 67, 68 and 77.
 use Rattle.std.specs.Prelude.{ℕ, ◌/◌, ◌%◌, Bool, ◌||◌, List, [], ◌∷◌, ◌++◌, Option, bytes_eq}
 use Rattle.std.specs.List.{slice_get, find, range_with_len}
 use Rattle.std.specs.Str.{str_to_ascii_lowercase}
@@ -16,6 +17,7 @@ digit_letters one five ten =
 abbrev pub thousands : List (List ℕ)
 thousands = [] ∷ (77 ∷ []) ∷ (77 ∷ 77 ∷ []) ∷ (77 ∷ 77 ∷ 77 ∷ []) ∷ []
 
+-- the row of a digit in such a table
 abbrev pub letters_at : List (List ℕ) → ℕ → List ℕ
 letters_at table digit = unwrap_or (slice_get table digit) []
 
