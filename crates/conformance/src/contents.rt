@@ -322,6 +322,18 @@ fn tells_faults_of_fields(rt: HostRuntime) -> Result<(), Fail> {
             "@misc{a, title = a # b # foo}",
             "unknown abbreviation \"a\": 17-18",
         ),
+        (
+            "@string{é = é} @misc{k, title = é}",
+            "circular abbreviation \"é\": 13-15",
+        ),
+        (
+            "@misc{k, title = e\u{300}}",
+            "unknown abbreviation \"e\\u{300}\": 17-20",
+        ),
+        (
+            "@misc{k, title = \u{200b}a\u{e000}}",
+            "unknown abbreviation \"\\u{200b}a\\u{e000}\": 17-24",
+        ),
     ];
     for (file, want) in rows {
         agrees(&rt, said(rt.alloc(), file)?.as_str(), want);

@@ -11,6 +11,8 @@ mod contents;
 #[cfg(test)]
 mod raw;
 #[cfg(test)]
+mod requirements;
+#[cfg(test)]
 mod scanner;
 #[cfg(test)]
 mod tables;

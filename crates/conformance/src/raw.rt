@@ -3,8 +3,10 @@
 use crate::checks::{agrees, parsed};
 use bib_chunks::chunk::{Span, Spanned};
 use bib_syntax::raw::{
-    BiblatexParser, ParseError, RawChunk, RawEntry, is_id_continue, is_id_start, is_key,
+    BiblatexParser, ParseError, ParseErrorKind, RawChunk, RawEntry, is_id_continue, is_id_start,
+    is_key,
 };
+use bib_text::text::Text;
 use std::alloc::{AllocError, Global};
 use std::process::Abort;
 use std::test::Fail;
@@ -155,6 +157,52 @@ fn keeps_spans_and_slices(rt: HostRuntime) -> Result<(), Fail> {
 fn joins_preambles(rt: HostRuntime) -> Result<(), Fail> {
     let raw = BiblatexParser::new("@preamble{\"a\"} @preamble{\"b\"}").parse(rt.alloc())?;
     agrees(&rt, raw.preamble.as_str(), "\"a\" # \"b\"");
+    Ok(())
+}
+
+// A fault of a name, at the bytes 3 to 5: which it is, is told by the first letter.
+fn fault_of(alloc: Global, which: char, name: &str) -> Result<ParseError, AllocError> {
+    let name = Text::from_str(alloc, name)?;
+    let kind = match which {
+        'u' => ParseErrorKind::UnknownAbbreviation(name),
+        'd' => ParseErrorKind::DuplicateKey(name),
+        _ => ParseErrorKind::AbbreviationCycle(name),
+    };
+    Ok(ParseError { span: 3..5, kind })
+}
+
+#[test]
+fn quotes_names(rt: HostRuntime) -> Result<(), Fail> {
+    let rows = [
+        ('d', "", r#"duplicate key "": 3-5"#),
+        ('d', "é\"\\", r#"duplicate key "é\"\\": 3-5"#),
+        (
+            'u',
+            "'\u{85}\n\r\t\0\u{7f}\u{1b}",
+            r#"unknown abbreviation "'\u{85}\n\r\t\0\u{7f}\u{1b}": 3-5"#,
+        ),
+        (
+            'c',
+            "a\u{300}\u{301}",
+            r#"circular abbreviation "a\u{300}\u{301}": 3-5"#,
+        ),
+        (
+            'c',
+            "\u{a0}\u{ad}\u{2003}\u{2028}\u{200b}",
+            r#"circular abbreviation "\u{a0}\u{ad}\u{2003}\u{2028}\u{200b}": 3-5"#,
+        ),
+        (
+            'u',
+            "\u{e000}\u{378}\u{10ffff}",
+            r#"unknown abbreviation "\u{e000}\u{378}\u{10ffff}": 3-5"#,
+        ),
+        ('d', "Ωж中\u{1f600}", "duplicate key \"Ωж中\u{1f600}\": 3-5"),
+    ];
+    for (which, name, want) in rows {
+        let error = fault_of(rt.alloc(), which, name)?;
+        let found = format!(in rt.alloc(); "{error}")?;
+        agrees(&rt, found.as_str(), want);
+    }
     Ok(())
 }
 

@@ -86,6 +86,22 @@ pub(crate) fn holds(
     Ok(())
 }
 
+// The chunks, each in brackets behind the first letter of its kind: its text and its bytes.
+pub(crate) fn shown(alloc: Global, chunks: ChunksRef<'_>) -> Result<String, AllocError> {
+    let mut out = String::new(alloc);
+    for chunk in chunks {
+        out.push_str(match chunk.v {
+            Chunk::Normal(_) => "N[",
+            Chunk::Verbatim(_) => "V[",
+            Chunk::Math(_) => "M[",
+        })?;
+        out.push_str(chunk.v.get())?;
+        let place = format!(in alloc; " {}-{}]", chunk.span.start, chunk.span.end)?;
+        out.push_str(place.as_str())?;
+    }
+    Ok(out)
+}
+
 // One normal chunk.
 pub(crate) fn normal(alloc: Global, text: &str) -> Result<Chunks, AllocError> {
     let mut all = Items::new(alloc);

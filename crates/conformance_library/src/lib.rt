@@ -7,6 +7,10 @@ mod changes;
 #[cfg(test)]
 mod checks;
 #[cfg(test)]
+mod chunks;
+#[cfg(test)]
 mod library;
 #[cfg(test)]
 mod plain;
+#[cfg(test)]
+mod raw;

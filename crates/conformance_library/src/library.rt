@@ -52,6 +52,14 @@ fn tells_faults_of_libraries(rt: HostRuntime) -> Result<(), Fail> {
         ),
         ("@misc{a, title=\"x}y\"}", "unexpected closing brace: 17-18"),
         ("@article{a}", "expected comma: 10-10"),
+        (
+            "@misc{é\"\\x,} @misc{é\"\\x,}",
+            "duplicate key \"é\\\"\\\\x\": 14-26",
+        ),
+        (
+            "@misc{'\u{300},} @misc{'\u{300},}",
+            "duplicate key \"'\\u{300}\": 12-22",
+        ),
     ];
     for (file, want) in rows {
         let found = read(rt.alloc(), file)?;
