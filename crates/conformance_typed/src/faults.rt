@@ -1,6 +1,6 @@
-//! The texts of faults, and their copies.
+//! The texts of faults, and copies of faults and values.
 
-use crate::checks::agrees;
+use crate::checks::{agrees, normal};
 use crate::shown::Shown;
 use biblatex::{PermissiveType, RetrievalError, Text, TypeError, TypeErrorKind};
 use std::alloc::{AllocError, Global};
@@ -89,13 +89,18 @@ fn faults(rt: HostRuntime) -> Result<(), Fail> {
 fn faults_of_fields(rt: HostRuntime) -> Result<(), Fail> {
     let alloc = rt.alloc();
     let unread = RetrievalError::from(no_number());
-    assert!(&rt; unread == RetrievalError::TypeError(no_number()));
+    is_shown(&rt, alloc, &unread, "invalid number: 0-3")?;
     let memory = RetrievalError::from(TypeError::from(AllocError));
-    assert!(&rt; memory == RetrievalError::OutOfMemory);
+    is_shown(&rt, alloc, &memory, "out of memory")?;
     let memory = RetrievalError::from(AllocError);
-    assert!(&rt; memory == RetrievalError::OutOfMemory);
+    Ok(is_shown(&rt, alloc, &memory, "out of memory")?)
+}
+
+#[test]
+fn copies_of_values(rt: HostRuntime) -> Result<(), Fail> {
+    let alloc = rt.alloc();
     let number: PermissiveType<i64> = PermissiveType::Typed(12);
     is_shown(&rt, alloc, &number, "Typed(12)")?;
-    let left: PermissiveType<i64> = PermissiveType::Chunks(crate::checks::normal(alloc, "a")?);
+    let left: PermissiveType<i64> = PermissiveType::Chunks(normal(alloc, "a")?);
     Ok(is_shown(&rt, alloc, &left, "Chunks(N<a>[0-1])")?)
 }
