@@ -4,6 +4,8 @@
 #[cfg(test)]
 mod checks;
 #[cfg(test)]
+mod chunk_fields;
+#[cfg(test)]
 mod entries;
 #[cfg(test)]
 mod faults;
@@ -15,5 +17,7 @@ mod names;
 mod numbers;
 #[cfg(test)]
 mod shown;
+#[cfg(test)]
+mod typed_fields;
 #[cfg(test)]
 mod written;
