@@ -25,5 +25,6 @@ pub is_set : {V : Type 0} (type : Ghosts V) (survives : (m : type.Meaning) → t
 is_set type survives m name old new (Ok u) set refused = record {
   set = set;
   kept = λ is_kept. ap (λ entry. field_as type.reads (by_name.get entry.fields name)) set ∙ set_is_read type.reads old.fields name (type.writes m) ∙ survives m is_kept;
-  refused = refused }
+  refused = refused;
+}
 is_set type survives m name old new (Err e) set refused = record { set = set; kept = set; refused = refused }

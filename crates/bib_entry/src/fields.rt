@@ -7,6 +7,7 @@ ghost use Rattle.std.specs.Option.{option_copied};
 
 mod aliases;
 mod bibtex;
+mod people;
 mod supplements;
 mod titles;
 

@@ -7,11 +7,27 @@ ghost use Rattle.bib_entry.specs.Fields.{IsGet, IsGot, IsPut, IsSet};
 use crate::entry::{Entry, SetError};
 use crate::retrieval::RetrievalError;
 use bib_chunks::chunk::{Chunks, ChunksRef};
+use bib_people::person::Person;
 use bib_typed::typed::{PermissiveType, Type};
 use std::alloc::{AllocError, Global};
 use std::ops::Range;
 
 impl Entry {
+    /// The field `author`: the authors.
+    pub fn author(&self, alloc: Global) -> Result<Vec<Person>, RetrievalError>
+        ensures { IsGet ⟦<Vec<Person> as Type>⟧ self.now (codes "author") result }
+    {
+        self.get_as(alloc, "author")
+    }
+
+    /// Sets the field `author`: the authors.
+    pub fn set_author(&mut self, value: &Vec<Person>) -> Result<(), AllocError>
+        ensures { IsSet ⟦<Vec<Person> as Type>⟧ (⟦<Vec<Person> as Type>⟧.meaning value.now)
+            (codes "author") self.old self.new result }
+    {
+        self.set_as("author", value)
+    }
+
     /// The field `booktitle`: the title of the book that the work is a part of.
     pub fn book_title(&self, alloc: Global) -> Result<ChunksRef<'_>, RetrievalError>
         ensures { IsGot self.now (codes "booktitle") result }
