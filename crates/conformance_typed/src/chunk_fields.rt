@@ -1,252 +1,331 @@
-//! Getters and setters of fields whose value is their chunks, each called once: a setter sets the field of its name, and the
+//! Getters and setters of fields whose value is their chunks, each called once: the setter sets the field of its name, and the
 //! getter finds it there.
 
+ghost use Rattle.std.specs.Borrow.{Bor, MutBor};
+ghost use Rattle.bib_entry.specs.declared.entry.Entry.{Entry as AnEntry};
+ghost use Rattle.bib_values.specs.Values.{Value};
+
 use crate::checks::{has_fields, is_got, misc, named, with};
+use biblatex::{Chunks, ChunksRef, Entry, RetrievalError, SetError};
+use std::alloc::{AllocError, Global};
+use std::process::Abort;
 use std::test::Fail;
+
+// The setter sets the field of this name, and no other; the getter finds it.
+fn is_field<S, G>(
+    rt: &impl Abort,
+    alloc: Global,
+    name: &str,
+    set: S,
+    get: G,
+) -> Result<(), AllocError>
+where
+    S: FnOnce(&mut Entry, Chunks) -> Result<Option<Chunks>, SetError>,
+    G: for<'e> FnOnce(&'e Entry, Global) -> Result<ChunksRef<'e>, RetrievalError>,
+    requires set { (entry : MutBor AnEntry) (chunks : Value) → S.pre set entry chunks }
+    requires get { (entry : Bor AnEntry) → G.pre get entry alloc }
+{
+    let mut entry = misc(alloc)?;
+    let chunks = named(alloc, name)?;
+    let _had = set(&mut entry, chunks).map_err(|_| AllocError)?;
+    has_fields(rt, alloc, &entry, name)?;
+    is_got(rt, alloc, get(&entry, alloc), name)
+}
+
+// The getter finds the field of the other name, where its own isn't there.
+fn finds<G>(rt: &impl Abort, alloc: Global, other: &str, get: G) -> Result<(), AllocError>
+where
+    G: for<'e> FnOnce(&'e Entry, Global) -> Result<ChunksRef<'e>, RetrievalError>,
+    requires { (entry : Bor AnEntry) → G.pre get entry alloc }
+{
+    let entry = with(alloc, other)?;
+    is_got(rt, alloc, get(&entry, alloc), other)
+}
 
 #[test]
 fn titles(rt: HostRuntime) -> Result<(), Fail> {
     let alloc = rt.alloc();
-    let mut entry = misc(alloc)?;
-    entry.set_book_title(named(alloc, "booktitle")?)?;
-    entry.set_series(named(alloc, "series")?)?;
-    entry.set_title(named(alloc, "title")?)?;
-    entry.set_book_subtitle(named(alloc, "booksubtitle")?)?;
-    entry.set_book_title_addon(named(alloc, "booktitleaddon")?)?;
-    entry.set_eventtitle(named(alloc, "eventtitle")?)?;
-    entry.set_eventtitle_addon(named(alloc, "eventtitleaddon")?)?;
-    entry.set_index_title(named(alloc, "indextitle")?)?;
-    entry.set_issue_subtitle(named(alloc, "issuesubtitle")?)?;
-    entry.set_issue_title(named(alloc, "issuetitle")?)?;
-    entry.set_issue_title_addon(named(alloc, "issuetitleaddon")?)?;
-    entry.set_journal_subtitle(named(alloc, "journalsubtitle")?)?;
-    is_got(&rt, alloc, entry.book_title(alloc), "booktitle")?;
-    is_got(&rt, alloc, entry.series(alloc), "series")?;
-    is_got(&rt, alloc, entry.title(alloc), "title")?;
-    is_got(&rt, alloc, entry.book_subtitle(alloc), "booksubtitle")?;
-    is_got(&rt, alloc, entry.book_title_addon(alloc), "booktitleaddon")?;
-    is_got(&rt, alloc, entry.eventtitle(alloc), "eventtitle")?;
-    is_got(&rt, alloc, entry.eventtitle_addon(alloc), "eventtitleaddon")?;
-    is_got(&rt, alloc, entry.index_title(alloc), "indextitle")?;
-    is_got(&rt, alloc, entry.issue_subtitle(alloc), "issuesubtitle")?;
-    is_got(&rt, alloc, entry.issue_title(alloc), "issuetitle")?;
-    is_got(
+    is_field(
         &rt,
         alloc,
-        entry.issue_title_addon(alloc),
-        "issuetitleaddon",
+        "booktitle",
+        Entry::set_book_title,
+        Entry::book_title,
     )?;
-    is_got(&rt, alloc, entry.journal_subtitle(alloc), "journalsubtitle")?;
-    let names = "booksubtitle booktitle booktitleaddon eventtitle eventtitleaddon indextitle \
-        issuesubtitle issuetitle issuetitleaddon journalsubtitle series title";
-    Ok(has_fields(&rt, alloc, &entry, names)?)
+    is_field(&rt, alloc, "series", Entry::set_series, Entry::series)?;
+    is_field(&rt, alloc, "title", Entry::set_title, Entry::title)?;
+    is_field(
+        &rt,
+        alloc,
+        "booksubtitle",
+        Entry::set_book_subtitle,
+        Entry::book_subtitle,
+    )?;
+    is_field(
+        &rt,
+        alloc,
+        "booktitleaddon",
+        Entry::set_book_title_addon,
+        Entry::book_title_addon,
+    )?;
+    is_field(
+        &rt,
+        alloc,
+        "eventtitle",
+        Entry::set_eventtitle,
+        Entry::eventtitle,
+    )?;
+    is_field(
+        &rt,
+        alloc,
+        "eventtitleaddon",
+        Entry::set_eventtitle_addon,
+        Entry::eventtitle_addon,
+    )?;
+    is_field(
+        &rt,
+        alloc,
+        "indextitle",
+        Entry::set_index_title,
+        Entry::index_title,
+    )?;
+    is_field(
+        &rt,
+        alloc,
+        "issuesubtitle",
+        Entry::set_issue_subtitle,
+        Entry::issue_subtitle,
+    )?;
+    is_field(
+        &rt,
+        alloc,
+        "issuetitle",
+        Entry::set_issue_title,
+        Entry::issue_title,
+    )?;
+    is_field(
+        &rt,
+        alloc,
+        "issuetitleaddon",
+        Entry::set_issue_title_addon,
+        Entry::issue_title_addon,
+    )?;
+    Ok(is_field(
+        &rt,
+        alloc,
+        "journalsubtitle",
+        Entry::set_journal_subtitle,
+        Entry::journal_subtitle,
+    )?)
 }
 
 #[test]
 fn titles_of_parts(rt: HostRuntime) -> Result<(), Fail> {
     let alloc = rt.alloc();
-    let mut entry = misc(alloc)?;
-    entry.set_journal_title_addon(named(alloc, "journaltitleaddon")?)?;
-    entry.set_main_subtitle(named(alloc, "mainsubtitle")?)?;
-    entry.set_main_title(named(alloc, "maintitle")?)?;
-    entry.set_main_title_addon(named(alloc, "maintitleaddon")?)?;
-    entry.set_reprint_title(named(alloc, "reprinttitle")?)?;
-    entry.set_short_journal(named(alloc, "shortjournal")?)?;
-    entry.set_short_series(named(alloc, "shortseries")?)?;
-    entry.set_short_title(named(alloc, "shorttitle")?)?;
-    entry.set_subtitle(named(alloc, "subtitle")?)?;
-    entry.set_title_addon(named(alloc, "titleaddon")?)?;
-    is_got(
+    is_field(
         &rt,
         alloc,
-        entry.journal_title_addon(alloc),
         "journaltitleaddon",
+        Entry::set_journal_title_addon,
+        Entry::journal_title_addon,
     )?;
-    is_got(&rt, alloc, entry.main_subtitle(alloc), "mainsubtitle")?;
-    is_got(&rt, alloc, entry.main_title(alloc), "maintitle")?;
-    is_got(&rt, alloc, entry.main_title_addon(alloc), "maintitleaddon")?;
-    is_got(&rt, alloc, entry.reprint_title(alloc), "reprinttitle")?;
-    is_got(&rt, alloc, entry.short_journal(alloc), "shortjournal")?;
-    is_got(&rt, alloc, entry.short_series(alloc), "shortseries")?;
-    is_got(&rt, alloc, entry.short_title(alloc), "shorttitle")?;
-    is_got(&rt, alloc, entry.subtitle(alloc), "subtitle")?;
-    is_got(&rt, alloc, entry.title_addon(alloc), "titleaddon")?;
-    let names = "journaltitleaddon mainsubtitle maintitle maintitleaddon reprinttitle \
-        shortjournal shortseries shorttitle subtitle titleaddon";
-    Ok(has_fields(&rt, alloc, &entry, names)?)
+    is_field(
+        &rt,
+        alloc,
+        "mainsubtitle",
+        Entry::set_main_subtitle,
+        Entry::main_subtitle,
+    )?;
+    is_field(
+        &rt,
+        alloc,
+        "maintitle",
+        Entry::set_main_title,
+        Entry::main_title,
+    )?;
+    is_field(
+        &rt,
+        alloc,
+        "maintitleaddon",
+        Entry::set_main_title_addon,
+        Entry::main_title_addon,
+    )?;
+    is_field(
+        &rt,
+        alloc,
+        "reprinttitle",
+        Entry::set_reprint_title,
+        Entry::reprint_title,
+    )?;
+    is_field(
+        &rt,
+        alloc,
+        "shortjournal",
+        Entry::set_short_journal,
+        Entry::short_journal,
+    )?;
+    is_field(
+        &rt,
+        alloc,
+        "shortseries",
+        Entry::set_short_series,
+        Entry::short_series,
+    )?;
+    is_field(
+        &rt,
+        alloc,
+        "shorttitle",
+        Entry::set_short_title,
+        Entry::short_title,
+    )?;
+    is_field(&rt, alloc, "subtitle", Entry::set_subtitle, Entry::subtitle)?;
+    Ok(is_field(
+        &rt,
+        alloc,
+        "titleaddon",
+        Entry::set_title_addon,
+        Entry::title_addon,
+    )?)
 }
 
 #[test]
 fn numbers_and_notes(rt: HostRuntime) -> Result<(), Fail> {
     let alloc = rt.alloc();
-    let mut entry = misc(alloc)?;
-    entry.set_chapter(named(alloc, "chapter")?)?;
-    entry.set_how_published(named(alloc, "howpublished")?)?;
-    entry.set_note(named(alloc, "note")?)?;
-    entry.set_number(named(alloc, "number")?)?;
-    entry.set_abstract_(named(alloc, "abstract")?)?;
-    entry.set_addendum(named(alloc, "addendum")?)?;
-    entry.set_eid(named(alloc, "eid")?)?;
-    entry.set_entry_subtype(named(alloc, "entrysubtype")?)?;
-    entry.set_isan(named(alloc, "isan")?)?;
-    entry.set_isbn(named(alloc, "isbn")?)?;
-    entry.set_ismn(named(alloc, "ismn")?)?;
-    is_got(&rt, alloc, entry.chapter(alloc), "chapter")?;
-    is_got(&rt, alloc, entry.how_published(alloc), "howpublished")?;
-    is_got(&rt, alloc, entry.note(alloc), "note")?;
-    is_got(&rt, alloc, entry.number(alloc), "number")?;
-    is_got(&rt, alloc, entry.abstract_(alloc), "abstract")?;
-    is_got(&rt, alloc, entry.addendum(alloc), "addendum")?;
-    is_got(&rt, alloc, entry.eid(alloc), "eid")?;
-    is_got(&rt, alloc, entry.entry_subtype(alloc), "entrysubtype")?;
-    is_got(&rt, alloc, entry.isan(alloc), "isan")?;
-    is_got(&rt, alloc, entry.isbn(alloc), "isbn")?;
-    is_got(&rt, alloc, entry.ismn(alloc), "ismn")?;
-    let names = "abstract addendum chapter eid entrysubtype howpublished isan isbn ismn note \
-        number";
-    Ok(has_fields(&rt, alloc, &entry, names)?)
+    is_field(&rt, alloc, "chapter", Entry::set_chapter, Entry::chapter)?;
+    is_field(
+        &rt,
+        alloc,
+        "howpublished",
+        Entry::set_how_published,
+        Entry::how_published,
+    )?;
+    is_field(&rt, alloc, "note", Entry::set_note, Entry::note)?;
+    is_field(&rt, alloc, "number", Entry::set_number, Entry::number)?;
+    is_field(
+        &rt,
+        alloc,
+        "abstract",
+        Entry::set_abstract_,
+        Entry::abstract_,
+    )?;
+    is_field(&rt, alloc, "addendum", Entry::set_addendum, Entry::addendum)?;
+    is_field(&rt, alloc, "eid", Entry::set_eid, Entry::eid)?;
+    is_field(
+        &rt,
+        alloc,
+        "entrysubtype",
+        Entry::set_entry_subtype,
+        Entry::entry_subtype,
+    )?;
+    is_field(&rt, alloc, "isan", Entry::set_isan, Entry::isan)?;
+    is_field(&rt, alloc, "isbn", Entry::set_isbn, Entry::isbn)?;
+    Ok(is_field(&rt, alloc, "ismn", Entry::set_ismn, Entry::ismn)?)
 }
 
 #[test]
 fn identifiers(rt: HostRuntime) -> Result<(), Fail> {
     let alloc = rt.alloc();
-    let mut entry = misc(alloc)?;
-    entry.set_isrn(named(alloc, "isrn")?)?;
-    entry.set_issn(named(alloc, "issn")?)?;
-    entry.set_issue(named(alloc, "issue")?)?;
-    entry.set_iswc(named(alloc, "iswc")?)?;
-    entry.set_keywords(named(alloc, "keywords")?)?;
-    entry.set_label(named(alloc, "label")?)?;
-    entry.set_library(named(alloc, "library")?)?;
-    entry.set_name_addon(named(alloc, "nameaddon")?)?;
-    entry.set_options(named(alloc, "options")?)?;
-    entry.set_page_total(named(alloc, "pagetotal")?)?;
-    entry.set_part(named(alloc, "part")?)?;
-    is_got(&rt, alloc, entry.isrn(alloc), "isrn")?;
-    is_got(&rt, alloc, entry.issn(alloc), "issn")?;
-    is_got(&rt, alloc, entry.issue(alloc), "issue")?;
-    is_got(&rt, alloc, entry.iswc(alloc), "iswc")?;
-    is_got(&rt, alloc, entry.keywords(alloc), "keywords")?;
-    is_got(&rt, alloc, entry.label(alloc), "label")?;
-    is_got(&rt, alloc, entry.library(alloc), "library")?;
-    is_got(&rt, alloc, entry.name_addon(alloc), "nameaddon")?;
-    is_got(&rt, alloc, entry.options(alloc), "options")?;
-    is_got(&rt, alloc, entry.page_total(alloc), "pagetotal")?;
-    is_got(&rt, alloc, entry.part(alloc), "part")?;
-    Ok(has_fields(
+    is_field(&rt, alloc, "isrn", Entry::set_isrn, Entry::isrn)?;
+    is_field(&rt, alloc, "issn", Entry::set_issn, Entry::issn)?;
+    is_field(&rt, alloc, "issue", Entry::set_issue, Entry::issue)?;
+    is_field(&rt, alloc, "iswc", Entry::set_iswc, Entry::iswc)?;
+    is_field(&rt, alloc, "keywords", Entry::set_keywords, Entry::keywords)?;
+    is_field(&rt, alloc, "label", Entry::set_label, Entry::label)?;
+    is_field(&rt, alloc, "library", Entry::set_library, Entry::library)?;
+    is_field(
         &rt,
         alloc,
-        &entry,
-        "isrn issn issue iswc keywords label library nameaddon options pagetotal part",
-    )?)
+        "nameaddon",
+        Entry::set_name_addon,
+        Entry::name_addon,
+    )?;
+    is_field(&rt, alloc, "options", Entry::set_options, Entry::options)?;
+    is_field(
+        &rt,
+        alloc,
+        "pagetotal",
+        Entry::set_page_total,
+        Entry::page_total,
+    )?;
+    Ok(is_field(&rt, alloc, "part", Entry::set_part, Entry::part)?)
 }
 
 #[test]
 fn further_fields(rt: HostRuntime) -> Result<(), Fail> {
     let alloc = rt.alloc();
-    let mut entry = misc(alloc)?;
-    entry.set_pubstate(named(alloc, "pubstate")?)?;
-    entry.set_shorthand(named(alloc, "shorthand")?)?;
-    entry.set_shorthand_intro(named(alloc, "shorthandintro")?)?;
-    entry.set_venue(named(alloc, "venue")?)?;
-    entry.set_version(named(alloc, "version")?)?;
-    is_got(&rt, alloc, entry.pubstate(alloc), "pubstate")?;
-    is_got(&rt, alloc, entry.shorthand(alloc), "shorthand")?;
-    is_got(&rt, alloc, entry.shorthand_intro(alloc), "shorthandintro")?;
-    is_got(&rt, alloc, entry.venue(alloc), "venue")?;
-    is_got(&rt, alloc, entry.version(alloc), "version")?;
-    Ok(has_fields(
+    is_field(&rt, alloc, "pubstate", Entry::set_pubstate, Entry::pubstate)?;
+    is_field(
         &rt,
         alloc,
-        &entry,
-        "pubstate shorthand shorthandintro venue version",
-    )?)
+        "shorthand",
+        Entry::set_shorthand,
+        Entry::shorthand,
+    )?;
+    is_field(
+        &rt,
+        alloc,
+        "shorthandintro",
+        Entry::set_shorthand_intro,
+        Entry::shorthand_intro,
+    )?;
+    is_field(&rt, alloc, "venue", Entry::set_venue, Entry::venue)?;
+    Ok(is_field(&rt, alloc, "version", Entry::set_version, Entry::version)?)
 }
 
-// Each is read from its own field, and where that isn't there, from the field of the other name.
 #[test]
 fn fields_of_two_names(rt: HostRuntime) -> Result<(), Fail> {
     let alloc = rt.alloc();
-    let mut entry = misc(alloc)?;
-    entry.set_address(named(alloc, "address")?)?;
-    entry.set_location(named(alloc, "location")?)?;
-    entry.set_annotation(named(alloc, "annotation")?)?;
-    entry.set_eprint_type(named(alloc, "eprinttype")?)?;
-    entry.set_eprint_class(named(alloc, "eprintclass")?)?;
-    entry.set_journal(named(alloc, "journal")?)?;
-    entry.set_journal_title(named(alloc, "journaltitle")?)?;
-    entry.set_school(named(alloc, "school")?)?;
-    entry.set_institution(named(alloc, "institution")?)?;
-    is_got(&rt, alloc, entry.address(alloc), "address")?;
-    is_got(&rt, alloc, entry.location(alloc), "location")?;
-    is_got(&rt, alloc, entry.annotation(alloc), "annotation")?;
-    is_got(&rt, alloc, entry.eprint_type(alloc), "eprinttype")?;
-    is_got(&rt, alloc, entry.eprint_class(alloc), "eprintclass")?;
-    is_got(&rt, alloc, entry.journal(alloc), "journal")?;
-    is_got(&rt, alloc, entry.journal_title(alloc), "journaltitle")?;
-    is_got(&rt, alloc, entry.school(alloc), "school")?;
-    is_got(&rt, alloc, entry.institution(alloc), "institution")?;
-    let names = "address annotation eprintclass eprinttype institution journal journaltitle \
-        location school";
-    Ok(has_fields(&rt, alloc, &entry, names)?)
+    is_field(&rt, alloc, "address", Entry::set_address, Entry::address)?;
+    is_field(&rt, alloc, "location", Entry::set_location, Entry::location)?;
+    is_field(
+        &rt,
+        alloc,
+        "annotation",
+        Entry::set_annotation,
+        Entry::annotation,
+    )?;
+    is_field(
+        &rt,
+        alloc,
+        "eprinttype",
+        Entry::set_eprint_type,
+        Entry::eprint_type,
+    )?;
+    is_field(
+        &rt,
+        alloc,
+        "eprintclass",
+        Entry::set_eprint_class,
+        Entry::eprint_class,
+    )?;
+    is_field(&rt, alloc, "journal", Entry::set_journal, Entry::journal)?;
+    is_field(
+        &rt,
+        alloc,
+        "journaltitle",
+        Entry::set_journal_title,
+        Entry::journal_title,
+    )?;
+    is_field(&rt, alloc, "school", Entry::set_school, Entry::school)?;
+    Ok(is_field(
+        &rt,
+        alloc,
+        "institution",
+        Entry::set_institution,
+        Entry::institution,
+    )?)
 }
 
 #[test]
 fn other_names(rt: HostRuntime) -> Result<(), Fail> {
     let alloc = rt.alloc();
-    is_got(
-        &rt,
-        alloc,
-        with(alloc, "location")?.address(alloc),
-        "location",
-    )?;
-    is_got(
-        &rt,
-        alloc,
-        with(alloc, "address")?.location(alloc),
-        "address",
-    )?;
-    is_got(
-        &rt,
-        alloc,
-        with(alloc, "annote")?.annotation(alloc),
-        "annote",
-    )?;
-    is_got(
-        &rt,
-        alloc,
-        with(alloc, "archiveprefix")?.eprint_type(alloc),
-        "archiveprefix",
-    )?;
-    is_got(
-        &rt,
-        alloc,
-        with(alloc, "primaryclass")?.eprint_class(alloc),
-        "primaryclass",
-    )?;
-    is_got(
-        &rt,
-        alloc,
-        with(alloc, "journaltitle")?.journal(alloc),
-        "journaltitle",
-    )?;
-    is_got(
-        &rt,
-        alloc,
-        with(alloc, "journal")?.journal_title(alloc),
-        "journal",
-    )?;
-    is_got(
-        &rt,
-        alloc,
-        with(alloc, "institution")?.school(alloc),
-        "institution",
-    )?;
-    is_got(
-        &rt,
-        alloc,
-        with(alloc, "school")?.institution(alloc),
-        "school",
-    )?;
-    Ok(())
+    finds(&rt, alloc, "location", Entry::address)?;
+    finds(&rt, alloc, "address", Entry::location)?;
+    finds(&rt, alloc, "annote", Entry::annotation)?;
+    finds(&rt, alloc, "archiveprefix", Entry::eprint_type)?;
+    finds(&rt, alloc, "primaryclass", Entry::eprint_class)?;
+    finds(&rt, alloc, "journaltitle", Entry::journal)?;
+    finds(&rt, alloc, "journal", Entry::journal_title)?;
+    finds(&rt, alloc, "institution", Entry::school)?;
+    Ok(finds(&rt, alloc, "school", Entry::institution)?)
 }

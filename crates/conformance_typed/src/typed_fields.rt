@@ -1,10 +1,107 @@
-//! Getters and setters of fields that are read as a type, each called once.
+//! Getters and setters of fields that are read as a type, each called once: the setter sets the field of its name to what is
+//! written for a value, and the getter reads the value there.
+
+ghost use Rattle.std.specs.Borrow.{Bor, MutBor};
+ghost use Rattle.bib_entry.specs.declared.entry.Entry.{Entry as AnEntry};
 
 use crate::checks::{has_chunks, is_value, misc, named, with};
-use biblatex::{Chunks, Gender, Language, Pagination, PermissiveType};
+use crate::shown::Shown;
+use biblatex::{Chunks, Entry, Gender, Language, Pagination, PermissiveType, RetrievalError};
 use std::alloc::{AllocError, Global};
 use std::ops::Range;
+use std::process::Abort;
 use std::test::Fail;
+
+// The name of a field, what is written for a value, and how the value is shown that is read from it.
+type Row<'a> = (&'a str, &'a str, &'a str);
+
+// The setter sets the field to these chunks, and the getter reads this value.
+fn is_field<T: Shown + Drop, S, G>(
+    rt: &impl Abort,
+    alloc: Global,
+    row: Row<'_>,
+    value: &T,
+    set: S,
+    get: G,
+) -> Result<(), AllocError>
+where
+    S: FnOnce(&mut Entry, &T) -> Result<(), AllocError>,
+    G: FnOnce(&Entry, Global) -> Result<T, RetrievalError>,
+    requires set { (entry : MutBor AnEntry) → S.pre set entry value.entry }
+    requires get { (entry : Bor AnEntry) → G.pre get entry alloc }
+{
+    let (field, chunks, shown) = row;
+    let mut entry = misc(alloc)?;
+    set(&mut entry, value)?;
+    has_chunks(rt, alloc, &entry, field, chunks)?;
+    is_value(rt, alloc, get(&entry, alloc), shown)
+}
+
+#[test]
+fn numbers(rt: HostRuntime) -> Result<(), Fail> {
+    let alloc = rt.alloc();
+    let row = ("edition", "N<3>[]", "Typed(3)");
+    is_field(
+        &rt,
+        alloc,
+        row,
+        &PermissiveType::Typed(3),
+        Entry::set_edition,
+        Entry::edition,
+    )?;
+    let row = ("volume", "N<-7>[]", "Typed(-7)");
+    is_field(
+        &rt,
+        alloc,
+        row,
+        &PermissiveType::Typed(-7),
+        Entry::set_volume,
+        Entry::volume,
+    )?;
+    let row = ("volumes", "N<12>[]", "12");
+    Ok(is_field(&rt, alloc, row, &12, Entry::set_volumes, Entry::volumes)?)
+}
+
+#[test]
+fn pages(rt: HostRuntime) -> Result<(), Fail> {
+    let alloc = rt.alloc();
+    let ranges: Vec<Range<u32>> = vec![in alloc; 1..2, 3..4]?;
+    let pages = PermissiveType::Typed(ranges);
+    let row = ("pages", "N<1-2>[]N<,>[]N<3-4>[]", "Typed(|1..2|3..4)");
+    Ok(is_field(&rt, alloc, row, &pages, Entry::set_pages, Entry::pages)?)
+}
+
+#[test]
+fn schemes_and_genders(rt: HostRuntime) -> Result<(), Fail> {
+    let alloc = rt.alloc();
+    let row = ("pagination", "N<verse>[]", "verse");
+    is_field(
+        &rt,
+        alloc,
+        row,
+        &Pagination::Verse,
+        Entry::set_pagination,
+        Entry::pagination,
+    )?;
+    let row = ("bookpagination", "N<column>[]", "column");
+    is_field(
+        &rt,
+        alloc,
+        row,
+        &Pagination::Column,
+        Entry::set_book_pagination,
+        Entry::book_pagination,
+    )?;
+    let row = ("gender", "N<pm>[]", "PluralMale");
+    Ok(is_field(
+        &rt,
+        alloc,
+        row,
+        &Gender::PluralMale,
+        Entry::set_gender,
+        Entry::gender,
+    )?)
+}
 
 // A text of its own.
 fn text(alloc: Global, text: &str) -> Result<String, AllocError> {
@@ -12,88 +109,61 @@ fn text(alloc: Global, text: &str) -> Result<String, AllocError> {
 }
 
 #[test]
-fn numbers(rt: HostRuntime) -> Result<(), Fail> {
-    let alloc = rt.alloc();
-    let mut entry = misc(alloc)?;
-    entry.set_edition(&PermissiveType::Typed(3))?;
-    entry.set_volume(&PermissiveType::Typed(-7))?;
-    entry.set_volumes(&12)?;
-    is_value(&rt, alloc, entry.edition(alloc), "Typed(3)")?;
-    is_value(&rt, alloc, entry.volume(alloc), "Typed(-7)")?;
-    is_value(&rt, alloc, entry.volumes(alloc), "12")?;
-    has_chunks(&rt, alloc, &entry, "edition", "N<3>[]")?;
-    has_chunks(&rt, alloc, &entry, "volume", "N<-7>[]")?;
-    Ok(has_chunks(&rt, alloc, &entry, "volumes", "N<12>[]")?)
-}
-
-#[test]
-fn pages(rt: HostRuntime) -> Result<(), Fail> {
-    let alloc = rt.alloc();
-    let mut entry = misc(alloc)?;
-    is_value(&rt, alloc, entry.pages(alloc), "field pages is missing")?;
-    let ranges: Vec<Range<u32>> = vec![in alloc; 1..2, 3..4]?;
-    entry.set_pages(&PermissiveType::Typed(ranges))?;
-    is_value(&rt, alloc, entry.pages(alloc), "Typed(|1..2|3..4)")?;
-    Ok(has_chunks(&rt, alloc, &entry, "pages", "N<1-2>[]N<,>[]N<3-4>[]")?)
-}
-
-#[test]
-fn schemes_and_genders(rt: HostRuntime) -> Result<(), Fail> {
-    let alloc = rt.alloc();
-    let mut entry = misc(alloc)?;
-    entry.set_pagination(&Pagination::Verse)?;
-    entry.set_book_pagination(&Pagination::Column)?;
-    entry.set_gender(&Gender::PluralMale)?;
-    is_value(&rt, alloc, entry.pagination(alloc), "verse")?;
-    is_value(&rt, alloc, entry.book_pagination(alloc), "column")?;
-    is_value(&rt, alloc, entry.gender(alloc), "PluralMale")?;
-    has_chunks(&rt, alloc, &entry, "pagination", "N<verse>[]")?;
-    has_chunks(&rt, alloc, &entry, "bookpagination", "N<column>[]")?;
-    Ok(has_chunks(&rt, alloc, &entry, "gender", "N<pm>[]")?)
-}
-
-#[test]
 fn languages(rt: HostRuntime) -> Result<(), Fail> {
     let alloc = rt.alloc();
-    let mut entry = misc(alloc)?;
-    entry.set_langid(&PermissiveType::Typed(Language::Greek))?;
-    entry.set_language(&vec![in alloc; PermissiveType::Typed(Language::Danish)]?)?;
-    entry.set_orig_language(&vec![in alloc; text(alloc, "latin")?, text(alloc, "greek")?]?)?;
-    is_value(&rt, alloc, entry.langid(alloc), "Typed(Greek)")?;
-    is_value(&rt, alloc, entry.language(alloc), "|Typed(Danish)")?;
-    is_value(&rt, alloc, entry.orig_language(alloc), "|latin|greek")?;
-    has_chunks(&rt, alloc, &entry, "langid", "V<Greek>[]")?;
-    has_chunks(&rt, alloc, &entry, "language", "V<Danish>[]")?;
-    Ok(has_chunks(
+    let greek = PermissiveType::Typed(Language::Greek);
+    let danish = vec![in alloc; PermissiveType::Typed(Language::Danish)]?;
+    let names = vec![in alloc; text(alloc, "latin")?, text(alloc, "greek")?]?;
+    let row = ("langid", "V<Greek>[]", "Typed(Greek)");
+    is_field(&rt, alloc, row, &greek, Entry::set_langid, Entry::langid)?;
+    let row = ("language", "V<Danish>[]", "|Typed(Danish)");
+    is_field(
         &rt,
         alloc,
-        &entry,
-        "origlanguage",
-        "N<latin>[]N<,>[]N<greek>[]",
+        row,
+        &danish,
+        Entry::set_language,
+        Entry::language,
+    )?;
+    let row = ("origlanguage", "N<latin>[]N<,>[]N<greek>[]", "|latin|greek");
+    Ok(is_field(
+        &rt,
+        alloc,
+        row,
+        &names,
+        Entry::set_orig_language,
+        Entry::orig_language,
     )?)
 }
 
 #[test]
 fn texts(rt: HostRuntime) -> Result<(), Fail> {
     let alloc = rt.alloc();
-    let mut entry = misc(alloc)?;
-    entry.set_type_(&text(alloc, "a")?)?;
-    entry.set_author_type(&text(alloc, "b")?)?;
-    entry.set_doi(&text(alloc, "c")?)?;
-    entry.set_eprint(&text(alloc, "d")?)?;
-    entry.set_url(&text(alloc, "e")?)?;
-    is_value(&rt, alloc, entry.type_(alloc), "a")?;
-    is_value(&rt, alloc, entry.author_type(alloc), "b")?;
-    is_value(&rt, alloc, entry.doi(alloc), "c")?;
-    is_value(&rt, alloc, entry.eprint(alloc), "d")?;
-    is_value(&rt, alloc, entry.url(alloc), "e")?;
-    has_chunks(&rt, alloc, &entry, "type", "V<a>[]")?;
-    has_chunks(&rt, alloc, &entry, "authortype", "V<b>[]")?;
-    has_chunks(&rt, alloc, &entry, "doi", "V<c>[]")?;
-    has_chunks(&rt, alloc, &entry, "eprint", "V<d>[]")?;
-    Ok(has_chunks(&rt, alloc, &entry, "url", "V<e>[]")?)
+    let text = text(alloc, "a")?;
+    let row = ("type", "V<a>[]", "a");
+    is_field(&rt, alloc, row, &text, Entry::set_type_, Entry::type_)?;
+    let row = ("authortype", "V<a>[]", "a");
+    is_field(
+        &rt,
+        alloc,
+        row,
+        &text,
+        Entry::set_author_type,
+        Entry::author_type,
+    )?;
+    let row = ("doi", "V<a>[]", "a");
+    is_field(&rt, alloc, row, &text, Entry::set_doi, Entry::doi)?;
+    let row = ("eprint", "V<a>[]", "a");
+    is_field(&rt, alloc, row, &text, Entry::set_eprint, Entry::eprint)?;
+    let row = ("url", "V<a>[]", "a");
+    is_field(&rt, alloc, row, &text, Entry::set_url, Entry::url)?;
+    let row = ("key", "V<a>[]", "a");
+    is_field(&rt, alloc, row, &text, Entry::set_sort_key, Entry::sort_key)?;
+    let row = ("file", "V<a>[]", "a");
+    Ok(is_field(&rt, alloc, row, &text, Entry::set_file, Entry::file)?)
 }
 
+// Each is read from the field of the other name where its own isn't there.
 #[test]
 fn texts_of_two_names(rt: HostRuntime) -> Result<(), Fail> {
     let alloc = rt.alloc();
@@ -104,77 +174,57 @@ fn texts_of_two_names(rt: HostRuntime) -> Result<(), Fail> {
         "sortkey",
     )?;
     is_value(&rt, alloc, with(alloc, "pdf")?.file(alloc), "pdf")?;
-    is_value(
-        &rt,
-        alloc,
-        with(alloc, "title")?.sort_key(alloc),
-        "field key is missing",
-    )?;
-    let mut entry = with(alloc, "sortkey")?;
-    entry.set_sort_key(&text(alloc, "a")?)?;
-    is_value(&rt, alloc, entry.sort_key(alloc), "a")?;
-    has_chunks(&rt, alloc, &entry, "key", "V<a>[]")?;
-    has_chunks(&rt, alloc, &entry, "sortkey", "N<sortkey>[0-7]")?;
-    entry.set("pdf", named(alloc, "pdf")?)?;
-    entry.set_file(&text(alloc, "b")?)?;
-    is_value(&rt, alloc, entry.file(alloc), "b")?;
-    has_chunks(&rt, alloc, &entry, "file", "V<b>[]")?;
-    Ok(has_chunks(&rt, alloc, &entry, "pdf", "N<pdf>[0-3]")?)
+    let want = "field key is missing";
+    Ok(is_value(&rt, alloc, with(alloc, "title")?.sort_key(alloc), want)?)
 }
 
 // Two texts, each as one chunk.
-fn two(alloc: Global, one: &str, other: &str) -> Result<Vec<Chunks>, AllocError> {
-    Ok(vec![in alloc; named(alloc, one)?, named(alloc, other)?]?)
+fn two(alloc: Global) -> Result<Vec<Chunks>, AllocError> {
+    Ok(vec![in alloc; named(alloc, "a")?, named(alloc, "b")?]?)
 }
 
+// A part keeps an empty piece of each separator beside it.
 #[test]
 fn lists(rt: HostRuntime) -> Result<(), Fail> {
     let alloc = rt.alloc();
-    let mut entry = misc(alloc)?;
-    entry.set_organization(&two(alloc, "a", "b")?)?;
-    entry.set_publisher(&two(alloc, "c", "d")?)?;
-    entry.set_orig_location(&two(alloc, "e", "f")?)?;
-    has_chunks(
-        &rt,
-        alloc,
-        &entry,
+    let list = two(alloc)?;
+    let row = (
         "organization",
         "N<a>[0-1]N< and >[]N<b>[0-1]",
-    )?;
-    has_chunks(
+        "|N<a>[0-1]N<>[]|N<>[]N<b>[0-1]",
+    );
+    is_field(
         &rt,
         alloc,
-        &entry,
+        row,
+        &list,
+        Entry::set_organization,
+        Entry::organization,
+    )?;
+    let row = (
         "publisher",
-        "N<c>[0-1]N< and >[]N<d>[0-1]",
-    )?;
-    has_chunks(
+        "N<a>[0-1]N< and >[]N<b>[0-1]",
+        "|N<a>[0-1]N<>[]|N<>[]N<b>[0-1]",
+    );
+    is_field(
         &rt,
         alloc,
-        &entry,
+        row,
+        &list,
+        Entry::set_publisher,
+        Entry::publisher,
+    )?;
+    let row = (
         "origlocation",
-        "N<e>[0-1]N< and >[]N<f>[0-1]",
-    )?;
-    Ok(())
-}
-
-#[test]
-fn lists_of_one(rt: HostRuntime) -> Result<(), Fail> {
-    let alloc = rt.alloc();
-    let entry = with(alloc, "organization")?;
-    is_value(
+        "N<a>[0-1]N< and >[]N<b>[0-1]",
+        "|N<a>[0-1]N<>[]|N<>[]N<b>[0-1]",
+    );
+    Ok(is_field(
         &rt,
         alloc,
-        entry.organization(alloc),
-        "|N<organization>[0-12]",
-    )?;
-    let entry = with(alloc, "publisher")?;
-    is_value(&rt, alloc, entry.publisher(alloc), "|N<publisher>[0-9]")?;
-    let entry = with(alloc, "origlocation")?;
-    Ok(is_value(
-        &rt,
-        alloc,
-        entry.orig_location(alloc),
-        "|N<origlocation>[0-12]",
+        row,
+        &list,
+        Entry::set_orig_location,
+        Entry::orig_location,
     )?)
 }
