@@ -1,6 +1,6 @@
 //! Lists of people as typed values.
 
-ghost use Rattle.std.specs.Prelude.{List, Some, ⊥};
+ghost use Rattle.std.specs.Prelude.{List, Some};
 ghost use Rattle.bib_people.specs.declared.person.Person.{Person as APerson};
 ghost use Rattle.bib_people.specs.People.{people_of, people_chunks as people_written};
 ghost use Rattle.bib_people.specs.Kept.{ArePeople};

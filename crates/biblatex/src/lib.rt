@@ -13,6 +13,7 @@ pub use bib_entry::entry::{Entry, SetError};
 pub use bib_entry::retrieval::RetrievalError;
 pub use bib_faults::type_error::{TypeError, TypeErrorKind};
 pub use bib_maps::text_map::TextMap;
+pub use bib_people::person::Person;
 pub use bib_syntax::raw::{
     BiblatexParser, Field, Pair, ParseError, ParseErrorKind, RawBibliography, RawChunk, RawEntry,
     Token, is_id_continue, is_id_start, is_key,

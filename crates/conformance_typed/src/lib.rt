@@ -16,6 +16,8 @@ mod names;
 #[cfg(test)]
 mod numbers;
 #[cfg(test)]
+mod people;
+#[cfg(test)]
 mod shown;
 #[cfg(test)]
 mod typed_fields;

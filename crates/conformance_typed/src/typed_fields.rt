@@ -4,9 +4,11 @@
 ghost use Rattle.std.specs.Borrow.{Bor, MutBor};
 ghost use Rattle.bib_entry.specs.declared.entry.Entry.{Entry as AnEntry};
 
-use crate::checks::{has_chunks, is_value, misc, named, with};
+use crate::checks::{has_chunks, is_value, misc, named, normal, with};
 use crate::shown::Shown;
-use biblatex::{Chunks, Entry, Gender, Language, Pagination, PermissiveType, RetrievalError};
+use biblatex::{
+    Chunks, Entry, Gender, Language, Pagination, PermissiveType, Person, RetrievalError, Type,
+};
 use std::alloc::{AllocError, Global};
 use std::ops::Range;
 use std::process::Abort;
@@ -27,7 +29,7 @@ fn is_field<T: Shown + Drop, S, G>(
 where
     S: FnOnce(&mut Entry, &T) -> Result<(), AllocError>,
     G: FnOnce(&Entry, Global) -> Result<T, RetrievalError>,
-    requires set { (entry : MutBor AnEntry) → S.pre set entry value.entry }
+    requires set { (entry : MutBor AnEntry) → S.pre set entry value }
     requires get { (entry : Bor AnEntry) → G.pre get entry alloc }
 {
     let (field, chunks, shown) = row;
@@ -226,5 +228,105 @@ fn lists(rt: HostRuntime) -> Result<(), Fail> {
         &list,
         Entry::set_orig_location,
         Entry::orig_location,
+    )?)
+}
+
+// Two people as they are written.
+const PEOPLE: &str = "N<Doe, J.>[]N< and >[]N<de Roe, Sr., Jane>[]";
+
+// Two people.
+fn people(alloc: Global) -> Result<Vec<Person>, Fail> {
+    let chunks = normal(alloc, "J. Doe and de Roe, Sr., Jane")?;
+    Ok(Vec::<Person>::from_chunks(alloc, chunks.as_slice())?)
+}
+
+#[test]
+fn people_of_fields(rt: HostRuntime) -> Result<(), Fail> {
+    let alloc = rt.alloc();
+    let people = people(alloc)?;
+    let row = ("author", PEOPLE, "|Doe/J.//|Roe/Jane/de/Sr.");
+    is_field(&rt, alloc, row, &people, Entry::set_author, Entry::author)?;
+    let row = ("afterword", PEOPLE, "|Doe/J.//|Roe/Jane/de/Sr.");
+    is_field(
+        &rt,
+        alloc,
+        row,
+        &people,
+        Entry::set_afterword,
+        Entry::afterword,
+    )?;
+    let row = ("annotator", PEOPLE, "|Doe/J.//|Roe/Jane/de/Sr.");
+    is_field(
+        &rt,
+        alloc,
+        row,
+        &people,
+        Entry::set_annotator,
+        Entry::annotator,
+    )?;
+    let row = ("bookauthor", PEOPLE, "|Doe/J.//|Roe/Jane/de/Sr.");
+    is_field(
+        &rt,
+        alloc,
+        row,
+        &people,
+        Entry::set_book_author,
+        Entry::book_author,
+    )?;
+    let row = ("commentator", PEOPLE, "|Doe/J.//|Roe/Jane/de/Sr.");
+    is_field(
+        &rt,
+        alloc,
+        row,
+        &people,
+        Entry::set_commentator,
+        Entry::commentator,
+    )?;
+    let row = ("foreword", PEOPLE, "|Doe/J.//|Roe/Jane/de/Sr.");
+    is_field(
+        &rt,
+        alloc,
+        row,
+        &people,
+        Entry::set_foreword,
+        Entry::foreword,
+    )?;
+    let row = ("holder", PEOPLE, "|Doe/J.//|Roe/Jane/de/Sr.");
+    is_field(&rt, alloc, row, &people, Entry::set_holder, Entry::holder)?;
+    let row = ("introduction", PEOPLE, "|Doe/J.//|Roe/Jane/de/Sr.");
+    is_field(
+        &rt,
+        alloc,
+        row,
+        &people,
+        Entry::set_introduction,
+        Entry::introduction,
+    )?;
+    let row = ("shortauthor", PEOPLE, "|Doe/J.//|Roe/Jane/de/Sr.");
+    is_field(
+        &rt,
+        alloc,
+        row,
+        &people,
+        Entry::set_short_author,
+        Entry::short_author,
+    )?;
+    let row = ("shorteditor", PEOPLE, "|Doe/J.//|Roe/Jane/de/Sr.");
+    is_field(
+        &rt,
+        alloc,
+        row,
+        &people,
+        Entry::set_short_editor,
+        Entry::short_editor,
+    )?;
+    let row = ("translator", PEOPLE, "|Doe/J.//|Roe/Jane/de/Sr.");
+    Ok(is_field(
+        &rt,
+        alloc,
+        row,
+        &people,
+        Entry::set_translator,
+        Entry::translator,
     )?)
 }
