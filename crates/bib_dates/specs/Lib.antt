@@ -1,0 +1,11 @@
+pub mod Anew
+pub mod Chunks
+pub mod Dates
+pub mod Kept
+pub mod OrderLaws
+pub mod Orders
+pub mod Parts
+pub mod Readings
+pub mod ThreeFields
+pub mod Times
+pub mod Written

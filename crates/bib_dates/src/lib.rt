@@ -1,0 +1,5 @@
+//! Dates and times: how they are read from texts and from the chunks of fields, how they are written, and how they
+//! compare.
+#![tactic(auto)]
+
+pub mod date;
