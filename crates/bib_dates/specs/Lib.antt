@@ -1,5 +1,6 @@
 pub mod Anew
 pub mod Chunks
+pub mod Code
 pub mod Dates
 pub mod Kept
 pub mod OrderLaws

@@ -3,3 +3,9 @@
 #![tactic(auto)]
 
 pub mod date;
+mod faults;
+mod fields;
+mod parts;
+mod read;
+mod times;
+mod write;
