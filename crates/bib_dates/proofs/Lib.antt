@@ -1,3 +1,4 @@
+pub mod AnswerFacts
 pub mod Cuts
 pub mod Digits
 pub mod Gaps

@@ -1,15 +1,21 @@
 -- Meaning: words of public contracts.
 -- Dates as values of fields.
-use Rattle.std.specs.Prelude.{Option}
+use Rattle.std.specs.Prelude.{Option, Result}
 use Rattle.std.specs.Option.{option_map}
+use Rattle.bib_faults.specs.declared.type_error.TypeError.{TypeError}
 use Rattle.bib_faults.specs.declared.type_error.TypeErrorKind.{TypeErrorKind}
 use Rattle.bib_chunks.specs.declared.chunk.Chunk.TheVariants.{Normal}
 use Rattle.bib_values.specs.Values.{Value, text, alone}
+use Rattle.bib_typed.specs.Typed.{IsReadAs}
 use Rattle.bib_dates.specs.declared.date.Date.{Date}
 use Rattle.bib_dates.specs.Readings.{Reading, value_of, MayRefuse}
 use Rattle.bib_dates.specs.Dates.{date_of}
 use Rattle.bib_dates.specs.ThreeFields.{three_fields_of}
 use Rattle.bib_dates.specs.Written.{date_text}
+
+-- a result is the value that is read, or a fault that says so, of the promised kind if there is one; or no memory was left
+abbrev pub IsAnswer : {A : Type 0} → Reading A → Result A TypeError → Type 0
+IsAnswer reading result = IsReadAs (λ value. value) (value_of reading) (MayRefuse reading) result
 
 -- what the formatted text of chunks is read as
 abbrev pub date_reading : Value → Reading Date

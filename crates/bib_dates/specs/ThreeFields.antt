@@ -144,17 +144,25 @@ abbrev pub day_of : Option (List ℕ) → List ℕ → Reading (Option ℕ)
 day_of None behind = day_behind behind
 day_of (Some text) behind = day_field text
 
--- month and day; without a month field the day is not looked at
-abbrev pub month_and_day : Option (List ℕ) → Option (List ℕ) → Reading (Option ℕ × Option ℕ)
-month_and_day None day = says (None, None)
-month_and_day (Some text) day = do
+-- a month, and the day of its own field or behind the month
+unfoldable pub month_with_day : List ℕ → Option (List ℕ) → Reading (Option ℕ × Option ℕ)
+month_with_day text day = do
   month ← month_field text
   at ← day_of day month.1
   says (month.0, at)
+
+-- month and day; without a month field the day is not looked at
+abbrev pub month_and_day : Option (List ℕ) → Option (List ℕ) → Reading (Option ℕ × Option ℕ)
+month_and_day None day = says (None, None)
+month_and_day (Some text) day = month_with_day text day
+
+-- a date without a time and without a mark
+abbrev pub on_day : ℤ → Option ℕ → Option ℕ → Date
+on_day year month day = record { value = At (datetime year month day None); uncertain = false; approximate = false }
 
 -- what three fields are read as
 unfoldable pub three_fields_of : List ℕ → Option (List ℕ) → Option (List ℕ) → Reading Date
 three_fields_of year month day = do
   y ← year_field year
   parts ← month_and_day month day
-  says (record { value = At (datetime y parts.0 parts.1 None); uncertain = false; approximate = false })
+  says (on_day y parts.0 parts.1)

@@ -240,27 +240,35 @@ pub(crate) fn day_behind(text: &str) -> Result<Option<u8>, Fault>
     Ok(Some(day))
 }
 
+// Why digits alone are no day: a number of eight bits is out of range, and another text is refused for this reason.
+fn no_day(digits: &str, why: Why) -> Why {
+    match digits.parse::<u8>() {
+        Ok(_) => Why::DayOutOfRange,
+        Err(_) => why,
+    }
+}
+
 #[tactic(auto, unfolding(crate::specs::ThreeFields::only_day))]
-fn only_day(text: &str) -> Result<Option<u8>, Fault>
+fn only_day(text: &str, why: Why) -> Result<Option<u8>, Fault>
     ensures { reading result ≡ Spec.only_day text.now }
 {
     let (digits, behind) = digits(text);
     if !behind.is_empty() {
-        return Err(Fault::Untold(Why::InvalidNumber));
+        return Err(Fault::Untold(why));
     }
     let Some(day) = day_number(digits) else {
-        return Err(Fault::Untold(Why::InvalidNumber));
+        return Err(Fault::Untold(no_day(digits, why)));
     };
     Ok(Some(day))
 }
 
 #[tactic(auto, unfolding(crate::specs::ThreeFields::day_field))]
-pub(crate) fn day_field(text: &str) -> Result<Option<u8>, Fault>
+pub(crate) fn day_field(text: &str, why: Why) -> Result<Option<u8>, Fault>
     ensures { reading result ≡ Spec.day_field text.now }
 {
     let here = text.trim();
     if let Some(behind) = after(here, b'+') {
-        return only_day(behind);
+        return only_day(behind, why);
     }
-    only_day(here)
+    only_day(here, why)
 }

@@ -8,4 +8,5 @@ mod fields;
 mod parts;
 mod read;
 mod times;
+mod typed;
 mod write;
