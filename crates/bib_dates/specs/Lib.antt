@@ -10,6 +10,7 @@ pub mod Parts
 pub mod PartsReread
 pub mod PlainTexts
 pub mod Readings
+pub mod Separators
 pub mod ThreeFields
 pub mod Times
 pub mod Written

@@ -74,7 +74,7 @@ same_offset_itself : (a : TimeOffset) → same_offset a a ≡ true
 same_offset_itself Utc = refl
 same_offset_itself (Offset p h m) = simp (bool_eq_equiv.refl, nat_eq_equiv.refl)
 
-nat_is : (a b : ℕ) → nat_eq a b ≡ true → a ≡ b
+pub nat_is : (a b : ℕ) → nat_eq a b ≡ true → a ≡ b
 nat_is a b h = grind (arith, nat_tests)
 
 -- what is the same is equal
@@ -120,7 +120,7 @@ same_time_is a b h =
       offset = same_maybe_is a.offset b.offset three.1 i;
     }
 
-same_time_decides : (a b : Time) → Decides (same_time a b) (a ≡ b)
+pub same_time_decides : (a b : Time) → Decides (same_time a b) (a ≡ b)
 same_time_decides a b = (same_time_is a b, λ e. subst (λ x. same_time a x ≡ true) e (same_time_itself a))
 
 absorbed : (p q s : Bool) → (s ≡ true → p ≡ true) → (s ≡ true → q ≡ true) → (p && (q && s)) ≡ s

@@ -2,7 +2,8 @@
 
 ghost use Rattle.std.specs.Prelude.{◌≡◌, Some, None, pos, neg_ℤ, ◌≤ℤ◌};
 ghost use Rattle.std.specs.Ordering.{partial_ordering_then};
-ghost use Rattle.bib_dates.specs.Orders.{clock, same_offset, offset_seconds, shift, utc_seconds, part_cmp, number_cmp, time_cmp, datetime_cmp};
+ghost use Rattle.bib_dates.specs.Orders.{clock, same_offset, offset_seconds, hours_ahead, shift, utc_seconds, part_cmp, number_cmp, time_cmp, datetime_cmp};
+ghost use Rattle.bib_dates.specs.declared.date.TimeOffset.TheVariants.{Offset};
 ghost use Rattle.bib_dates.specs.OrderLaws.{same_offset_laws, same_offset_partial, time_laws, datetime_laws};
 
 use std::cmp::Ordering;
@@ -103,6 +104,30 @@ impl Eq for TimeOffset {
 }
 
 impl TimeOffset {
+    /// The offset of so many hours and minutes ahead of UTC, or behind it.
+    pub fn offset(positive: bool, hours: u8, minutes: u8) -> TimeOffset
+        ensures { result ≡ Offset positive hours minutes }
+    {
+        TimeOffset::Offset {
+            positive,
+            hours,
+            minutes,
+        }
+    }
+
+    /// The offset of so many hours ahead of UTC; of a number below zero, behind it.
+    pub fn offset_hour(hour: i32) -> TimeOffset
+        requires low { neg_ℤ (pos 255) ≤ℤ hour }
+        requires high { hour ≤ℤ pos 255 }
+        ensures { result ≡ hours_ahead hour }
+    {
+        TimeOffset::Offset {
+            positive: hour >= 0,
+            hours: hour.unsigned_abs() as u8,
+            minutes: 0,
+        }
+    }
+
     // Seconds ahead of UTC.
     fn seconds(&self) -> isize
         ensures { result ≡ offset_seconds self.now }

@@ -5,8 +5,10 @@
 pub mod date;
 mod faults;
 mod fields;
+pub mod laws;
 mod parts;
 mod read;
+pub mod separators;
 mod times;
 mod typed;
 mod write;
