@@ -12,6 +12,7 @@ ghost use Rattle.bib_dates.specs.ThreeFields as Spec;
 
 use crate::faults::{Fault, Why};
 use crate::parts::{after, digits, sign, signed, value};
+use bib_text::scanner::Scanner;
 
 fn starts_blank(text: &str) -> bool
     ensures { result ≡ Spec.starts_blank text.now }
@@ -197,15 +198,10 @@ pub(crate) fn month_field(text: &str) -> Result<(Option<u8>, &str), Fault>
 fn behind_gap(text: &str) -> &str
     ensures { result.now ≡ Spec.behind_gap text.now }
 {
-    let mut rest = text;
-    'gaps: for _step in 0..text.len() {
-        let next = rest.trim_start();
-        let Some(behind) = after(next, b'-') else {
-            return next;
-        };
-        rest = behind;
-    }
-    rest
+    let mut scanner = Scanner::new(text);
+    scanner.eat_while(|c| c.is_whitespace() || c == '-');
+    let at = scanner.cursor();
+    &text[at..]
 }
 
 // A day from 1 to 31, counted from 0.

@@ -101,28 +101,28 @@ pub(crate) fn small_number(low: u8, high: u8, why: Why, text: &str) -> Result<(u
     Ok((n as u8, behind))
 }
 
-pub(crate) fn behind_byte(text: &str, byte: u8) -> Result<&str, Fault>
+pub(crate) fn behind_byte(text: &str, byte: u8, why: Why) -> Result<&str, Fault>
     requires some { 0 < byte }
     requires ascii { byte < 128 }
     ensures { rest result ≡ Spec.behind_byte byte text.now }
 {
     match after(text, byte) {
         Some(behind) => Ok(behind),
-        None => Err(Fault::Untold(Why::InvalidFormat)),
+        None => Err(Fault::Untold(why)),
     }
 }
 
 pub(crate) fn behind_colon(text: &str) -> Result<&str, Fault>
     ensures { rest result ≡ Spec.behind_colon text.now }
 {
-    behind_byte(text.trim_start(), b':')
+    behind_byte(text.trim_start(), b':', Why::InvalidFormat)
 }
 
 #[tactic(auto, unfolding(crate::specs::Parts::behind_hyphens))]
-pub(crate) fn behind_hyphens(text: &str) -> Result<&str, Fault>
+pub(crate) fn behind_hyphens(text: &str, why: Why) -> Result<&str, Fault>
     ensures { rest result ≡ Spec.behind_hyphens text.now }
 {
-    let behind = behind_byte(text.trim_start(), b'-')?;
+    let behind = behind_byte(text.trim_start(), b'-', why)?;
     let (_, behind) = byte_run(behind, b'-');
     Ok(behind)
 }

@@ -11,7 +11,7 @@ ghost use Rattle.bib_dates.specs.Dates as Spec;
 
 use crate::date::{Date, DateValue, Datetime};
 use crate::faults::{Fault, Why};
-use crate::parts::{behind_hyphens, byte_run, digits, number, small_number, value, year};
+use crate::parts::{after, behind_hyphens, byte_run, digits, number, small_number, value, year};
 use crate::times::behind_day;
 use jiff::civil;
 
@@ -62,7 +62,7 @@ fn behind_month(year: i32, month: u8, text: &str) -> Result<Datetime, Fault>
             time: None,
         });
     }
-    let behind = behind_hyphens(text)?;
+    let behind = behind_hyphens(text, Why::InvalidFormat)?;
     let (day, behind) = day(year, month, behind)?;
     let time = behind_day(behind.trim_start())?;
     Ok(Datetime {
@@ -86,7 +86,7 @@ fn behind_year(year: i32, text: &str) -> Result<Datetime, Fault>
             time: None,
         });
     }
-    let behind = behind_hyphens(text)?;
+    let behind = behind_hyphens(text, Why::InvalidFormat)?;
     let (month, behind) = small_number(1, 12, Why::MonthOutOfRange, behind)?;
     behind_month(year, month, behind.trim_start())
 }
@@ -146,7 +146,7 @@ fn all_months(year: u16, text: &str) -> Result<DateValue, Fault>
     if text.trim_start().is_empty() {
         return Ok(months(year));
     }
-    let behind = behind_hyphens(text)?;
+    let behind = behind_hyphens(text, Why::InvalidFormat)?;
     let (count, _) = byte_run(behind.trim_start(), b'X');
     if count != 2 {
         return Err(Fault::Untold(Why::InvalidFormat));
@@ -162,7 +162,7 @@ fn all_days(year: u16, text: &str) -> Result<DateValue, Fault>
     if month < 1 || 12 < month {
         return Err(Fault::Told(Why::MonthOutOfRange));
     }
-    let behind = behind_hyphens(behind)?;
+    let behind = behind_hyphens(behind, Why::InvalidFormat)?;
     let (count, behind) = byte_run(behind.trim_start(), b'X');
     if count != 2 || !behind.trim_start().is_empty() {
         return Err(Fault::Untold(Why::InvalidFormat));
@@ -208,6 +208,14 @@ fn decade(n: u16, text: &str) -> Result<DateValue, Fault>
     Ok(years(10 * n, 9))
 }
 
+// Why no hyphens stand behind four digits: an `X` would be a fifth.
+fn no_hyphen(text: &str) -> Why {
+    match after(text, b'X') {
+        Some(_) => Why::WrongNumberOfDigits,
+        None => Why::InvalidFormat,
+    }
+}
+
 #[tactic(auto, unfolding(crate::specs::Dates::unknown))]
 fn unknown(text: &str) -> Result<DateValue, Fault>
     ensures { reading result ≡ Spec.unknown text.now }
@@ -221,7 +229,7 @@ fn unknown(text: &str) -> Result<DateValue, Fault>
     }
     let n = value(digits);
     if digits.len() == 4 {
-        let behind = behind_hyphens(behind)?;
+        let behind = behind_hyphens(behind, no_hyphen(behind))?;
         return unknown_month(n, behind.trim_start());
     }
     if digits.len() == 2 {

@@ -99,7 +99,7 @@ pub(crate) fn behind_day(text: &str) -> Result<Option<Time>, Fault>
     if text.is_empty() {
         return Ok(None);
     }
-    let behind = behind_byte(text, b'T')?;
+    let behind = behind_byte(text, b'T', Why::InvalidFormat)?;
     let (hour, behind) = small_number(0, 23, Why::InvalidNumber, behind)?;
     behind_hour(hour, behind.trim_start())
 }
