@@ -3,3 +3,4 @@ pub mod Cuts
 pub mod Digits
 pub mod OrderFacts
 pub mod Padding
+mod Rows
