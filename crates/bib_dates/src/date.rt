@@ -239,6 +239,7 @@ fn then(first: Option<Ordering>, next: Option<Ordering>) -> Option<Ordering>
     }
 }
 
+// How a month or a day compares: not at all where one side alone has it.
 fn number_part(ours: Option<u8>, theirs: Option<u8>) -> Option<Ordering>
     ensures { result ≡ part_cmp number_cmp ours theirs }
 {
@@ -249,6 +250,7 @@ fn number_part(ours: Option<u8>, theirs: Option<u8>) -> Option<Ordering>
     }
 }
 
+// How a time compares: not at all where one side alone has it.
 fn time_part(ours: Option<Time>, theirs: Option<Time>) -> Option<Ordering>
     ensures { result ≡ part_cmp time_cmp ours theirs }
 {

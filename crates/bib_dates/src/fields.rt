@@ -1,6 +1,6 @@
 // The reader of a date in three fields: each function reads a part from the front of a text, and gives it with the rest.
 
-ghost use Rattle.std.specs.Prelude.{◌≡◌, ◌<◌, ◌≤◌, ◌&&◌, ◌-ℤ◌, pos, is_some, IfSome, length, drop, option_copied};
+ghost use Rattle.std.specs.Prelude.{◌≡◌, ◌<◌, ◌≤◌, ◌&&◌, ◌-ℤ◌, pos, is_some, IfSome, length, drop, codes, option_copied};
 ghost use Rattle.std.specs.List.{prefix_len};
 ghost use Rattle.std.specs.Char.{is_ascii_digit, is_ascii_alphabetic};
 ghost use Rattle.std.specs.Str.{chars};
@@ -14,12 +14,14 @@ use crate::faults::{Fault, Why};
 use crate::parts::{after, digits, sign, signed, value};
 use bib_text::scanner::Scanner;
 
+// Whether white space stands at the front.
 fn starts_blank(text: &str) -> bool
     ensures { result ≡ Spec.starts_blank text.now }
 {
     text.trim_start().len() != text.len()
 }
 
+// Whether a letter or a number stands at the front.
 fn starts_word(text: &str) -> bool
     ensures { result ≡ Spec.starts_word text.now }
 {
@@ -44,13 +46,14 @@ fn after_two(text: &str, first: u8, second: u8) -> Option<&str>
 
 // What stands behind `BCE`.
 fn after_bce(text: &str) -> Option<&str>
-    ensures stands { is_some result ≡ (Parts.begins 66 text.now && (Parts.begins 67 (drop 1 text.now) && Parts.begins 69 (drop 1 (drop 1 text.now)))) }
-    ensures behind { IfSome result (λ r. r.now ≡ drop 1 (drop 1 (drop 1 text.now))) }
+    ensures stands { is_some result ≡ Spec.stands (codes "BCE") text.now }
+    ensures behind { IfSome result (λ r. r.now ≡ Spec.behind_word (codes "BCE") text.now) }
 {
     let behind = after(text, b'B')?;
     after_two(behind, b'C', b'E')
 }
 
+// The year of an era, behind whose name this text stands.
 #[tactic(auto, unfolding(crate::specs::ThreeFields::of_era))]
 fn of_era(has_sign: bool, n: u16, year: i32, behind: &str) -> Result<i32, Fault>
     ensures { reading result ≡ Spec.of_era has_sign n year behind.now }
@@ -67,6 +70,7 @@ fn of_era(has_sign: bool, n: u16, year: i32, behind: &str) -> Result<i32, Fault>
     Ok(year)
 }
 
+// The year of this number and sign, and of the era that may stand behind it.
 #[tactic(auto, unfolding(crate::specs::ThreeFields::with_era))]
 fn with_era(has_sign: bool, is_minus: bool, n: u16, text: &str) -> Result<i32, Fault>
     requires { n < 10000 }
@@ -87,6 +91,7 @@ fn with_era(has_sign: bool, is_minus: bool, n: u16, text: &str) -> Result<i32, F
     Ok(signed(is_minus, n))
 }
 
+// The year of a field.
 #[tactic(auto, unfolding(crate::specs::ThreeFields::year_field))]
 pub(crate) fn year_field(text: &str) -> Result<i32, Fault>
     ensures { reading result ≡ Spec.year_field text.now }
@@ -104,6 +109,7 @@ pub(crate) fn year_field(text: &str) -> Result<i32, Fault>
     with_era(has_sign, is_minus, value(digits), behind.trim_start())
 }
 
+// Whether a word is this name or its first letters, in any case.
 fn names(word: &str, name: &str, short: &str) -> bool
     ensures { result ≡ Spec.names word.now name.now short.now }
 {
@@ -172,6 +178,7 @@ fn letters(text: &str) -> (&str, &str)
     text.split_at(letters_len(text))
 }
 
+// The month that the letters at the front name, and what stands behind them.
 fn named_month(text: &str) -> (Option<u8>, &str)
     ensures { says (result.0, result.1.now) ≡ Spec.named_month text.now }
 {
@@ -179,6 +186,7 @@ fn named_month(text: &str) -> (Option<u8>, &str)
     (month_named(word), behind)
 }
 
+// The month of a field, and what stands behind it.
 #[tactic(auto, unfolding(crate::specs::ThreeFields::month_field))]
 pub(crate) fn month_field(text: &str) -> Result<(Option<u8>, &str), Fault>
     ensures { part result ≡ Spec.month_field text.now }
@@ -218,6 +226,7 @@ fn day_number(digits: &str) -> Option<u8>
     Some(day - 1)
 }
 
+// The day behind a month.
 #[tactic(auto, unfolding(crate::specs::ThreeFields::day_behind))]
 pub(crate) fn day_behind(text: &str) -> Result<Option<u8>, Fault>
     ensures { reading result ≡ Spec.day_behind text.now }
@@ -244,6 +253,7 @@ fn no_day(digits: &str, why: Why) -> Why {
     }
 }
 
+// A day in digits alone; other texts are refused for this reason.
 #[tactic(auto, unfolding(crate::specs::ThreeFields::only_day))]
 fn only_day(text: &str, why: Why) -> Result<Option<u8>, Fault>
     ensures { reading result ≡ Spec.only_day text.now }
@@ -258,6 +268,7 @@ fn only_day(text: &str, why: Why) -> Result<Option<u8>, Fault>
     Ok(Some(day))
 }
 
+// The day of a field of its own; what is no number is refused for this reason.
 #[tactic(auto, unfolding(crate::specs::ThreeFields::day_field))]
 pub(crate) fn day_field(text: &str, why: Why) -> Result<Option<u8>, Fault>
     ensures { reading result ≡ Spec.day_field text.now }
