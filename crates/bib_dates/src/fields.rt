@@ -1,9 +1,8 @@
 // The reader of a date in three fields: each function reads a part from the front of a text, and gives it with the rest.
 
-ghost use Rattle.std.specs.Prelude.{◌≡◌, ◌<◌, ◌≤◌, ◌&&◌, ◌-ℤ◌, pos, is_some, IfSome, length, drop, codes, option_copied};
+ghost use Rattle.std.specs.Prelude.{◌≡◌, ◌<◌, ◌&&◌, is_some, IfSome, drop, codes};
 ghost use Rattle.std.specs.List.{prefix_len};
-ghost use Rattle.std.specs.Char.{is_ascii_digit, is_ascii_alphabetic};
-ghost use Rattle.std.specs.Str.{chars};
+ghost use Rattle.std.specs.Char.{is_ascii_alphabetic};
 ghost use Rattle.std.specs.Str.Parse.{AllDigits};
 ghost use Rattle.bib_dates.specs.Code.{reading, part};
 ghost use Rattle.bib_dates.specs.Parts;
