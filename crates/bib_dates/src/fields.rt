@@ -1,9 +1,8 @@
 // The reader of a date in three fields: each function reads a part from the front of a text, and gives it with the rest.
 
-ghost use Rattle.std.specs.Prelude.{◌≡◌, ◌<◌, ◌≤◌, ◌&&◌, ◌-ℤ◌, pos, is_some, IfSome, length, drop, codes, option_copied};
+ghost use Rattle.std.specs.Prelude.{◌≡◌, ◌<◌, ◌&&◌, is_some, IfSome, drop, codes};
 ghost use Rattle.std.specs.List.{prefix_len};
-ghost use Rattle.std.specs.Char.{is_ascii_digit, is_ascii_alphabetic};
-ghost use Rattle.std.specs.Str.{chars};
+ghost use Rattle.std.specs.Char.{is_ascii_alphabetic};
 ghost use Rattle.std.specs.Str.Parse.{AllDigits};
 ghost use Rattle.bib_dates.specs.Code.{reading, part};
 ghost use Rattle.bib_dates.specs.Parts;
@@ -122,42 +121,32 @@ fn month_named(word: &str) -> Option<u8>
     ensures { result ≡ Spec.month_named word.now }
 {
     if names(word, "january", "jan") {
-        return Some(0);
+        Some(0)
+    } else if names(word, "february", "feb") {
+        Some(1)
+    } else if names(word, "march", "mar") {
+        Some(2)
+    } else if names(word, "april", "apr") {
+        Some(3)
+    } else if names(word, "may", "may") {
+        Some(4)
+    } else if names(word, "june", "jun") {
+        Some(5)
+    } else if names(word, "july", "jul") {
+        Some(6)
+    } else if names(word, "august", "aug") {
+        Some(7)
+    } else if names(word, "september", "sep") {
+        Some(8)
+    } else if names(word, "october", "oct") {
+        Some(9)
+    } else if names(word, "november", "nov") {
+        Some(10)
+    } else if names(word, "december", "dec") {
+        Some(11)
+    } else {
+        None
     }
-    if names(word, "february", "feb") {
-        return Some(1);
-    }
-    if names(word, "march", "mar") {
-        return Some(2);
-    }
-    if names(word, "april", "apr") {
-        return Some(3);
-    }
-    if names(word, "may", "may") {
-        return Some(4);
-    }
-    if names(word, "june", "jun") {
-        return Some(5);
-    }
-    if names(word, "july", "jul") {
-        return Some(6);
-    }
-    if names(word, "august", "aug") {
-        return Some(7);
-    }
-    if names(word, "september", "sep") {
-        return Some(8);
-    }
-    if names(word, "october", "oct") {
-        return Some(9);
-    }
-    if names(word, "november", "nov") {
-        return Some(10);
-    }
-    if names(word, "december", "dec") {
-        return Some(11);
-    }
-    None
 }
 
 // How many letters stand at the front.

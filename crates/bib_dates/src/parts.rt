@@ -5,7 +5,7 @@ ghost use Rattle.std.specs.List.{prefix_len};
 ghost use Rattle.std.specs.Char.{is_ascii_digit};
 ghost use Rattle.std.specs.Str.Parse.{digits_value, AllDigits};
 ghost use Rattle.jiff_core.specs.Calendar.{IsYear};
-ghost use Rattle.bib_dates.specs.Code.{reading, part, rest, kind_of};
+ghost use Rattle.bib_dates.specs.Code.{part, rest, kind_of};
 ghost use Rattle.bib_dates.specs.Parts as Spec;
 
 use crate::faults::{Fault, Why};

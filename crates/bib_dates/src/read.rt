@@ -2,7 +2,6 @@
 
 ghost use Rattle.std.specs.Prelude.{◌≡◌, ◌+◌, ◌^◌, ◌<◌, ◌≤◌, None, pos, ◌↔◌, ◌==◌, IsTrue, IfOk, IfSome, is_some};
 ghost use Rattle.std.specs.List.{before_first, after_first};
-ghost use Rattle.std.specs.Str.{trim_end};
 ghost use Rattle.jiff_core.specs.Calendar.{IsDate, IsYear, days_in_month};
 ghost use Rattle.bib_faults.specs.declared.type_error.TypeErrorKind.TheVariants.{DayOutOfRange};
 ghost use Rattle.bib_dates.specs.Code.{reading, part};

@@ -35,6 +35,13 @@ fn dates(rt: HostRuntime) -> Result<(), Fail> {
             "2020-05-00",
             "day out of range (must be between 1 and 31): 0-10",
         ),
+    ];
+    Ok(reads(&rt, rt.alloc(), &rows)?)
+}
+
+#[test]
+fn years(rt: HostRuntime) -> Result<(), Fail> {
+    let rows = [
         ("0000", "at 0 - - -"),
         ("-9999", "at -9999 - - -"),
         ("-05", "at 1995 - - -"),
