@@ -1,1 +1,4 @@
 pub mod Fields
+pub mod Editors
+pub mod Judging
+pub mod Reports
