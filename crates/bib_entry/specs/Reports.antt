@@ -7,7 +7,7 @@ use Rattle.std.specs.FinMap as by_name
 use Rattle.bib_faults.specs.declared.type_error.TypeError.{TypeError}
 use Rattle.bib_faults.specs.declared.type_error.TypeErrorKind.{TypeErrorKind}
 use Rattle.bib_faults.specs.declared.type_error.TypeErrorKind.TheVariants.{InvalidNumber, UnknownGender, UnknownPagination, OutOfMemory}
-use Rattle.bib_tables.specs.Requirements.{Names, fields, rules_of, forbidden_of}
+use Rattle.bib_tables.specs.Requirements.{Names, rules_of, forbidden_of}
 use Rattle.bib_tables.specs.declared.mechanics.requirements.AuthorMode.{AuthorMode}
 use Rattle.bib_tables.specs.declared.mechanics.requirements.AuthorMode.TheVariants as author
 use Rattle.bib_tables.specs.declared.mechanics.requirements.PagesChapterMode.{PagesChapterMode}
@@ -20,7 +20,7 @@ use Rattle.bib_values.specs.Ranges.{ranges_read}
 use Rattle.bib_values.specs.Values.{Value}
 use Rattle.bib_dates.specs.Chunks.{three_fields_reading}
 use Rattle.bib_dates.specs.Readings.{Reading}
-use Rattle.bib_dates.specs.Readings.Reading as reading
+use Rattle.bib_dates.specs.Readings.Reading.{says, fault, unread as not_read}
 use Rattle.bib_entry.specs.declared.entry.Entry.{Entry}
 
 -- whether an entry has a field of this name
@@ -131,9 +131,9 @@ field_verdicts entry =
 
 -- what is said of a date that is read so
 abbrev pub date_verdict : {A : Type 0} → Reading A → Verdict
-date_verdict (reading.says a) = fine
-date_verdict (reading.fault kind) = refused kind
-date_verdict reading.unread = unread
+date_verdict (says a) = fine
+date_verdict (fault kind) = refused kind
+date_verdict not_read = unread
 
 -- what is said of the date of four fields: one that holds it whole, or else the year, the month and the day
 abbrev pub fields_verdict : Option Value → Option Value → Option Value → Option Value → Verdict

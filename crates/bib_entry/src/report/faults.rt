@@ -64,7 +64,8 @@ impl Entry {
         self.judge::<Vec<Range<u32>>>(alloc, "pages", told)?;
         self.judge::<Pagination>(alloc, "pagination", told)?;
         self.judge::<i64>(alloc, "volume", told)?;
-        self.judge::<i64>(alloc, "volumes", told)
+        self.judge::<i64>(alloc, "volumes", told)?;
+        Ok(())
     }
 
     // Appends the refusal of a date, if there is one, that is in the fields of a year, a month and a day.
@@ -78,8 +79,8 @@ impl Entry {
         ensures { OnOk result (Adds ((
           name.now,
           fields_verdict (by_name.get self.now.fields name.now)
-              (by_name.get self.now.fields parts.0.now) (by_name.get self.now.fields parts.1.now)
-              (by_name.get self.now.fields parts.2.now),
+              (by_name.get self.now.fields parts.entry.0.now) (by_name.get self.now.fields parts.entry.1.now)
+              (by_name.get self.now.fields parts.entry.2.now),
         ) ∷ []) told.old.items told.new.items) }
     {
         if self.get(name).is_some() {
@@ -110,7 +111,8 @@ impl Entry {
             told,
         )?;
         let event = ("eventyear", "eventmonth", "eventday");
-        self.judge_date(alloc, "eventdate", event, told)
+        self.judge_date(alloc, "eventdate", event, told)?;
+        Ok(())
     }
 
     // The fields that are not read, each with its refusal.

@@ -52,7 +52,7 @@ impl Entry {
 
     // Whether there are chunks by this name, if there is one.
     fn has_other(&self, name: Option<&str>) -> bool
-        ensures { result ≡ has_other self.now (option_copied name) }
+        ensures { result ≡ has_other self.now (option_copied name.entry) }
     {
         match name {
             Some(name) => self.has_chunks(name),
@@ -71,6 +71,7 @@ impl Entry {
     }
 
     // Those of the names that are lacking.
+    #[tactic(auto, using(crate::proofs::ReportFacts::only_if_first))]
     fn lacking(
         &self,
         alloc: Global,
@@ -86,6 +87,7 @@ impl Entry {
     }
 
     // Those of the names whose fields have chunks.
+    #[tactic(auto, using(crate::proofs::ReportFacts::only_if_first))]
     fn filled(&self, alloc: Global, names: &[&'static str]) -> Result<Vec<&'static str>, AllocError>
         ensures { IfOk result (λ found. texts found.items ≡ filter (has_chunks self.now) (texts names.now)) }
     {
