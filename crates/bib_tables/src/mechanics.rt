@@ -9,7 +9,7 @@ mod requirements;
 
 use bib_text::text::Text;
 use bib_types::types::NameError;
-pub use requirements::{AuthorMode, PagesChapterMode, Requirements};
+pub use requirements::{AuthorMode, PagesChapterMode, Requirements, Row};
 use std::alloc::{AllocError, Global};
 use std::fmt;
 use std::str::FromStr;
