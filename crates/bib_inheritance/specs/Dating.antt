@@ -3,6 +3,7 @@
 use Rattle.std.specs.Prelude.{ℕ, Bool, true, false, not, ◌&&◌, ◌||◌, List, [], ◌∷◌, map, codes, option_map, Option, Some, None, if◌then◌else◌}
 use Rattle.std.specs.Str.{chars}
 use Rattle.bib_chunks.specs.Styled.{Atom}
+use Rattle.bib_faults.specs.declared.type_error.TypeErrorKind.{TypeErrorKind}
 use Rattle.bib_tables.specs.Requirements.{rules_of}
 use Rattle.bib_inheritance.specs.References.{plain}
 use Rattle.bib_inheritance.specs.Sources.{Fields, Source, first_some, has}
@@ -63,3 +64,11 @@ looks_for_date own = (rules_of own.kind).needs_date && not (has own (codes "date
 abbrev pub last_date : List Source → Option (List Atom)
 last_date [] = None
 last_date (r ∷ rest) = first_some (last_date rest) (date_text (dating r.fields))
+
+-- the date that an entry takes over
+abbrev pub date_for : Source → List Source → Option (List Atom)
+date_for own references = if looks_for_date own then last_date references else None
+
+-- a kind of fault that the year, the month and the day of an entry may be refused with
+abbrev pub DateMayFail : Fields → TypeErrorKind → Type 0
+DateMayFail fields kind = Unit {0}

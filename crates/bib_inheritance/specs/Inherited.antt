@@ -8,7 +8,7 @@ use Rattle.bib_tables.specs.EntryType.{is_collection, is_multi_volume}
 use Rattle.bib_tables.specs.Requirements.{Names, fields, inherits, is_container, is_one_of}
 use Rattle.bib_tables.specs.declared.mechanics.EntryType.{EntryType}
 use Rattle.bib_tables.specs.declared.mechanics.EntryType.TheVariants.{Periodical}
-use Rattle.bib_inheritance.specs.Dating.{last_date, looks_for_date}
+use Rattle.bib_inheritance.specs.Dating.{date_for}
 use Rattle.bib_inheritance.specs.Sources.{Fields, Source, first_some, has}
 
 -- Offers
@@ -84,10 +84,6 @@ field_by (Some date) own given name =
     if bytes_eq name (codes "date") then Some date
     else if is_one_of date_parts name then None
     else plain_field own given name
-
--- the date that an entry takes over
-abbrev pub date_for : Source → List Source → Option (List Atom)
-date_for own references = if looks_for_date own then last_date references else None
 
 -- an entry with what it takes over from those that it refers to, which have done so themselves
 abbrev pub inherited : Source → List Source → Source

@@ -3,7 +3,7 @@
 ghost use Rattle.std.specs.Prelude.{◌≡◌, ℕ, List, IfOk, codes, option_map, string_bytes};
 ghost use Rattle.std.specs.Option.{option_copied};
 ghost use Rattle.bib_chunks.specs.Styled.{styled};
-ghost use Rattle.bib_inheritance.specs.Dating.{date_anew, date_text, dating, last_date, looks_for_date, of_one_field, of_three_fields, three_fields_anew, written};
+ghost use Rattle.bib_inheritance.specs.Dating.{date_anew, date_for, date_text, dating, last_date, looks_for_date, of_one_field, of_three_fields, three_fields_anew, written};
 ghost use Rattle.bib_inheritance.specs.References.{plain};
 ghost use Rattle.bib_inheritance.specs.Sources.{fields_of, source_of, sources};
 
@@ -77,9 +77,9 @@ fn from_three_fields(
     three_fields_anew(alloc, year.as_str(), month.as_deref(), day.as_deref())
 }
 
-/// The date of an entry with these fields, if it has one: of a readable one the text without its time, and of an
-/// unreadable field `date` that field.
-pub fn date(alloc: Global, fields: &TextMap<Chunks>) -> Result<Option<Chunks>, AllocError>
+// The date of an entry with these fields, if it has one: of a readable one the text without its time, and of an
+// unreadable field `date` that field.
+fn date(alloc: Global, fields: &TextMap<Chunks>) -> Result<Option<Chunks>, AllocError>
     ensures { IfOk result (λ date. option_map styled date ≡ date_text (dating (fields_of fields.now))) }
 {
     if let Some(date) = fields.get("date") {
@@ -91,8 +91,8 @@ pub fn date(alloc: Global, fields: &TextMap<Chunks>) -> Result<Option<Chunks>, A
     from_three_fields(alloc, year, fields)
 }
 
-/// The date of the last reference that has one.
-pub fn last_date(
+// The date of the last reference that has one.
+fn last_date(
     alloc: Global,
     references: &[Reference<'_>],
 ) -> Result<Option<Chunks>, AllocError>
@@ -114,4 +114,20 @@ pub fn looks_for_date(kind: &EntryType, own: &TextMap<Chunks>) -> bool
     ensures { result ≡ looks_for_date (source_of kind.now own.now) }
 {
     kind.row().needs_date && own.get("date").is_none() && own.get("year").is_none()
+}
+
+/// The date that an entry of a type takes over from its references: the last one, if the entry looks for a date.
+pub fn inherited_date(
+    alloc: Global,
+    kind: &EntryType,
+    own: &TextMap<Chunks>,
+    references: &[Reference<'_>],
+) -> Result<Option<Chunks>, AllocError>
+    ensures { IfOk result (λ date. option_map styled date ≡
+        date_for (source_of kind.now own.now) (sources references.now)) }
+{
+    if !looks_for_date(kind, own) {
+        return Ok(None);
+    }
+    last_date(alloc, references)
 }

@@ -153,8 +153,9 @@ fn copies(
     Ok(copies)
 }
 
-// Copies of the fields that an entry of a type lacks and that its references give.
-pub(crate) fn gathered(
+/// Copies of the fields that an entry of a type lacks and that its references give: of each name what the first gives
+/// that gives one.
+pub fn gathered(
     alloc: Global,
     kind: &EntryType,
     own: &TextMap<Chunks>,

@@ -2,7 +2,7 @@
 #![tactic(auto)]
 
 pub mod dating;
-mod gathering;
+pub mod gathering;
 pub mod inheriting;
 pub mod offers;
 pub mod references;
