@@ -10,7 +10,7 @@ use Rattle.bib_chunks.specs.Styled.{Atom, styled}
 use Rattle.bib_maps.specs.Sorted.{ByText, by_bytes}
 use Rattle.bib_tables.specs.Requirements.{is_one_of}
 use Rattle.bib_tables.specs.declared.mechanics.EntryType.{EntryType}
-use Rattle.bib_inheritance.specs.Dating.{date_for, last_date, date_text, dating}
+use Rattle.bib_inheritance.specs.Dating.{date_for, last_date, dated_text, dating}
 use Rattle.bib_inheritance.specs.Inherited.{date_parts, field_by, inherited, plain_field, taken}
 use Rattle.bib_inheritance.specs.Sources.{Fields, Source, fields_of, first_named, first_some, source_at, source_of, sources}
 use Rattle.bib_inheritance.specs.declared.offers.Reference.{Reference}
@@ -66,11 +66,11 @@ field_dated m a b c k v q =
 date_front : (k : ℕ) (refs : List Reference) (date : List Atom) → last_date (sources (drop k refs)) ≡ Some date → last_date (sources refs) ≡ Some date
 date_front zero refs date h = h
 date_front (suc k) [] date h = h
-date_front (suc k) (r ∷ rest) date h = ap (λ o. first_some o (date_text (dating (fields_of r.fields.now)))) (date_front k rest date h)
+date_front (suc k) (r ∷ rest) date h = ap (λ o. first_some o (dated_text (dating (fields_of r.fields.now)))) (date_front k rest date h)
 
 -- what one reference more has as a date, the last first, where those behind it have none
 date_next : (refs : List Reference) (done : ℕ) (r : Reference) → done < length refs → r ≡ get_or refs (length refs - 1 - done) r → last_date (sources (drop (length refs - done) refs)) ≡ None
-    → last_date (sources (drop (length refs - (done + 1)) refs)) ≡ date_text (dating (fields_of r.fields.now))
+    → last_date (sources (drop (length refs - (done + 1)) refs)) ≡ dated_text (dating (fields_of r.fields.now))
 date_next refs done r within at none =
     let k : ℕ = length refs - (done + 1) in
     let here : length refs - 1 - done ≡ k = omega arith in
@@ -78,14 +78,14 @@ date_next refs done r within at none =
     let next = at_drop_more (λ l. last_date (sources l)) refs k r (omega arith) in
     let is : r ≡ get_or refs k r = at ∙ ap (λ n. get_or refs n r) here in
     let none' = ap (λ n. last_date (sources (drop n refs))) (sym behind) ∙ none in
-    next ∙ ap (λ o. first_some o (date_text (dating (fields_of (get_or refs k r).fields.now)))) none'
-    ∙ ap (λ x. date_text (dating (fields_of x.fields.now))) (sym is)
+    next ∙ ap (λ o. first_some o (dated_text (dating (fields_of (get_or refs k r).fields.now)))) none'
+    ∙ ap (λ x. dated_text (dating (fields_of x.fields.now))) (sym is)
 
-pub date_none : (refs : List Reference) (done : ℕ) (r : Reference) → done < length refs → r ≡ get_or refs (length refs - 1 - done) r → date_text (dating (fields_of r.fields.now)) ≡ None → last_date (sources (drop (length refs - done) refs)) ≡ None
+pub date_none : (refs : List Reference) (done : ℕ) (r : Reference) → done < length refs → r ≡ get_or refs (length refs - 1 - done) r → dated_text (dating (fields_of r.fields.now)) ≡ None → last_date (sources (drop (length refs - done) refs)) ≡ None
     → last_date (sources (drop (length refs - (done + 1)) refs)) ≡ None
 date_none refs done r within at has none = date_next refs done r within at none ∙ has
 
-pub date_found : (refs : List Reference) (done : ℕ) (r : Reference) (date : List Atom) → done < length refs → r ≡ get_or refs (length refs - 1 - done) r → date_text (dating (fields_of r.fields.now)) ≡ Some date → last_date (sources (drop (length refs - done) refs)) ≡ None
+pub date_found : (refs : List Reference) (done : ℕ) (r : Reference) (date : List Atom) → done < length refs → r ≡ get_or refs (length refs - 1 - done) r → dated_text (dating (fields_of r.fields.now)) ≡ Some date → last_date (sources (drop (length refs - done) refs)) ≡ None
     → last_date (sources refs) ≡ Some date
 date_found refs done r date within at has none = date_front (length refs - (done + 1)) refs date (date_next refs done r within at none ∙ has)
 
