@@ -12,7 +12,7 @@ use Rattle.bib_tables.specs.Requirements.{is_one_of}
 use Rattle.bib_tables.specs.declared.mechanics.EntryType.{EntryType}
 use Rattle.bib_inheritance.specs.Dating.{date_for, last_date, dated_text, dating}
 use Rattle.bib_inheritance.specs.Inherited.{date_parts, field_by, inherited, plain_field, taken}
-use Rattle.bib_inheritance.specs.Sources.{Fields, Source, fields_of, first_named, first_some, source_at, source_of, sources}
+use Rattle.bib_inheritance.specs.Sources.{Fields, Source, fields_of, first_named, first_some, source_of, sources}
 use Rattle.bib_inheritance.specs.declared.offers.Reference.{Reference}
 use Rattle.bib_inheritance.proofs.LentFacts.{Value, bytes_turned, first_behind}
 

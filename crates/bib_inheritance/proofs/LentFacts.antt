@@ -1,6 +1,6 @@
 -- Fields that are lent.
 use Rattle.std.proofs.Common.{◌≡◌, ℕ, ◌+◌, ◌<◌, ◌-◌, List, [], ◌∷◌, ◌++◌, Bool, true, false, not, cond, ◌&&◌, ◌||◌, length, get_or, take, drop, refl, sym, ap, ◌∙◌, subst, arith, inl, inr, ◌⊎◌, Option, Some, None, option_map, is_some, map, append-nil}
-use Rattle.std.specs.List.{list_any, flat_map}
+use Rattle.std.specs.List.{flat_map}
 use Rattle.std.specs.Str.{bytes_eq}
 use Rattle.std.specs.Option.{option_copied}
 use Rattle.std.specs.BTreeMap as tree
@@ -20,11 +20,11 @@ use Rattle.bib_chunks.specs.declared.chunk.Chunk.{Chunk}
 use Rattle.bib_chunks.specs.Styled.{Atom, styled}
 use Rattle.bib_text.specs.declared.spanned.Spanned.{Spanned}
 use Rattle.bib_maps.specs.Sorted.{ByText, by_bytes}
-use Rattle.bib_tables.specs.Requirements.{Names, texts, rules_of, author_names, page_names, inheritable, inherits, is_container, is_one_of, never_inherited}
+use Rattle.bib_tables.specs.Requirements.{Names, texts, rules_of, author_names, page_names, inheritable, is_container, is_one_of, never_inherited}
 use Rattle.bib_tables.specs.declared.mechanics.EntryType.{EntryType}
-use Rattle.bib_inheritance.specs.Inherited.{offer, given, taken, wants}
+use Rattle.bib_inheritance.specs.Inherited.{offer, given, taken}
 use Rattle.bib_inheritance.specs.Lent.{lent, lent_in, offered_among}
-use Rattle.bib_inheritance.specs.Sources.{Fields, Source, fields_of, first_named, first_some, has, source_at, sources}
+use Rattle.bib_inheritance.specs.Sources.{Source, fields_of, first_named, first_some, has, source_at, sources}
 use Rattle.bib_inheritance.specs.declared.offers.Reference.{Reference}
 
 abbrev pub Value : Type 0

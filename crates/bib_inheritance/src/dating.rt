@@ -62,11 +62,7 @@ fn lent(chunks: &Option<Chunks>) -> Option<ChunksRef<'_>>
 }
 
 // What the year, the month and the day of an entry are read as.
-fn three_fields(
-    alloc: Global,
-    year: &Chunks,
-    fields: &TextMap<Chunks>,
-) -> Result<Date, TypeError>
+fn three_fields(alloc: Global, year: &Chunks, fields: &TextMap<Chunks>) -> Result<Date, TypeError>
     ensures { IsAnswer (three_fields (fields_of fields.now) (plain (styled year.now))) result }
 {
     let year = as_text(alloc, year)?;
@@ -119,10 +115,7 @@ fn date(alloc: Global, fields: &TextMap<Chunks>) -> Result<Option<Chunks>, Alloc
 }
 
 /// Why the date of an entry with these fields can't be read, if it has one that can't. A field `date` always can.
-pub fn date_fault(
-    alloc: Global,
-    fields: &TextMap<Chunks>,
-) -> Result<Option<TypeError>, AllocError>
+pub fn date_fault(alloc: Global, fields: &TextMap<Chunks>) -> Result<Option<TypeError>, AllocError>
     ensures unreadable { IfOk result (λ fault. is_some fault ≡
         is_unreadable (dating (fields_of fields.now))) }
     ensures kind { IfOk result (λ fault. IfSome fault
@@ -146,10 +139,7 @@ pub fn date_fault(
 }
 
 // The date of the last reference that has one.
-fn last_date(
-    alloc: Global,
-    references: &[Reference<'_>],
-) -> Result<Option<Chunks>, AllocError>
+fn last_date(alloc: Global, references: &[Reference<'_>]) -> Result<Option<Chunks>, AllocError>
     ensures { IfOk result (λ date. option_map styled date ≡ last_date (sources references.now)) }
 {
     let count = references.len();

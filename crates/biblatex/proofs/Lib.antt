@@ -1,6 +1,11 @@
+pub mod FaultFacts
 pub mod InsideFacts
 pub mod LibraryFacts
 pub mod LoadedFacts
 pub mod LoadingFacts
 pub mod PlaceLaws
 pub mod RawFacts
+pub mod RefusalFacts
+pub mod ResolvedFacts
+pub mod TurnFacts
+pub mod UnreadFacts

@@ -1,6 +1,6 @@
 -- Meaning: words of public contracts.
 -- What a file says as a bibliography, with what its entries inherit.
-use Rattle.std.specs.Prelude.{◌≡◌, ℕ, ◌<◌, ◌⊎◌, Bool, true, false, ◌&&◌, List, [], map, slice_get, slice_index_or, find, Option, Some, None}
+use Rattle.std.specs.Prelude.{◌≡◌, ℕ, ◌<◌, ◌⊎◌, Bool, true, false, ◌&&◌, List, [], map, slice_get, slice_index_or, find, Some, None}
 use Rattle.std.specs.List.{list_any}
 use Rattle.std.specs.FinMap as by_name
 use Rattle.bib_chunks.specs.declared.chunk.Chunk.{Chunk}

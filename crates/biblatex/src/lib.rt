@@ -5,7 +5,11 @@ pub mod bibliography;
 pub mod laws;
 mod loading;
 mod reading;
+mod references;
+mod resolving;
 pub mod sink;
+mod turning;
+mod unread;
 
 pub use bib_chunks::chunk::{Chunk, Chunks, ChunksRef, Span, Spanned, is_settled};
 pub use bib_contents::resolve::{FieldReader, is_escapable, is_verbatim_field, parse_field};

@@ -31,8 +31,9 @@ pub(crate) fn looks(alloc: Global, entries: &[Entry]) -> Result<Vec<bool>, Alloc
     ensures { IfOk result (λ looks. looks.items ≡
         map (λ e. looks_for_date (source_of_entry e)) entries.now) }
 {
-    entries
-        .iter()
-        .map(|entry| looks_for_date(&entry.entry_type, &entry.fields))
-        .collect(alloc)
+    let mut looks = Vec::with_capacity(alloc, entries.len())?;
+    'entries: for entry in entries {
+        looks.push(looks_for_date(&entry.entry_type, &entry.fields))?;
+    }
+    Ok(looks)
 }

@@ -12,7 +12,7 @@ ghost use Rattle.bib_inheritance.specs.Inherited.{field_by, inherited, taken};
 ghost use Rattle.bib_inheritance.specs.Sources.{Source, first_named, fields_of, sources};
 ghost use Rattle.bib_tables.specs.declared.mechanics.EntryType.{EntryType};
 ghost use Rattle.biblatex.specs.Resolved.{Inherits, KeepsChunks, at_place, source_of_entry, sources_of};
-ghost use Rattle.biblatex.specs.Turning.{IsTurned};
+ghost use Rattle.biblatex.specs.Turning.{AllKeepChunks, IsTurned};
 
 use bib_chunks::chunk::Chunks;
 use bib_entry::entry::Entry;
@@ -25,13 +25,6 @@ use bib_text::text::Text;
 use std::alloc::{AllocError, Global};
 use std::collections::BTreeSet;
 use std::mem;
-
-// What an entry takes over: fields that it lacks, and perhaps a date.
-#[derive(Drop)]
-struct Gain {
-    fields: Vec<(Text, Chunks)>,
-    date: Option<Chunks>,
-}
 
 // The places without those that stand before: an entry that is referred to twice gives what it gives once.
 fn distinct(alloc: Global, places: &[usize]) -> Result<Vec<usize>, AllocError>
@@ -126,4 +119,54 @@ fn set_gain(
     let fields = inherit(alloc, own, given, date)?;
     entry.fields = fields;
     Ok(())
+}
+
+// The entry at a place has its turn, which is written down. This is the one use of the rule of inheritance.
+fn take_turn(
+    alloc: Global,
+    places: &[usize],
+    entries: &mut [Entry],
+    turns: &mut Vec<usize>,
+    place: usize,
+) -> Result<(), AllocError>
+    requires references { All (λ r. r < length entries.old) places.now }
+    requires place { place < length entries.old }
+    ensures length { length entries.new ≡ length entries.old }
+    ensures turns { OnOk result (turns.new.items ≡ turns.old.items ++ place ∷ []) }
+    ensures turned { OnOk result ((entry : AnEntry) × (entries.new ≡ slice_set entries.old place entry) ×
+        IsTurned (slice_index_or entries.old place entry)
+        (map (at_place (sources_of entries.old)) places.now) entry) }
+{
+    turns.push(place)?;
+    let entry = &entries[place];
+    if places.is_empty() && entry.fields.get("xdata").is_none() {
+        return Ok(());
+    }
+    let given = fields_at(alloc, places, entries, place)?;
+    let date = date_at(alloc, places, entries, place)?;
+    set_gain(alloc, &mut entries[place], given, date)?;
+    Ok(())
+}
+
+// Gives each entry what it inherits, in this order, and answers the turns in which it did.
+pub(crate) fn take_turns(
+    alloc: Global,
+    order: &[usize],
+    refs: &[Vec<usize>],
+    entries: &mut [Entry],
+) -> Result<Vec<usize>, AllocError>
+    requires order { AreTurns (rows refs.now) order.now }
+    requires in_range { IsInRange (rows refs.now) }
+    requires as_long { length entries.old ≡ length refs.now }
+    ensures turns { IfOk result (λ turns. turns.items ≡ order.now) }
+    ensures length { length entries.new ≡ length entries.old }
+    ensures keys { OnOk result (map (λ e. e.key) entries.new ≡ map (λ e. e.key) entries.old) }
+    ensures inherits { OnOk result (Inherits (sources_of entries.old) (rows refs.now) (sources_of entries.new)) }
+    ensures chunks { OnOk result (AllKeepChunks entries.old entries.new) }
+{
+    let mut turns = Vec::with_capacity(alloc, order.len())?;
+    'order: for place in order {
+        take_turn(alloc, &refs[*place], entries, &mut turns, *place)?;
+    }
+    Ok(turns)
 }

@@ -1,6 +1,5 @@
-use Rattle.std.proofs.Common.{◌≡◌, ◌∙◌, ap, sym, Option, Some, None, option_map, is_some, true, false}
-use Rattle.bib_chunks.specs.Styled.{Atom, styled}
-use Rattle.bib_inheritance.proofs.LentFacts.{Value}
+use Rattle.std.proofs.Common.{◌∙◌, ap, sym, option_map}
+use Rattle.bib_chunks.specs.Styled.{styled}
 use Rattle.bib_inheritance.proofs.FieldFacts.{date_found, date_none, is_there, is_absent}
 use Rattle.bib_inheritance.proofs.dating.last_date.Goals as goal
 

@@ -1,6 +1,6 @@
 use Rattle.std.proofs.Common.{◌≡◌, ◌++◌, ◌∷◌, [], ◌∙◌, ap, sym, subst, is_some, rules}
 use Rattle.std.proofs.lemmas.List.Elements.{same_from_all_zip}
-use Rattle.bib_inheritance.proofs.LentFacts.{AreCopied, copied_all, copied_more, copied_none, copied_skip, copied_some}
+use Rattle.bib_inheritance.proofs.LentFacts.{AreCopied, copied_more, copied_skip, copied_some}
 use Rattle.bib_inheritance.proofs.gathering.copies.Goals as goal
 
 pub loans-preserved-then-is_some : goal.loans-preserved-then-is_some

@@ -1,4 +1,4 @@
-use Rattle.std.proofs.Common.{◌∙◌, ap, sym}
+use Rattle.std.proofs.Common.{◌∙◌, ap}
 use Rattle.bib_tables.specs.Requirements.{texts, author_names, page_names}
 use Rattle.bib_tables.specs.Row.{optional_of_row}
 use Rattle.bib_inheritance.specs.Lent.{lent, offered_among}
