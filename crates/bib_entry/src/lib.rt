@@ -3,4 +3,5 @@
 
 pub mod entry;
 mod fields;
+mod parents;
 pub mod retrieval;
