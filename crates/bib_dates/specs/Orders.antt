@@ -1,7 +1,7 @@
 -- Meaning: words of public contracts.
 -- Times, and the orders of times and of dates, as the Rust crate `biblatex` has them; but two times that stand for one
 -- moment and aren't equal aren't compared.
-use Rattle.std.specs.Prelude.{ℕ, ◌+◌, ◌*◌, ℤ, pos, ◌-ℤ◌, unsigned_abs, Bool, true, false, not, ◌&&◌, ◌||◌, nat_lt, if◌then◌else◌, Option, Some, None, is_some, nat_eq}
+use Rattle.std.specs.Prelude.{ℕ, ◌+◌, ◌*◌, ℤ, pos, ◌-ℤ◌, unsigned_abs, Bool, true, false, not, ◌&&◌, nat_lt, if◌then◌else◌, Option, Some, None, is_some, nat_eq}
 use Rattle.std.specs.Int.{is_negative}
 use Rattle.std.specs.Option.{option_eq}
 use Rattle.std.specs.Ordering.{nat_cmp, int_cmp, partial_ordering_then}
@@ -13,11 +13,14 @@ use Rattle.bib_dates.specs.declared.date.Time.{Time}
 use Rattle.bib_dates.specs.declared.date.TimeOffset.{TimeOffset}
 use Rattle.bib_dates.specs.declared.date.TimeOffset.TheVariants.{Utc, Offset}
 
--- the time of these parts: 23, 59 and 59 at most
+-- whether a day has such a time
+abbrev pub is_clock : ℕ → ℕ → ℕ → Bool
+is_clock hour minute second = not (nat_lt 23 hour) && (not (nat_lt 59 minute) && not (nat_lt 59 second))
+
+-- the time of these parts, if there is one
 abbrev pub clock : ℕ → ℕ → ℕ → Option TimeOffset → Option Time
 clock hour minute second offset =
-    if nat_lt 23 hour || nat_lt 59 minute || nat_lt 59 second then None
-    else Some (record { hour = hour; minute = minute; second = second; offset = offset })
+    if is_clock hour minute second then Some (record { hour = hour; minute = minute; second = second; offset = offset }) else None
 
 -- seconds of an offset ahead of UTC
 abbrev pub offset_seconds : TimeOffset → ℤ

@@ -2,15 +2,16 @@
 -- Dates in three fields: a year with an era, a month by number or name, and a day in a field of its own or behind the
 -- month. After the manual of BibLaTeX and BibTeX's fields `year`, `month` and `day`, as the Rust crate `biblatex` reads them.
 -- The eras and the names of months are ASCII; the texts are not put into capitals.
-use Rattle.std.specs.Prelude.{ℕ, zero, suc, ◌-◌, Bool, true, false, ◌&&◌, ◌||◌, ◌==◌, not, if◌then◌else◌, ℤ, pos, ◌-ℤ◌, List, [], ◌∷◌, length, drop, codes, Option, Some, None}
+use Rattle.std.specs.Prelude.{ℕ, ◌-◌, Bool, true, false, ◌&&◌, ◌||◌, ◌==◌, not, if◌then◌else◌, ℤ, pos, ◌-ℤ◌, List, [], ◌∷◌, length, drop, codes, encode_utf8_all, Option, Some, None}
 use Rattle.std.specs.List.{prefix_len}
-use Rattle.std.specs.Char.{is_ascii_digit, is_ascii_alphabetic}
+use Rattle.std.specs.Char.{is_ascii_digit, is_ascii_alphabetic, is_whitespace}
 use Rattle.std.specs.Char.Unicode.Alphabetic.{is_alphabetic}
 use Rattle.std.specs.Char.Unicode.Numeric.{is_numeric}
 use Rattle.std.specs.Str.{chars, trim, trim_start, str_eq_ignore_ascii_case}
 use Rattle.std.specs.Str.Parse.{digits_value}
 use Rattle.bib_dates.specs.declared.date.Date.{Date}
 use Rattle.bib_dates.specs.declared.date.DateValue.TheVariants.{At}
+use Rattle.bib_values.specs.Ranges.{behind}
 use Rattle.bib_faults.specs.declared.type_error.TypeErrorKind.TheVariants.{DayOutOfRange, MonthOutOfRange, InvalidFormat, YearZeroCE}
 use Rattle.bib_dates.specs.Readings.{Reading, ◌>>=◌, Part}
 use Rattle.bib_dates.specs.Readings.Reading.{says, fault, unread}
@@ -101,14 +102,13 @@ month_field text =
     if lies 1 2 (prefix_len is_ascii_digit here) then (if lies 1 12 n then says (Some (n - 1), behind) else fault MonthOutOfRange)
     else named_month behind
 
--- what stands behind at most so many hyphens, with white space round each
-unfoldable pub behind_gaps : ℕ → List ℕ → List ℕ
-behind_gaps zero text = text
-behind_gaps (suc more) text = if begins 45 (trim_start text) then behind_gaps more (drop 1 (trim_start text)) else trim_start text
+-- white space, no-break spaces too, and hyphens
+abbrev pub is_gap : ℕ → Bool
+is_gap c = is_whitespace c || c == 45
 
--- what stands behind a run of white space and hyphens: each hyphen is a byte
+-- what stands behind the longest run of these
 abbrev pub behind_gap : List ℕ → List ℕ
-behind_gap text = behind_gaps (length text) text
+behind_gap text = encode_utf8_all (behind is_gap (chars text))
 
 -- a day from 1 to 31, counted from 0
 abbrev pub day_number : List ℕ → Option ℕ

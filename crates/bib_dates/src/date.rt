@@ -2,7 +2,7 @@
 
 ghost use Rattle.std.specs.Prelude.{◌≡◌, Some, None, pos, neg_ℤ, ◌≤ℤ◌};
 ghost use Rattle.std.specs.Ordering.{partial_ordering_then};
-ghost use Rattle.bib_dates.specs.Orders.{clock, same_offset, offset_seconds, hours_ahead, shift, utc_seconds, part_cmp, number_cmp, time_cmp, datetime_cmp};
+ghost use Rattle.bib_dates.specs.Orders.{is_clock, clock, same_offset, offset_seconds, hours_ahead, shift, utc_seconds, part_cmp, number_cmp, time_cmp, datetime_cmp};
 ghost use Rattle.bib_dates.specs.declared.date.TimeOffset.TheVariants.{Offset};
 ghost use Rattle.bib_dates.specs.OrderLaws.{same_offset_laws, same_offset_partial, time_laws, datetime_laws};
 
@@ -108,7 +108,7 @@ impl TimeOffset {
     pub fn offset(positive: bool, hours: u8, minutes: u8) -> TimeOffset
         ensures { result ≡ Offset positive hours minutes }
     {
-        TimeOffset::Offset {
+        Self::Offset {
             positive,
             hours,
             minutes,
@@ -158,12 +158,19 @@ fn shift_of(offset: Option<TimeOffset>) -> isize
     offset.seconds()
 }
 
+// Whether a day has such a time.
+fn is_clock(hour: u8, minute: u8, second: u8) -> bool
+    ensures { result ≡ is_clock hour minute second }
+{
+    hour <= 23 && minute <= 59 && second <= 59
+}
+
 impl Time {
-    /// A time without an offset, where there is such a time.
+    /// A time without an offset: hours up to 23, minutes and seconds up to 59.
     pub fn from_hms(hour: u8, minute: u8, second: u8) -> Option<Time>
         ensures { result ≡ clock hour minute second None }
     {
-        if hour > 23 || minute > 59 || second > 59 {
+        if !is_clock(hour, minute, second) {
             return None;
         }
         Some(Time {
@@ -174,11 +181,11 @@ impl Time {
         })
     }
 
-    /// A time with an offset, where there is such a time.
+    /// A time with an offset: hours up to 23, minutes and seconds up to 59.
     pub fn from_hms_offset(hour: u8, minute: u8, second: u8, offset: TimeOffset) -> Option<Time>
         ensures { result ≡ clock hour minute second (Some offset) }
     {
-        if hour > 23 || minute > 59 || second > 59 {
+        if !is_clock(hour, minute, second) {
             return None;
         }
         Some(Time {
@@ -232,6 +239,7 @@ fn then(first: Option<Ordering>, next: Option<Ordering>) -> Option<Ordering>
     }
 }
 
+// How a month or a day compares: not at all where one side alone has it.
 fn number_part(ours: Option<u8>, theirs: Option<u8>) -> Option<Ordering>
     ensures { result ≡ part_cmp number_cmp ours theirs }
 {
@@ -242,6 +250,7 @@ fn number_part(ours: Option<u8>, theirs: Option<u8>) -> Option<Ordering>
     }
 }
 
+// How a time compares: not at all where one side alone has it.
 fn time_part(ours: Option<Time>, theirs: Option<Time>) -> Option<Ordering>
     ensures { result ≡ part_cmp time_cmp ours theirs }
 {

@@ -1,9 +1,8 @@
 // The reader of a date in three fields: each function reads a part from the front of a text, and gives it with the rest.
 
-ghost use Rattle.std.specs.Prelude.{◌≡◌, ◌<◌, ◌≤◌, ◌&&◌, ◌-ℤ◌, pos, is_some, IfSome, length, drop, option_copied};
+ghost use Rattle.std.specs.Prelude.{◌≡◌, ◌<◌, ◌&&◌, is_some, IfSome, drop, codes};
 ghost use Rattle.std.specs.List.{prefix_len};
-ghost use Rattle.std.specs.Char.{is_ascii_digit, is_ascii_alphabetic};
-ghost use Rattle.std.specs.Str.{chars};
+ghost use Rattle.std.specs.Char.{is_ascii_alphabetic};
 ghost use Rattle.std.specs.Str.Parse.{AllDigits};
 ghost use Rattle.bib_dates.specs.Code.{reading, part};
 ghost use Rattle.bib_dates.specs.Parts;
@@ -12,13 +11,16 @@ ghost use Rattle.bib_dates.specs.ThreeFields as Spec;
 
 use crate::faults::{Fault, Why};
 use crate::parts::{after, digits, sign, signed, value};
+use bib_text::scanner::Scanner;
 
+// Whether white space stands at the front.
 fn starts_blank(text: &str) -> bool
     ensures { result ≡ Spec.starts_blank text.now }
 {
     text.trim_start().len() != text.len()
 }
 
+// Whether a letter or a number stands at the front.
 fn starts_word(text: &str) -> bool
     ensures { result ≡ Spec.starts_word text.now }
 {
@@ -43,13 +45,14 @@ fn after_two(text: &str, first: u8, second: u8) -> Option<&str>
 
 // What stands behind `BCE`.
 fn after_bce(text: &str) -> Option<&str>
-    ensures stands { is_some result ≡ (Parts.begins 66 text.now && (Parts.begins 67 (drop 1 text.now) && Parts.begins 69 (drop 1 (drop 1 text.now)))) }
-    ensures behind { IfSome result (λ r. r.now ≡ drop 1 (drop 1 (drop 1 text.now))) }
+    ensures stands { is_some result ≡ Spec.stands (codes "BCE") text.now }
+    ensures behind { IfSome result (λ r. r.now ≡ Spec.behind_word (codes "BCE") text.now) }
 {
     let behind = after(text, b'B')?;
     after_two(behind, b'C', b'E')
 }
 
+// The year of an era, behind whose name this text stands.
 #[tactic(auto, unfolding(crate::specs::ThreeFields::of_era))]
 fn of_era(has_sign: bool, n: u16, year: i32, behind: &str) -> Result<i32, Fault>
     ensures { reading result ≡ Spec.of_era has_sign n year behind.now }
@@ -66,6 +69,7 @@ fn of_era(has_sign: bool, n: u16, year: i32, behind: &str) -> Result<i32, Fault>
     Ok(year)
 }
 
+// The year of this number and sign, and of the era that may stand behind it.
 #[tactic(auto, unfolding(crate::specs::ThreeFields::with_era))]
 fn with_era(has_sign: bool, is_minus: bool, n: u16, text: &str) -> Result<i32, Fault>
     requires { n < 10000 }
@@ -86,6 +90,7 @@ fn with_era(has_sign: bool, is_minus: bool, n: u16, text: &str) -> Result<i32, F
     Ok(signed(is_minus, n))
 }
 
+// The year of a field.
 #[tactic(auto, unfolding(crate::specs::ThreeFields::year_field))]
 pub(crate) fn year_field(text: &str) -> Result<i32, Fault>
     ensures { reading result ≡ Spec.year_field text.now }
@@ -103,6 +108,7 @@ pub(crate) fn year_field(text: &str) -> Result<i32, Fault>
     with_era(has_sign, is_minus, value(digits), behind.trim_start())
 }
 
+// Whether a word is this name or its first letters, in any case.
 fn names(word: &str, name: &str, short: &str) -> bool
     ensures { result ≡ Spec.names word.now name.now short.now }
 {
@@ -115,42 +121,32 @@ fn month_named(word: &str) -> Option<u8>
     ensures { result ≡ Spec.month_named word.now }
 {
     if names(word, "january", "jan") {
-        return Some(0);
+        Some(0)
+    } else if names(word, "february", "feb") {
+        Some(1)
+    } else if names(word, "march", "mar") {
+        Some(2)
+    } else if names(word, "april", "apr") {
+        Some(3)
+    } else if names(word, "may", "may") {
+        Some(4)
+    } else if names(word, "june", "jun") {
+        Some(5)
+    } else if names(word, "july", "jul") {
+        Some(6)
+    } else if names(word, "august", "aug") {
+        Some(7)
+    } else if names(word, "september", "sep") {
+        Some(8)
+    } else if names(word, "october", "oct") {
+        Some(9)
+    } else if names(word, "november", "nov") {
+        Some(10)
+    } else if names(word, "december", "dec") {
+        Some(11)
+    } else {
+        None
     }
-    if names(word, "february", "feb") {
-        return Some(1);
-    }
-    if names(word, "march", "mar") {
-        return Some(2);
-    }
-    if names(word, "april", "apr") {
-        return Some(3);
-    }
-    if names(word, "may", "may") {
-        return Some(4);
-    }
-    if names(word, "june", "jun") {
-        return Some(5);
-    }
-    if names(word, "july", "jul") {
-        return Some(6);
-    }
-    if names(word, "august", "aug") {
-        return Some(7);
-    }
-    if names(word, "september", "sep") {
-        return Some(8);
-    }
-    if names(word, "october", "oct") {
-        return Some(9);
-    }
-    if names(word, "november", "nov") {
-        return Some(10);
-    }
-    if names(word, "december", "dec") {
-        return Some(11);
-    }
-    None
 }
 
 // How many letters stand at the front.
@@ -171,6 +167,7 @@ fn letters(text: &str) -> (&str, &str)
     text.split_at(letters_len(text))
 }
 
+// The month that the letters at the front name, and what stands behind them.
 fn named_month(text: &str) -> (Option<u8>, &str)
     ensures { says (result.0, result.1.now) ≡ Spec.named_month text.now }
 {
@@ -178,6 +175,7 @@ fn named_month(text: &str) -> (Option<u8>, &str)
     (month_named(word), behind)
 }
 
+// The month of a field, and what stands behind it.
 #[tactic(auto, unfolding(crate::specs::ThreeFields::month_field))]
 pub(crate) fn month_field(text: &str) -> Result<(Option<u8>, &str), Fault>
     ensures { part result ≡ Spec.month_field text.now }
@@ -197,15 +195,10 @@ pub(crate) fn month_field(text: &str) -> Result<(Option<u8>, &str), Fault>
 fn behind_gap(text: &str) -> &str
     ensures { result.now ≡ Spec.behind_gap text.now }
 {
-    let mut rest = text;
-    'gaps: for _step in 0..text.len() {
-        let next = rest.trim_start();
-        let Some(behind) = after(next, b'-') else {
-            return next;
-        };
-        rest = behind;
-    }
-    rest
+    let mut scanner = Scanner::new(text);
+    scanner.eat_while(|c| c.is_whitespace() || c == '-');
+    let at = scanner.cursor();
+    &text[at..]
 }
 
 // A day from 1 to 31, counted from 0.
@@ -222,6 +215,7 @@ fn day_number(digits: &str) -> Option<u8>
     Some(day - 1)
 }
 
+// The day behind a month.
 #[tactic(auto, unfolding(crate::specs::ThreeFields::day_behind))]
 pub(crate) fn day_behind(text: &str) -> Result<Option<u8>, Fault>
     ensures { reading result ≡ Spec.day_behind text.now }
@@ -248,6 +242,7 @@ fn no_day(digits: &str, why: Why) -> Why {
     }
 }
 
+// A day in digits alone; other texts are refused for this reason.
 #[tactic(auto, unfolding(crate::specs::ThreeFields::only_day))]
 fn only_day(text: &str, why: Why) -> Result<Option<u8>, Fault>
     ensures { reading result ≡ Spec.only_day text.now }
@@ -262,6 +257,7 @@ fn only_day(text: &str, why: Why) -> Result<Option<u8>, Fault>
     Ok(Some(day))
 }
 
+// The day of a field of its own; what is no number is refused for this reason.
 #[tactic(auto, unfolding(crate::specs::ThreeFields::day_field))]
 pub(crate) fn day_field(text: &str, why: Why) -> Result<Option<u8>, Fault>
     ensures { reading result ≡ Spec.day_field text.now }

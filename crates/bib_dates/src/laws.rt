@@ -1,6 +1,6 @@
 //! Laws of dates and times. These functions do nothing: what they ensure is proved of the definitions alone.
 
-ghost use Rattle.std.specs.Prelude.{◌≡◌, ◌↔◌, ◌≢◌, ◌<ℤ◌, List, ℕ, Some, None, Option, is_some};
+ghost use Rattle.std.specs.Prelude.{◌≡◌, ◌↔◌, ◌≢◌, ◌<ℤ◌, Some, None, is_some};
 ghost use Rattle.std.specs.declared.cmp.Ordering.TheVariants.{Less, Equal};
 ghost use Rattle.bib_dates.specs.Readings.Reading.{says};
 ghost use Rattle.bib_dates.specs.Dates.{date_of};

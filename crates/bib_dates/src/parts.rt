@@ -5,7 +5,7 @@ ghost use Rattle.std.specs.List.{prefix_len};
 ghost use Rattle.std.specs.Char.{is_ascii_digit};
 ghost use Rattle.std.specs.Str.Parse.{digits_value, AllDigits};
 ghost use Rattle.jiff_core.specs.Calendar.{IsYear};
-ghost use Rattle.bib_dates.specs.Code.{reading, part, rest, kind_of};
+ghost use Rattle.bib_dates.specs.Code.{part, rest, kind_of};
 ghost use Rattle.bib_dates.specs.Parts as Spec;
 
 use crate::faults::{Fault, Why};
@@ -89,6 +89,7 @@ pub(crate) fn number(low: usize, high: usize, why: Why, text: &str) -> Result<(u
     Ok((value(digits), behind))
 }
 
+// A number of one or two digits, in these bounds; another is refused for this reason.
 #[tactic(auto, unfolding(crate::specs::Parts::small_number))]
 pub(crate) fn small_number(low: u8, high: u8, why: Why, text: &str) -> Result<(u8, &str), Fault>
     ensures value { part result ≡ Spec.small_number low high (kind_of why) text.now }
@@ -101,28 +102,31 @@ pub(crate) fn small_number(low: u8, high: u8, why: Why, text: &str) -> Result<(u
     Ok((n as u8, behind))
 }
 
-pub(crate) fn behind_byte(text: &str, byte: u8) -> Result<&str, Fault>
+// What stands behind this byte at the front.
+pub(crate) fn behind_byte(text: &str, byte: u8, why: Why) -> Result<&str, Fault>
     requires some { 0 < byte }
     requires ascii { byte < 128 }
     ensures { rest result ≡ Spec.behind_byte byte text.now }
 {
     match after(text, byte) {
         Some(behind) => Ok(behind),
-        None => Err(Fault::Untold(Why::InvalidFormat)),
+        None => Err(Fault::Untold(why)),
     }
 }
 
+// What stands behind a colon, with white space before it.
 pub(crate) fn behind_colon(text: &str) -> Result<&str, Fault>
     ensures { rest result ≡ Spec.behind_colon text.now }
 {
-    behind_byte(text.trim_start(), b':')
+    behind_byte(text.trim_start(), b':', Why::InvalidFormat)
 }
 
+// What stands behind a run of hyphens, with white space before it; without hyphens, it is refused for this reason.
 #[tactic(auto, unfolding(crate::specs::Parts::behind_hyphens))]
-pub(crate) fn behind_hyphens(text: &str) -> Result<&str, Fault>
+pub(crate) fn behind_hyphens(text: &str, why: Why) -> Result<&str, Fault>
     ensures { rest result ≡ Spec.behind_hyphens text.now }
 {
-    let behind = behind_byte(text.trim_start(), b'-')?;
+    let behind = behind_byte(text.trim_start(), b'-', why)?;
     let (_, behind) = byte_run(behind, b'-');
     Ok(behind)
 }
@@ -152,6 +156,7 @@ fn of_century(year: i32) -> i32
     if year < 50 { year + 2000 } else { year + 1900 }
 }
 
+// A year of two or four digits, with an optional sign.
 #[tactic(auto, unfolding(crate::specs::Parts::year))]
 pub(crate) fn year(text: &str) -> Result<(i32, &str), Fault>
     ensures value { part result ≡ Spec.year text.now }

@@ -2,7 +2,6 @@
 
 ghost use Rattle.std.specs.Prelude.{◌≡◌, ◌+◌, ◌^◌, ◌<◌, ◌≤◌, None, pos, ◌↔◌, ◌==◌, IsTrue, IfOk, IfSome, is_some};
 ghost use Rattle.std.specs.List.{before_first, after_first};
-ghost use Rattle.std.specs.Str.{trim_end};
 ghost use Rattle.jiff_core.specs.Calendar.{IsDate, IsYear, days_in_month};
 ghost use Rattle.bib_faults.specs.declared.type_error.TypeErrorKind.TheVariants.{DayOutOfRange};
 ghost use Rattle.bib_dates.specs.Code.{reading, part};
@@ -11,7 +10,7 @@ ghost use Rattle.bib_dates.specs.Dates as Spec;
 
 use crate::date::{Date, DateValue, Datetime};
 use crate::faults::{Fault, Why};
-use crate::parts::{behind_hyphens, byte_run, digits, number, small_number, value, year};
+use crate::parts::{after, behind_hyphens, byte_run, digits, number, small_number, value, year};
 use crate::times::behind_day;
 use jiff::civil;
 
@@ -47,6 +46,7 @@ fn day(year: i32, month: u8, text: &str) -> Result<(u8, &str), Fault>
     Ok((day, behind))
 }
 
+// The date of this year and month, which counts from 1, and of the day and the time that may stand behind them.
 #[tactic(auto, unfolding(crate::specs::Dates::behind_month))]
 fn behind_month(year: i32, month: u8, text: &str) -> Result<Datetime, Fault>
     requires year { IsYear year }
@@ -62,7 +62,7 @@ fn behind_month(year: i32, month: u8, text: &str) -> Result<Datetime, Fault>
             time: None,
         });
     }
-    let behind = behind_hyphens(text)?;
+    let behind = behind_hyphens(text, Why::InvalidFormat)?;
     let (day, behind) = day(year, month, behind)?;
     let time = behind_day(behind.trim_start())?;
     Ok(Datetime {
@@ -73,6 +73,7 @@ fn behind_month(year: i32, month: u8, text: &str) -> Result<Datetime, Fault>
     })
 }
 
+// The date of this year, and of the month, the day and the time that may stand behind it.
 #[tactic(auto, unfolding(crate::specs::Dates::behind_year))]
 fn behind_year(year: i32, text: &str) -> Result<Datetime, Fault>
     requires { IsYear year }
@@ -86,11 +87,12 @@ fn behind_year(year: i32, text: &str) -> Result<Datetime, Fault>
             time: None,
         });
     }
-    let behind = behind_hyphens(text)?;
+    let behind = behind_hyphens(text, Why::InvalidFormat)?;
     let (month, behind) = small_number(1, 12, Why::MonthOutOfRange, behind)?;
     behind_month(year, month, behind.trim_start())
 }
 
+// One side of a range, or a date alone.
 #[tactic(auto, unfolding(crate::specs::Dates::side))]
 fn side(text: &str) -> Result<Datetime, Fault>
     ensures { reading result ≡ Spec.side text.now }
@@ -111,6 +113,7 @@ fn datetime(year: u16, month: Option<u8>, day: Option<u8>) -> Datetime
     }
 }
 
+// From the first month of a year to the last.
 fn months(year: u16) -> DateValue
     ensures { result ≡ Spec.months year }
 {
@@ -120,6 +123,7 @@ fn months(year: u16) -> DateValue
     )
 }
 
+// From the first day of a month to the 31st, whether there is one or not.
 fn days(year: u16, month: u8) -> DateValue
     ensures { result ≡ Spec.days year month }
 {
@@ -129,6 +133,7 @@ fn days(year: u16, month: u8) -> DateValue
     )
 }
 
+// From this year to the one that is so many more.
 fn years(year: u16, more: u16) -> DateValue
     requires { year + more < 2 ^ 16 }
     ensures { result ≡ Spec.years year more }
@@ -139,6 +144,7 @@ fn years(year: u16, more: u16) -> DateValue
     )
 }
 
+// The months of a year, behind `XX` for the month.
 #[tactic(auto, unfolding(crate::specs::Dates::all_months))]
 fn all_months(year: u16, text: &str) -> Result<DateValue, Fault>
     ensures { reading result ≡ Spec.all_months year text.now }
@@ -146,7 +152,7 @@ fn all_months(year: u16, text: &str) -> Result<DateValue, Fault>
     if text.trim_start().is_empty() {
         return Ok(months(year));
     }
-    let behind = behind_hyphens(text)?;
+    let behind = behind_hyphens(text, Why::InvalidFormat)?;
     let (count, _) = byte_run(behind.trim_start(), b'X');
     if count != 2 {
         return Err(Fault::Untold(Why::InvalidFormat));
@@ -154,6 +160,7 @@ fn all_months(year: u16, text: &str) -> Result<DateValue, Fault>
     Ok(months(year))
 }
 
+// The days of a month, behind a year and hyphens.
 #[tactic(auto, unfolding(crate::specs::Dates::all_days))]
 fn all_days(year: u16, text: &str) -> Result<DateValue, Fault>
     ensures { reading result ≡ Spec.all_days year text.now }
@@ -162,7 +169,7 @@ fn all_days(year: u16, text: &str) -> Result<DateValue, Fault>
     if month < 1 || 12 < month {
         return Err(Fault::Told(Why::MonthOutOfRange));
     }
-    let behind = behind_hyphens(behind)?;
+    let behind = behind_hyphens(behind, Why::InvalidFormat)?;
     let (count, behind) = byte_run(behind.trim_start(), b'X');
     if count != 2 || !behind.trim_start().is_empty() {
         return Err(Fault::Untold(Why::InvalidFormat));
@@ -170,6 +177,7 @@ fn all_days(year: u16, text: &str) -> Result<DateValue, Fault>
     Ok(days(year, month as u8 - 1))
 }
 
+// The months of a year or the days of a month, behind the year and hyphens.
 #[tactic(auto, unfolding(crate::specs::Dates::unknown_month))]
 fn unknown_month(year: u16, text: &str) -> Result<DateValue, Fault>
     ensures { reading result ≡ Spec.unknown_month year text.now }
@@ -184,6 +192,7 @@ fn unknown_month(year: u16, text: &str) -> Result<DateValue, Fault>
     Err(Fault::Untold(Why::WrongNumberOfDigits))
 }
 
+// The years of a century, behind its two digits.
 #[tactic(auto, unfolding(crate::specs::Dates::century))]
 fn century(n: u16, text: &str) -> Result<DateValue, Fault>
     requires { n < 100 }
@@ -196,6 +205,7 @@ fn century(n: u16, text: &str) -> Result<DateValue, Fault>
     Ok(years(100 * n, 99))
 }
 
+// The years of a decade, behind its three digits.
 #[tactic(auto, unfolding(crate::specs::Dates::decade))]
 fn decade(n: u16, text: &str) -> Result<DateValue, Fault>
     requires { n < 1000 }
@@ -208,6 +218,15 @@ fn decade(n: u16, text: &str) -> Result<DateValue, Fault>
     Ok(years(10 * n, 9))
 }
 
+// Why no hyphens stand behind four digits: an `X` would be a fifth.
+fn no_hyphen(text: &str) -> Why {
+    match after(text, b'X') {
+        Some(_) => Why::WrongNumberOfDigits,
+        None => Why::InvalidFormat,
+    }
+}
+
+// A date with digits that are not known.
 #[tactic(auto, unfolding(crate::specs::Dates::unknown))]
 fn unknown(text: &str) -> Result<DateValue, Fault>
     ensures { reading result ≡ Spec.unknown text.now }
@@ -221,7 +240,7 @@ fn unknown(text: &str) -> Result<DateValue, Fault>
     }
     let n = value(digits);
     if digits.len() == 4 {
-        let behind = behind_hyphens(behind)?;
+        let behind = behind_hyphens(behind, no_hyphen(behind))?;
         return unknown_month(n, behind.trim_start());
     }
     if digits.len() == 2 {
@@ -230,12 +249,14 @@ fn unknown(text: &str) -> Result<DateValue, Fault>
     decade(n, behind)
 }
 
+// Whether a side of a range is open.
 fn is_open(text: &str) -> bool
     ensures { result ≡ Spec.is_open text.now }
 {
     text.trim().is_empty() || text == ".."
 }
 
+// A range of these sides.
 #[tactic(auto, unfolding(crate::specs::Dates::range))]
 fn range(from: &str, to: &str) -> Result<DateValue, Fault>
     ensures { reading result ≡ Spec.range from.now to.now }
@@ -264,6 +285,7 @@ fn sides(text: &str) -> Option<(&str, &str)>
     text.split_once('/')
 }
 
+// A date without the mark at its end.
 #[tactic(auto, unfolding(crate::specs::Dates::date_value))]
 fn date_value(text: &str) -> Result<DateValue, Fault>
     ensures { reading result ≡ Spec.date_value text.now }
@@ -278,24 +300,28 @@ fn date_value(text: &str) -> Result<DateValue, Fault>
     range(from, to)
 }
 
+// Whether this mark says that a date is not sure.
 fn is_uncertain(mark: u8) -> bool
     ensures { result ≡ Spec.is_uncertain mark }
 {
     mark == b'%' || mark == b'?'
 }
 
+// Whether this mark says that a date is not exact.
 fn is_approximate(mark: u8) -> bool
     ensures { result ≡ Spec.is_approximate mark }
 {
     mark == b'%' || mark == b'~'
 }
 
+// The last byte of a text, or 0.
 fn last(text: &str) -> u8
     ensures { result ≡ Spec.last text.now }
 {
     text.as_bytes().last().copied().unwrap_or(0)
 }
 
+// A text without the mark at its end.
 fn without_mark(text: &str) -> &str
     ensures { result.now ≡ Spec.without_mark text.now }
 {
@@ -305,6 +331,7 @@ fn without_mark(text: &str) -> &str
     text
 }
 
+// A date with the mark at its end.
 #[tactic(auto, unfolding(crate::specs::Dates::marked))]
 pub(crate) fn marked(text: &str) -> Result<Date, Fault>
     ensures { reading result ≡ Spec.marked text.now }

@@ -16,7 +16,8 @@ fn no_sign(s: &Scanner<'_>, start: usize) -> TypeError
     }
 }
 
-/// Eats white space and the hyphens behind it, of which there must be one. After a refusal only the white space was eaten.
+/// Eats white space and the hyphens behind it, of which there must be one. A refusal is of the kind `InvalidFormat`, at the
+/// white space; that alone was eaten then.
 pub fn parse_hyphen(s: &mut Scanner<'_>) -> Result<(), TypeError>
     ensures { MatchResult result
         (λ _. IsHyphens s.old s.new)
@@ -31,7 +32,8 @@ pub fn parse_hyphen(s: &mut Scanner<'_>) -> Result<(), TypeError>
     Ok(())
 }
 
-/// Eats white space and the colon behind it, which must be there. After a refusal only the white space was eaten.
+/// Eats white space and the colon behind it, which must be there. A refusal is of the kind `InvalidFormat`, at the white
+/// space; that alone was eaten then.
 pub fn parse_colon(s: &mut Scanner<'_>) -> Result<(), TypeError>
     ensures { MatchResult result
         (λ _. IsColon s.old s.new)

@@ -8,6 +8,7 @@ use crate::date::{Time, TimeOffset};
 use crate::faults::{Fault, Why};
 use crate::parts::{after, behind_byte, behind_colon, small_number};
 
+// The minutes of an offset, behind its hours, if there are any.
 #[tactic(auto, unfolding(crate::specs::Times::offset_minute))]
 fn offset_minute(text: &str) -> Result<u8, Fault>
     ensures { reading result ≡ Spec.offset_minute text.now }
@@ -20,6 +21,7 @@ fn offset_minute(text: &str) -> Result<u8, Fault>
     Ok(minute)
 }
 
+// An offset behind its sign.
 #[tactic(auto, unfolding(crate::specs::Times::signed_offset))]
 fn signed_offset(positive: bool, text: &str) -> Result<Option<TimeOffset>, Fault>
     ensures { reading result ≡ Spec.signed_offset positive text.now }
@@ -33,6 +35,7 @@ fn signed_offset(positive: bool, text: &str) -> Result<Option<TimeOffset>, Fault
     }))
 }
 
+// The offset behind a second, if there is one.
 #[tactic(auto, unfolding(crate::specs::Times::offset))]
 fn offset(text: &str) -> Result<Option<TimeOffset>, Fault>
     ensures { reading result ≡ Spec.offset text.now }
@@ -52,6 +55,7 @@ fn offset(text: &str) -> Result<Option<TimeOffset>, Fault>
     Err(Fault::Untold(Why::InvalidFormat))
 }
 
+// The time of this hour and minute, and of the second and the offset that may stand behind them.
 #[tactic(auto, unfolding(crate::specs::Times::behind_minute))]
 fn behind_minute(hour: u8, minute: u8, text: &str) -> Result<Option<Time>, Fault>
     ensures { reading result ≡ Spec.behind_minute hour minute text.now }
@@ -75,6 +79,7 @@ fn behind_minute(hour: u8, minute: u8, text: &str) -> Result<Option<Time>, Fault
     }))
 }
 
+// The time of this hour, and of what may stand behind it.
 #[tactic(auto, unfolding(crate::specs::Times::behind_hour))]
 fn behind_hour(hour: u8, text: &str) -> Result<Option<Time>, Fault>
     ensures { reading result ≡ Spec.behind_hour hour text.now }
@@ -92,6 +97,7 @@ fn behind_hour(hour: u8, text: &str) -> Result<Option<Time>, Fault>
     behind_minute(hour, minute, behind.trim_start())
 }
 
+// The time behind a day, if there is one.
 #[tactic(auto, unfolding(crate::specs::Times::behind_day))]
 pub(crate) fn behind_day(text: &str) -> Result<Option<Time>, Fault>
     ensures { reading result ≡ Spec.behind_day text.now }
@@ -99,7 +105,7 @@ pub(crate) fn behind_day(text: &str) -> Result<Option<Time>, Fault>
     if text.is_empty() {
         return Ok(None);
     }
-    let behind = behind_byte(text, b'T')?;
+    let behind = behind_byte(text, b'T', Why::InvalidFormat)?;
     let (hour, behind) = small_number(0, 23, Why::InvalidNumber, behind)?;
     behind_hour(hour, behind.trim_start())
 }

@@ -1,10 +1,9 @@
 //! Dates as typed values.
 
-ghost use Rattle.std.specs.Prelude.{◌≡◌, IfOk, option_copied};
+ghost use Rattle.std.specs.Prelude.{option_copied};
 ghost use Rattle.std.specs.Option.{option_map};
 ghost use Rattle.bib_values.specs.Values.{text};
 ghost use Rattle.bib_dates.specs.Code.{reading};
-ghost use Rattle.bib_dates.specs.Dates.{date_of};
 ghost use Rattle.bib_dates.specs.ThreeFields as Fields;
 ghost use Rattle.bib_dates.specs.Kept.{IsKept};
 ghost use Rattle.bib_dates.specs.Chunks.{IsAnswer, date_reading, date_read, DateMayRefuse, date_written, three_fields_reading};

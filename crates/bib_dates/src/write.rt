@@ -36,6 +36,7 @@ fn year<W: fmt::Write>(f: &mut fmt::Formatter<W>, year: i32) -> fmt::Result
     four_wide(f, year.unsigned_abs())
 }
 
+// A number in at least four digits.
 fn four_wide<W: fmt::Write>(f: &mut fmt::Formatter<W>, n: u32) -> fmt::Result
     ensures { WritesOnOk W.write_str_gives f.old result (padded 4 n) f.new }
 {

@@ -1,23 +1,19 @@
-use Rattle.std.proofs.Common.{◌≡◌, ◌∙◌, ◌-◌, ◌+◌, ap, sym, length, drop, arith, rules, true, false}
-use Rattle.std.specs.Str.{trim_start}
-use Rattle.bib_dates.specs.ThreeFields.{behind_gaps}
-use Rattle.bib_dates.specs.Parts.{begins}
-use Rattle.bib_dates.proofs.Gaps.{gaps_none, gaps_stop, gaps_on, gaps_first}
+use Rattle.std.proofs.Common.{◌∙◌, sym, ap, rules}
+use Rattle.std.specs.Str.{chars}
+use Rattle.std.specs.Prelude.{encode_utf8_all}
+use Rattle.std.proofs.lemmas.Str.{encodes-chars}
+use Rattle.bib_text.specs.Places.{Longest}
+use Rattle.bib_values.proofs.ScannedFacts.{eaten_rest, boundary_there}
+use Rattle.bib_dates.specs.ThreeFields.{is_gap}
 use Rattle.bib_dates.proofs.fields.behind_gap.Goals as goal
 
-pub gaps-init : goal.gaps-init
-gaps-init c = (c.utf8.text, gaps_first (length c.args.text.now) c.args.text.now)
-
-pub returns-in_default : goal.returns-in_default
-returns-in_default c =
-    let none : begins 45 (trim_start c.gaps.rest.now) ≡ false = ap (begins 45) (sym c.trim_start-next.ensures.trim) ∙ sym c.in_default.ensures.begins in
-    c.trim_start-next.ensures.trim ∙ sym (gaps_stop (length c.args.text.now) c.gaps._step c.gaps.rest.now (omega arith) none) ∙ c.gaps.invariant.1
-
-pub gaps-preserved : goal.gaps-preserved
-gaps-preserved c =
-    let one : begins 45 (trim_start c.gaps.rest.now) ≡ true = ap (begins 45) (sym c.trim_start-next.ensures.trim) ∙ sym c.in-Some.ensures.begins in
-    let left : c.in-Some.behind.now ≡ drop 1 (trim_start c.gaps.rest.now) = c.in-Some.ensures.behind ∙ ap (drop 1) c.trim_start-next.ensures.trim in
-    (search rules, ap (behind_gaps (length c.args.text.now - (c.gaps._step + 1))) left ∙ sym (gaps_on (length c.args.text.now) c.gaps._step c.gaps.rest.now (omega arith) one) ∙ c.gaps.invariant.1)
+pub range_from-requires : goal.range_from-requires
+range_from-requires c =
+    let longest : Longest is_gap c.new-scanner.result c.eat_while.new.self = c.eat_while.ensures.longest _ (λ x r post. search rules) in
+    λ some. boundary_there c.cursor-at.result c.args.text.now c.new-scanner.ensures c.utf8.text longest c.cursor-at.ensures.boundary
 
 pub returns : goal.returns
-returns c = sym (gaps_none (length c.args.text.now - c.gaps._step) c.gaps.rest.now (omega arith)) ∙ c.gaps.invariant.1
+returns c =
+    let longest : Longest is_gap c.new-scanner.result c.eat_while.new.self = c.eat_while.ensures.longest _ (λ x r post. search rules) in
+    sym (encodes-chars c.range_from.result.now c.range_from.utf8)
+    ∙ ap encode_utf8_all (ap chars c.range_from.ensures.value ∙ eaten_rest is_gap c.args.text.now c.cursor-at.result c.new-scanner.ensures c.utf8.text longest c.cursor-at.ensures.place)
