@@ -4,3 +4,4 @@
 pub mod entry;
 mod fields;
 pub mod retrieval;
+pub mod write;

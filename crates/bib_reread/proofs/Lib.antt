@@ -1,0 +1,5 @@
+pub mod EntryReread
+pub mod FileReread
+pub mod RereadFacts
+pub mod StandsFacts
+pub mod WrittenParts
