@@ -38,3 +38,10 @@ biblatex_field f = line (biblatex_name f.0) (value_bytes f.0 f.1)
 -- an entry as BibLaTeX has it: its fields in the order of their own names' bytes
 abbrev pub biblatex_entry : Entry → List ℕ
 biblatex_entry e = entry_text (entry_type_name (biblatex_type e.entry_type)) e.key (flat_map biblatex_field (entries e.fields))
+
+-- entries one behind another, given how each is written: a line feed stands behind each, and an empty line before the
+-- next; no entry, no text
+abbrev pub entries_text : (Entry → List ℕ) → List Entry → List ℕ
+entries_text written [] = []
+entries_text written (e ∷ []) = written e ++ codes "\n"
+entries_text written (e ∷ next ∷ rest) = written e ++ (codes "\n\n" ++ entries_text written (next ∷ rest))

@@ -4,3 +4,4 @@ pub mod LoadedFacts
 pub mod LoadingFacts
 pub mod PlaceLaws
 pub mod RawFacts
+pub mod RereadFacts

@@ -6,5 +6,7 @@ pub mod Places
 pub mod Loaded
 pub mod Loading
 pub mod Reading
+pub mod Reread
 pub mod SameLibrary
 pub mod Syntax
+pub mod Writing

@@ -145,6 +145,13 @@ impl Bibliography {
         Bibliography { entries, names }
     }
 
+    // The entries in order.
+    pub(crate) fn as_slice(&self) -> &[Entry]
+        ensures { result.now ≡ self.now.entries }
+    {
+        self.entries.as_slice()
+    }
+
     /// How many entries there are. Each name points below this.
     pub fn len(&self) -> usize
         ensures count { result ≡ length self.now.entries }

@@ -6,6 +6,7 @@ pub mod laws;
 mod loading;
 mod reading;
 pub mod sink;
+mod write;
 
 pub use bib_chunks::chunk::{Chunk, Chunks, ChunksRef, Span, Spanned, is_settled};
 pub use bib_contents::resolve::{FieldReader, is_escapable, is_verbatim_field, parse_field};
