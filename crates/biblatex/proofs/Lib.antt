@@ -5,3 +5,4 @@ pub mod LoadingFacts
 pub mod PlaceLaws
 pub mod RawFacts
 pub mod RereadFacts
+pub mod WritingFacts

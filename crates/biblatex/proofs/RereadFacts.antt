@@ -1,6 +1,7 @@
 -- What a written file says as a bibliography.
 use Rattle.std.proofs.Common.{◌≡◌, ℕ, Bool, true, false, cond, List, [], ◌∷◌, ◌++◌, map, reverse, refl, sym, ap, ◌∙◌, subst, arith, length, ◌+◌, ◌≤◌, Option, Some, None, MatchOption, inl, inr, ⊎_elim}
-use Rattle.std.specs.Prelude.{◌⊎◌, encode_utf8_all, codes, find, bytes_eq, option_map}
+use Rattle.std.specs.declared.string.String.{String}
+use Rattle.std.specs.Prelude.{◌⊎◌, Result, Ok, Err, IfOk, string_bytes, encode_utf8_all, codes, find, bytes_eq, option_map}
 use Rattle.std.specs.Char.{to_ascii_lowercase}
 use Rattle.std.specs.List.{list_any, AllByRecursion, AllZip, IsDistinct}
 use Rattle.std.specs.Str.{chars, IsUtf8}
@@ -10,7 +11,7 @@ use Rattle.std.specs.FinMap as by_name
 use Rattle.std.specs.FinMap.{get-from_entries}
 use Rattle.std.proofs.Math.Utf8.{scalars}
 use Rattle.std.proofs.lemmas.Bool.{both_ways, or_parts, cases_Bool}
-use Rattle.std.proofs.lemmas.Str.{scalars-chars}
+use Rattle.std.proofs.lemmas.Str.{scalars-chars, IsUtf8-string_bytes}
 use Rattle.std.proofs.lemmas.Cmp.{nat_list_cmp_total}
 use Rattle.std.proofs.lemmas.List.{append-nil}
 use Rattle.std.proofs.lemmas.List.Folds.{list_any-append}
@@ -307,3 +308,10 @@ entries_reread es settled utf8 =
       accepted = (all.read, all.are);
       mapped = λ read loaded. same_mapped es all.are loaded.entries all.mapped;
     }
+
+-- the same of the text that they were written to
+pub text_reread : {Z E : Type 0} (es given : List Entry) (r : Result (String Z) E) → IfOk r (λ text. string_bytes text ≡ entries_text biblatex_entry given) → given ≡ es → AreSettled es → IfOk r (λ text. IsReread es (string_bytes text))
+text_reread es given (Ok text) is same settled =
+    let whole : string_bytes text ≡ entries_text biblatex_entry es = is ∙ ap (entries_text biblatex_entry) same in
+    subst (IsReread es) (sym whole) (entries_reread es settled (subst IsUtf8 whole (IsUtf8-string_bytes text)))
+text_reread es given (Err e) is same settled = tt

@@ -1,4 +1,5 @@
 pub mod Claiming
+pub mod Distinct
 pub mod Keys
 pub mod Lending
 pub mod Library

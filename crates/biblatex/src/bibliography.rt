@@ -152,6 +152,13 @@ impl Bibliography {
         self.entries.as_slice()
     }
 
+    // The names of the entries.
+    pub(crate) fn names(&self) -> &Names
+        ensures { result.now ≡ self.now.names }
+    {
+        &self.names
+    }
+
     /// How many entries there are. Each name points below this.
     pub fn len(&self) -> usize
         ensures count { result ≡ length self.now.entries }

@@ -5,6 +5,7 @@ pub mod bibliography;
 pub mod laws;
 mod loading;
 mod reading;
+mod settled;
 pub mod sink;
 mod write;
 
