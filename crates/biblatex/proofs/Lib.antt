@@ -1,3 +1,4 @@
+pub mod DistinctFacts
 pub mod InsideFacts
 pub mod LibraryFacts
 pub mod LoadedFacts

@@ -13,9 +13,9 @@ use bib_reread::settled::is_settled_entry;
 
 // Whether an entry has this key.
 fn is_key_among(entries: &[Entry], key: &str) -> bool
-    ensures { result ≡ list_any (bytes_eq key.now) (map (λ e. e.key) entries.now) }
+    ensures { result ≡ list_any (λ e. bytes_eq key.now e.key) entries.now }
 {
-    entries.iter().any(|entry| entry.key.as_str() == key)
+    entries.iter().any(|entry| key == entry.key.as_str())
 }
 
 // Whether the key of the entry at a place is the key of another.
