@@ -1,0 +1,36 @@
+-- Meaning: words of public contracts.
+-- Dates as values of fields.
+use Rattle.std.specs.Prelude.{Option, Result}
+use Rattle.std.specs.Option.{option_map}
+use Rattle.bib_faults.specs.declared.type_error.TypeError.{TypeError}
+use Rattle.bib_faults.specs.declared.type_error.TypeErrorKind.{TypeErrorKind}
+use Rattle.bib_chunks.specs.declared.chunk.Chunk.TheVariants.{Normal}
+use Rattle.bib_values.specs.Values.{Value, text, alone}
+use Rattle.bib_typed.specs.Typed.{IsReadAs}
+use Rattle.bib_dates.specs.declared.date.Date.{Date}
+use Rattle.bib_dates.specs.Readings.{Reading, value_of, MayRefuse}
+use Rattle.bib_dates.specs.Dates.{date_of}
+use Rattle.bib_dates.specs.ThreeFields.{three_fields_of}
+use Rattle.bib_dates.specs.Written.{date_text}
+
+-- a result is the value that is read, or a fault that says so, of the promised kind if there is one; or no memory was left
+abbrev pub IsAnswer : {A : Type 0} → Reading A → Result A TypeError → Type 0
+IsAnswer reading result = IsReadAs (λ value. value) (value_of reading) (MayRefuse reading) result
+
+-- what the formatted text of chunks is read as
+abbrev pub date_reading : Value → Reading Date
+date_reading chunks = date_of (text chunks)
+
+abbrev pub date_read : Value → Option Date
+date_read chunks = value_of (date_reading chunks)
+
+abbrev pub DateMayRefuse : Value → TypeErrorKind → Type 0
+DateMayRefuse chunks kind = MayRefuse (date_reading chunks) kind
+
+-- one normal chunk of a date's text
+abbrev pub date_written : Date → Value
+date_written d = alone (Normal (date_text d))
+
+-- what the formatted texts of a year, a month and a day are read as
+abbrev pub three_fields_reading : Value → Option Value → Option Value → Reading Date
+three_fields_reading year month day = three_fields_of (text year) (option_map text month) (option_map text day)

@@ -1,0 +1,16 @@
+pub mod Anew
+pub mod Chunks
+pub mod Code
+pub mod Dates
+pub mod DatesReread
+pub mod Kept
+pub mod OrderLaws
+pub mod Orders
+pub mod Parts
+pub mod PartsReread
+pub mod PlainTexts
+pub mod Readings
+pub mod Separators
+pub mod ThreeFields
+pub mod Times
+pub mod Written

@@ -1,0 +1,75 @@
+-- Meaning: words of public contracts.
+-- The parts of dates in texts: numbers, signs, hyphens and colons. A text is given by its bytes: all signs of a date are
+-- ASCII, and white space is Unicode's.
+use Rattle.std.specs.Prelude.{ℕ, Bool, true, false, ◌&&◌, ◌==◌, nat_lt, not, if◌then◌else◌, ℤ, pos, neg_ℤ, ◌+ℤ◌, List, take, drop, slice_index}
+use Rattle.std.specs.List.{prefix_len}
+use Rattle.std.specs.Char.{is_ascii_digit}
+use Rattle.std.specs.Str.{trim_start}
+use Rattle.std.specs.Str.Parse.{digits_value}
+use Rattle.std.specs.Ordering.{int_cmp, is_lt}
+use Rattle.bib_faults.specs.declared.type_error.TypeErrorKind.{TypeErrorKind}
+use Rattle.bib_dates.specs.Readings.{Reading, ◌>>=◌, Part}
+use Rattle.bib_dates.specs.Readings.Reading.{says, fault, unread}
+
+-- the run of such bytes at the front of a text, and what stands behind it
+abbrev pub run : (ℕ → Bool) → List ℕ → List ℕ
+run test text = take (prefix_len test text) text
+
+abbrev pub behind_run : (ℕ → Bool) → List ℕ → List ℕ
+behind_run test text = drop (prefix_len test text) text
+
+-- whether a number lies from `low` to `high`
+abbrev pub lies : ℕ → ℕ → ℕ → Bool
+lies low high n = not (nat_lt n low) && not (nat_lt high n)
+
+-- `low` to `high` digits behind white space, with no digit behind them
+unfoldable pub number : ℕ → ℕ → List ℕ → Part ℕ
+number low high text =
+    let here = trim_start text in
+    if lies low high (prefix_len is_ascii_digit here)
+    then says (digits_value 10 (run is_ascii_digit here), behind_run is_ascii_digit here)
+    else unread
+
+-- one or two digits that are a number from `low` to `high`
+unfoldable pub small_number : ℕ → ℕ → TypeErrorKind → List ℕ → Part ℕ
+small_number low high kind text = do
+  n ← number 1 2 text
+  if lies low high n.0 then says n else fault kind
+
+-- whether this byte, which is not 0, stands at the front
+abbrev pub begins : ℕ → List ℕ → Bool
+begins byte text = slice_index text 0 == byte
+
+-- what stands behind this byte at the front
+abbrev pub behind_byte : ℕ → List ℕ → Reading (List ℕ)
+behind_byte byte text = if begins byte text then says (drop 1 text) else unread
+
+-- what stands behind a colon, with white space before it
+abbrev pub behind_colon : List ℕ → Reading (List ℕ)
+behind_colon text = behind_byte 58 (trim_start text)
+
+-- what stands behind a run of hyphens, with white space before it
+unfoldable pub behind_hyphens : List ℕ → Reading (List ℕ)
+behind_hyphens text = do
+  rest ← behind_byte 45 (trim_start text)
+  says (behind_run (λ b. b == 45) rest)
+
+-- a sign at the front: whether it is a minus, and what stands behind it; without one, the text
+unfoldable pub sign : List ℕ → Bool × List ℕ
+sign text = if begins 45 text then (true, drop 1 text) else if begins 43 text then (false, drop 1 text) else (false, text)
+
+abbrev pub signed : Bool → ℕ → ℤ
+signed is_minus n = if is_minus then neg_ℤ (pos n) else pos n
+
+-- a year of two digits: signed values below 50 are in the 21st century
+abbrev pub of_century : ℤ → ℤ
+of_century y = if is_lt (int_cmp y (pos 50)) then y +ℤ pos 2000 else y +ℤ pos 1900
+
+-- a year of two or four digits, with an optional sign behind which white space may stand
+unfoldable pub year : List ℕ → Part ℤ
+year text =
+    let here = sign (trim_start text) in
+    let digits = trim_start here.1 in
+    let y = signed here.0 (digits_value 10 (run is_ascii_digit digits)) in
+    if prefix_len is_ascii_digit digits == 2 then says (of_century y, behind_run is_ascii_digit digits)
+    else if prefix_len is_ascii_digit digits == 4 then says (y, behind_run is_ascii_digit digits) else unread

@@ -1,0 +1,270 @@
+// The reader of a date in three fields: each function reads a part from the front of a text, and gives it with the rest.
+
+ghost use Rattle.std.specs.Prelude.{◌≡◌, ◌<◌, ◌≤◌, ◌&&◌, ◌-ℤ◌, pos, is_some, IfSome, length, drop, option_copied};
+ghost use Rattle.std.specs.List.{prefix_len};
+ghost use Rattle.std.specs.Char.{is_ascii_digit, is_ascii_alphabetic};
+ghost use Rattle.std.specs.Str.{chars};
+ghost use Rattle.std.specs.Str.Parse.{AllDigits};
+ghost use Rattle.bib_dates.specs.Code.{reading, part};
+ghost use Rattle.bib_dates.specs.Parts;
+ghost use Rattle.bib_dates.specs.Readings.Reading.{says};
+ghost use Rattle.bib_dates.specs.ThreeFields as Spec;
+
+use crate::faults::{Fault, Why};
+use crate::parts::{after, digits, sign, signed, value};
+use bib_text::scanner::Scanner;
+
+fn starts_blank(text: &str) -> bool
+    ensures { result ≡ Spec.starts_blank text.now }
+{
+    text.trim_start().len() != text.len()
+}
+
+fn starts_word(text: &str) -> bool
+    ensures { result ≡ Spec.starts_word text.now }
+{
+    let Some(first) = text.chars().next() else {
+        return false;
+    };
+    first.is_alphabetic() || first.is_numeric()
+}
+
+// What stands behind these two bytes.
+fn after_two(text: &str, first: u8, second: u8) -> Option<&str>
+    requires some { 0 < first }
+    requires ascii { first < 128 }
+    requires other { 0 < second }
+    requires low { second < 128 }
+    ensures stands { is_some result ≡ (Parts.begins first text.now && Parts.begins second (drop 1 text.now)) }
+    ensures behind { IfSome result (λ r. r.now ≡ drop 1 (drop 1 text.now)) }
+{
+    let behind = after(text, first)?;
+    after(behind, second)
+}
+
+// What stands behind `BCE`.
+fn after_bce(text: &str) -> Option<&str>
+    ensures stands { is_some result ≡ (Parts.begins 66 text.now && (Parts.begins 67 (drop 1 text.now) && Parts.begins 69 (drop 1 (drop 1 text.now)))) }
+    ensures behind { IfSome result (λ r. r.now ≡ drop 1 (drop 1 (drop 1 text.now))) }
+{
+    let behind = after(text, b'B')?;
+    after_two(behind, b'C', b'E')
+}
+
+#[tactic(auto, unfolding(crate::specs::ThreeFields::of_era))]
+fn of_era(has_sign: bool, n: u16, year: i32, behind: &str) -> Result<i32, Fault>
+    ensures { reading result ≡ Spec.of_era has_sign n year behind.now }
+{
+    if starts_word(behind) {
+        return Err(Fault::Untold(Why::InvalidFormat));
+    }
+    if has_sign {
+        return Err(Fault::Told(Why::InvalidFormat));
+    }
+    if n == 0 {
+        return Err(Fault::Told(Why::YearZeroCE));
+    }
+    Ok(year)
+}
+
+#[tactic(auto, unfolding(crate::specs::ThreeFields::with_era))]
+fn with_era(has_sign: bool, is_minus: bool, n: u16, text: &str) -> Result<i32, Fault>
+    requires { n < 10000 }
+    ensures { reading result ≡ Spec.with_era has_sign is_minus n text.now }
+{
+    if let Some(behind) = after_two(text, b'A', b'D') {
+        return of_era(has_sign, n, i32::from(n), behind);
+    }
+    if let Some(behind) = after_two(text, b'C', b'E') {
+        return of_era(has_sign, n, i32::from(n), behind);
+    }
+    if let Some(behind) = after_bce(text) {
+        return of_era(has_sign, n, 1 - i32::from(n), behind);
+    }
+    if let Some(behind) = after_two(text, b'B', b'C') {
+        return of_era(has_sign, n, 1 - i32::from(n), behind);
+    }
+    Ok(signed(is_minus, n))
+}
+
+#[tactic(auto, unfolding(crate::specs::ThreeFields::year_field))]
+pub(crate) fn year_field(text: &str) -> Result<i32, Fault>
+    ensures { reading result ≡ Spec.year_field text.now }
+{
+    let here = text.trim_start();
+    let (is_minus, behind) = sign(here);
+    let has_sign = behind.len() != here.len();
+    if has_sign && starts_blank(behind) {
+        return Err(Fault::Told(Why::InvalidFormat));
+    }
+    let (digits, behind) = digits(behind);
+    if digits.len() < 1 || 4 < digits.len() {
+        return Err(Fault::Untold(Why::WrongNumberOfDigits));
+    }
+    with_era(has_sign, is_minus, value(digits), behind.trim_start())
+}
+
+fn names(word: &str, name: &str, short: &str) -> bool
+    ensures { result ≡ Spec.names word.now name.now short.now }
+{
+    word.eq_ignore_ascii_case(name) || word.eq_ignore_ascii_case(short)
+}
+
+// The month that a word names, from 0.
+#[tactic(auto, unfolding(crate::specs::ThreeFields::month_named))]
+fn month_named(word: &str) -> Option<u8>
+    ensures { result ≡ Spec.month_named word.now }
+{
+    if names(word, "january", "jan") {
+        return Some(0);
+    }
+    if names(word, "february", "feb") {
+        return Some(1);
+    }
+    if names(word, "march", "mar") {
+        return Some(2);
+    }
+    if names(word, "april", "apr") {
+        return Some(3);
+    }
+    if names(word, "may", "may") {
+        return Some(4);
+    }
+    if names(word, "june", "jun") {
+        return Some(5);
+    }
+    if names(word, "july", "jul") {
+        return Some(6);
+    }
+    if names(word, "august", "aug") {
+        return Some(7);
+    }
+    if names(word, "september", "sep") {
+        return Some(8);
+    }
+    if names(word, "october", "oct") {
+        return Some(9);
+    }
+    if names(word, "november", "nov") {
+        return Some(10);
+    }
+    if names(word, "december", "dec") {
+        return Some(11);
+    }
+    None
+}
+
+// How many letters stand at the front.
+fn letters_len(text: &str) -> usize
+    ensures { result ≡ prefix_len is_ascii_alphabetic text.now }
+{
+    text.as_bytes()
+        .iter()
+        .take_while(|b| b.is_ascii_alphabetic())
+        .count()
+}
+
+// The letters at the front, and what stands behind them.
+fn letters(text: &str) -> (&str, &str)
+    ensures run { result.0.now ≡ Parts.run is_ascii_alphabetic text.now }
+    ensures behind { result.1.now ≡ Parts.behind_run is_ascii_alphabetic text.now }
+{
+    text.split_at(letters_len(text))
+}
+
+fn named_month(text: &str) -> (Option<u8>, &str)
+    ensures { says (result.0, result.1.now) ≡ Spec.named_month text.now }
+{
+    let (word, behind) = letters(text);
+    (month_named(word), behind)
+}
+
+#[tactic(auto, unfolding(crate::specs::ThreeFields::month_field))]
+pub(crate) fn month_field(text: &str) -> Result<(Option<u8>, &str), Fault>
+    ensures { part result ≡ Spec.month_field text.now }
+{
+    let (digits, behind) = digits(text.trim_start());
+    if digits.len() < 1 || 2 < digits.len() {
+        return Ok(named_month(behind));
+    }
+    let n = value(digits);
+    if n < 1 || 12 < n {
+        return Err(Fault::Told(Why::MonthOutOfRange));
+    }
+    Ok((Some(n as u8 - 1), behind))
+}
+
+// What stands behind a run of white space and hyphens.
+fn behind_gap(text: &str) -> &str
+    ensures { result.now ≡ Spec.behind_gap text.now }
+{
+    let mut scanner = Scanner::new(text);
+    scanner.eat_while(|c| c.is_whitespace() || c == '-');
+    let at = scanner.cursor();
+    &text[at..]
+}
+
+// A day from 1 to 31, counted from 0.
+fn day_number(digits: &str) -> Option<u8>
+    requires { AllDigits 10 digits.now }
+    ensures { result ≡ Spec.day_number digits.now }
+{
+    let Ok(day) = digits.parse::<u8>() else {
+        return None;
+    };
+    if day < 1 || 31 < day {
+        return None;
+    }
+    Some(day - 1)
+}
+
+#[tactic(auto, unfolding(crate::specs::ThreeFields::day_behind))]
+pub(crate) fn day_behind(text: &str) -> Result<Option<u8>, Fault>
+    ensures { reading result ≡ Spec.day_behind text.now }
+{
+    let here = behind_gap(text);
+    if here.len() == text.len() {
+        return Ok(None);
+    }
+    let (digits, _) = digits(here);
+    if digits.is_empty() {
+        return Err(Fault::Untold(Why::MissingNumber));
+    }
+    let Some(day) = day_number(digits) else {
+        return Err(Fault::Told(Why::DayOutOfRange));
+    };
+    Ok(Some(day))
+}
+
+// Why digits alone are no day: a number of eight bits is out of range, and another text is refused for this reason.
+fn no_day(digits: &str, why: Why) -> Why {
+    match digits.parse::<u8>() {
+        Ok(_) => Why::DayOutOfRange,
+        Err(_) => why,
+    }
+}
+
+#[tactic(auto, unfolding(crate::specs::ThreeFields::only_day))]
+fn only_day(text: &str, why: Why) -> Result<Option<u8>, Fault>
+    ensures { reading result ≡ Spec.only_day text.now }
+{
+    let (digits, behind) = digits(text);
+    if !behind.is_empty() {
+        return Err(Fault::Untold(why));
+    }
+    let Some(day) = day_number(digits) else {
+        return Err(Fault::Untold(no_day(digits, why)));
+    };
+    Ok(Some(day))
+}
+
+#[tactic(auto, unfolding(crate::specs::ThreeFields::day_field))]
+pub(crate) fn day_field(text: &str, why: Why) -> Result<Option<u8>, Fault>
+    ensures { reading result ≡ Spec.day_field text.now }
+{
+    let here = text.trim();
+    if let Some(behind) = after(here, b'+') {
+        return only_day(behind, why);
+    }
+    only_day(here, why)
+}

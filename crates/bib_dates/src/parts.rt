@@ -1,0 +1,185 @@
+// The parts of dates: each function reads one from the front of a text, and gives it with the rest.
+
+ghost use Rattle.std.specs.Prelude.{◌≡◌, ◌<◌, ◌≤◌, pos, neg_ℤ, ◌≤ℤ◌, ◌==◌, IfOk, IfSome, is_some, length, drop};
+ghost use Rattle.std.specs.List.{prefix_len};
+ghost use Rattle.std.specs.Char.{is_ascii_digit};
+ghost use Rattle.std.specs.Str.Parse.{digits_value, AllDigits};
+ghost use Rattle.jiff_core.specs.Calendar.{IsYear};
+ghost use Rattle.bib_dates.specs.Code.{reading, part, rest, kind_of};
+ghost use Rattle.bib_dates.specs.Parts as Spec;
+
+use crate::faults::{Fault, Why};
+
+// What stands behind this byte, if it stands at the front.
+pub(crate) fn after(text: &str, byte: u8) -> Option<&str>
+    requires some { 0 < byte }
+    requires ascii { byte < 128 }
+    ensures begins { is_some result ≡ Spec.begins byte text.now }
+    ensures behind { IfSome result (λ r. r.now ≡ drop 1 text.now) }
+{
+    match text.as_bytes() {
+        [first, ..] if *first == byte => Some(text.split_at(1).1),
+        _ => None,
+    }
+}
+
+// How many digits stand at the front.
+fn digits_len(text: &str) -> usize
+    ensures { result ≡ prefix_len is_ascii_digit text.now }
+{
+    text.as_bytes()
+        .iter()
+        .take_while(|b| b.is_ascii_digit())
+        .count()
+}
+
+// The digits at the front, and what stands behind them.
+pub(crate) fn digits(text: &str) -> (&str, &str)
+    ensures run { result.0.now ≡ Spec.run is_ascii_digit text.now }
+    ensures len { length result.0.now ≡ prefix_len is_ascii_digit text.now }
+    ensures digits { AllDigits 10 result.0.now }
+    ensures behind { result.1.now ≡ Spec.behind_run is_ascii_digit text.now }
+{
+    text.split_at(digits_len(text))
+}
+
+// How often this byte stands at the front.
+fn byte_run_len(text: &str, byte: u8) -> usize
+    ensures { result ≡ prefix_len (λ b. b == byte) text.now }
+{
+    text.as_bytes().iter().take_while(|b| **b == byte).count()
+}
+
+// How often this byte stands at the front, and what stands behind.
+pub(crate) fn byte_run(text: &str, byte: u8) -> (usize, &str)
+    requires { byte < 128 }
+    ensures len { result.0 ≡ prefix_len (λ b. b == byte) text.now }
+    ensures behind { result.1.now ≡ Spec.behind_run (λ b. b == byte) text.now }
+{
+    let len = byte_run_len(text, byte);
+    let (_, behind) = text.split_at(len);
+    (len, behind)
+}
+
+// The number that at most four digits are.
+pub(crate) fn value(digits: &str) -> u16
+    requires count { length digits.now ≤ 4 }
+    requires some { 0 < length digits.now }
+    requires digits { AllDigits 10 digits.now }
+    ensures value { result ≡ digits_value 10 digits.now }
+    ensures below { result < 10000 }
+    ensures short { length digits.now ≤ 2 → result < 100 }
+    ensures shorter { length digits.now ≤ 3 → result < 1000 }
+{
+    digits.parse::<u16>().unwrap_or(0)
+}
+
+// A number of so many digits; of another count, it is refused for this reason.
+#[tactic(auto, unfolding(crate::specs::Parts::number))]
+pub(crate) fn number(low: usize, high: usize, why: Why, text: &str) -> Result<(u16, &str), Fault>
+    requires some { 0 < low }
+    requires few { high ≤ 4 }
+    ensures value { part result ≡ Spec.number low high text.now }
+    ensures short { high ≤ 2 → IfOk result (λ p. p.0 < 100) }
+{
+    let (digits, behind) = digits(text.trim_start());
+    if digits.len() < low || high < digits.len() {
+        return Err(Fault::Untold(why));
+    }
+    Ok((value(digits), behind))
+}
+
+#[tactic(auto, unfolding(crate::specs::Parts::small_number))]
+pub(crate) fn small_number(low: u8, high: u8, why: Why, text: &str) -> Result<(u8, &str), Fault>
+    ensures value { part result ≡ Spec.small_number low high (kind_of why) text.now }
+    ensures within { IfOk result (λ p. (low ≤ p.0) × (p.0 ≤ high)) }
+{
+    let (n, behind) = number(1, 2, Why::InvalidFormat, text)?;
+    if n < u16::from(low) || u16::from(high) < n {
+        return Err(Fault::Told(why));
+    }
+    Ok((n as u8, behind))
+}
+
+pub(crate) fn behind_byte(text: &str, byte: u8, why: Why) -> Result<&str, Fault>
+    requires some { 0 < byte }
+    requires ascii { byte < 128 }
+    ensures { rest result ≡ Spec.behind_byte byte text.now }
+{
+    match after(text, byte) {
+        Some(behind) => Ok(behind),
+        None => Err(Fault::Untold(why)),
+    }
+}
+
+pub(crate) fn behind_colon(text: &str) -> Result<&str, Fault>
+    ensures { rest result ≡ Spec.behind_colon text.now }
+{
+    behind_byte(text.trim_start(), b':', Why::InvalidFormat)
+}
+
+#[tactic(auto, unfolding(crate::specs::Parts::behind_hyphens))]
+pub(crate) fn behind_hyphens(text: &str, why: Why) -> Result<&str, Fault>
+    ensures { rest result ≡ Spec.behind_hyphens text.now }
+{
+    let behind = behind_byte(text.trim_start(), b'-', why)?;
+    let (_, behind) = byte_run(behind, b'-');
+    Ok(behind)
+}
+
+// Whether a minus stands at the front, and what stands behind a sign.
+#[tactic(auto, unfolding(crate::specs::Parts::sign))]
+pub(crate) fn sign(text: &str) -> (bool, &str)
+    ensures minus { result.0 ≡ (Spec.sign text.now).0 }
+    ensures behind { result.1.now ≡ (Spec.sign text.now).1 }
+{
+    if let Some(behind) = after(text, b'-') {
+        return (true, behind);
+    }
+    if let Some(behind) = after(text, b'+') {
+        return (false, behind);
+    }
+    (false, text)
+}
+
+// A year that has two digits.
+fn of_century(year: i32) -> i32
+    requires low { neg_ℤ (pos 99) ≤ℤ year }
+    requires high { year ≤ℤ pos 99 }
+    ensures value { result ≡ Spec.of_century year }
+    ensures within { IsYear result }
+{
+    if year < 50 { year + 2000 } else { year + 1900 }
+}
+
+#[tactic(auto, unfolding(crate::specs::Parts::year))]
+pub(crate) fn year(text: &str) -> Result<(i32, &str), Fault>
+    ensures value { part result ≡ Spec.year text.now }
+    ensures within { IfOk result (λ p. IsYear p.0) }
+{
+    let (is_minus, behind) = sign(text.trim_start());
+    let (digits, behind) = digits(behind.trim_start());
+    if digits.len() != 2 && digits.len() != 4 {
+        return Err(Fault::Untold(Why::InvalidFormat));
+    }
+    let year = signed(is_minus, value(digits));
+    if digits.len() == 2 {
+        return Ok((of_century(year), behind));
+    }
+    Ok((year, behind))
+}
+
+// The number with its sign.
+pub(crate) fn signed(is_minus: bool, n: u16) -> i32
+    requires { n < 10000 }
+    ensures value { result ≡ Spec.signed is_minus n }
+    ensures within { IsYear result }
+    ensures low { n < 100 → neg_ℤ (pos 99) ≤ℤ result }
+    ensures high { n < 100 → result ≤ℤ pos 99 }
+{
+    if is_minus {
+        -i32::from(n)
+    } else {
+        i32::from(n)
+    }
+}

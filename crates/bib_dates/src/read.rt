@@ -1,0 +1,327 @@
+// The reader of a date in one text.
+
+ghost use Rattle.std.specs.Prelude.{◌≡◌, ◌+◌, ◌^◌, ◌<◌, ◌≤◌, None, pos, ◌↔◌, ◌==◌, IsTrue, IfOk, IfSome, is_some};
+ghost use Rattle.std.specs.List.{before_first, after_first};
+ghost use Rattle.std.specs.Str.{trim_end};
+ghost use Rattle.jiff_core.specs.Calendar.{IsDate, IsYear, days_in_month};
+ghost use Rattle.bib_faults.specs.declared.type_error.TypeErrorKind.TheVariants.{DayOutOfRange};
+ghost use Rattle.bib_dates.specs.Code.{reading, part};
+ghost use Rattle.bib_dates.specs.Parts;
+ghost use Rattle.bib_dates.specs.Dates as Spec;
+
+use crate::date::{Date, DateValue, Datetime};
+use crate::faults::{Fault, Why};
+use crate::parts::{after, behind_hyphens, byte_run, digits, number, small_number, value, year};
+use crate::times::behind_day;
+use jiff::civil;
+
+// Whether the calendar has this day: the month and the day count from 1.
+pub(crate) fn day_exists(year: i32, month: u8, day: u8) -> bool
+    requires { IsYear year }
+    ensures { IsTrue result ↔ IsDate year (pos month) (pos day) }
+{
+    let (Ok(year), Ok(month), Ok(day)) = (
+        i16::try_from(year),
+        i8::try_from(month),
+        i8::try_from(day),
+    ) else {
+        return false;
+    };
+    civil::Date::new(year, month, day).is_ok()
+}
+
+// A day of this month.
+#[tactic(auto, unfolding(crate::specs::Parts::small_number))]
+fn day(year: i32, month: u8, text: &str) -> Result<(u8, &str), Fault>
+    requires year { IsYear year }
+    requires low { 1 ≤ month }
+    requires high { month ≤ 12 }
+    ensures value { part result ≡ Parts.small_number 1 (days_in_month year month) DayOutOfRange text.now }
+    ensures some { IfOk result (λ p. 1 ≤ p.0) }
+{
+    let (n, behind) = number(1, 2, Why::InvalidFormat, text)?;
+    let day = n as u8;
+    if !day_exists(year, month, day) {
+        return Err(Fault::Told(Why::DayOutOfRange));
+    }
+    Ok((day, behind))
+}
+
+#[tactic(auto, unfolding(crate::specs::Dates::behind_month))]
+fn behind_month(year: i32, month: u8, text: &str) -> Result<Datetime, Fault>
+    requires year { IsYear year }
+    requires low { 1 ≤ month }
+    requires high { month ≤ 12 }
+    ensures { reading result ≡ Spec.behind_month year month text.now }
+{
+    if text.is_empty() {
+        return Ok(Datetime {
+            year,
+            month: Some(month - 1),
+            day: None,
+            time: None,
+        });
+    }
+    let behind = behind_hyphens(text, Why::InvalidFormat)?;
+    let (day, behind) = day(year, month, behind)?;
+    let time = behind_day(behind.trim_start())?;
+    Ok(Datetime {
+        year,
+        month: Some(month - 1),
+        day: Some(day - 1),
+        time,
+    })
+}
+
+#[tactic(auto, unfolding(crate::specs::Dates::behind_year))]
+fn behind_year(year: i32, text: &str) -> Result<Datetime, Fault>
+    requires { IsYear year }
+    ensures { reading result ≡ Spec.behind_year year text.now }
+{
+    if text.is_empty() {
+        return Ok(Datetime {
+            year,
+            month: None,
+            day: None,
+            time: None,
+        });
+    }
+    let behind = behind_hyphens(text, Why::InvalidFormat)?;
+    let (month, behind) = small_number(1, 12, Why::MonthOutOfRange, behind)?;
+    behind_month(year, month, behind.trim_start())
+}
+
+#[tactic(auto, unfolding(crate::specs::Dates::side))]
+fn side(text: &str) -> Result<Datetime, Fault>
+    ensures { reading result ≡ Spec.side text.now }
+{
+    let (year, behind) = year(text)?;
+    behind_year(year, behind.trim_start())
+}
+
+// A year and perhaps a month and a day, without a time.
+fn datetime(year: u16, month: Option<u8>, day: Option<u8>) -> Datetime
+    ensures { result ≡ Spec.datetime (pos year) month day None }
+{
+    Datetime {
+        year: i32::from(year),
+        month,
+        day,
+        time: None,
+    }
+}
+
+fn months(year: u16) -> DateValue
+    ensures { result ≡ Spec.months year }
+{
+    DateValue::Between(
+        datetime(year, Some(0), None),
+        datetime(year, Some(11), None),
+    )
+}
+
+fn days(year: u16, month: u8) -> DateValue
+    ensures { result ≡ Spec.days year month }
+{
+    DateValue::Between(
+        datetime(year, Some(month), Some(0)),
+        datetime(year, Some(month), Some(30)),
+    )
+}
+
+fn years(year: u16, more: u16) -> DateValue
+    requires { year + more < 2 ^ 16 }
+    ensures { result ≡ Spec.years year more }
+{
+    DateValue::Between(
+        datetime(year, None, None),
+        datetime(year + more, None, None),
+    )
+}
+
+#[tactic(auto, unfolding(crate::specs::Dates::all_months))]
+fn all_months(year: u16, text: &str) -> Result<DateValue, Fault>
+    ensures { reading result ≡ Spec.all_months year text.now }
+{
+    if text.trim_start().is_empty() {
+        return Ok(months(year));
+    }
+    let behind = behind_hyphens(text, Why::InvalidFormat)?;
+    let (count, _) = byte_run(behind.trim_start(), b'X');
+    if count != 2 {
+        return Err(Fault::Untold(Why::InvalidFormat));
+    }
+    Ok(months(year))
+}
+
+#[tactic(auto, unfolding(crate::specs::Dates::all_days))]
+fn all_days(year: u16, text: &str) -> Result<DateValue, Fault>
+    ensures { reading result ≡ Spec.all_days year text.now }
+{
+    let (month, behind) = number(2, 2, Why::WrongNumberOfDigits, text)?;
+    if month < 1 || 12 < month {
+        return Err(Fault::Told(Why::MonthOutOfRange));
+    }
+    let behind = behind_hyphens(behind, Why::InvalidFormat)?;
+    let (count, behind) = byte_run(behind.trim_start(), b'X');
+    if count != 2 || !behind.trim_start().is_empty() {
+        return Err(Fault::Untold(Why::InvalidFormat));
+    }
+    Ok(days(year, month as u8 - 1))
+}
+
+#[tactic(auto, unfolding(crate::specs::Dates::unknown_month))]
+fn unknown_month(year: u16, text: &str) -> Result<DateValue, Fault>
+    ensures { reading result ≡ Spec.unknown_month year text.now }
+{
+    let (count, behind) = byte_run(text, b'X');
+    if count == 2 {
+        return all_months(year, behind);
+    }
+    if count == 0 {
+        return all_days(year, text);
+    }
+    Err(Fault::Untold(Why::WrongNumberOfDigits))
+}
+
+#[tactic(auto, unfolding(crate::specs::Dates::century))]
+fn century(n: u16, text: &str) -> Result<DateValue, Fault>
+    requires { n < 100 }
+    ensures { reading result ≡ Spec.century n text.now }
+{
+    let (count, _) = byte_run(text, b'X');
+    if count != 2 {
+        return Err(Fault::Untold(Why::WrongNumberOfDigits));
+    }
+    Ok(years(100 * n, 99))
+}
+
+#[tactic(auto, unfolding(crate::specs::Dates::decade))]
+fn decade(n: u16, text: &str) -> Result<DateValue, Fault>
+    requires { n < 1000 }
+    ensures { reading result ≡ Spec.decade n text.now }
+{
+    let (count, _) = byte_run(text, b'X');
+    if count != 1 {
+        return Err(Fault::Untold(Why::WrongNumberOfDigits));
+    }
+    Ok(years(10 * n, 9))
+}
+
+// Why no hyphens stand behind four digits: an `X` would be a fifth.
+fn no_hyphen(text: &str) -> Why {
+    match after(text, b'X') {
+        Some(_) => Why::WrongNumberOfDigits,
+        None => Why::InvalidFormat,
+    }
+}
+
+#[tactic(auto, unfolding(crate::specs::Dates::unknown))]
+fn unknown(text: &str) -> Result<DateValue, Fault>
+    ensures { reading result ≡ Spec.unknown text.now }
+{
+    let (digits, behind) = digits(text.trim_start());
+    if digits.len() > 4 {
+        return Err(Fault::Told(Why::WrongNumberOfDigits));
+    }
+    if digits.len() < 2 {
+        return Err(Fault::Untold(Why::WrongNumberOfDigits));
+    }
+    let n = value(digits);
+    if digits.len() == 4 {
+        let behind = behind_hyphens(behind, no_hyphen(behind))?;
+        return unknown_month(n, behind.trim_start());
+    }
+    if digits.len() == 2 {
+        return century(n, behind);
+    }
+    decade(n, behind)
+}
+
+fn is_open(text: &str) -> bool
+    ensures { result ≡ Spec.is_open text.now }
+{
+    text.trim().is_empty() || text == ".."
+}
+
+#[tactic(auto, unfolding(crate::specs::Dates::range))]
+fn range(from: &str, to: &str) -> Result<DateValue, Fault>
+    ensures { reading result ≡ Spec.range from.now to.now }
+{
+    if is_open(from) {
+        if is_open(to) {
+            return Err(Fault::Told(Why::UndefinedRange));
+        }
+        let end = side(to)?;
+        return Ok(DateValue::Before(end));
+    }
+    let start = side(from)?;
+    if is_open(to) {
+        return Ok(DateValue::After(start));
+    }
+    let end = side(to)?;
+    Ok(DateValue::Between(start, end))
+}
+
+// The two sides of a range.
+fn sides(text: &str) -> Option<(&str, &str)>
+    ensures some { is_some result ≡ Spec.holds 47 text.now }
+    ensures from { IfSome result (λ p. p.0.now ≡ before_first (λ b. b == 47) text.now) }
+    ensures to { IfSome result (λ p. p.1.now ≡ after_first (λ b. b == 47) text.now) }
+{
+    text.split_once('/')
+}
+
+#[tactic(auto, unfolding(crate::specs::Dates::date_value))]
+fn date_value(text: &str) -> Result<DateValue, Fault>
+    ensures { reading result ≡ Spec.date_value text.now }
+{
+    if text.as_bytes().contains(&b'X') {
+        return unknown(text);
+    }
+    let Some((from, to)) = sides(text) else {
+        let at = side(text)?;
+        return Ok(DateValue::At(at));
+    };
+    range(from, to)
+}
+
+fn is_uncertain(mark: u8) -> bool
+    ensures { result ≡ Spec.is_uncertain mark }
+{
+    mark == b'%' || mark == b'?'
+}
+
+fn is_approximate(mark: u8) -> bool
+    ensures { result ≡ Spec.is_approximate mark }
+{
+    mark == b'%' || mark == b'~'
+}
+
+fn last(text: &str) -> u8
+    ensures { result ≡ Spec.last text.now }
+{
+    text.as_bytes().last().copied().unwrap_or(0)
+}
+
+fn without_mark(text: &str) -> &str
+    ensures { result.now ≡ Spec.without_mark text.now }
+{
+    if is_uncertain(last(text)) || is_approximate(last(text)) {
+        return text.split_at(text.len() - 1).0;
+    }
+    text
+}
+
+#[tactic(auto, unfolding(crate::specs::Dates::marked))]
+pub(crate) fn marked(text: &str) -> Result<Date, Fault>
+    ensures { reading result ≡ Spec.marked text.now }
+{
+    let value = date_value(without_mark(text))?;
+    let mark = last(text);
+    Ok(Date {
+        value,
+        uncertain: is_uncertain(mark),
+        approximate: is_approximate(mark),
+    })
+}

@@ -1,0 +1,46 @@
+//! Hyphens and colons between the parts of a date.
+
+ghost use Rattle.std.specs.Prelude.{◌≡◌, MatchResult};
+ghost use Rattle.bib_dates.specs.Separators.{IsHyphens, IsColon, IsWithout, no_sign};
+
+use bib_faults::type_error::{TypeError, TypeErrorKind};
+use bib_text::scanner::Scanner;
+
+// The fault that no such sign stands behind the white space that was eaten from here on.
+fn no_sign(s: &Scanner<'_>, start: usize) -> TypeError
+    ensures { result ≡ no_sign (record { text = s.now.text; at = start }) s.now }
+{
+    TypeError {
+        span: start..s.cursor(),
+        kind: TypeErrorKind::InvalidFormat,
+    }
+}
+
+/// Eats white space and the hyphens behind it, of which there must be one. After a refusal only the white space was eaten.
+pub fn parse_hyphen(s: &mut Scanner<'_>) -> Result<(), TypeError>
+    ensures { MatchResult result
+        (λ _. IsHyphens s.old s.new)
+        (λ e. IsWithout 45 s.old s.new × (e ≡ no_sign s.old s.new)) }
+{
+    let start = s.cursor();
+    s.eat_whitespace();
+    if !s.eat_if('-') {
+        return Err(no_sign(s, start));
+    }
+    s.eat_while(|c| c == '-');
+    Ok(())
+}
+
+/// Eats white space and the colon behind it, which must be there. After a refusal only the white space was eaten.
+pub fn parse_colon(s: &mut Scanner<'_>) -> Result<(), TypeError>
+    ensures { MatchResult result
+        (λ _. IsColon s.old s.new)
+        (λ e. IsWithout 58 s.old s.new × (e ≡ no_sign s.old s.new)) }
+{
+    let start = s.cursor();
+    s.eat_whitespace();
+    if !s.eat_if(':') {
+        return Err(no_sign(s, start));
+    }
+    Ok(())
+}
