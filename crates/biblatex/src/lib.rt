@@ -7,7 +7,7 @@ mod loading;
 mod reading;
 mod settled;
 pub mod sink;
-mod write;
+pub mod write;
 
 pub use bib_chunks::chunk::{Chunk, Chunks, ChunksRef, Span, Spanned, is_settled};
 pub use bib_contents::resolve::{FieldReader, is_escapable, is_verbatim_field, parse_field};

@@ -3,7 +3,7 @@
 ghost use Rattle.std.specs.Prelude.{◌≡◌, ◌≢◌, ◌++◌, ℕ, ◌-◌, ◌^◌, ◌<◌, OnOk, OnErr, IfOk, codes, string_bytes, Err, Some};
 ghost use Rattle.std.specs.Io.KnownBytes.{Appends};
 ghost use Rattle.bib_entry.specs.Format.{entry_in};
-ghost use Rattle.bib_entry.specs.WrittenEntries.{biblatex_entry, entries_text};
+ghost use Rattle.bib_entry.specs.WrittenEntries.{biblatex_entry, bibtex_entry, entries_text};
 ghost use Rattle.bib_reread.specs.Settled.{AreSettled};
 ghost use Rattle.biblatex.specs.Reread.{IsReread};
 ghost use Rattle.biblatex.specs.Writing.{parting};
@@ -38,6 +38,7 @@ impl From<AllocError> for WriteError {
 
 // Writes an entry at the end of a text, behind an empty line where it isn't the first, and before a line feed.
 fn write_next(
+    alloc: Global,
     out: &mut String,
     entry: &Entry,
     is_first: bool,
@@ -49,7 +50,7 @@ fn write_next(
     if !is_first {
         out.push('\n')?;
     }
-    write_entry(out, entry, format)?;
+    write_entry(alloc, out, entry, format)?;
     out.push('\n')?;
     Ok(())
 }
@@ -61,7 +62,7 @@ fn text_of(alloc: Global, entries: &[Entry], format: Format) -> Result<String, A
     let mut out = String::new(alloc);
     let mut is_first = true;
     'entries: for entry in entries {
-        write_next(&mut out, entry, is_first, format)?;
+        write_next(alloc, &mut out, entry, is_first, format)?;
         is_first = false;
     }
     Ok(out)
@@ -82,7 +83,7 @@ fn hand_next<K: Sink>(
         K.refusals sink.old < K.refusals sink.new }
 {
     let mut text = String::new(alloc);
-    write_next(&mut text, entry, is_first, format)?;
+    write_next(alloc, &mut text, entry, is_first, format)?;
     if sink.write_str(&text) {
         Ok(())
     } else {
@@ -126,6 +127,15 @@ impl Bibliography {
         text_of(alloc, self.as_slice(), Format::Biblatex)
     }
 
+    /// The bibliography as it is written in a file with BibTeX's types and fields, as [`Entry::to_bibtex_string`] writes
+    /// each entry, with an empty line between two.
+    pub fn to_bibtex_string(&self, alloc: Global) -> Result<String, AllocError>
+        ensures { IfOk result (λ text. string_bytes text ≡
+            entries_text bibtex_entry self.now.entries) }
+    {
+        text_of(alloc, self.as_slice(), Format::Bibtex)
+    }
+
     /// Writes what [`Self::to_biblatex_string`] gives to a sink, which is handed one text for each entry. Memory is taken
     /// for one entry's text at a time. `Refused` says that the sink refused a text; what it took before stays.
     pub fn write_biblatex<K: Sink>(&self, alloc: Global, sink: &mut K) -> Result<(), WriteError>
@@ -137,5 +147,17 @@ impl Bibliography {
             K.refusals sink.old < K.refusals sink.new }
     {
         hand(alloc, sink, self.as_slice(), Format::Biblatex)
+    }
+
+    /// Writes what [`Self::to_bibtex_string`] gives to a sink, as [`Self::write_biblatex`] does.
+    pub fn write_bibtex<K: Sink>(&self, alloc: Global, sink: &mut K) -> Result<(), WriteError>
+        ensures written { OnOk result (Appends (K.taken sink.old) (K.taken sink.new)
+            (entries_text bibtex_entry self.now.entries)) }
+        ensures same { result ≢ Err WriteError.Refused →
+            K.refusals sink.new ≡ K.refusals sink.old }
+        ensures refused { result ≡ Err WriteError.Refused → K.refusals sink.old < 2 ^ 64 - 1 →
+            K.refusals sink.old < K.refusals sink.new }
+    {
+        hand(alloc, sink, self.as_slice(), Format::Bibtex)
     }
 }
