@@ -29,3 +29,4 @@ pub use bib_types::types::lang::Language;
 pub use bib_types::types::{EditorType, Gender, NameError, Pagination};
 pub use bibliography::{Bibliography, InsertError, Keys};
 pub use sink::Sink;
+pub use write::WriteError;
