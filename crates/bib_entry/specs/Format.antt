@@ -1,5 +1,5 @@
--- Machinery: words of private contracts.
--- Entries in the names of either format.
+-- Meaning: words of public contracts.
+-- Entries with the types and fields of either format.
 use Rattle.std.specs.Prelude.{ℕ, List}
 use Rattle.std.specs.FinMap.{entries}
 use Rattle.std.specs.List.{flat_map}

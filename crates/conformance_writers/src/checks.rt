@@ -96,8 +96,8 @@ pub(crate) fn adds(library: &mut Bibliography, entry: Entry) -> Result<(), Alloc
 }
 
 // What writing told: nothing, that the sink refused, or that memory was lacking.
-pub(crate) fn told(result: Result<(), WriteError>) -> &'static str {
-    match result {
+pub(crate) fn told(written: Result<(), WriteError>) -> &'static str {
+    match written {
         Ok(()) => "done",
         Err(WriteError::Refused) => "refused",
         Err(WriteError::OutOfMemory) => "out of memory",

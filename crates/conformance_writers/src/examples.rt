@@ -2,7 +2,7 @@
 
 use crate::checks::{adds, agrees, biblatex_rows, bibtex_rows, is_biblatex, misc, parsed, says, settled_rows};
 use crate::reread::reread;
-use biblatex::Bibliography;
+use biblatex::{Bibliography, Text};
 use std::test::Fail;
 
 #[test]
@@ -123,8 +123,7 @@ fn equal_keys_are_not_settled(rt: HostRuntime) -> Result<(), Fail> {
     says(&rt, library.is_settled(), true);
     library.get_mut("b").ok_or("an entry")?.key.push_str("b")?;
     says(&rt, library.is_settled(), true);
-    library.get_mut("c").ok_or("an entry")?.key.clear();
-    library.get_mut("c").ok_or("an entry")?.key.push_str("a")?;
+    library.get_mut("c").ok_or("an entry")?.key = Text::from_str(rt.alloc(), "a")?;
     says(&rt, library.is_settled(), false);
     Ok(())
 }

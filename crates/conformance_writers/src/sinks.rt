@@ -36,7 +36,7 @@ impl Sink for Patient {
 }
 
 // A sink that takes so many texts.
-fn patient(alloc: Global, left: u8) -> Patient {
+fn taking(alloc: Global, left: u8) -> Patient {
     Patient {
         left,
         text: String::new(alloc),
@@ -49,10 +49,10 @@ const FILE: &str = "@misc{a, title={A}} @book{b,} @misc{c, journaltitle={J}}";
 #[test]
 fn takes_one_text_for_each_entry(rt: HostRuntime) -> Result<(), Fail> {
     let library = parsed(rt.alloc(), FILE)?;
-    let mut sink = patient(rt.alloc(), 3);
+    let mut sink = taking(rt.alloc(), 3);
     writes_biblatex(&rt, rt.alloc(), &library, &mut sink, "done");
     is_biblatex(&rt, rt.alloc(), &library, sink.text.as_str())?;
-    let mut sink = patient(rt.alloc(), 3);
+    let mut sink = taking(rt.alloc(), 3);
     writes_bibtex(&rt, rt.alloc(), &library, &mut sink, "done");
     is_bibtex(&rt, rt.alloc(), &library, sink.text.as_str())?;
     Ok(())
@@ -67,10 +67,10 @@ fn tells_that_a_text_was_refused(rt: HostRuntime) -> Result<(), Fail> {
         (2, "@misc{a,\ntitle = {A},\n}\n\n@book{b,\n}\n"),
     ];
     for (left, want) in rows {
-        let mut sink = patient(rt.alloc(), left);
+        let mut sink = taking(rt.alloc(), left);
         writes_biblatex(&rt, rt.alloc(), &library, &mut sink, "refused");
         agrees(&rt, sink.text.as_str(), want);
-        let mut sink = patient(rt.alloc(), left);
+        let mut sink = taking(rt.alloc(), left);
         writes_bibtex(&rt, rt.alloc(), &library, &mut sink, "refused");
         agrees(&rt, sink.text.as_str(), want);
     }
@@ -80,7 +80,7 @@ fn tells_that_a_text_was_refused(rt: HostRuntime) -> Result<(), Fail> {
 #[test]
 fn hands_nothing_of_no_entry(rt: HostRuntime) -> Result<(), Fail> {
     let library = parsed(rt.alloc(), "")?;
-    let mut sink = patient(rt.alloc(), 0);
+    let mut sink = taking(rt.alloc(), 0);
     writes_biblatex(&rt, rt.alloc(), &library, &mut sink, "done");
     writes_bibtex(&rt, rt.alloc(), &library, &mut sink, "done");
     Ok(())
