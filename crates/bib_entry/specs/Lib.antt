@@ -1,2 +1,4 @@
 pub mod Fields
+pub mod Format
 pub mod Parents
+pub mod WrittenEntries

@@ -5,3 +5,4 @@ pub mod entry;
 mod fields;
 mod parents;
 pub mod retrieval;
+pub mod write;

@@ -1,3 +1,5 @@
+pub mod AloneFacts
+pub mod DistinctFacts
 pub mod FaultFacts
 pub mod InsideFacts
 pub mod LibraryFacts
@@ -6,6 +8,8 @@ pub mod LoadingFacts
 pub mod PlaceLaws
 pub mod RawFacts
 pub mod RefusalFacts
+pub mod RereadFacts
 pub mod ResolvedFacts
 pub mod TurnFacts
 pub mod UnreadFacts
+pub mod WritingFacts

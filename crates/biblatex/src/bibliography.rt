@@ -170,6 +170,20 @@ impl Bibliography {
         Bibliography { entries, names }
     }
 
+    // The entries in order.
+    pub(crate) fn as_slice(&self) -> &[Entry]
+        ensures { result.now ≡ self.now.entries }
+    {
+        self.entries.as_slice()
+    }
+
+    // The names of the entries.
+    pub(crate) fn names(&self) -> &Names
+        ensures { result.now ≡ self.now.names }
+    {
+        &self.names
+    }
+
     /// How many entries there are. Each name points below this.
     pub fn len(&self) -> usize
         ensures count { result ≡ length self.now.entries }

@@ -7,9 +7,11 @@ mod loading;
 mod reading;
 mod references;
 mod resolving;
+mod settled;
 pub mod sink;
 mod turning;
 mod unread;
+pub mod write;
 
 pub use bib_chunks::chunk::{Chunk, Chunks, ChunksRef, Span, Spanned, is_settled};
 pub use bib_contents::resolve::{FieldReader, is_escapable, is_verbatim_field, parse_field};
@@ -31,3 +33,4 @@ pub use bib_types::types::lang::Language;
 pub use bib_types::types::{EditorType, Gender, NameError, Pagination};
 pub use bibliography::{Bibliography, InsertError, Keys};
 pub use sink::Sink;
+pub use write::WriteError;
