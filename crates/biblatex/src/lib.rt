@@ -9,6 +9,8 @@ pub mod sink;
 
 pub use bib_chunks::chunk::{Chunk, Chunks, ChunksRef, Span, Spanned, is_settled};
 pub use bib_contents::resolve::{FieldReader, is_escapable, is_verbatim_field, parse_field};
+pub use bib_dates::date::{Date, DateValue, Datetime, Time, TimeOffset};
+pub use bib_dates::separators::{parse_colon, parse_hyphen};
 pub use bib_entry::entry::{Entry, SetError};
 pub use bib_entry::retrieval::RetrievalError;
 pub use bib_faults::type_error::{TypeError, TypeErrorKind};
