@@ -1,2 +1,3 @@
+pub mod DateFacts
 pub mod EntryFacts
 pub mod FieldFacts

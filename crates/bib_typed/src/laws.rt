@@ -3,6 +3,8 @@
 
 ghost use Rattle.std.specs.Prelude.{ℕ, List};
 ghost use Rattle.std.specs.declared.ops.Range.{Range as ARange};
+ghost use Rattle.bib_people.specs.Kept.{ArePeople};
+ghost use Rattle.bib_people.specs.declared.person.Person.{Person as APerson};
 ghost use Rattle.bib_types.specs.declared.types.lang.Language.{Language as ALanguage};
 ghost use Rattle.bib_values.specs.Enumerations.{IsNamed};
 ghost use Rattle.bib_values.specs.Lists.{StringsKept};
@@ -10,6 +12,7 @@ ghost use Rattle.bib_values.specs.Permissive.{Permissive, LanguagesKept};
 ghost use Rattle.bib_values.specs.Ranges.{RangesKept};
 
 use crate::typed::{PermissiveType, Type};
+use bib_people::person::Person;
 use bib_types::types::lang::Language;
 use bib_types::types::{EditorType, Gender, Pagination};
 use std::ops::Range;
@@ -58,4 +61,11 @@ pub fn lists_of_texts_are_kept()
 pub fn lists_of_languages_are_kept()
     ensures { (languages : List (Permissive ALanguage)) → LanguagesKept languages →
         ⟦<Vec<PermissiveType<Language>> as Type>⟧.kept languages }
+{}
+
+/// Each list of people is kept that has one, and whose names are of words of ASCII letters, points and hyphens with single
+/// spaces between them: no word is `and`, those of names begin with a capital, those of prefixes with a small letter,
+/// no one lacks a name or a given name, and no one has another part.
+pub fn lists_of_people_are_kept()
+    ensures { (people : List APerson) → ArePeople people → ⟦<Vec<Person> as Type>⟧.kept people }
 {}

@@ -6,5 +6,6 @@ pub mod ext;
 pub mod laws;
 mod lists;
 mod numbers;
+mod people;
 mod ranges;
 pub mod typed;

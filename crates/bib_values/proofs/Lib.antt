@@ -1,4 +1,5 @@
 pub mod AndListFacts
+pub mod CommaAlone
 pub mod CommaFacts
 pub mod EnumFacts
 pub mod JoinFacts

@@ -1,5 +1,5 @@
 -- Permissive values are read back.
-use Rattle.std.proofs.Common.{◌≡◌, ◌<◌, Option, Some, None, map, List, [], ◌∷◌, refl, ap, sym, ◌∙◌, length, arith}
+use Rattle.std.proofs.Common.{◌≡◌, Option, Some, map, List, [], ◌∷◌, refl, ap, sym, ◌∙◌, length, arith}
 use Rattle.std.specs.List.{AllByRecursion}
 use Rattle.std.specs.Prelude.{ℕ, encode_utf8_all}
 use Rattle.std.specs.Str.{chars}

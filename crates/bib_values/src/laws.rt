@@ -2,7 +2,8 @@
 
 ghost use Rattle.std.specs.Prelude.{◌≡◌, ◌<◌, ◌⊎◌, ℕ, ℤ, pos, List, Some, FitsSigned};
 ghost use Rattle.std.specs.Int.{w64};
-ghost use Rattle.std.specs.Str.{str_to_ascii_lowercase};
+ghost use Rattle.std.specs.List.{AllByRecursion};
+ghost use Rattle.std.specs.Str.{IsUtf8, str_to_ascii_lowercase};
 ghost use Rattle.std.specs.declared.ops.Range.{Range as ARange};
 ghost use Rattle.bib_chunks.specs.declared.chunk.Chunk.TheVariants.{Verbatim as AVerbatim};
 ghost use Rattle.bib_types.specs.declared.types.Pagination.{Pagination as APagination};
@@ -53,6 +54,12 @@ pub fn enumerations_survive()
 pub fn lists_of_texts_survive()
     ensures { (texts : List (List ℕ)) → StringsKept texts →
         strings_read (strings_written texts) ≡ texts }
+{}
+
+/// No other list of texts is.
+pub fn no_other_list_of_texts_survives()
+    ensures { (texts : List (List ℕ)) → AllByRecursion IsUtf8 texts →
+        strings_read (strings_written texts) ≡ texts → StringsKept texts }
 {}
 
 /// The range that is read from a text, by its characters, is the one that the text is.

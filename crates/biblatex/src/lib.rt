@@ -15,10 +15,13 @@ pub mod write;
 
 pub use bib_chunks::chunk::{Chunk, Chunks, ChunksRef, Span, Spanned, is_settled};
 pub use bib_contents::resolve::{FieldReader, is_escapable, is_verbatim_field, parse_field};
+pub use bib_dates::date::{Date, DateValue, Datetime, Time, TimeOffset};
+pub use bib_dates::separators::{parse_colon, parse_hyphen};
 pub use bib_entry::entry::{Entry, SetError};
 pub use bib_entry::retrieval::RetrievalError;
 pub use bib_faults::type_error::{TypeError, TypeErrorKind};
 pub use bib_maps::text_map::TextMap;
+pub use bib_people::person::Person;
 pub use bib_syntax::raw::{
     BiblatexParser, Field, Pair, ParseError, ParseErrorKind, RawBibliography, RawChunk, RawEntry,
     Token, is_id_continue, is_id_start, is_key,

@@ -1,7 +1,10 @@
 //! What the tests ask and say, in one place: each assertion is a call of these.
 
 use crate::shown::{Shown, shown_chunks, told};
-use biblatex::{Chunk, Chunks, ChunksExt, ChunksRef, Entry, EntryType, Items, Spanned, Text, Type};
+use biblatex::{
+    Chunk, Chunks, ChunksExt, ChunksRef, Entry, EntryType, Items, RetrievalError, Spanned, Text,
+    Type,
+};
 use std::alloc::{AllocError, Global};
 use std::ops::Range;
 use std::process::Abort;
@@ -136,5 +139,63 @@ pub(crate) fn has_chunks(
     };
     let found = shown_chunks(alloc, chunks)?;
     agrees(rt, found.as_str(), want);
+    Ok(())
+}
+
+// One normal chunk that says the name of a field.
+pub(crate) fn named(alloc: Global, name: &str) -> Result<Chunks, AllocError> {
+    normal(alloc, name)
+}
+
+// An entry with the one field of this name, which says it.
+pub(crate) fn with(alloc: Global, name: &str) -> Result<Entry, AllocError> {
+    let mut entry = misc(alloc)?;
+    let chunks = named(alloc, name)?;
+    entry.set(name, chunks).map_err(|_| AllocError)?;
+    Ok(entry)
+}
+
+// A getter found chunks that say this name.
+pub(crate) fn is_got(
+    rt: &impl Abort,
+    alloc: Global,
+    found: Result<ChunksRef<'_>, RetrievalError>,
+    name: &str,
+) -> Result<(), AllocError> {
+    let text = match found {
+        Ok(chunks) => shown_chunks(alloc, chunks)?,
+        Err(e) => e.to_string(alloc)?,
+    };
+    let want = format!(in alloc; "N<{name}>[0-{}]", name.len())?;
+    agrees(rt, text.as_str(), want.as_str());
+    Ok(())
+}
+
+// A getter found this value, or was refused with this fault.
+pub(crate) fn is_value<T: Shown + Drop>(
+    rt: &impl Abort,
+    alloc: Global,
+    found: Result<T, RetrievalError>,
+    want: &str,
+) -> Result<(), AllocError> {
+    let text = told(alloc, found)?;
+    agrees(rt, text.as_str(), want);
+    Ok(())
+}
+
+// The entry has the fields of these names, parted by spaces and in order of their bytes, and no others; each says its name.
+pub(crate) fn has_fields(
+    rt: &impl Abort,
+    alloc: Global,
+    entry: &Entry,
+    names: &str,
+) -> Result<(), AllocError> {
+    let mut found = String::new(alloc);
+    for (name, chunks) in entry.fields.iter() {
+        found.push_str(name.as_str())?;
+        found.push(' ')?;
+        is_got(rt, alloc, Ok(chunks.as_slice()), name.as_str())?;
+    }
+    agrees(rt, found.as_str().trim_end(), names);
     Ok(())
 }

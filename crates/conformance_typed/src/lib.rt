@@ -4,6 +4,10 @@
 #[cfg(test)]
 mod checks;
 #[cfg(test)]
+mod chunk_fields;
+#[cfg(test)]
+mod dates;
+#[cfg(test)]
 mod entries;
 #[cfg(test)]
 mod faults;
@@ -14,6 +18,10 @@ mod names;
 #[cfg(test)]
 mod numbers;
 #[cfg(test)]
+mod people;
+#[cfg(test)]
 mod shown;
+#[cfg(test)]
+mod typed_fields;
 #[cfg(test)]
 mod written;

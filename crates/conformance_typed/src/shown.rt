@@ -1,8 +1,8 @@
 //! Values, chunks and faults as texts, which the tests compare.
 
 use biblatex::{
-    Chunk, Chunks, ChunksRef, EditorType, Gender, Language, Pagination, PermissiveType,
-    RetrievalError, Spanned, TypeError,
+    Chunk, Chunks, ChunksRef, Date, DateValue, EditorType, Gender, Language, Pagination,
+    PermissiveType, Person, RetrievalError, Spanned, Text, TypeError,
 };
 use std::alloc::{AllocError, Global};
 use std::ops::Range;
@@ -114,6 +114,45 @@ impl<T: Shown> Shown for Vec<T> {
             out.push_str(text.as_str())?;
         }
         Ok(out)
+    }
+}
+
+// An optional part of a name behind its key.
+fn push_part(out: &mut String, key: &str, part: &Option<Text>) -> Result<(), AllocError> {
+    if let Some(text) = part {
+        out.push_str(key)?;
+        out.push_str(text.as_str())?;
+    }
+    Ok(())
+}
+
+// Name, given name, prefix and suffix with slashes between them, and then those of the other parts that are there.
+impl Shown for Person {
+    fn shown(&self, alloc: Global) -> Result<String, AllocError> {
+        let (name, given) = (self.name.as_str(), self.given_name.as_str());
+        let (prefix, suffix) = (self.prefix.as_str(), self.suffix.as_str());
+        let mut out = format!(in alloc; "{name}/{given}/{prefix}/{suffix}")?;
+        push_part(&mut out, " id=", &self.id)?;
+        push_part(&mut out, " prefix-i=", &self.prefix_initials)?;
+        push_part(&mut out, " given-i=", &self.given_initials)?;
+        match self.use_prefix {
+            Some(true) => out.push_str(" with")?,
+            Some(false) => out.push_str(" without")?,
+            None => {}
+        }
+        Ok(out)
+    }
+}
+
+// The sides of a date with two points between them.
+impl Shown for Date {
+    fn shown(&self, alloc: Global) -> Result<String, AllocError> {
+        match &self.value {
+            DateValue::At(at) => format!(in alloc; "{at}"),
+            DateValue::After(from) => format!(in alloc; "{from}.."),
+            DateValue::Before(to) => format!(in alloc; "..{to}"),
+            DateValue::Between(from, to) => format!(in alloc; "{from}..{to}"),
+        }
     }
 }
 

@@ -1,0 +1,67 @@
+-- Meaning: words of public contracts.
+-- People who survive being written and read again.
+use Rattle.std.specs.Prelude.{◌≡◌, ℕ, ◌<◌, nat_lt, ◌==◌, ◌&&◌, ◌||◌, not, Bool, true, false, List, [], ◌∷◌, ◌++◌, length, None}
+use Rattle.std.specs.List.{list_all}
+use Rattle.bib_chunks.specs.Cuts.{is_and}
+use Rattle.bib_people.specs.declared.person.Person.{Person}
+
+-- ASCII
+abbrev pub is_capital_letter : ℕ → Bool
+is_capital_letter b = nat_lt 64 b && nat_lt b 91
+
+abbrev pub is_small_letter : ℕ → Bool
+is_small_letter b = nat_lt 96 b && nat_lt b 123
+
+-- a letter, a point or a hyphen
+abbrev pub is_name_byte : ℕ → Bool
+is_name_byte b = is_capital_letter b || (is_small_letter b || (b == 46 || b == 45))
+
+abbrev pub begins : (ℕ → Bool) → List ℕ → Bool
+begins test [] = false
+begins test (b ∷ bs) = test b
+
+-- the word that parts people
+abbrev pub is_word_and : List ℕ → Bool
+is_word_and (a ∷ n ∷ d ∷ []) = is_and a n d
+is_word_and word = false
+
+-- a word of letters, points and hyphens, which begins so and isn't `and`
+abbrev pub is_kept_word : (ℕ → Bool) → List ℕ → Bool
+is_kept_word test word = begins test word && (list_all is_name_byte word && not (is_word_and word))
+
+-- words parted by single spaces
+abbrev pub behind_words : List (List ℕ) → List ℕ
+behind_words [] = []
+behind_words (word ∷ words) = 32 ∷ (word ++ behind_words words)
+
+abbrev pub spaced : List (List ℕ) → List ℕ
+spaced [] = []
+spaced (word ∷ words) = word ++ behind_words words
+
+-- a text is such words, each of which begins so
+pub record AreWords (test : ℕ → Bool) (text : List ℕ) : Type 0 where
+  pub words : List (List ℕ)
+  pub kept : list_all (is_kept_word test) words ≡ true
+  pub spell : text ≡ spaced words
+
+-- a person that survives
+pub record IsKept (p : Person) : Type 0 where
+  pub name : AreWords is_capital_letter p.name
+  pub given_name : AreWords is_name_byte p.given_name
+  pub prefix : AreWords is_small_letter p.prefix
+  pub suffix : AreWords is_name_byte p.suffix
+  pub has_name : 0 < length p.name
+  pub has_given_name : 0 < length p.given_name
+  pub no_id : p.id ≡ None
+  pub no_prefix_initials : p.prefix_initials ≡ None
+  pub no_given_initials : p.given_initials ≡ None
+  pub no_use_prefix : p.use_prefix ≡ None
+
+abbrev pub AllKept : List Person → Type 0
+AllKept [] = Unit {0}
+AllKept (p ∷ people) = IsKept p × AllKept people
+
+-- people that survive
+pub record ArePeople (people : List Person) : Type 0 where
+  pub some : 0 < length people
+  pub all : AllKept people

@@ -1,0 +1,71 @@
+-- Meaning: words of public contracts.
+-- The words of a name, after "Tame the BeaST" by Nicolas Markey and as the Rust crate `biblatex` has them.
+use Rattle.std.specs.Prelude.{ℕ, Bool, true, false, not, ◌&&◌, ◌==◌, if◌then◌else◌, List, [], ◌∷◌, ◌++◌, length, map, encode_utf8_all}
+use Rattle.std.specs.List.{flat_map, prefix_len}
+use Rattle.std.specs.Char.{is_whitespace}
+use Rattle.std.specs.Str.{chars, trim}
+use Rattle.bib_chunks.specs.declared.chunk.Chunk.{Chunk}
+use Rattle.bib_chunks.specs.declared.chunk.Chunk.TheVariants.{Normal, Verbatim, Math}
+use Rattle.bib_text.specs.declared.spanned.Spanned.{Spanned}
+use Rattle.bib_chunks.specs.Styled.{text_of}
+
+-- a character of a name, and whether it is verbatim
+pub record Letter : Type 0 where
+  pub char : ℕ
+  pub is_verbatim : Bool
+
+-- the characters of a text, each verbatim or not
+abbrev pub as_letters : Bool → List ℕ → List Letter
+as_letters is_verbatim text = map (λ c. record { char = c; is_verbatim = is_verbatim }) (chars text)
+
+-- math counts as not verbatim
+abbrev pub is_verbatim : Chunk → Bool
+is_verbatim (Normal text) = false
+is_verbatim (Verbatim text) = true
+is_verbatim (Math text) = false
+
+-- the characters of chunks; the dollar signs round math are not among them
+abbrev pub letters : List (Spanned Chunk) → List Letter
+letters = flat_map (λ c. as_letters (is_verbatim c.v) (text_of c.v))
+
+-- words are parted by white space that is not verbatim
+abbrev pub is_gap : Letter → Bool
+is_gap l = is_whitespace l.char && not l.is_verbatim
+
+-- how many letters stand in the gap, or in the word, at the front
+abbrev pub gap_len : List Letter → ℕ
+gap_len letters = prefix_len is_gap letters
+
+abbrev pub word_len : List Letter → ℕ
+word_len letters = prefix_len (λ l. not (is_gap l)) letters
+
+-- a word of a name, and the gap before it
+pub record Word : Type 0 where
+  pub gap : List Letter
+  pub letters : List Letter
+
+abbrev pub a_word : List Letter → List Letter → Word
+a_word gap letters = record { gap = gap; letters = letters }
+
+-- words behind one more letter: it belongs to the gap before the first word, is the first letter of that word, or is a
+-- word where a gap or nothing follows
+abbrev pub before_words : Letter → List Word → List Word
+before_words l [] = if is_gap l then [] else a_word [] (l ∷ []) ∷ []
+before_words l (word ∷ words) =
+    if is_gap l then a_word (l ∷ word.gap) word.letters ∷ words
+    else if length word.gap == 0 then a_word [] (l ∷ word.letters) ∷ words
+    else a_word [] (l ∷ []) ∷ word ∷ words
+
+-- the words of some letters; a gap at the end is left out
+abbrev pub words_of : List Letter → List Word
+words_of [] = []
+words_of (l ∷ rest) = before_words l (words_of rest)
+
+-- what neighbouring words are in the source, but for the gap before the first of them
+abbrev pub word_letters : Bool → List Word → List Letter
+word_letters first [] = []
+word_letters first (word ∷ words) = (if first then [] else word.gap) ++ (word.letters ++ word_letters false words)
+
+-- what stands from the first letter of neighbouring words to the last one, in bytes, without the white space at its ends
+abbrev pub text_of_words : List Word → List ℕ
+text_of_words words = trim (encode_utf8_all (map (λ l. l.char) (word_letters true words)))

@@ -1,0 +1,5 @@
+pub mod Letters
+pub mod Names
+pub mod People
+pub mod Kept
+pub mod Told

@@ -1,0 +1,193 @@
+-- Meaning: words of public contracts.
+-- Names of people, after "Tame the BeaST" by Nicolas Markey and, for names in parts, the BibLaTeX manual on name parts.
+use Rattle.std.specs.Prelude.{◌++◌, ℕ, ◌+◌, ◌-◌, Bool, false, not, ◌&&◌, ◌||◌, ◌==◌, if◌then◌else◌, List, [], ◌∷◌, length, map, take, drop, codes, encode_utf8_all, Option, Some, None, bytes_eq}
+use Rattle.std.specs.List.{list_any, prefix_len, before_last, after_last}
+use Rattle.std.specs.Option.{unwrap_or, option_map}
+use Rattle.unicode.specs.Binary.{is_uppercase, is_lowercase}
+use Rattle.std.specs.Str.{trim}
+use Rattle.bib_chunks.specs.declared.chunk.Chunk.{Chunk}
+use Rattle.bib_text.specs.declared.spanned.Spanned.{Spanned}
+use Rattle.bib_chunks.specs.Styled.{text_of}
+use Rattle.bib_chunks.specs.Formatted.{formatted}
+use Rattle.bib_chunks.specs.Cuts.{comma_list, cut_at}
+use Rattle.bib_people.specs.declared.person.Person.{Person}
+use Rattle.bib_people.specs.Letters.{Letter, letters, Word, words_of, text_of_words}
+
+-- whether there is a first letter, and it passes
+abbrev pub first_passes : (Letter → Bool) → List Letter → Bool
+first_passes test [] = false
+first_passes test (l ∷ rest) = test l
+
+-- in a name without a comma a word is capital where it begins with a capital or verbatim letter, else lower
+abbrev pub is_capital : Word → Bool
+is_capital word = first_passes (λ l. l.is_verbatim || is_uppercase l.char) word.letters
+
+abbrev pub is_lower : Word → Bool
+is_lower word = not (is_capital word)
+
+-- before a comma a word is low where it begins with a small or verbatim letter
+abbrev pub is_low : Word → Bool
+is_low word = first_passes (λ l. l.is_verbatim || is_lowercase l.char) word.letters
+
+-- how many words stand at the front up to the first that fails
+abbrev pub leading : (Word → Bool) → List Word → ℕ
+leading test words = prefix_len test words
+
+-- how many words stand at the front up to the last that passes, this one included
+abbrev pub through_last : (Word → Bool) → List Word → ℕ
+through_last test [] = 0
+through_last test (word ∷ words) = if list_any test (word ∷ words) then 1 + through_last test words else 0
+
+-- of how many words the given name is, and of how many behind them the prefix; the rest are the name
+pub record Cuts : Type 0 where
+  pub given : ℕ
+  pub prefix : ℕ
+
+-- a name without a comma. The capital words at the front are the given name. If all are capital, the last is the name.
+-- If a capital one follows in the rest, the name begins at the last run of capitals there: the prefix goes through the
+-- last lower word before the last capital one. If none does, the last word is the name
+unfoldable pub whole_name : List Word → Cuts
+whole_name words =
+    let given = leading is_capital words in
+    let more = drop given words in
+    let end = through_last is_capital more in
+    if given == length words then record { given = length words - 1; prefix = 0 }
+    else if end == 0 then record { given = given; prefix = length more - 1 }
+    else record { given = given; prefix = through_last is_lower (take end more) }
+
+-- what stands before a comma: the prefix goes through the last low word; where all are low, the last word is the name
+unfoldable pub before_comma : List Word → Cuts
+before_comma words =
+    if leading is_low words == length words then record { given = 0; prefix = length words - 1 }
+    else record { given = 0; prefix = through_last is_low words }
+
+-- the texts of the parts of a name that is cut so
+abbrev pub given_text : Cuts → List Word → List ℕ
+given_text cuts words = text_of_words (take cuts.given words)
+
+abbrev pub prefix_text : Cuts → List Word → List ℕ
+prefix_text cuts words = text_of_words (take cuts.prefix (drop cuts.given words))
+
+abbrev pub name_text : Cuts → List Word → List ℕ
+name_text cuts words = text_of_words (drop cuts.prefix (drop cuts.given words))
+
+-- a text in bytes, without the white space at its ends
+abbrev pub shown : List (Spanned Chunk) → List ℕ
+shown chunks = trim (encode_utf8_all (formatted chunks))
+
+-- a person of the four parts alone
+abbrev pub person : List ℕ → List ℕ → List ℕ → List ℕ → Person
+person name given prefix suffix = record {
+  name = name;
+  given_name = given;
+  prefix = prefix;
+  suffix = suffix;
+  id = None;
+  prefix_initials = None;
+  given_initials = None;
+  use_prefix = None;
+}
+
+abbrev pub whole_person : Cuts → List Word → Person
+whole_person cuts words = person (name_text cuts words) (given_text cuts words) (prefix_text cuts words) []
+
+abbrev pub person_of_words : List Word → Person
+person_of_words words = whole_person (whole_name words) words
+
+abbrev pub without_comma : List (Spanned Chunk) → Person
+without_comma chunks = person_of_words (words_of (letters chunks))
+
+abbrev pub is_space : ℕ → Bool
+is_space b = b == 32
+
+-- a name whose second part is blank: the text before the comma is cut at its last space
+abbrev pub at_last_space : List ℕ → List ℕ → Person
+at_last_space text suffix =
+    if list_any is_space text
+    then person (trim (after_last is_space text)) [] (trim (before_last is_space text)) suffix
+    else person (trim text) [] [] suffix
+
+-- whether chunks are a single one that formats to nothing
+abbrev pub is_blank : List (Spanned Chunk) → Bool
+is_blank chunks = length chunks == 1 && length (formatted chunks) == 0
+
+abbrev pub cut_person : Cuts → List Word → List ℕ → List ℕ → Person
+cut_person cuts words given suffix = person (name_text cuts words) given (prefix_text cuts words) suffix
+
+abbrev pub before_comma_person : List Word → List ℕ → List ℕ → Person
+before_comma_person words given suffix = cut_person (before_comma words) words given suffix
+
+-- a name with a comma: what stands before the first one, and behind the first or, with a suffix, the second
+abbrev pub with_comma : List (Spanned Chunk) → List (Spanned Chunk) → List ℕ → Person
+with_comma first second suffix =
+    if is_blank second then at_last_space (encode_utf8_all (formatted first)) suffix
+    else before_comma_person (words_of (letters first)) (shown second) suffix
+
+abbrev pub with_commas : List (Spanned Chunk) → List (Spanned Chunk) → Option (List (Spanned Chunk) × List (Spanned Chunk)) → Person
+with_commas first second None = with_comma first second []
+with_commas first second (Some cut) = with_comma first cut.1 (shown cut.0)
+
+abbrev pub cut_by_commas : List (Spanned Chunk) → Option (List (Spanned Chunk) × List (Spanned Chunk)) → Person
+cut_by_commas chunks None = without_comma chunks
+cut_by_commas chunks (Some cut) = with_commas cut.0 cut.1 (cut_at cut.1 44)
+
+abbrev pub by_commas : List (Spanned Chunk) → Person
+by_commas chunks = cut_by_commas chunks (cut_at chunks 44)
+
+-- names in parts: a comma list of `key=value`
+
+-- a key and a value
+abbrev pub Part : Type 0
+Part = List ℕ × List ℕ
+
+-- without an equals sign the value is empty
+abbrev pub part_cut : List (Spanned Chunk) → Option (List (Spanned Chunk) × List (Spanned Chunk)) → Part
+part_cut chunks None = (shown chunks, [])
+part_cut chunks (Some cut) = (shown cut.0, shown cut.1)
+
+abbrev pub part_of : List (Spanned Chunk) → Part
+part_of chunks = part_cut chunks (cut_at chunks 61)
+
+abbrev pub parts_of : List (Spanned Chunk) → List Part
+parts_of chunks = map part_of (comma_list chunks)
+
+-- the value of a key, given the one that was found before; of two the last stands
+abbrev pub value_behind : Option (List ℕ) → List ℕ → List Part → Option (List ℕ)
+value_behind found key [] = found
+value_behind found key (part ∷ parts) = value_behind (if bytes_eq part.0 key then Some part.1 else found) key parts
+
+abbrev pub value_of : List ℕ → List Part → Option (List ℕ)
+value_of = value_behind None
+
+unfoldable pub person_of_parts : List Part → Person
+person_of_parts parts = record {
+  name = unwrap_or (value_of (codes "family") parts) [];
+  given_name = unwrap_or (value_of (codes "given") parts) [];
+  prefix = unwrap_or (value_of (codes "prefix") parts) [];
+  suffix = unwrap_or (value_of (codes "suffix") parts) [];
+  id = value_of (codes "id") parts;
+  prefix_initials = value_of (codes "prefix-i") parts;
+  given_initials = value_of (codes "given-i") parts;
+  use_prefix = option_map (λ v. bytes_eq v (codes "true")) (value_of (codes "useprefix") parts);
+}
+
+abbrev pub in_parts : List (Spanned Chunk) → Person
+in_parts chunks = person_of_parts (parts_of chunks)
+
+-- whether an equals sign stands in a chunk of any kind
+abbrev pub is_in_parts : List (Spanned Chunk) → Bool
+is_in_parts chunks = list_any (λ c. list_any (λ b. b == 61) (text_of c.v)) chunks
+
+-- the person that chunks name
+unfoldable pub person_of : List (Spanned Chunk) → Person
+person_of chunks = if is_in_parts chunks then in_parts chunks else by_commas chunks
+
+-- a name as it is shown
+
+-- one space beside a text, or nothing beside an empty one
+abbrev pub gap_beside : List ℕ → List ℕ
+gap_beside text = if length text == 0 then [] else 32 ∷ []
+
+-- given name, prefix, name and suffix, those that are not empty parted by single spaces; the name stands there always
+abbrev pub shown_person : Person → List ℕ
+shown_person p = p.given_name ++ (gap_beside p.given_name ++ (p.prefix ++ (gap_beside p.prefix ++ (p.name ++ (gap_beside p.suffix ++ p.suffix)))))

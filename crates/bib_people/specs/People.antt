@@ -1,0 +1,80 @@
+-- Meaning: words of public contracts.
+-- Lists of people, as they are read and written.
+use Rattle.std.specs.Prelude.{ℕ, ◌==◌, ◌||◌, Bool, true, false, if◌then◌else◌, List, [], ◌∷◌, ◌++◌, length, map, codes, Option, Some, None, is_some}
+use Rattle.std.specs.Str.{chars}
+use Rattle.unicode.specs.Binary.{is_uppercase}
+use Rattle.bib_chunks.specs.declared.chunk.Chunk.TheVariants.{Normal, Verbatim}
+use Rattle.bib_chunks.specs.Cuts.{and_list}
+use Rattle.bib_values.specs.Values.{Value, nowhere}
+use Rattle.bib_people.specs.declared.person.Person.{Person}
+use Rattle.bib_people.specs.Names.{person_of}
+
+-- the people that chunks name
+abbrev pub people_of : Value → List Person
+people_of chunks = map person_of (and_list chunks)
+
+-- a person of the four parts alone
+
+-- a suffix and the comma behind it, if there is one
+abbrev pub suffix_text : List ℕ → List ℕ
+suffix_text suffix = if length suffix == 0 then [] else suffix ++ codes ", "
+
+-- name, suffix and given name
+abbrev pub behind_prefix : Person → List ℕ
+behind_prefix p = p.name ++ (codes ", " ++ (suffix_text p.suffix ++ p.given_name))
+
+abbrev pub begins_capital : List ℕ → Bool
+begins_capital [] = false
+begins_capital (c ∷ cs) = is_uppercase c
+
+-- one normal chunk; a prefix that begins with a capital is a verbatim one before it
+abbrev pub plain_chunks : Person → Value
+plain_chunks p =
+    if length p.prefix == 0 then nowhere (Normal (behind_prefix p)) ∷ []
+    else if begins_capital (chars p.prefix) then nowhere (Verbatim p.prefix) ∷ nowhere (Normal (codes " " ++ behind_prefix p)) ∷ []
+    else nowhere (Normal (p.prefix ++ (codes " " ++ behind_prefix p))) ∷ []
+
+-- a person in parts
+
+-- a key, with what stands before it and the equals sign, and its value
+unfoldable pub keyed : List ℕ → List ℕ → Value
+keyed key value = nowhere (Normal key) ∷ nowhere (Verbatim value) ∷ []
+
+abbrev pub keyed_some : List ℕ → Option (List ℕ) → Value
+keyed_some key None = []
+keyed_some key (Some value) = keyed key value
+
+abbrev pub flag_text : Bool → List ℕ
+flag_text true = codes "true"
+flag_text false = codes "false"
+
+abbrev pub keyed_flag : List ℕ → Option Bool → Value
+keyed_flag key None = []
+keyed_flag key (Some flag) = keyed key (flag_text flag)
+
+abbrev pub four_keys : Person → Value
+four_keys p = keyed (codes "given=") p.given_name ++ (keyed (codes ", family=") p.name ++ (keyed (codes ", prefix=") p.prefix ++ keyed (codes ", suffix=") p.suffix))
+
+abbrev pub more_keys : Person → Value
+more_keys p = keyed_some (codes ", id=") p.id ++ (keyed_some (codes ", prefix-i=") p.prefix_initials ++ (keyed_some (codes ", given-i=") p.given_initials ++ keyed_flag (codes ", useprefix=") p.use_prefix))
+
+-- whether one of the optional parts is there
+abbrev pub has_more : Person → Bool
+has_more p = is_some p.id || (is_some p.prefix_initials || (is_some p.given_initials || is_some p.use_prefix))
+
+-- people
+
+abbrev pub person_chunks : Person → Value
+person_chunks p = if has_more p then four_keys p ++ more_keys p else plain_chunks p
+
+-- the same, behind the word `and` for all but the first
+abbrev pub joined_person : Bool → Person → Value
+joined_person first p = if first then person_chunks p else nowhere (Normal (codes " and ")) ∷ person_chunks p
+
+abbrev pub people_from : Bool → List Person → Value
+people_from first [] = []
+people_from first (p ∷ people) = joined_person first p ++ people_from false people
+
+-- the chunks that are written for people
+abbrev pub people_chunks : List Person → Value
+people_chunks = people_from true

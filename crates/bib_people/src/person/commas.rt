@@ -1,0 +1,143 @@
+//! Names that are cut at commas.
+
+ghost use Rattle.std.specs.Prelude.{false, MatchOption, ◌≡◌, ◌≤◌, ◌+◌, length, IfOk};
+ghost use Rattle.std.specs.List.{list_any};
+ghost use Rattle.bib_people.specs.Told.{IsLastSpace, cuts_of};
+ghost use Rattle.bib_people.specs.Names.{is_space, person, shown, is_blank, at_last_space, whole_person, cut_person, without_comma, with_comma, by_commas};
+
+use super::Person;
+use super::cuts::{Cuts, before_comma, whole_name};
+use super::words::{Word, letters, text_of_words, words};
+use bib_chunks::chunk::cuts::cut_at;
+use bib_chunks::chunk::{ChunksRef, format_verbatim};
+use bib_text::text::Text;
+use std::alloc::{AllocError, Global};
+
+// A person of these parts alone.
+fn person(name: Text, given_name: Text, prefix: Text, suffix: Text) -> Person
+    ensures { result ≡ person name given_name prefix suffix }
+{
+    Person {
+        name,
+        given_name,
+        prefix,
+        suffix,
+        id: None,
+        prefix_initials: None,
+        given_initials: None,
+        use_prefix: None,
+    }
+}
+
+// The text of chunks, without the white space at its ends.
+pub(crate) fn shown(alloc: Global, chunks: ChunksRef<'_>) -> Result<Text, AllocError>
+    ensures { IfOk result (λ text. text ≡ shown chunks.now) }
+{
+    let text = format_verbatim(alloc, chunks)?;
+    Text::from_str(alloc, text.as_str().trim())
+}
+
+// The person of a name without a comma that is cut so.
+fn whole_person(alloc: Global, words: &[Word<'_>], cuts: Cuts) -> Result<Person, AllocError>
+    requires { cuts.given + cuts.prefix ≤ length words.now }
+    ensures { IfOk result (λ person. person ≡ whole_person (cuts_of cuts) words.now) }
+{
+    let behind = &words[cuts.given..];
+    let name = text_of_words(alloc, &behind[cuts.prefix..])?;
+    let given = text_of_words(alloc, &words[..cuts.given])?;
+    let prefix = text_of_words(alloc, &behind[..cuts.prefix])?;
+    Ok(person(name, given, prefix, Text::new(alloc)))
+}
+
+// The person of a name without a comma.
+fn without_comma(alloc: Global, chunks: ChunksRef<'_>) -> Result<Person, AllocError>
+    ensures { IfOk result (λ person. person ≡ without_comma chunks.now) }
+{
+    let letters = letters(alloc, chunks)?;
+    let words = words(alloc, letters.as_slice())?;
+    let cuts = whole_name(words.as_slice());
+    whole_person(alloc, words.as_slice(), cuts)
+}
+
+// Whether chunks are a single one that formats to nothing.
+fn is_blank(alloc: Global, chunks: ChunksRef<'_>) -> Result<bool, AllocError>
+    ensures { IfOk result (λ blank. blank ≡ is_blank chunks.now) }
+{
+    if chunks.len() != 1 {
+        return Ok(false);
+    }
+    let text = format_verbatim(alloc, chunks)?;
+    Ok(text.as_str().is_empty())
+}
+
+// Where the last space of a text stands.
+fn last_space(text: &str) -> Option<usize>
+    ensures { MatchOption result (list_any is_space text.now ≡ false) (IsLastSpace text.now) }
+{
+    text.rfind(' ')
+}
+
+// The person of a name whose second part is blank.
+fn at_last_space(alloc: Global, text: &str, suffix: Text) -> Result<Person, AllocError>
+    ensures { IfOk result (λ person. person ≡ at_last_space text.now suffix) }
+{
+    let empty = Text::new(alloc);
+    let Some(space) = last_space(text) else {
+        let name = Text::from_str(alloc, text.trim())?;
+        return Ok(person(name, empty, Text::new(alloc), suffix));
+    };
+    let name = Text::from_str(alloc, text[space + 1..].trim())?;
+    let prefix = Text::from_str(alloc, text[..space].trim())?;
+    Ok(person(name, empty, prefix, suffix))
+}
+
+// The person of a name that is cut so before its comma.
+fn cut_person(
+    alloc: Global,
+    words: &[Word<'_>],
+    cuts: Cuts,
+    given: Text,
+    suffix: Text,
+) -> Result<Person, AllocError>
+    requires { cuts.given + cuts.prefix ≤ length words.now }
+    ensures { IfOk result (λ person. person ≡ cut_person (cuts_of cuts) words.now given suffix) }
+{
+    let behind = &words[cuts.given..];
+    let name = text_of_words(alloc, &behind[cuts.prefix..])?;
+    let prefix = text_of_words(alloc, &behind[..cuts.prefix])?;
+    Ok(person(name, given, prefix, suffix))
+}
+
+// The person of a name with a comma.
+fn with_comma(
+    alloc: Global,
+    first: ChunksRef<'_>,
+    second: ChunksRef<'_>,
+    suffix: Text,
+) -> Result<Person, AllocError>
+    ensures { IfOk result (λ person. person ≡ with_comma first.now second.now suffix) }
+{
+    if is_blank(alloc, second)? {
+        let text = format_verbatim(alloc, first)?;
+        return at_last_space(alloc, text.as_str(), suffix);
+    }
+    let letters = letters(alloc, first)?;
+    let words = words(alloc, letters.as_slice())?;
+    let cuts = before_comma(words.as_slice());
+    let given = shown(alloc, second)?;
+    cut_person(alloc, words.as_slice(), cuts, given, suffix)
+}
+
+// The person of a name that isn't given in parts.
+pub(crate) fn by_commas(alloc: Global, chunks: ChunksRef<'_>) -> Result<Person, AllocError>
+    ensures { IfOk result (λ person. person ≡ by_commas chunks.now) }
+{
+    let Some((first, rest)) = cut_at(alloc, chunks, ',')? else {
+        return without_comma(alloc, chunks);
+    };
+    let Some((suffix, given)) = cut_at(alloc, rest.as_slice(), ',')? else {
+        return with_comma(alloc, first.as_slice(), rest.as_slice(), Text::new(alloc));
+    };
+    let suffix = shown(alloc, suffix.as_slice())?;
+    with_comma(alloc, first.as_slice(), given.as_slice(), suffix)
+}

@@ -1,0 +1,109 @@
+//! Where a name is cut into given name, prefix and name.
+
+ghost use Rattle.std.specs.Prelude.{◌≡◌, ◌+◌, ◌≤◌, length};
+ghost use Rattle.bib_people.specs.Names.{leading, through_last, whole_name, before_comma};
+ghost use Rattle.bib_people.specs.Told.{is_of, cuts_of};
+
+use super::words::Word;
+use unicode::properties::{is_lowercase, is_uppercase};
+
+// What a word is told by: a capital or verbatim first letter, none such, or a small or verbatim first letter.
+#[derive(Clone, Copy, PartialEq, Eq, Drop)]
+pub(crate) enum Kind {
+    Capital,
+    Lower,
+    Low,
+}
+
+// Of how many words the given name is, and of how many behind them the prefix; the rest are the name.
+#[derive(Clone, Copy, Drop)]
+pub(crate) struct Cuts {
+    pub(crate) given: usize,
+    pub(crate) prefix: usize,
+}
+
+// Whether the word is of this kind.
+fn is_of(word: &Word<'_>, kind: Kind) -> bool
+    ensures { result ≡ is_of kind word.now }
+{
+    let Some(first) = word.letters().first() else {
+        return kind == Kind::Lower;
+    };
+    match kind {
+        Kind::Capital => first.is_verbatim || is_uppercase(first.char),
+        Kind::Lower => !(first.is_verbatim || is_uppercase(first.char)),
+        Kind::Low => first.is_verbatim || is_lowercase(first.char),
+    }
+}
+
+// How many words of this kind stand at the front.
+fn leading(words: &[Word<'_>], kind: Kind) -> usize
+    ensures value { result ≡ leading (is_of kind) words.now }
+    ensures within { result ≤ length words.now }
+{
+    'words: for (i, word) in words.iter().enumerate() {
+        if !is_of(word, kind) {
+            return i;
+        }
+    }
+    words.len()
+}
+
+// How many words stand at the front through the last one of this kind.
+fn through_last(words: &[Word<'_>], kind: Kind) -> usize
+    ensures value { result ≡ through_last (is_of kind) words.now }
+    ensures within { result ≤ length words.now }
+{
+    let mut end = 0usize;
+    'words: for (i, word) in words.iter().enumerate() {
+        if is_of(word, kind) {
+            end = i + 1;
+        }
+    }
+    end
+}
+
+// Where a name without a comma is cut.
+#[tactic(auto, unfolding(crate::specs::Names::whole_name))]
+pub(crate) fn whole_name(words: &[Word<'_>]) -> Cuts
+    ensures value { cuts_of result ≡ whole_name words.now }
+    ensures within { result.given + result.prefix ≤ length words.now }
+{
+    let given = leading(words, Kind::Capital);
+    if given == words.len() {
+        return Cuts {
+            given: given.saturating_sub(1),
+            prefix: 0,
+        };
+    }
+    let more = &words[given..];
+    let end = through_last(more, Kind::Capital);
+    if end == 0 {
+        return Cuts {
+            given,
+            prefix: more.len() - 1,
+        };
+    }
+    Cuts {
+        given,
+        prefix: through_last(&more[..end], Kind::Lower),
+    }
+}
+
+// Where what stands before a comma is cut.
+#[tactic(auto, unfolding(crate::specs::Names::before_comma))]
+pub(crate) fn before_comma(words: &[Word<'_>]) -> Cuts
+    ensures value { cuts_of result ≡ before_comma words.now }
+    ensures within { result.given + result.prefix ≤ length words.now }
+{
+    if leading(words, Kind::Low) == words.len() {
+        return Cuts {
+            given: 0,
+            prefix: words.len().saturating_sub(1),
+        };
+    }
+    Cuts {
+        given: 0,
+        prefix: through_last(words, Kind::Low),
+    }
+}

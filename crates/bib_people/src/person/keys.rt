@@ -1,0 +1,113 @@
+//! Names in parts, each behind a key.
+
+ghost use Rattle.std.specs.Prelude.{codes, ◌≡◌, ◌==◌, [], map, IfOk, bytes_eq};
+ghost use Rattle.std.specs.List.{list_any};
+ghost use Rattle.std.specs.Option.{unwrap_or, option_map, option_copied};
+ghost use Rattle.bib_chunks.specs.Styled.{text_of};
+ghost use Rattle.bib_people.specs.Names.{part_of, parts_of, value_of, person_of_parts, in_parts, is_in_parts};
+
+use super::Person;
+use super::commas::shown;
+use bib_chunks::chunk::ChunksRef;
+use bib_chunks::chunk::cuts::{comma_list, cut_at};
+use bib_text::items::Items;
+use bib_text::text::Text;
+use std::alloc::{AllocError, Global};
+
+// A key and its value.
+type Part = (Text, Text);
+
+// Whether an equals sign stands in a chunk of any kind.
+pub(crate) fn is_in_parts(chunks: ChunksRef<'_>) -> bool
+    ensures { result ≡ is_in_parts chunks.now }
+{
+    'chunks: for chunk in chunks {
+        if chunk.v.get().as_bytes().contains(&b'=') {
+            return true;
+        }
+    }
+    false
+}
+
+// A key and its value.
+fn read_part(alloc: Global, chunks: ChunksRef<'_>) -> Result<Part, AllocError>
+    ensures { IfOk result (λ part. part ≡ part_of chunks.now) }
+{
+    let Some((key, value)) = cut_at(alloc, chunks, '=')? else {
+        let key = shown(alloc, chunks)?;
+        return Ok((key, Text::new(alloc)));
+    };
+    let key = shown(alloc, key.as_slice())?;
+    let value = shown(alloc, value.as_slice())?;
+    Ok((key, value))
+}
+
+// The keys of a name and their values.
+fn parts(alloc: Global, chunks: ChunksRef<'_>) -> Result<Items<Part>, AllocError>
+    ensures { IfOk result (λ parts. parts ≡ parts_of chunks.now) }
+{
+    let list = comma_list(alloc, chunks)?;
+    let mut all = Items::new(alloc);
+    'parts: for chunks in list.as_slice() {
+        all.push(read_part(alloc, chunks.as_slice())?)?;
+    }
+    Ok(all)
+}
+
+// The value of a key; of two the last stands.
+fn value_of(alloc: Global, parts: &[Part], key: &str) -> Result<Option<Text>, AllocError>
+    ensures { IfOk result (λ value. value ≡ value_of key.now parts.now) }
+{
+    let mut found = None;
+    'parts: for (name, value) in parts {
+        if name.as_str() == key {
+            found = Some(value.clone()?);
+        }
+    }
+    Ok(found)
+}
+
+// The value of a key, or the empty text.
+fn text_of(alloc: Global, parts: &[Part], key: &str) -> Result<Text, AllocError>
+    ensures { IfOk result (λ text. text ≡ unwrap_or (value_of key.now parts.now) []) }
+{
+    let Some(text) = value_of(alloc, parts, key)? else {
+        return Ok(Text::new(alloc));
+    };
+    Ok(text)
+}
+
+// Whether the prefix counts as part of the name.
+fn use_prefix(alloc: Global, parts: &[Part]) -> Result<Option<bool>, AllocError>
+    ensures { IfOk result (λ used. used ≡ option_map (λ v. bytes_eq v (codes "true")) (value_of (codes "useprefix") parts.now)) }
+{
+    let Some(value) = value_of(alloc, parts, "useprefix")? else {
+        return Ok(None);
+    };
+    Ok(Some(value.as_str() == "true"))
+}
+
+// The person of these parts.
+#[tactic(auto, unfolding(crate::specs::Names::person_of_parts))]
+fn person_of(alloc: Global, parts: &[Part]) -> Result<Person, AllocError>
+    ensures { IfOk result (λ person. person ≡ person_of_parts parts.now) }
+{
+    Ok(Person {
+        name: text_of(alloc, parts, "family")?,
+        given_name: text_of(alloc, parts, "given")?,
+        prefix: text_of(alloc, parts, "prefix")?,
+        suffix: text_of(alloc, parts, "suffix")?,
+        id: value_of(alloc, parts, "id")?,
+        prefix_initials: value_of(alloc, parts, "prefix-i")?,
+        given_initials: value_of(alloc, parts, "given-i")?,
+        use_prefix: use_prefix(alloc, parts)?,
+    })
+}
+
+// The person of a name in parts.
+pub(crate) fn in_parts(alloc: Global, chunks: ChunksRef<'_>) -> Result<Person, AllocError>
+    ensures { IfOk result (λ person. person ≡ in_parts chunks.now) }
+{
+    let parts = parts(alloc, chunks)?;
+    person_of(alloc, parts.as_slice())
+}
