@@ -224,7 +224,14 @@ fn write_fields(
         flat_map (field_in format entry.now.entry_type) (entries entry.now.fields)) }
 {
     'fields: for (name, chunks) in &entry.fields {
-        write_field(alloc, out, &entry.entry_type, name.as_str(), chunks.as_slice(), format)?;
+        write_field(
+            alloc,
+            out,
+            &entry.entry_type,
+            name.as_str(),
+            chunks.as_slice(),
+            format,
+        )?;
     }
     Ok(())
 }

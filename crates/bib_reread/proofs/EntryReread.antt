@@ -164,7 +164,7 @@ block_read e {u} {w} right utf8 stands =
       white' = record { run = stop; stops = key_first key f.1 };
     } in
     let body : Body longest u kind (block_kind (codes "misc")) c.0 (record { preamble = []; entries = said ∷ []; abbreviations = [] }) w =
-        Body.entry d.0 (record { run = key; stops = stops_at is_key f.1 refl }) (no_white f.1 refl) f.1 (gap_feed g.1 (lines_plainly e.lines right.lines h.1 closes)) fields.1 closes in
+    Body.entry d.0 (record { run = key; stops = stops_at is_key f.1 refl }) (no_white f.1 refl) f.1 (gap_feed g.1 (lines_plainly e.lines right.lines h.1 closes)) fields.1 closes in
     record {
       said = said;
       block = record {

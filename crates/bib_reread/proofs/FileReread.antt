@@ -73,7 +73,7 @@ field_read name value {p} {u} {w} identifier parts stands =
     let feed : CharAt i.0 10 w = subst (λ q. CharAt i.0 10 q) (sym (stands_none j.2)) j.1 in
     let braced : Braced d.0 (part f.0 g.0) e.0 = record { inside = f.0; behind = g.0; opens = f.1; parts = parts f.0 g.0 g.1; closes = closes; reading = refl } in
     let elements : Elements longest d.0 (literal (part f.0 g.0) ∷ []) e.0 =
-        Elements.last (Element.braced braced) (no_white i.1 refl) (stops_at (λ k. k == 35) i.1 refl) in
+    Elements.last (Element.braced braced) (no_white i.1 refl) (stops_at (λ k. k == 35) i.1 refl) in
     let name_read : Identifier longest u (part u a.0) a.0 = identifier_stands a.1 identifier (stops_at is_id_continue b.1 refl) in
     record {
       says = record { name = part u a.0; value = record { pieces = literal (part f.0 g.0) ∷ []; start = d.0.at; end = e.0.at } };

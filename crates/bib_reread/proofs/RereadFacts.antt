@@ -63,34 +63,34 @@ unfolding is_ordinary
 spelt_bare v c rest spells grouping dollar settled hyphen space =
     elim (cases_eq c 45) [
       | inl same ↦ record {
-          unit = ContentUnit.hyphens 1;
-          right = rw (hyphen same) refl;
-          spelt = ap (λ d. d ∷ []) (sym same) ∙ sym spells;
-          means = λ depth. ap (λ d. character depth d ∷ []) (sym same);
-          stays = λ depth. refl;
-          closable = λ depth. refl;
-          holds = λ text holds. no_text holds;
-        }
+        unit = ContentUnit.hyphens 1;
+        right = rw (hyphen same) refl;
+        spelt = ap (λ d. d ∷ []) (sym same) ∙ sym spells;
+        means = λ depth. ap (λ d. character depth d ∷ []) (sym same);
+        stays = λ depth. refl;
+        closable = λ depth. refl;
+        holds = λ text holds. no_text holds;
+      }
       | inr differs ↦
           elim (cases_Bool (is_space c)) [
             | inl white ↦ record {
-                unit = ContentUnit.spaces (c ∷ []);
-                right = rw (white, space white) refl;
-                spelt = sym spells;
-                means = λ depth. ap (λ d. character depth d ∷ []) (sym (settled white));
-                stays = λ depth. refl;
-                closable = λ depth. refl;
-                holds = λ text holds. no_text holds;
-              }
+              unit = ContentUnit.spaces (c ∷ []);
+              right = rw (white, space white) refl;
+              spelt = sym spells;
+              means = λ depth. ap (λ d. character depth d ∷ []) (sym (settled white));
+              stays = λ depth. refl;
+              closable = λ depth. refl;
+              holds = λ text holds. no_text holds;
+            }
             | inr dark ↦ record {
-                unit = ContentUnit.other c;
-                right = rw (ne_eqb c 45 differs, dark, grouping, dollar) refl;
-                spelt = sym spells;
-                means = λ depth. refl;
-                stays = λ depth. refl;
-                closable = λ depth. refl;
-                holds = λ text holds. no_text holds;
-              }
+              unit = ContentUnit.other c;
+              right = rw (ne_eqb c 45 differs, dark, grouping, dollar) refl;
+              spelt = sym spells;
+              means = λ depth. refl;
+              stays = λ depth. refl;
+              closable = λ depth. refl;
+              holds = λ text holds. no_text holds;
+            }
           ]
     ]
 
@@ -280,8 +280,8 @@ read_text v o (c ∷ cs) chunks each apart read =
     let settled = settled_white v o c each.0 in
     let behind : Reads v (depth_of o) rest atoms = read_text v o cs chunks each.1 (apart_rest (character (depth_of o) c) atoms apart) read in
     let one : IsSpelt v c rest = spelt v c rest settled
-        (λ is. begins_text (λ d. d == 45) hyphens_of v o cs (styled chunks) (written_chunks v o chunks) (begins_written (λ d. d == 45) hyphens_of v o chunks) (hyphens_next o c atoms apart is))
-        (λ white. begins_text is_space spaces_of v o cs (styled chunks) (written_chunks v o chunks) (begins_written is_space spaces_of v o chunks) (spaces_next v o c atoms apart each.1 (settled white))) in
+    (λ is. begins_text (λ d. d == 45) hyphens_of v o cs (styled chunks) (written_chunks v o chunks) (begins_written (λ d. d == 45) hyphens_of v o chunks) (hyphens_next o c atoms apart is))
+    (λ white. begins_text is_space spaces_of v o cs (styled chunks) (written_chunks v o chunks) (begins_written is_space spaces_of v o chunks) (spaces_next v o c atoms apart each.1 (settled white))) in
     rw (append_assoc (spelled v c) (spelling v cs) (written_chunks v o chunks)) (put (depth_of o) one behind)
 
 -- a brace before what is read

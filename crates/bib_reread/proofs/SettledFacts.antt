@@ -1,5 +1,5 @@
 -- How it is found whether an entry is settled.
-use Rattle.std.proofs.Common.{◌≡◌, ℕ, Bool, true, false, not, List, [], ◌∷◌, length, map, refl, sym, ap, ◌∙◌, subst, arith, inl, inr}
+use Rattle.std.proofs.Common.{◌≡◌, ℕ, Bool, true, false, not, List, [], ◌∷◌, length, map, refl, sym, ap, ◌∙◌, subst, arith}
 use Rattle.std.specs.Prelude.{◌↔◌, IsTrue, bytes_eq}
 use Rattle.std.specs.Char.{to_ascii_lowercase, is_ascii_uppercase}
 use Rattle.std.specs.List.{list_all, list_any, AllByRecursion}
@@ -7,9 +7,7 @@ use Rattle.std.proofs.lemmas.Bool.{and_parts, and_from, both_ways, not-true}
 use Rattle.bib_text.specs.Places.{Place, place, CharAt, Run, Longest, AtEnd}
 use Rattle.bib_text.proofs.PlaceFacts.{same_place, stops_at_end, runs_same, same_char, no_char_at_end, test_clash}
 use Rattle.bib_syntax.specs.Characters.{is_id_start, is_id_continue}
-use Rattle.bib_syntax.specs.Grammar.{Identifier}
-use Rattle.bib_syntax.specs.Grammar.Mode.{any}
-use Rattle.bib_syntax.specs.Reading.{Part, part}
+use Rattle.bib_syntax.specs.Reading.{part}
 use Rattle.bib_chunks.specs.declared.chunk.Chunk.{Chunk}
 use Rattle.bib_text.specs.declared.spanned.Spanned.{Spanned}
 use Rattle.bib_reread.specs.Settled.{IsIdentifier, IsSettledField, IsSettledName, linking}

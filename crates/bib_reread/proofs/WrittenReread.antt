@@ -1,5 +1,5 @@
 -- Settled entries, written in BibLaTeX's names, as the file grammar reads them.
-use Rattle.std.proofs.Common.{◌≡◌, ℕ, Bool, true, false, cond, List, [], ◌∷◌, ◌++◌, length, map, reverse, refl, sym, ap, ◌∙◌, subst, Some, None, inl, inr}
+use Rattle.std.proofs.Common.{◌≡◌, ℕ, Bool, true, false, cond, List, [], ◌∷◌, ◌++◌, length, map, refl, sym, ap, ◌∙◌, subst, Some, None, inl, inr}
 use Rattle.std.specs.Prelude.{encode_utf8_all, codes, bytes_eq, ◌⊎◌, unwrap_or}
 use Rattle.std.specs.FinMap as by_name
 use Rattle.std.specs.List.{list_all, AllByRecursion, flat_map}

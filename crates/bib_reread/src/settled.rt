@@ -39,7 +39,9 @@ fn is_identifier(text: &str) -> bool
 fn is_small(text: &str) -> bool
     ensures { result ≡ list_all (λ b. not (is_ascii_uppercase b)) text.now }
 {
-    text.as_bytes().iter().all(|byte| !byte.is_ascii_uppercase())
+    text.as_bytes()
+        .iter()
+        .all(|byte| !byte.is_ascii_uppercase())
 }
 
 // Whether a field of this name claims other names, or refers to other entries.

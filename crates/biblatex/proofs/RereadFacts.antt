@@ -1,5 +1,5 @@
 -- What a written file says as a bibliography.
-use Rattle.std.proofs.Common.{◌≡◌, ℕ, Bool, true, false, cond, List, [], ◌∷◌, ◌++◌, map, reverse, refl, sym, ap, ◌∙◌, subst, arith, length, get_or, drop, ◌+◌, ◌≤◌, Option, Some, None, MatchOption, inl, inr, ⊎_elim}
+use Rattle.std.proofs.Common.{◌≡◌, ℕ, Bool, true, false, cond, List, [], ◌∷◌, ◌++◌, map, reverse, refl, sym, ap, ◌∙◌, subst, arith, length, get_or, drop, ◌+◌, Option, Some, None, MatchOption, inl, inr, ⊎_elim}
 use Rattle.std.specs.declared.string.String.{String}
 use Rattle.std.specs.Prelude.{◌⊎◌, Result, Ok, Err, IfOk, string_bytes, encode_utf8_all, codes, find, bytes_eq, option_map}
 use Rattle.std.specs.Char.{to_ascii_lowercase}
@@ -25,16 +25,16 @@ use Rattle.bib_chunks.specs.Lists.{comma_texts}
 use Rattle.bib_chunks.specs.Styled.{Atom, styled}
 use Rattle.bib_chunks.specs.Written.{written_chunks}
 use Rattle.bib_chunks.specs.declared.chunk.Chunk.{Chunk}
-use Rattle.bib_syntax.specs.Reading.{Part, part, Piece, FieldReading, EntryReading, FileReading}
+use Rattle.bib_syntax.specs.Reading.{Part, part, Piece, FieldReading, EntryReading}
 use Rattle.bib_syntax.specs.Reading.Piece.{literal}
 use Rattle.bib_contents.specs.Abbreviations.{Definitions, Evaluates, IsReadable, Reaches, is_verbatim_field}
 use Rattle.bib_contents.specs.Contents.{IsContent}
 use Rattle.bib_contents.specs.Joined.{ArePlaced}
 use Rattle.bib_tables.specs.EntryType.{entry_type_of, biblatex_type}
-use Rattle.bib_maps.specs.Sorted.{ByText, by_bytes}
+use Rattle.bib_maps.specs.Sorted.{by_bytes}
 use Rattle.bib_entry.specs.WrittenEntries.{biblatex_name, biblatex_entry, entries_text}
 use Rattle.bib_entry.specs.declared.entry.Entry.{Entry}
-use Rattle.bib_reread.specs.Mapped.{mapped_field, IsMapped}
+use Rattle.bib_reread.specs.Mapped.{IsMapped}
 use Rattle.bib_reread.specs.Settled.{linking, IsSettledField, IsSettledEntry, AreSettled}
 use Rattle.bib_reread.proofs.JoinedAgain.{Again, joined_again, written_texts}
 use Rattle.bib_reread.proofs.RereadFacts.{reread}
@@ -182,15 +182,12 @@ module _ (definitions : Definitions) where
   abbrev IsLink : List ℕ → Type 0
   IsLink word = (name : List ℕ) → list_any (bytes_eq name) linking ≡ false → bytes_eq word name ≡ false
 
-  ids_link : IsLink (codes "ids")
-  ids_link name apart = differ name (codes "ids") (or_parts (bytes_eq name (codes "ids")) _ apart).0
-
-  crossref_link : IsLink (codes "crossref")
-  crossref_link name apart = differ name (codes "crossref") (or_parts (bytes_eq name (codes "crossref")) _ (or_parts (bytes_eq name (codes "ids")) _ apart).1).0
-
-  xdata_link : IsLink (codes "xdata")
-  xdata_link name apart =
-      differ name (codes "xdata") (or_parts (bytes_eq name (codes "xdata")) _ (or_parts (bytes_eq name (codes "crossref")) _ (or_parts (bytes_eq name (codes "ids")) _ apart).1).1).0
+  linking_word : (word : List ℕ) → list_any (bytes_eq word) linking ≡ true → IsLink word
+  linking_word word links name apart =
+      elim (cases_Bool (bytes_eq word name)) [
+        | inl same ↦ absurd (both_ways _ (subst (λ n. list_any (bytes_eq n) linking ≡ false) (sym ((bytes_eq-Decides word name).0 same)) apart) links)
+        | inr other ↦ other
+      ]
 
   zip_apart : (word : List ℕ) → IsLink word → (ws : List (List ℕ × Value')) (rs : List FieldReading) → AllZip IsRead ws rs → AllZip (λ w r. bytes_eq word (name_of r) ≡ false) ws rs
   zip_apart word link [] [] all = tt
@@ -219,7 +216,7 @@ module _ (definitions : Definitions) where
       either true rest = ap Some all.0.1
       either false rest = rest
 
-  -- an entry that is read of one that was written
+  -- an entry that is read of one that was written: no field claims other names or refers to other entries
   record IsAgain (e : Entry) (said : EntryReading) : Type 0 where
     read : Entry
     is : IsEntry definitions said read
@@ -240,10 +237,10 @@ module _ (definitions : Definitions) where
           fields = λ name. found_last name ws said.fields all.are;
           readable = all_readable ws said.fields all.are;
         };
-        claims = ap (λ o. e.key ∷ option_map_or (λ chunks. comma_texts (styled chunks)) o []) (no_link (codes "ids") ids_link ws said.fields all.are);
+        claims = ap (λ o. e.key ∷ option_map_or (λ chunks. comma_texts (styled chunks)) o []) (no_link (codes "ids") (linking_word (codes "ids") refl) ws said.fields all.are);
         alone = record {
-          crossref = no_link (codes "crossref") crossref_link ws said.fields all.are;
-          xdata = no_link (codes "xdata") xdata_link ws said.fields all.are;
+          crossref = no_link (codes "crossref") (linking_word (codes "crossref") refl) ws said.fields all.are;
+          xdata = no_link (codes "xdata") (linking_word (codes "xdata") refl) ws said.fields all.are;
         };
         mapped = record {
           key = refl;

@@ -1,6 +1,8 @@
 //! What the tests ask and say, in one place: each assertion is a call of these.
 
-use biblatex::{Bibliography, Chunk, Chunks, Entry, EntryType, Items, Sink, Spanned, Text, WriteError};
+use biblatex::{
+    Bibliography, Chunk, Chunks, Entry, EntryType, Items, Sink, Spanned, Text, WriteError,
+};
 use std::alloc::{AllocError, Global};
 use std::process::Abort;
 use std::test::Fail;

@@ -1,6 +1,8 @@
 //! Worked examples of what is written and of what is settled.
 
-use crate::checks::{adds, agrees, biblatex_rows, bibtex_rows, is_biblatex, misc, parsed, says, settled_rows};
+use crate::checks::{
+    adds, agrees, biblatex_rows, bibtex_rows, is_biblatex, misc, parsed, says, settled_rows,
+};
 use crate::reread::reread;
 use biblatex::{Bibliography, Text};
 use std::test::Fail;
@@ -41,7 +43,10 @@ fn writes_biblatex(rt: HostRuntime) -> Result<(), Fail> {
             "@misc{a, title={$\\frac{a}{b}$}}",
             "@misc{a,\ntitle = {$\\frac{a}{b}$},\n}\n",
         ),
-        ("@misc{a, title={a{$}$b}}", "@misc{a,\ntitle = {a{$}$b}},\n}\n"),
+        (
+            "@misc{a, title={a{$}$b}}",
+            "@misc{a,\ntitle = {a{$}$b}},\n}\n",
+        ),
     ];
     biblatex_rows(&rt, rt.alloc(), &rows)
 }
@@ -67,7 +72,10 @@ fn writes_bibtex(rt: HostRuntime) -> Result<(), Fail> {
             "@misc{a, date={2000-01-02/-0003-04?}}",
             "@misc{a,\nyear = {2000},\nmonth = {01},\nday = {02},\nendyear = {-0003},\nendmonth = {04},\n}\n",
         ),
-        ("@misc{a, date={2000-05/..}}", "@misc{a,\nyear = {2000},\nmonth = {05},\n}\n"),
+        (
+            "@misc{a, date={2000-05/..}}",
+            "@misc{a,\nyear = {2000},\nmonth = {05},\n}\n",
+        ),
         ("@misc{a, date={../2000}}", "@misc{a,\nyear = {2000},\n}\n"),
         ("@misc{a, date={May 7}}", "@misc{a,\ndate = {May 7},\n}\n"),
         (
@@ -133,11 +141,22 @@ fn settled_ones_are_read_again(rt: HostRuntime) -> Result<(), Fail> {
     let file = "@phdthesis{t, school={S~^}, title={{A} $x^2$}} @misc{b, url={a_b}}";
     let library = parsed(rt.alloc(), file)?;
     let again = reread(rt.alloc(), &library).ok_or("a settled one")??;
-    let want = "@thesis{t,\ninstitution = {S\\textasciitilde{}\\textasciicircum{}},\ntitle = {{A} $x^2$},\n}\n\n@misc{b,\nurl = {a_b},\n}\n";
+    let want =
+        "@thesis{t,\ninstitution = {S\\textasciitilde{}\\textasciicircum{}},\ntitle = {{A} $x^2$},\n}\n\n@misc{b,\nurl = {a_b},\n}\n";
     is_biblatex(&rt, rt.alloc(), &again, want)?;
-    let entry = again.get("b").ok_or("an entry")?.to_bibtex_string(rt.alloc())?;
+    let entry = again
+        .get("b")
+        .ok_or("an entry")?
+        .to_bibtex_string(rt.alloc())?;
     agrees(&rt, entry.as_str(), "@misc{b,\nurl = {a_b},\n}");
-    let entry = library.get("t").ok_or("an entry")?.to_biblatex_string(rt.alloc())?;
-    agrees(&rt, entry.as_str(), "@thesis{t,\ninstitution = {S\\textasciitilde{}\\textasciicircum{}},\ntitle = {{A} $x^2$},\n}");
+    let entry = library
+        .get("t")
+        .ok_or("an entry")?
+        .to_biblatex_string(rt.alloc())?;
+    agrees(
+        &rt,
+        entry.as_str(),
+        "@thesis{t,\ninstitution = {S\\textasciitilde{}\\textasciicircum{}},\ntitle = {{A} $x^2$},\n}",
+    );
     Ok(())
 }

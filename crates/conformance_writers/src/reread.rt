@@ -10,10 +10,7 @@ use std::alloc::Global;
 
 /// What is read of what is written of a bibliography. Of a settled one, it has the entries in order, in BibLaTeX's types
 /// and fields, with equal styled texts; only want of memory keeps it back.
-pub fn written_and_read(
-    alloc: Global,
-    library: &Bibliography,
-) -> Result<Bibliography, ParseError>
+pub fn written_and_read(alloc: Global, library: &Bibliography) -> Result<Bibliography, ParseError>
     ensures same { AreSettled library.now.entries →
         IfOk result (λ read. AllZip IsMapped library.now.entries read.entries) }
     ensures read { AreSettled library.now.entries → IfErr result (λ e. e ≡ out_of_memory) }

@@ -1,8 +1,5 @@
-use Rattle.std.proofs.Common.{◌++◌, ◌∙◌}
-use Rattle.std.specs.Prelude.{codes}
+use Rattle.std.proofs.Common.{◌∙◌}
 use Rattle.bib_entry.specs.Format.{entry_in}
-use Rattle.bib_entry.specs.WrittenEntries.{entries_text}
-use Rattle.biblatex.specs.Writing.{parting}
 use Rattle.biblatex.proofs.WritingFacts.{next_written, not_first, appends_more, ok_differs}
 use Rattle.biblatex.proofs.write.hand.Goals as goal
 
