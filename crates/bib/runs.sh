@@ -56,6 +56,18 @@ run 'a fault' 1 $'error: expected comma: 10-10\n' keys
 printf '@article{a,}\xff' >"$files/input"
 run 'bytes that are not UTF-8' 1 $'error: input is not UTF-8\n' keys
 
+printf '@thesis{t, institution={TU}, date={2019-10}}' >"$files/input"
+run 'a thesis with the names of BibTeX' 0 $'@phdthesis{t,\nyear = {2019},\nmonth = {10},\nschool = {TU},\n}\n' bibtex
+printf '@article{k, journal={A}, journaltitle={B}}' >"$files/input"
+run 'two fields with one written name' 0 $'@article{k,\njournaltitle = {A},\njournaltitle = {B},\n}\n' biblatex
+printf '@misc{a, title={Foo}}' >"$files/input"
+run 'a settled bibliography' 0 $'settled\n' settled
+printf '@misc{a, title={a{$}$b}}' >"$files/input"
+run 'math that is not settled' 4 $'not settled\n' settled
+printf '@misc{a, title={x}}@misc{a,}' >"$files/input"
+run 'a key twice' 1 $'error: duplicate key "a": 19-27\n' biblatex
+run 'a key twice, of which keys know nothing' 0 $'a\na\n' keys
+
 key=$(head -c 2097152 /dev/zero | tr '\0' k)
 printf '@misc{%s,}' "$key" >"$files/input"
 run 'a key of 2 MiB' 0 "$key"$'\n' keys

@@ -3,7 +3,11 @@
 use Rattle.std.specs.Prelude.{◌≡◌, ℕ, List, [], ◌∷◌, ◌++◌, codes, IfSome}
 use Rattle.std.specs.List.{flat_map}
 use Rattle.std.specs.Str.{IsUtf8}
-use Rattle.biblatex.specs.Syntax.{IsSyntaxFault, error_text, IsFile, IsRawReading, FileReading, ParseError}
+use Rattle.biblatex.specs.Library.{Library}
+use Rattle.biblatex.specs.Loaded.{IsAccepted, IsFaultOf, IsLoaded}
+use Rattle.biblatex.specs.Syntax.{IsSyntaxFault, error_text, IsFile, IsRawReading, FileReading, ParseError, AreSettled, biblatex_entry, bibtex_entry, entries_text}
+use Rattle.bib.specs.declared.run.Command.{Command}
+use Rattle.bib.specs.declared.run.Command.TheVariants.{Keys, Biblatex, Bibtex, Settled}
 
 -- a text and a line feed
 abbrev pub line : List ℕ → List ℕ
@@ -15,6 +19,9 @@ usage = line (codes "usage: bib keys|biblatex|bibtex|check|settled")
 abbrev pub error_line : List ℕ → List ℕ
 error_line text = codes "error: " ++ line text
 
+abbrev pub not_utf8 : List ℕ
+not_utf8 = error_line (codes "input is not UTF-8")
+
 -- a text tells a fault: it is the line for the fault's text, where that is said
 abbrev pub TellsFault : ParseError → List ℕ → Type 0
 TellsFault e text = IfSome (error_text e) (λ told. text ≡ error_line told)
@@ -23,20 +30,66 @@ TellsFault e text = IfSome (error_text e) (λ told. text ≡ error_line told)
 abbrev pub key_lines : FileReading → List ℕ
 key_lines says = flat_map (λ e. line e.key.text) says.entries
 
--- the words name the command `keys`
-abbrev pub IsKeys : List (List ℕ) → Type 0
-IsKeys words = words ≡ codes "keys" ∷ []
-
 -- what the command `keys` prints for these bytes, and the status
 pub data IsKeysAnswer (bytes : List ℕ) : List ℕ → ℕ → Type 0 where
-  no_text : (IsUtf8 bytes → ⊥) → IsKeysAnswer bytes (error_line (codes "input is not UTF-8")) 1
+  no_text : (IsUtf8 bytes → ⊥) → IsKeysAnswer bytes not_utf8 1
   no_file : {e : ParseError} {text : List ℕ} → IsSyntaxFault bytes e → (IsFile bytes → ⊥) → TellsFault e text → IsKeysAnswer bytes text 1
   keys : {says : FileReading} → IsUtf8 bytes → IsRawReading bytes says → IsKeysAnswer bytes (key_lines says) 0
+
+-- a text tells why these bytes are no bibliography
+pub data TellsNoBibliography (bytes : List ℕ) : List ℕ → Type 0 where
+  no_file : {e : ParseError} {text : List ℕ} → IsSyntaxFault bytes e → (IsFile bytes → ⊥) → TellsFault e text → TellsNoBibliography bytes text
+  refused : {says : FileReading} {e : ParseError} {text : List ℕ} → IsRawReading bytes says → IsFaultOf says e → (IsAccepted says → ⊥) → TellsFault e text
+      → TellsNoBibliography bytes text
+
+-- what a command on a bibliography prints for these bytes, and the status, given what it prints for a bibliography
+pub data IsLibraryAnswer (shows : Library → List ℕ → ℕ → Type 0) (bytes : List ℕ) : List ℕ → ℕ → Type 0 where
+  no_text : (IsUtf8 bytes → ⊥) → IsLibraryAnswer shows bytes not_utf8 1
+  no_library : {text : List ℕ} → TellsNoBibliography bytes text → IsLibraryAnswer shows bytes text 1
+  shown : {says : FileReading} {library : Library} {text : List ℕ} {status : ℕ} → IsUtf8 bytes → IsRawReading bytes says → IsLoaded says library
+      → shows library text status → IsLibraryAnswer shows bytes text status
+
+-- the bibliography in BibLaTeX's types and fields, or in BibTeX's
+pub record ShowsBiblatex (library : Library) (printed : List ℕ) (status : ℕ) : Type 0 where
+  pub text : printed ≡ entries_text biblatex_entry library.entries
+  pub done : status ≡ 0
+
+pub record ShowsBibtex (library : Library) (printed : List ℕ) (status : ℕ) : Type 0 where
+  pub text : printed ≡ entries_text bibtex_entry library.entries
+  pub done : status ≡ 0
+
+-- whether the bibliography is settled
+pub data ShowsSettled (library : Library) : List ℕ → ℕ → Type 0 where
+  settled : AreSettled library.entries → ShowsSettled library (line (codes "settled")) 0
+  unsettled : (AreSettled library.entries → ⊥) → ShowsSettled library (line (codes "not settled")) 4
+
+-- the word that names a command
+abbrev pub command_name : Command → List ℕ
+command_name Keys = codes "keys"
+command_name Biblatex = codes "biblatex"
+command_name Bibtex = codes "bibtex"
+command_name Settled = codes "settled"
+
+-- what a command prints for these bytes, and the status
+abbrev pub IsCommandAnswer : Command → List ℕ → List ℕ → ℕ → Type 0
+IsCommandAnswer Keys = IsKeysAnswer
+IsCommandAnswer Biblatex = IsLibraryAnswer ShowsBiblatex
+IsCommandAnswer Bibtex = IsLibraryAnswer ShowsBibtex
+IsCommandAnswer Settled = IsLibraryAnswer ShowsSettled
+
+-- the words name this command
+abbrev pub Name : List (List ℕ) → Command → Type 0
+Name words command = words ≡ command_name command ∷ []
+
+-- the words name a command
+abbrev pub IsCommand : List (List ℕ) → Type 0
+IsCommand words = (command : Command) × Name words command
 
 -- what is printed for these words, and the status; `given` are the bytes that the input may have given, and
 -- `failed` says that reading it failed
 pub data IsAnswer (words : List (List ℕ)) (given : List ℕ → Type 0) (failed : Type 0) : List ℕ → ℕ → Type 0 where
-  usage_told : (IsKeys words → ⊥) → IsAnswer words given failed usage 2
-  no_memory : IsKeys words → IsAnswer words given failed (error_line (codes "out of memory")) 3
-  no_input : IsKeys words → failed → IsAnswer words given failed (error_line (codes "input failed")) 1
-  command : {bytes text : List ℕ} {status : ℕ} → IsKeys words → given bytes → IsKeysAnswer bytes text status → IsAnswer words given failed text status
+  usage_told : (IsCommand words → ⊥) → IsAnswer words given failed usage 2
+  no_memory : IsCommand words → IsAnswer words given failed (error_line (codes "out of memory")) 3
+  no_input : IsCommand words → failed → IsAnswer words given failed (error_line (codes "input failed")) 1
+  answered : (command : Command) {bytes text : List ℕ} {status : ℕ} → Name words command → given bytes → IsCommandAnswer command bytes text status
+      → IsAnswer words given failed text status

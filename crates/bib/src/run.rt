@@ -1,13 +1,14 @@
 //! The engine of the program.
 
-ghost use Rattle.std.specs.Prelude.{◌≡◌, ◌≢◌, ℕ, ◌-◌, ◌^◌, ◌<◌, List, [], ◌∷◌, ◌++◌, map, codes, IfOk, IsTrue, ◌↔◌};
+ghost use Rattle.std.specs.Prelude.{◌≡◌, ◌≢◌, ℕ, ◌-◌, ◌^◌, ◌<◌, List, [], ◌∷◌, ◌++◌, map, codes, IfOk, MatchOption};
 ghost use Rattle.std.specs.Io.KnownBytes.{Appends};
 ghost use Rattle.std.specs.String.{string_bytes};
 ghost use Rattle.biblatex.specs.Syntax.{IsFile, IsRawReading, FileReading, file_of};
 ghost use Rattle.biblatex.specs.Syntax.{OutOfMemory};
-ghost use Rattle.bib.specs.Output.{IsAnswer, IsKeys, IsKeysAnswer, TellsFault, key_lines};
+ghost use Rattle.bib.specs.Answering.{IsLibraryOf};
+ghost use Rattle.bib.specs.Output.{IsAnswer, IsCommand, IsCommandAnswer, IsKeysAnswer, IsLibraryAnswer, Name, ShowsBiblatex, ShowsBibtex, ShowsSettled, TellsFault, command_name, key_lines};
 
-use biblatex::{ParseError, ParseErrorKind, RawBibliography, Sink};
+use biblatex::{Bibliography, ParseError, ParseErrorKind, RawBibliography, Sink};
 use std::alloc::{AllocError, Global};
 use std::str;
 
@@ -43,13 +44,41 @@ struct Answer {
     status: u8,
 }
 
-// Whether the words are the one command that there is.
-fn is_keys(words: &[String]) -> bool
-    ensures { IsTrue result ↔ IsKeys (map string_bytes words.now) }
+/// What the program can be asked for.
+#[derive(Clone, Copy)]
+pub enum Command {
+    /// The keys of a file's entries.
+    Keys,
+    /// The bibliography with BibLaTeX's types and fields.
+    Biblatex,
+    /// The bibliography with BibTeX's types and fields.
+    Bibtex,
+    /// Whether the bibliography is settled.
+    Settled,
+}
+
+// The command that the words name.
+fn command_of(words: &[String]) -> Option<Command>
+    ensures { MatchOption result (IsCommand (map string_bytes words.now) → ⊥)
+        (Name (map string_bytes words.now)) }
 {
     match words {
-        [word] => word.as_str() == "keys",
-        _ => false,
+        [word] => named(word.as_str()),
+        _ => None,
+    }
+}
+
+// The command that a word names.
+fn named(word: &str) -> Option<Command>
+    ensures { MatchOption result ((command : Command) → word.now ≡ command_name command → ⊥)
+        (λ command. word.now ≡ command_name command) }
+{
+    match word {
+        "keys" => Some(Command::Keys),
+        "biblatex" => Some(Command::Biblatex),
+        "bibtex" => Some(Command::Bibtex),
+        "settled" => Some(Command::Settled),
+        _ => None,
     }
 }
 
@@ -65,17 +94,11 @@ fn key_lines(alloc: Global, raw: &RawBibliography<'_>) -> Result<String, AllocEr
     Ok(text)
 }
 
-// The answer of the command `keys` for an input.
-fn keys(alloc: Global, bytes: &[u8]) -> Result<Answer, AllocError>
-    ensures { IfOk result (λ answer. IsKeysAnswer bytes.now
+// The answer of the command `keys` for a text.
+fn keys(alloc: Global, text: &str) -> Result<Answer, AllocError>
+    ensures { IfOk result (λ answer. IsKeysAnswer text.now
         (string_bytes answer.text) answer.status) }
 {
-    let Ok(text) = str::from_utf8(bytes) else {
-        return Ok(Answer {
-            text: String::from_str(alloc, "error: input is not UTF-8\n")?,
-            status: 1,
-        });
-    };
     let raw = match RawBibliography::parse(alloc, text) {
         Ok(raw) => raw,
         Err(error) => return fault(alloc, &error),
@@ -84,6 +107,94 @@ fn keys(alloc: Global, bytes: &[u8]) -> Result<Answer, AllocError>
         text: key_lines(alloc, &raw)?,
         status: 0,
     })
+}
+
+// The bibliography that a text is, or the answer that it is none.
+fn library(alloc: Global, text: &str) -> Result<Result<Bibliography, Answer>, AllocError>
+    ensures { IfOk result (IsLibraryOf text.now) }
+{
+    match Bibliography::parse(alloc, text) {
+        Ok(library) => Ok(Ok(library)),
+        Err(error) => Ok(Err(fault(alloc, &error)?)),
+    }
+}
+
+// The answer of the command `biblatex` for a text.
+fn biblatex(alloc: Global, text: &str) -> Result<Answer, AllocError>
+    ensures { IfOk result (λ answer. IsLibraryAnswer ShowsBiblatex text.now
+        (string_bytes answer.text) answer.status) }
+{
+    let library = match library(alloc, text)? {
+        Ok(library) => library,
+        Err(answer) => return Ok(answer),
+    };
+    Ok(Answer {
+        text: library.to_biblatex_string(alloc)?,
+        status: 0,
+    })
+}
+
+// The answer of the command `bibtex` for a text.
+fn bibtex(alloc: Global, text: &str) -> Result<Answer, AllocError>
+    ensures { IfOk result (λ answer. IsLibraryAnswer ShowsBibtex text.now
+        (string_bytes answer.text) answer.status) }
+{
+    let library = match library(alloc, text)? {
+        Ok(library) => library,
+        Err(answer) => return Ok(answer),
+    };
+    Ok(Answer {
+        text: library.to_bibtex_string(alloc)?,
+        status: 0,
+    })
+}
+
+// The answer of the command `settled` for a text.
+fn settled(alloc: Global, text: &str) -> Result<Answer, AllocError>
+    ensures { IfOk result (λ answer. IsLibraryAnswer ShowsSettled text.now
+        (string_bytes answer.text) answer.status) }
+{
+    let library = match library(alloc, text)? {
+        Ok(library) => library,
+        Err(answer) => return Ok(answer),
+    };
+    if library.is_settled() {
+        return Ok(Answer {
+            text: String::from_str(alloc, "settled\n")?,
+            status: 0,
+        });
+    }
+    Ok(Answer {
+        text: String::from_str(alloc, "not settled\n")?,
+        status: 4,
+    })
+}
+
+// The answer of a command for a text.
+fn answer_text(alloc: Global, command: Command, text: &str) -> Result<Answer, AllocError>
+    ensures { IfOk result (λ answer. IsCommandAnswer command text.now
+        (string_bytes answer.text) answer.status) }
+{
+    match command {
+        Command::Keys => keys(alloc, text),
+        Command::Biblatex => biblatex(alloc, text),
+        Command::Bibtex => bibtex(alloc, text),
+        Command::Settled => settled(alloc, text),
+    }
+}
+
+// The answer of a command for an input.
+fn answer_to(alloc: Global, command: Command, bytes: &[u8]) -> Result<Answer, AllocError>
+    ensures { IfOk result (λ answer. IsCommandAnswer command bytes.now
+        (string_bytes answer.text) answer.status) }
+{
+    match str::from_utf8(bytes) {
+        Ok(text) => answer_text(alloc, command, text),
+        Err(_) => Ok(Answer {
+            text: String::from_str(alloc, "error: input is not UTF-8\n")?,
+            status: 1,
+        }),
+    }
 }
 
 // The answer for an input with a fault.
@@ -115,7 +226,7 @@ pub(crate) fn print<K: Sink>(output: &mut K, text: &str, status: u8) -> u8
 /// The words are looked at first, and an input is read only for a command that there is. The whole text is made before
 /// any of it is written. A refused write gives status 1, and nothing more is written.
 pub fn run<S: Source, K: Sink>(alloc: Global, words: &[String], input: &mut S, output: &mut K) -> u8
-    ensures unread { (IsKeys (map string_bytes words.now) → ⊥) → input.new ≡ input.old }
+    ensures unread { (IsCommand (map string_bytes words.now) → ⊥) → input.new ≡ input.old }
     ensures printed { K.refusals output.old < 2 ^ 64 - 1 →
         K.refusals output.new ≡ K.refusals output.old →
         (text : List ℕ) × Appends (K.taken output.old) (K.taken output.new) text ×
@@ -123,15 +234,15 @@ pub fn run<S: Source, K: Sink>(alloc: Global, words: &[String], input: &mut S, o
         (S.failures input.old < 2 ^ 64 - 1 → S.failures input.old < S.failures input.new) text result }
     ensures refused { K.refusals output.new ≢ K.refusals output.old → result ≡ 1 }
 {
-    if !is_keys(words) {
+    let Some(command) = command_of(words) else {
         return print(output, "usage: bib keys|biblatex|bibtex|check|settled\n", 2);
-    }
+    };
     let bytes = match input.read_all(alloc) {
         Ok(bytes) => bytes,
         Err(SourceError::Failed) => return print(output, "error: input failed\n", 1),
         Err(SourceError::OutOfMemory) => return print(output, "error: out of memory\n", 3),
     };
-    match keys(alloc, &bytes) {
+    match answer_to(alloc, command, &bytes) {
         Ok(answer) => print(output, &answer.text, answer.status),
         Err(AllocError) => print(output, "error: out of memory\n", 3),
     }

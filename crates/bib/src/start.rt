@@ -3,7 +3,7 @@
 ghost use Rattle.std.specs.Prelude.{◌≡◌, ◌≢◌, ℕ, ◌-◌, ◌^◌, ◌<◌, List, map, IfOk, OnErr};
 ghost use Rattle.std.specs.Io.KnownBytes.{Appends};
 ghost use Rattle.std.specs.String.{string_bytes};
-ghost use Rattle.bib.specs.Output.{IsKeys};
+ghost use Rattle.bib.specs.Output.{IsCommand};
 ghost use Rattle.bib.specs.Arguments.{IsStartAnswer, IsKnown, IsMemoryLacking, texts_of, words_of};
 
 use crate::run::{Source, print, run};
@@ -36,7 +36,7 @@ pub fn start<S: Source, K: Sink>(
     input: &mut S,
     output: &mut K,
 ) -> u8
-    ensures unread { (IsKeys (words_of (texts_of arguments)) → ⊥) → input.new ≡ input.old }
+    ensures unread { (IsCommand (words_of (texts_of arguments)) → ⊥) → input.new ≡ input.old }
     ensures printed { K.refusals output.old < 2 ^ 64 - 1 →
         K.refusals output.new ≡ K.refusals output.old →
         (text : List ℕ) × Appends (K.taken output.old) (K.taken output.new) text ×

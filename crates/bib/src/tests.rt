@@ -133,6 +133,38 @@ fn prints_keys(rt: HostRuntime) -> Result<(), Fail> {
 }
 
 #[test]
+fn prints_bibliographies(rt: HostRuntime) -> Result<(), Fail> {
+    let rows = [
+        ("biblatex", "", "", 0),
+        ("bibtex", "@article{,}", "@article{,\n}\n", 0),
+        (
+            "biblatex",
+            "@article{k, journal={A}, journaltitle={B}}",
+            "@article{k,\njournaltitle = {A},\njournaltitle = {B},\n}\n",
+            0,
+        ),
+        (
+            "bibtex",
+            "@thesis{t, institution={TU}, date={2019-10}}",
+            "@phdthesis{t,\nyear = {2019},\nmonth = {10},\nschool = {TU},\n}\n",
+            0,
+        ),
+        ("settled", "@misc{a, title={Foo}}", "settled\n", 0),
+        ("settled", "@misc{a, title={a{$}$b}}", "not settled\n", 4),
+        (
+            "biblatex",
+            "@misc{a, ids={b},} @misc{b,}",
+            "error: duplicate key \"b\": 19-27\n",
+            1,
+        ),
+    ];
+    for (word, text, want, status) in rows {
+        prints(&rt, rt.alloc(), &[word], text.as_bytes(), want, status)?;
+    }
+    Ok(())
+}
+
+#[test]
 fn tells_its_usage(rt: HostRuntime) -> Result<(), Fail> {
     prints(&rt, rt.alloc(), &[], b"@article{a}", USAGE, 2)?;
     prints(&rt, rt.alloc(), &["key"], b"", USAGE, 2)?;

@@ -114,8 +114,3 @@ written_part v o behind chunks i x out more total within is written closes befor
     let part = lead o x.v ++ written_chunk x.v v ++ trail x.v in
     let cut : written_chunks v o (drop i chunks) ≡ part ++ written_chunks v behind (drop (i + 1) chunks) = ap (written_chunks v o) split ∙ ap (λ b. part ++ written_chunks v b (drop (i + 1) chunks)) (sym closes) in
     written_more out more total part _ _ written cut before
-
--- a value is its chunks between braces
-pub written_braces : (none one two three parts : List ℕ) → none ≡ [] → one ≡ none ++ encode_utf8_all (123 ∷ []) → two ≡ one ++ encode_utf8_all parts → three ≡ two ++ encode_utf8_all (125 ∷ []) → three ≡ encode_utf8_all (123 ∷ (parts ++ 125 ∷ []))
-written_braces none one two three parts nothing first second third =
-    three_parts none one two three (123 ∷ []) parts (125 ∷ []) first second third ∙ ap (λ bs. bs ++ encode_utf8_all (123 ∷ (parts ++ 125 ∷ []))) nothing

@@ -18,7 +18,7 @@ use bib_text::text::Text;
 pub use formatting::{format_sentence, format_styled, format_verbatim};
 pub use settling::is_settled;
 use std::alloc::{AllocError, Global};
-pub use writing::value_text;
+pub use writing::{value_text, write_value};
 
 /// A part of a field's value.
 #[derive(Debug, PartialEq, Eq, Drop)]

@@ -1,6 +1,6 @@
 // The reader of a date in three fields: each function reads a part from the front of a text, and gives it with the rest.
 
-ghost use Rattle.std.specs.Prelude.{◌≡◌, ◌<◌, ◌&&◌, is_some, IfSome, drop, codes};
+ghost use Rattle.std.specs.Prelude.{◌≡◌, ◌<◌, ◌-◌, ◌&&◌, length, is_some, IfSome, drop, codes};
 ghost use Rattle.std.specs.List.{prefix_len};
 ghost use Rattle.std.specs.Char.{is_ascii_alphabetic};
 ghost use Rattle.std.specs.Str.Parse.{AllDigits};
@@ -11,6 +11,7 @@ ghost use Rattle.bib_dates.specs.ThreeFields as Spec;
 
 use crate::faults::{Fault, Why};
 use crate::parts::{after, digits, sign, signed, value};
+use bib_chunks::chunk::Span;
 use bib_text::scanner::Scanner;
 
 // Whether white space stands at the front.
@@ -199,6 +200,16 @@ fn behind_gap(text: &str) -> &str
     scanner.eat_while(|c| c.is_whitespace() || c == '-');
     let at = scanner.cursor();
     &text[at..]
+}
+
+// Where the digits of a day behind a month stand, in bytes of the month's text.
+pub(crate) fn day_place(text: &str, behind: &str) -> Span
+    ensures { result.start ≡ length text.now - length (Spec.behind_gap behind.now) }
+{
+    let here = behind_gap(behind);
+    let (digits, _) = digits(here);
+    let start = text.len().saturating_sub(here.len());
+    start..start.saturating_add(digits.len())
 }
 
 // A day from 1 to 31, counted from 0.

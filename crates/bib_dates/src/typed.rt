@@ -12,7 +12,7 @@ ghost use Rattle.bib_dates.specs.declared.date.Date.{Date as ADate};
 
 use crate::date::{Date, DateValue, Datetime};
 use crate::faults::{Fault, Why};
-use crate::fields::{day_behind, day_field, month_field, year_field};
+use crate::fields::{day_behind, day_field, day_place, month_field, year_field};
 use crate::read::marked;
 use crate::write;
 use bib_chunks::chunk::{Chunks, ChunksRef, Span, format_verbatim, whole_span};
@@ -116,7 +116,7 @@ fn month_and_day_of(
     let text = format_verbatim(alloc, month)?;
     let (number, behind) = found(month_field(text.as_str()), whole_span(month))?;
     let Some(day) = day else {
-        let day = found(day_behind(behind), whole_span(month))?;
+        let day = found(day_behind(behind), day_place(text.as_str(), behind))?;
         return Ok((number, day));
     };
     let day = day_of(alloc, day)?;

@@ -2,3 +2,8 @@ pub mod Fields
 pub mod Editors
 pub mod Judging
 pub mod Reports
+pub mod Format
+pub mod Parents
+pub mod WrittenEntries
+pub mod DateFields
+pub mod Prefixes

@@ -2,10 +2,11 @@
 -- Faults of a text, and how they are printed, as the Rust crate `biblatex` prints them.
 use Rattle.std.specs.Prelude.{◌≡◌, ℕ, ◌≤◌, Bool, true, false, List, [], ◌∷◌, ◌++◌, Option, Some, length, codes, IsTrue, ◌⊎◌}
 use Rattle.std.specs.Fmt.{◌++?◌, decimal, debug_str}
+use Rattle.bib_faults.specs.TypeError.{type_kind_text}
 use Rattle.bib_syntax.specs.declared.raw.Token.{Token}
 use Rattle.bib_syntax.specs.declared.raw.Token.TheVariants as token
 use Rattle.bib_syntax.specs.declared.raw.ParseErrorKind.{ParseErrorKind}
-use Rattle.bib_syntax.specs.declared.raw.ParseErrorKind.TheVariants.{UnexpectedEof, Unexpected, Expected, UnknownAbbreviation, MalformedCommand, DuplicateKey, AbbreviationCycle, OutOfMemory}
+use Rattle.bib_syntax.specs.declared.raw.ParseErrorKind.TheVariants.{UnexpectedEof, Unexpected, Expected, UnknownAbbreviation, MalformedCommand, DuplicateKey, ResolutionError, AbbreviationCycle, ReferenceCycle, OutOfMemory}
 use Rattle.bib_syntax.specs.declared.raw.ParseError.{ParseError}
 
 abbrev pub token_text : Token → List ℕ
@@ -29,7 +30,9 @@ kind_text (Expected t) = Some (codes "expected " ++ token_text t)
 kind_text (UnknownAbbreviation name) = Some (codes "unknown abbreviation ") ++? quoted name
 kind_text MalformedCommand = Some (codes "malformed command")
 kind_text (DuplicateKey key) = Some (codes "duplicate key ") ++? quoted key
+kind_text (ResolutionError kind) = Some (codes "type error occurred during crossref resolution: " ++ type_kind_text kind)
 kind_text (AbbreviationCycle name) = Some (codes "circular abbreviation ") ++? quoted name
+kind_text (ReferenceCycle key) = Some (codes "circular reference ") ++? quoted key
 kind_text OutOfMemory = Some (codes "out of memory")
 
 -- the kind, and the bytes at fault
@@ -48,7 +51,9 @@ is_syntax (Expected t) = true
 is_syntax (UnknownAbbreviation name) = false
 is_syntax MalformedCommand = false
 is_syntax (DuplicateKey key) = false
+is_syntax (ResolutionError kind) = false
 is_syntax (AbbreviationCycle name) = false
+is_syntax (ReferenceCycle key) = false
 is_syntax OutOfMemory = false
 
 -- a fault of the grammar, in the text

@@ -10,6 +10,7 @@ mod fields;
 mod file;
 mod words;
 
+use bib_faults::type_error::TypeErrorKind;
 use bib_text::scanner::Scanner;
 use bib_text::spanned::{Span, Spanned};
 use bib_text::text::Text;
@@ -147,8 +148,12 @@ pub enum ParseErrorKind {
     MalformedCommand,
     /// The key of an entry is a name that an earlier entry claimed. The text is the key.
     DuplicateKey(Text),
+    /// A date that an entry would inherit can't be read, for this reason.
+    ResolutionError(TypeErrorKind),
     /// An abbreviation was met while it was being expanded. The text is its name.
     AbbreviationCycle(Text),
+    /// An entry refers to itself, by others or at once. The text is its key.
+    ReferenceCycle(Text),
     /// There was no memory.
     OutOfMemory,
 }
@@ -166,9 +171,11 @@ impl Clone for ParseErrorKind {
             }
             ParseErrorKind::MalformedCommand => ParseErrorKind::MalformedCommand,
             ParseErrorKind::DuplicateKey(key) => ParseErrorKind::DuplicateKey(key.clone()?),
+            ParseErrorKind::ResolutionError(kind) => ParseErrorKind::ResolutionError(*kind),
             ParseErrorKind::AbbreviationCycle(name) => {
                 ParseErrorKind::AbbreviationCycle(name.clone()?)
             }
+            ParseErrorKind::ReferenceCycle(key) => ParseErrorKind::ReferenceCycle(key.clone()?),
             ParseErrorKind::OutOfMemory => ParseErrorKind::OutOfMemory,
         })
     }
@@ -222,8 +229,14 @@ impl fmt::Display for ParseErrorKind {
             }
             ParseErrorKind::MalformedCommand => f.write_str("malformed command"),
             ParseErrorKind::DuplicateKey(key) => write!(f, "duplicate key {:?}", key.as_str()),
+            ParseErrorKind::ResolutionError(kind) => {
+                write!(f, "type error occurred during crossref resolution: {kind}")
+            }
             ParseErrorKind::AbbreviationCycle(name) => {
                 write!(f, "circular abbreviation {:?}", name.as_str())
+            }
+            ParseErrorKind::ReferenceCycle(key) => {
+                write!(f, "circular reference {:?}", key.as_str())
             }
             ParseErrorKind::OutOfMemory => f.write_str("out of memory"),
         }

@@ -1,5 +1,5 @@
--- Machinery: words of private contracts.
--- The code's table of requirements, as the definition's.
+-- Meaning: words of public contracts.
+-- A row of the table of requirements, as the definition's rules.
 use Rattle.std.specs.List.{flat_map}
 use Rattle.bib_tables.specs.declared.mechanics.requirements.Row.{Row}
 use Rattle.bib_tables.specs.Requirements.{Names, texts, Rules, rules}

@@ -9,7 +9,7 @@ mod requirements;
 
 use bib_text::text::Text;
 use bib_types::types::NameError;
-pub use requirements::{AuthorMode, PagesChapterMode, Requirements};
+pub use requirements::{AuthorMode, PagesChapterMode, Requirements, Row};
 use std::alloc::{AllocError, Global};
 use std::fmt;
 use std::str::FromStr;
@@ -238,7 +238,8 @@ impl EntryType {
         }
     }
 
-    fn name(&self) -> &'static str
+    /// The name by which the type is written: `unknown` for one that isn't named.
+    pub fn name(&self) -> &'static str
         ensures { result.now ≡ entry_type_name self.now }
     {
         with_named_types!(name_of, self)

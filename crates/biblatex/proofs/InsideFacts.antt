@@ -1,7 +1,7 @@
 -- A fault of what a text says lies in the text.
-use Rattle.std.proofs.Common.{◌≡◌, ℕ, ◌+◌, ◌<◌, ◌≤◌, ◌^◌, Bool, true, false, List, [], ◌∷◌, length, refl, sym, ap, ◌∙◌, subst, arith, inl, inr, ◌⊎◌, Option, None, Some, Result, Ok, Err}
-use Rattle.std.specs.Prelude.{reverse, find, bytes_eq, option_map, cond, if◌then◌else◌}
-use Rattle.std.specs.Prelude.{IfErr}
+use Rattle.std.proofs.Common.{◌≡◌, ℕ, zero, suc, ◌<◌, ◌^◌, Bool, true, false, List, [], ◌∷◌, length, refl, ap, subst, arith, inl, inr, ◌⊎◌, Option, None, Some, Result, Ok, Err}
+use Rattle.std.specs.Prelude.{reverse, find, bytes_eq, option_map, cond}
+use Rattle.std.specs.Prelude.{IfErr, slice_get}
 use Rattle.std.specs.List.{AllByRecursion}
 use Rattle.bib_syntax.specs.Faults.{out_of_memory}
 use Rattle.bib_syntax.specs.Grammar.{IsRawReading}
@@ -12,10 +12,10 @@ use Rattle.bib_contents.specs.Abbreviations.{Definitions, IsFirstFault}
 use Rattle.bib_contents.specs.Abbreviations.{IsFirstFault as first_fault}
 use Rattle.bib_contents.specs.Contents.{LiesBetween}
 use Rattle.bib_syntax.specs.Reading.{Part, Piece, FieldReading, EntryReading, FileReading}
-use Rattle.bib_syntax.specs.Reading.Piece.{literal, abbreviation}
 use Rattle.bib_syntax.specs.Standing.{StandsIn, PieceStandsIn, FieldStandsIn, EntryStandsIn, ReadingStandsIn}
 use Rattle.bib_syntax.specs.declared.raw.ParseError.{ParseError}
-use Rattle.biblatex.specs.Loaded.{IsFaultOf, IsFaultOfEntries, IsFaultOfFields, definition_in}
+use Rattle.biblatex.specs.Loaded.{IsFaultOfEntries, IsFaultOfFields, definition_in}
+use Rattle.biblatex.specs.Resolved.{IsFaultOf, IsOfDate}
 
 -- what each of some holds, the one that is found holds
 found_holds : {A : Type 0} (P : A → Type 0) (test : A → Bool) (xs : List A) (x : A) → AllByRecursion P xs → find test xs ≡ Some x → P x
@@ -87,12 +87,25 @@ entries_fault_lies text small definitions all (IsFaultOfEntries.duplicate was is
 entries_fault_lies text small definitions all (IsFaultOfEntries.unreadable fresh fault) = fields_fault_lies text small definitions all.0.fields fault
 entries_fault_lies text small definitions all (IsFaultOfEntries.behind fresh read fault) = entries_fault_lies text small definitions all.1 fault
 
--- the first fault of what a text says
-pub fault_lies : {says : FileReading} {e : ParseError} (text : List ℕ) → length text < 2 ^ 64 → ReadingStandsIn text says → IsFaultOf says e → LiesBetween 0 (length text) e
-fault_lies {says} text small stands fault = entries_fault_lies text small (definitions_stand text says.abbreviations stands.abbreviations) stands.entries fault
+entry_stands : {text : List ℕ} (said : List EntryReading) (place : ℕ) (one : EntryReading) → AllByRecursion (EntryStandsIn text) said → slice_get said place ≡ Some one → EntryStandsIn text one
+entry_stands [] place one all there = cc
+entry_stands {text} (first ∷ rest) zero one all there = subst (EntryStandsIn text) (same there) all.0 where
+  same : {A : Type 0} {x y : A} → Some x ≡ Some y → x ≡ y
+  same e = cc
+entry_stands (first ∷ rest) (suc place) one all there = entry_stands rest place one all.1 there
+
+-- the first fault of what a text says, but that of a date
+pub fault_lies : {says : FileReading} {e : ParseError} (text : List ℕ) → length text < 2 ^ 64 → ReadingStandsIn text says → IsFaultOf says e → IsOfDate e ⊎ LiesBetween 0 (length text) e
+fault_lies {says} text small stands (IsFaultOf.entry fault) = inr (entries_fault_lies text small (definitions_stand text says.abbreviations stands.abbreviations) stands.entries fault)
+fault_lies {says} text small stands (IsFaultOf.circle {place = place} own first is) =
+    let entry = entry_stands says.entries place is.said stands.entries is.there in
+    let starts = ap (λ x. x.span.start) is.is in
+    let ends = ap (λ x. x.span.end) is.is in
+    inr (omega arith, omega (arith, entry.ordered, starts, ends), omega (arith, entry.within, ends))
+fault_lies text small stands (IsFaultOf.date own none inherits looks earlier is) = inl (record { kind = is.kind; is = is.is })
 
 pub refused_inside : {T : Type 0} (X : Type 0) {says : FileReading} (text : List ℕ) (r : Result T ParseError) → length text < 2 ^ 64 → IsRawReading text says
-    → IfErr r (λ e. (e ≡ out_of_memory) ⊎ (IsFaultOf says e × X)) → IfErr r (λ e. (e ≡ out_of_memory) ⊎ LiesBetween 0 (length text) e)
+    → IfErr r (λ e. (e ≡ out_of_memory) ⊎ (IsFaultOf says e × X)) → IfErr r (λ e. (e ≡ out_of_memory) ⊎ IsOfDate e ⊎ LiesBetween 0 (length text) e)
 refused_inside X text (Ok x) small reads refused = tt
 refused_inside X text (Err e) small reads (inl memory) = inl memory
 refused_inside X text (Err e) small reads (inr fault) = inr (fault_lies text small (file_stands text refl reads) fault.0)

@@ -1,5 +1,5 @@
 -- Facts on what a file says as a bibliography.
-use Rattle.std.proofs.Common.{◌≡◌, ℕ, ◌+◌, Bool, true, false, List, [], ◌∷◌, ◌++◌, length, length-append, map, refl, sym, ap, ◌∙◌, subst, arith, append_assoc, Option, None, Some, MatchOption, cond, ◌||◌, is_some}
+use Rattle.std.proofs.Common.{◌≡◌, ℕ, ◌+◌, Bool, true, false, List, [], ◌∷◌, ◌++◌, length, length-append, refl, sym, ap, ◌∙◌, subst, arith, append_assoc, Option, None, Some, MatchOption, cond, ◌||◌, is_some}
 use Rattle.std.specs.Prelude.{bytes_eq, codes}
 use Rattle.std.specs.FinMap as by_name
 use Rattle.std.specs.FinMap.{get-empty, get-insert}
@@ -9,14 +9,13 @@ use Rattle.std.proofs.lemmas.List.{append-nil}
 use Rattle.std.proofs.lemmas.List.Folds.{list_any-append}
 use Rattle.std.proofs.lemmas.Map.Text.{is_eq-slice_cmp}
 use Rattle.bib_syntax.specs.declared.raw.ParseErrorKind.TheVariants.{DuplicateKey}
-use Rattle.std.specs.Str.{chars}
 use Rattle.std.specs.Option.{option_map_or}
 use Rattle.bib_syntax.specs.declared.raw.ParseError.{ParseError}
-use Rattle.bib_chunks.specs.Styled.{Atom, styled}
+use Rattle.bib_chunks.specs.Styled.{styled}
 use Rattle.bib_chunks.specs.declared.chunk.Chunk.{Chunk}
 use Rattle.bib_text.specs.declared.spanned.Spanned.{Spanned}
-use Rattle.bib_contents.specs.Abbreviations.{Definitions, Evaluates}
-use Rattle.bib_syntax.specs.Reading.{Piece, FieldReading, EntryReading}
+use Rattle.bib_contents.specs.Abbreviations.{Definitions}
+use Rattle.bib_syntax.specs.Reading.{FieldReading, EntryReading}
 use Rattle.bib_contents.proofs.LawFacts.{evaluates_same}
 use Rattle.bib_entry.specs.declared.entry.Entry.{Entry}
 use Rattle.biblatex.specs.Library.{Library, claims, aliases, appended, nothing}

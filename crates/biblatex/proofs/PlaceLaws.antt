@@ -1,5 +1,5 @@
 -- What is loaded from a file, said by the places of entries.
-use Rattle.std.proofs.Common.{◌≡◌, ℕ, zero, suc, ◌+◌, ◌<◌, ◌≤◌, Bool, true, false, List, [], ◌∷◌, ◌++◌, length, refl, sym, ap, ◌∙◌, subst, arith, inl, inr, ◌⊎◌, Option, None, Some, MatchOption, cond, ◌||◌}
+use Rattle.std.proofs.Common.{◌≡◌, ℕ, zero, suc, ◌<◌, Bool, true, false, List, [], ◌∷◌, ◌++◌, length, refl, sym, ap, ◌∙◌, subst, arith, inl, inr, ◌⊎◌, Option, None, Some, MatchOption, cond, ◌||◌}
 use Rattle.std.specs.Prelude.{slice_get, bytes_eq}
 use Rattle.std.specs.FinMap as by_name
 use Rattle.std.specs.FinMap.{get-empty, get-insert}
@@ -10,13 +10,13 @@ use Rattle.std.proofs.lemmas.Map.Text.{is_eq-slice_cmp}
 use Rattle.std.proofs.lemmas.Option.{slice_get_within}
 use Rattle.bib_contents.specs.Abbreviations.{Definitions, AreOneFault}
 use Rattle.bib_contents.proofs.LawFacts.{fault_is_one}
-use Rattle.bib_syntax.specs.Reading.{FieldReading, EntryReading, FileReading}
+use Rattle.bib_syntax.specs.Reading.{FieldReading, EntryReading}
 use Rattle.bib_syntax.specs.declared.raw.ParseError.{ParseError}
 use Rattle.bib_maps.specs.Names.{claimed, claims_for}
 use Rattle.bib_maps.specs.Sorted.{ByText, by_bytes}
 use Rattle.bib_entry.specs.declared.entry.Entry.{Entry}
 use Rattle.biblatex.specs.Library.{Library, claims, appended, nothing, place_of}
-use Rattle.biblatex.specs.Loaded.{AreEntries, IsEntry, IsFaultOf, IsFaultOfEntries, IsFaultOfFields, IsLoaded, is_claimed, loaded_behind}
+use Rattle.biblatex.specs.Loaded.{AreEntries, IsFaultOfEntries, IsFaultOfFields, is_claimed, loaded_behind}
 use Rattle.biblatex.specs.Places.{ClaimsAt, IsLastClaim, PointsToLastClaims, HasFreshKeys}
 use Rattle.biblatex.proofs.LoadedFacts.{claims_same, fields_unread}
 
@@ -115,8 +115,8 @@ points_nothing name = rw (get-empty by_bytes name) (λ place at. no_entry at.the
   no_entry : {entry : Entry} → None ≡ Some entry → ⊥
   no_entry none = cc
 
-pub points_loaded : {says : FileReading} (library : Library) → IsLoaded says library → PointsToLastClaims library
-points_loaded library loaded = subst PointsToLastClaims (sym loaded.names) (points_behind nothing library.entries points_nothing)
+pub points_loaded : (own : List Entry) → PointsToLastClaims (loaded_behind nothing own)
+points_loaded own = points_behind nothing own points_nothing
 
 -- ---- keys are fresh
 
@@ -138,7 +138,7 @@ key_fresh {earlier = earlier} zero entry (AreEntries.next {entry = first} fresh 
 key_fresh {earlier = earlier} (suc place) entry (AreEntries.next {entry = first} fresh read rest) found =
     (not_either (is_claimed earlier entry.key) (is_claimed (claims first) entry.key) (sym (list_any-append (bytes_eq entry.key) earlier (claims first)) ∙ key_fresh place entry rest found)).0
 
-keys_fresh : {definitions : Definitions} {claimed : List (List ℕ)} {said : List EntryReading} {entries : List Entry} → AreEntries definitions claimed said entries → HasFreshKeys entries
+pub keys_fresh : {definitions : Definitions} {claimed : List (List ℕ)} {said : List EntryReading} {entries : List Entry} → AreEntries definitions claimed said entries → HasFreshKeys entries
 keys_fresh AreEntries.none earlier later entry before found at = none_found found where
   none_found : {entry : Entry} → None ≡ Some entry → ⊥
   none_found none = cc
@@ -152,9 +152,6 @@ keys_fresh {claimed = claimed} (AreEntries.next {entry = first} fresh read rest)
 keys_fresh (AreEntries.next fresh read rest) (suc earlier) (suc later) entry before found at =
     keys_fresh rest earlier later entry (omega (arith, before)) found (record { entry = at.entry; there = at.there; claims = at.claims })
 
-pub keys_loaded : {says : FileReading} (library : Library) → IsLoaded says library → HasFreshKeys library.entries
-keys_loaded library loaded = keys_fresh loaded.entries
-
 -- ---- the first fault is one
 
 fields_fault_same : {definitions : Definitions} {fields : List FieldReading} {e f : ParseError} → IsFaultOfFields definitions fields e → IsFaultOfFields definitions fields f → AreOneFault e f
@@ -163,7 +160,7 @@ fields_fault_same (IsFaultOfFields.here fault unread) (IsFaultOfFields.behind re
 fields_fault_same (IsFaultOfFields.behind read fault) (IsFaultOfFields.here fault' unread) = absurd (unread read)
 fields_fault_same (IsFaultOfFields.behind read fault) (IsFaultOfFields.behind read' fault') = fields_fault_same fault fault'
 
-entries_fault_same : {definitions : Definitions} {earlier : List (List ℕ)} {said : List EntryReading} {e f : ParseError} → IsFaultOfEntries definitions earlier said e → IsFaultOfEntries definitions earlier said f → AreOneFault e f
+pub entries_fault_same : {definitions : Definitions} {earlier : List (List ℕ)} {said : List EntryReading} {e f : ParseError} → IsFaultOfEntries definitions earlier said e → IsFaultOfEntries definitions earlier said f → AreOneFault e f
 entries_fault_same (IsFaultOfEntries.duplicate was is) (IsFaultOfEntries.duplicate was' is') = inl (is ∙ sym is')
 entries_fault_same (IsFaultOfEntries.duplicate was is) (IsFaultOfEntries.unreadable fresh fault) = absurd (both_ways _ fresh was)
 entries_fault_same (IsFaultOfEntries.duplicate was is) (IsFaultOfEntries.behind fresh read fault) = absurd (both_ways _ fresh was)
@@ -174,6 +171,3 @@ entries_fault_same (IsFaultOfEntries.behind fresh read fault) (IsFaultOfEntries.
 entries_fault_same (IsFaultOfEntries.behind fresh read fault) (IsFaultOfEntries.unreadable fresh' fault') = absurd (fields_unread fault' read.readable)
 entries_fault_same {definitions} {earlier} {f = f} (IsFaultOfEntries.behind {rest = rest} {entry = one} fresh read fault) (IsFaultOfEntries.behind {entry = two} fresh' read' fault') =
     entries_fault_same fault (subst (λ names. IsFaultOfEntries definitions (earlier ++ names) rest f) (claims_same two one read' read) fault')
-
-pub file_fault_same : (says : FileReading) {e f : ParseError} → IsFaultOf says e → IsFaultOf says f → AreOneFault e f
-file_fault_same says one other = entries_fault_same one other

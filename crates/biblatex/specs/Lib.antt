@@ -1,10 +1,15 @@
 pub mod Claiming
+pub mod Distinct
 pub mod Keys
 pub mod Lending
 pub mod Library
-pub mod Places
 pub mod Loaded
 pub mod Loading
+pub mod Places
 pub mod Reading
+pub mod Reread
+pub mod Resolved
 pub mod SameLibrary
 pub mod Syntax
+pub mod Turning
+pub mod Writing

@@ -1,5 +1,5 @@
 -- Meaning: words of public contracts.
--- What a file says as a bibliography: its entries with their fields read, and the first fault if they can't be.
+-- What a file says of the entries of a bibliography: each with its own fields read, and the first fault if they can't be.
 use Rattle.std.specs.Prelude.{◌≡◌, ◌+◌, length, ℕ, Bool, true, false, List, [], ◌∷◌, ◌++◌, map, reverse, find, bytes_eq, option_map, Option, Some, None, MatchOption}
 use Rattle.std.specs.Char.{to_ascii_lowercase}
 use Rattle.std.specs.FinMap as by_name
@@ -9,13 +9,13 @@ use Rattle.bib_chunks.specs.declared.chunk.Chunk.{Chunk}
 use Rattle.bib_text.specs.declared.spanned.Spanned.{Spanned}
 use Rattle.bib_contents.specs.Abbreviations.{Definitions, Evaluates, IsFirstFault, IsReadable, is_verbatim_field}
 use Rattle.bib_contents.specs.Joined.{AreJoined, ArePlaced}
-use Rattle.bib_syntax.specs.Reading.{Part, Piece, FieldReading, EntryReading, FileReading}
+use Rattle.bib_syntax.specs.Reading.{Part, Piece, FieldReading, EntryReading}
 use Rattle.bib_syntax.specs.Reading.Piece.{literal}
 use Rattle.bib_syntax.specs.declared.raw.ParseError.{ParseError}
 use Rattle.bib_syntax.specs.declared.raw.ParseErrorKind.TheVariants.{DuplicateKey}
 use Rattle.bib_tables.specs.EntryType.{entry_type_of}
 use Rattle.bib_entry.specs.declared.entry.Entry.{Entry}
-use Rattle.biblatex.specs.Library.{Library, claims, appended, nothing}
+use Rattle.biblatex.specs.Library.{Library, claims, appended}
 
 -- the definition of an abbreviation is its last one in the file, wherever it stands
 abbrev pub definition_in : List FieldReading → Definitions
@@ -93,16 +93,3 @@ pub data IsFaultOfEntries (definitions : Definitions) : List (List ℕ) → List
 abbrev pub loaded_behind : Library → List Entry → Library
 loaded_behind library [] = library
 loaded_behind library (entry ∷ entries) = loaded_behind (appended library entry) entries
-
--- a bibliography is what a file says: its entries in order, and each name points where it was last claimed
-pub record IsLoaded (says : FileReading) (library : Library) : Type 0 where
-  pub entries : AreEntries (definition_in says.abbreviations) [] says.entries library.entries
-  pub names : library ≡ loaded_behind nothing library.entries
-
--- what a file says can be a bibliography: each field can be read, and no key was claimed before
-abbrev pub IsAccepted : FileReading → Type 0
-IsAccepted says = (entries : List Entry) × AreEntries (definition_in says.abbreviations) [] says.entries entries
-
--- the first fault of what a file says
-abbrev pub IsFaultOf : FileReading → ParseError → Type 0
-IsFaultOf says e = IsFaultOfEntries (definition_in says.abbreviations) [] says.entries e

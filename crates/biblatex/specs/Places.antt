@@ -1,6 +1,6 @@
 -- Meaning: words of public contracts.
 -- What a library claims, said by the places of its entries.
-use Rattle.std.specs.Prelude.{◌≡◌, ℕ, ◌≤◌, ◌<◌, true, false, List, slice_get, Option, Some, MatchOption}
+use Rattle.std.specs.Prelude.{◌≡◌, ℕ, ◌≤◌, ◌<◌, true, List, slice_get, Some, MatchOption}
 use Rattle.bib_entry.specs.declared.entry.Entry.{Entry}
 use Rattle.biblatex.specs.Library.{Library, claims, place_of}
 use Rattle.biblatex.specs.Loaded.{is_claimed}

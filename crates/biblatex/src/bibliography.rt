@@ -1,24 +1,27 @@
 //! Bibliographies: entries in order, with names that point to them.
 
-ghost use Rattle.std.specs.Prelude.{◌≡◌, ◌⊎◌, ◌==◌, ◌<◌, ◌++◌, ◌∷◌, [], length, vec_len, vec_capacity, codes, map, Some, IsSome, IsNone, IsOk, OnOk, OnErr, IfOk, IfErr};
+ghost use Rattle.std.specs.Prelude.{◌≡◌, ◌⊎◌, ◌==◌, ◌<◌, ◌++◌, ◌∷◌, [], length, vec_len, vec_capacity, codes, map, List, Some, IsSome, IsNone, IsOk, OnOk, OnErr, IfOk, IfErr};
 ghost use Rattle.std.specs.Borrow.{sem};
 ghost use Rattle.std.specs.Option.{option_copied, option_copied_mut};
 ghost use Rattle.std.specs.Slice.Iter.{iter_rest, iter_mut_rest};
 ghost use Rattle.std.specs.Vec.Iter.{into_iter_items};
 ghost use Rattle.std.specs.Iterator.{YieldsFirstRef, item_count};
 ghost use Rattle.bib_contents.specs.Contents.{LiesBetween};
+ghost use Rattle.bib_entry.specs.declared.entry.Entry.{Entry as AnEntry};
+ghost use Rattle.bib_graph.specs.Graph.{AreTurns};
 ghost use Rattle.bib_syntax.specs.Faults.{Refuses, out_of_memory};
 ghost use Rattle.bib_syntax.specs.Grammar.{IsFile, IsRawReading};
 ghost use Rattle.bib_syntax.specs.Reading.{FileReading};
 ghost use Rattle.bib_syntax.specs.Views.{file_of};
 ghost use Rattle.biblatex.specs.Keys.{keys_left};
-ghost use Rattle.biblatex.specs.Loaded.{IsAccepted, IsFaultOf, IsLoaded};
+ghost use Rattle.biblatex.specs.Resolved.{AreOwn, IsAccepted, IsFaultOf, IsLoaded, IsOfDate, graph_of};
 ghost use Rattle.biblatex.specs.Lending.{LendsEntry, LendsEntries};
 ghost use Rattle.bib_maps.specs.Names.{ArePlacesBelow, claimed, claims_for};
 ghost use Rattle.biblatex.specs.Library.{aliased, aliases, claims, entry_of, inserted, nothing, place_of, removed};
 ghost use Rattle.biblatex.specs.SameLibrary.{same_library, same_library_per, same_library_equiv};
 
-use crate::reading::load;
+use crate::reading::{load, spans};
+use crate::resolving::resolve;
 use bib_chunks::chunk::lists::comma_texts;
 use bib_entry::entry::Entry;
 use bib_maps::names::Names;
@@ -107,9 +110,10 @@ impl Bibliography {
 
     /// Reads a bibliography file.
     ///
-    /// Refused with a syntax fault where the file grammar doesn't read the text; otherwise, in the order of the file, for
-    /// the first entry whose key an earlier one claimed (`DuplicateKey`, at the entry) or which has a field that can't be
-    /// read. Spans are in bytes of the text, and lie in it.
+    /// Each entry has its own fields but `xdata`, and those that it inherits from the entries that it refers to.
+    ///
+    /// Refused with a syntax fault where the file grammar doesn't read the text, and otherwise as `from_raw` says. Spans are
+    /// in bytes of the text; that of any fault but of a date lies in it.
     pub fn parse(alloc: Global, src: &str) -> Result<Self, ParseError>
         ensures loaded { IfOk result (λ library. (says : FileReading) × IsRawReading src.now says ×
             IsLoaded says library) }
@@ -118,7 +122,7 @@ impl Bibliography {
             ((says : FileReading) × IsRawReading src.now says × IsFaultOf says e ×
             (IsAccepted says → ⊥))) }
         ensures inside { IfErr result (λ e. (e ≡ out_of_memory) ⊎
-            LiesBetween 0 (length src.now) e) }
+            IsOfDate e ⊎ LiesBetween 0 (length src.now) e) }
     {
         let raw = RawBibliography::parse(alloc, src)?;
         Self::from_raw(alloc, raw)
@@ -127,14 +131,35 @@ impl Bibliography {
     /// The bibliography of a file that was read already. What the file says of texts and places is believed.
     ///
     /// Refused, in the order of the file, for the first entry whose key an earlier one claimed (`DuplicateKey`, at the
-    /// entry) or which has a field that can't be read.
+    /// entry) or which has a field that can't be read; else for the first entry that refers to itself, by others or at once
+    /// (`ReferenceCycle`, at the entry); else for the first entry that looks for a date, which its type needs and of which it
+    /// has neither `date` nor `year`, and refers to an entry whose `year`, `month` and `day` can't be read
+    /// (`ResolutionError`, at these).
     pub fn from_raw(alloc: Global, raw: RawBibliography<'_>) -> Result<Self, ParseError>
         ensures loaded { IfOk result (IsLoaded (file_of raw.entry)) }
         ensures refused { IfErr result (λ e. (e ≡ out_of_memory) ⊎
             (IsFaultOf (file_of raw.entry) e × (IsAccepted (file_of raw.entry) → ⊥))) }
     {
-        let (entries, names) = load(alloc, raw)?;
-        Ok(Self::from_names(entries, names))
+        let (library, _turns) = Self::from_raw_counted(alloc, raw)?;
+        Ok(library)
+    }
+
+    /// The same, and the turns in which entries took over what they inherit: the place of each entry once, behind the
+    /// places of all entries that it refers to.
+    pub fn from_raw_counted(
+        alloc: Global,
+        raw: RawBibliography<'_>,
+    ) -> Result<(Self, Vec<usize>), ParseError>
+        ensures loaded { IfOk result (λ counted. IsLoaded (file_of raw.entry) counted.0) }
+        ensures turns { IfOk result (λ counted. (own : List AnEntry) × AreOwn (file_of raw.entry) own ×
+            AreTurns (graph_of own) counted.1.items) }
+        ensures refused { IfErr result (λ e. (e ≡ out_of_memory) ⊎
+            (IsFaultOf (file_of raw.entry) e × (IsAccepted (file_of raw.entry) → ⊥))) }
+    {
+        let spans = spans(alloc, &raw.entries)?;
+        let (mut entries, names) = load(alloc, raw)?;
+        let turns = resolve(alloc, &spans, &names, &mut entries)?;
+        Ok((Self::from_names(entries, names), turns))
     }
 
     // These entries and names. Takes no memory.
@@ -143,6 +168,20 @@ impl Bibliography {
         ensures { result ≡ record { entries = entries.items; names = names } }
     {
         Bibliography { entries, names }
+    }
+
+    // The entries in order.
+    pub(crate) fn as_slice(&self) -> &[Entry]
+        ensures { result.now ≡ self.now.entries }
+    {
+        self.entries.as_slice()
+    }
+
+    // The names of the entries.
+    pub(crate) fn names(&self) -> &Names
+        ensures { result.now ≡ self.now.names }
+    {
+        &self.names
     }
 
     /// How many entries there are. Each name points below this.

@@ -6,12 +6,12 @@ ghost use Rattle.bib_syntax.specs.Faults.{out_of_memory};
 ghost use Rattle.bib_syntax.specs.Views.{entry_of, file_of};
 ghost use Rattle.bib_syntax.specs.declared.raw.ParseErrorKind.TheVariants.{DuplicateKey};
 ghost use Rattle.biblatex.specs.Claiming.{IsLoadedSoFar};
-ghost use Rattle.biblatex.specs.Loaded.{IsFaultOf, IsFaultOfEntries, definition_in};
+ghost use Rattle.biblatex.specs.Loaded.{IsFaultOfEntries, definition_in};
 ghost use Rattle.bib_maps.specs.Names.{ArePlacesBelow};
 
 use crate::bibliography::claims;
 use crate::loading::{definitions, read_entry};
-use bib_chunks::chunk::Spanned;
+use bib_chunks::chunk::{Span, Spanned};
 use bib_contents::resolve::FieldReader;
 use bib_entry::entry::Entry;
 use bib_maps::claims::Claims;
@@ -60,6 +60,15 @@ fn load_entries<'f, 's>(
     Ok((entries, names.into_names(alloc)?))
 }
 
+// Where each entry stands in the file.
+pub(crate) fn spans(alloc: Global, raw: &[Spanned<RawEntry<'_>>]) -> Result<Vec<Span>, AllocError>
+    ensures { IfOk result (λ spans. spans.items ≡ map (λ said. said.span) raw.now) }
+{
+    raw.iter()
+        .map(|said| said.span.start..said.span.end)
+        .collect(alloc)
+}
+
 // The entries of a file, and the names that they claim.
 pub(crate) fn load(
     alloc: Global,
@@ -69,7 +78,8 @@ pub(crate) fn load(
         (definition_in (file_of raw.entry).abbreviations)
         (file_of raw.entry).entries all.0.items all.1) }
     ensures below { IfOk result (λ all. ArePlacesBelow (length all.0.items) all.1) }
-    ensures refused { IfErr result (λ e. (e ≡ out_of_memory) ⊎ IsFaultOf (file_of raw.entry) e) }
+    ensures refused { IfErr result (λ e. (e ≡ out_of_memory) ⊎ IsFaultOfEntries
+        (definition_in (file_of raw.entry).abbreviations) [] (file_of raw.entry).entries e) }
 {
     let RawBibliography {
         preamble: _,

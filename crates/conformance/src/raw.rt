@@ -2,6 +2,7 @@
 
 use crate::checks::{agrees, parsed};
 use bib_chunks::chunk::{Span, Spanned};
+use bib_faults::type_error::TypeErrorKind;
 use bib_syntax::raw::{
     BiblatexParser, ParseError, ParseErrorKind, RawChunk, RawEntry, is_id_continue, is_id_start,
     is_key,
@@ -166,6 +167,7 @@ fn fault_of(alloc: Global, which: char, name: &str) -> Result<ParseError, AllocE
     let kind = match which {
         'u' => ParseErrorKind::UnknownAbbreviation(name),
         'd' => ParseErrorKind::DuplicateKey(name),
+        'r' => ParseErrorKind::ReferenceCycle(name),
         _ => ParseErrorKind::AbbreviationCycle(name),
     };
     Ok(ParseError { span: 3..5, kind })
@@ -196,6 +198,7 @@ fn quotes_names(rt: HostRuntime) -> Result<(), Fail> {
             "\u{e000}\u{378}\u{10ffff}",
             r#"unknown abbreviation "\u{e000}\u{378}\u{10ffff}": 3-5"#,
         ),
+        ('r', "k\"", r#"circular reference "k\"": 3-5"#),
         ('d', "Ωж中\u{1f600}", "duplicate key \"Ωж中\u{1f600}\": 3-5"),
     ];
     for (which, name, want) in rows {
@@ -203,6 +206,18 @@ fn quotes_names(rt: HostRuntime) -> Result<(), Fail> {
         let found = format!(in rt.alloc(); "{error}")?;
         agrees(&rt, found.as_str(), want);
     }
+    Ok(())
+}
+
+#[test]
+fn prints_faults_of_inherited_dates(rt: HostRuntime) -> Result<(), Fail> {
+    let kind = ParseErrorKind::ResolutionError(TypeErrorKind::InvalidFormat);
+    let found = format!(in rt.alloc(); "{}", ParseError { span: 3..5, kind })?;
+    agrees(
+        &rt,
+        found.as_str(),
+        "type error occurred during crossref resolution: invalid format: 3-5",
+    );
     Ok(())
 }
 

@@ -2,6 +2,7 @@
 
 use crate::checks::{Reading, are_chunks, are_read};
 use bib_contents::resolve::{FieldReader, parse_field};
+use bib_faults::type_error::TypeErrorKind;
 use bib_syntax::raw::{
     BiblatexParser, Pair, ParseError, ParseErrorKind, RawBibliography, RawChunk, RawEntry, Token,
 };
@@ -102,7 +103,7 @@ fn clones_faults(alloc: Global) -> Reading {
 }
 
 // A fault of each kind.
-fn kinds(alloc: Global) -> Result<[ParseErrorKind; 8], AllocError> {
+fn kinds(alloc: Global) -> Result<[ParseErrorKind; 10], AllocError> {
     Ok([
         ParseErrorKind::UnexpectedEof,
         ParseErrorKind::Unexpected(Token::DecimalPoint),
@@ -110,7 +111,9 @@ fn kinds(alloc: Global) -> Result<[ParseErrorKind; 8], AllocError> {
         ParseErrorKind::UnknownAbbreviation(Text::from_str(alloc, "a")?),
         ParseErrorKind::MalformedCommand,
         ParseErrorKind::DuplicateKey(Text::from_str(alloc, "b")?),
+        ParseErrorKind::ResolutionError(TypeErrorKind::InvalidNumber),
         ParseErrorKind::AbbreviationCycle(Text::from_str(alloc, "c")?),
+        ParseErrorKind::ReferenceCycle(Text::from_str(alloc, "d")?),
         ParseErrorKind::OutOfMemory,
     ])
 }

@@ -6,6 +6,8 @@ mod checks;
 #[cfg(test)]
 mod chunk_fields;
 #[cfg(test)]
+mod dates;
+#[cfg(test)]
 mod entries;
 #[cfg(test)]
 mod faults;

@@ -1,8 +1,8 @@
 //! Values, chunks and faults as texts, which the tests compare.
 
 use biblatex::{
-    Chunk, Chunks, ChunksRef, EditorType, Gender, Language, Pagination, PermissiveType, Person,
-    RetrievalError, Spanned, Text, TypeError,
+    Chunk, Chunks, ChunksRef, Date, DateValue, EditorType, Gender, Language, Pagination,
+    PermissiveType, Person, RetrievalError, Spanned, Text, TypeError,
 };
 use std::alloc::{AllocError, Global};
 use std::ops::Range;
@@ -141,6 +141,18 @@ impl Shown for Person {
             None => {}
         }
         Ok(out)
+    }
+}
+
+// The sides of a date with two points between them.
+impl Shown for Date {
+    fn shown(&self, alloc: Global) -> Result<String, AllocError> {
+        match &self.value {
+            DateValue::At(at) => format!(in alloc; "{at}"),
+            DateValue::After(from) => format!(in alloc; "{from}.."),
+            DateValue::Before(to) => format!(in alloc; "..{to}"),
+            DateValue::Between(from, to) => format!(in alloc; "{from}..{to}"),
+        }
     }
 }
 

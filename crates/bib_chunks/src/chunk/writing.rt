@@ -195,6 +195,21 @@ pub(super) fn chunk_text(
     Ok(out)
 }
 
+/// Writes a value at the end of a text as it is written in a file, in its braces, for a verbatim field or another.
+pub fn write_value(
+    out: &mut String,
+    chunks: ChunksRef<'_>,
+    is_verbatim: bool,
+) -> Result<(), AllocError>
+    ensures { OnOk result (string_bytes out.new ≡ string_bytes out.old ++
+        encode_utf8_all (written_value chunks.now is_verbatim)) }
+{
+    out.push('{')?;
+    write_parts(out, chunks, is_verbatim)?;
+    out.push('}')?;
+    Ok(())
+}
+
 /// A value as it is written in a file, in its braces, for a verbatim field or another.
 pub fn value_text(
     alloc: Global,
@@ -205,8 +220,6 @@ pub fn value_text(
         encode_utf8_all (written_value chunks.now is_verbatim)) }
 {
     let mut out = String::new(alloc);
-    out.push('{')?;
-    write_parts(&mut out, chunks, is_verbatim)?;
-    out.push('}')?;
+    write_value(&mut out, chunks, is_verbatim)?;
     Ok(out)
 }

@@ -159,7 +159,8 @@ impl EntryType {
         matches!(self, Self::XData)
     }
 
-    fn row(&self) -> &'static Row
+    /// What this type asks for, lent by the table of types. It takes no memory.
+    pub fn row(&self) -> &'static Row
         ensures { rules_of_row result.now ≡ rules_of self.now }
     {
         match self {
@@ -217,13 +218,18 @@ impl EntryType {
     }
 }
 
-/// What a type asks for, but for the fields that it forbids.
-struct Row {
-    required: &'static [&'static str],
-    optional: &'static [&'static [&'static str]],
-    author: AuthorMode,
-    pages: PagesChapterMode,
-    needs_date: bool,
+/// What a type asks for, but for the fields that it forbids: its row of the table of types.
+pub struct Row {
+    /// Fields that have to be there.
+    pub required: &'static [&'static str],
+    /// Fields that may be there, in groups that types share.
+    pub optional: &'static [&'static [&'static str]],
+    /// What is asked of authors and editors.
+    pub author: AuthorMode,
+    /// What is asked of pages and chapters.
+    pub pages: PagesChapterMode,
+    /// Whether a date or a year has to be there.
+    pub needs_date: bool,
 }
 
 impl Row {

@@ -1,5 +1,5 @@
-use Rattle.biblatex.proofs.PlaceLaws.{keys_loaded}
+use Rattle.biblatex.proofs.PlaceLaws.{keys_fresh}
 use Rattle.biblatex.proofs.laws.fresh_keys.Goals as goal
 
 pub returns : goal.returns
-returns c says library loaded = keys_loaded library loaded
+returns c says own are = keys_fresh are

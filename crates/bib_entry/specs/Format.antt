@@ -1,0 +1,24 @@
+-- Meaning: words of public contracts.
+-- Entries with the types and fields of either format.
+use Rattle.std.specs.Prelude.{ℕ, List}
+use Rattle.std.specs.FinMap.{entries}
+use Rattle.std.specs.List.{flat_map}
+use Rattle.bib_text.specs.declared.spanned.Spanned.{Spanned}
+use Rattle.bib_chunks.specs.declared.chunk.Chunk.{Chunk}
+use Rattle.bib_tables.specs.EntryType.{entry_type_name, biblatex_type, bibtex_type}
+use Rattle.bib_tables.specs.declared.mechanics.EntryType.{EntryType}
+use Rattle.bib_entry.specs.WrittenEntries.{biblatex_field, bibtex_field, entry_text}
+use Rattle.bib_entry.specs.declared.entry.Entry.{Entry}
+use Rattle.bib_entry.specs.declared.write.Format.{Format}
+use Rattle.bib_entry.specs.declared.write.Format.TheVariants.{Biblatex, Bibtex}
+
+abbrev pub kind_in : Format → EntryType → EntryType
+kind_in Biblatex kind = biblatex_type kind
+kind_in Bibtex kind = bibtex_type kind
+
+abbrev pub field_in : Format → EntryType → List ℕ × List (Spanned Chunk) → List ℕ
+field_in Biblatex kind f = biblatex_field f
+field_in Bibtex kind f = bibtex_field kind f
+
+abbrev pub entry_in : Format → Entry → List ℕ
+entry_in format e = entry_text (entry_type_name (kind_in format e.entry_type)) e.key (flat_map (field_in format e.entry_type) (entries e.fields))

@@ -1,0 +1,14 @@
+-- Meaning: words of public contracts.
+-- The entries that an entry belongs to, as the Rust crate `biblatex` has them.
+use Rattle.std.specs.Prelude.{ℕ, List, [], ◌∷◌, ◌++◌, codes}
+use Rattle.std.specs.Option.{option_map_or}
+use Rattle.std.specs.FinMap as by_name
+use Rattle.bib_entry.specs.declared.entry.Entry.{Entry}
+use Rattle.bib_values.specs.Lists.{strings_read}
+use Rattle.bib_values.specs.Values.{text}
+
+-- the text of `crossref`, and then the parts of the comma list `xref`
+abbrev pub parents_of : Entry → List (List ℕ)
+parents_of entry =
+    option_map_or (λ chunks. text chunks ∷ []) (by_name.get entry.fields (codes "crossref")) []
+    ++ option_map_or strings_read (by_name.get entry.fields (codes "xref")) []

@@ -1,0 +1,36 @@
+//! The entries that an entry belongs to, or stands beside.
+
+ghost use Rattle.std.specs.Prelude.{◌≡◌, IfOk, IfErr, map, string_bytes};
+ghost use Rattle.bib_entry.specs.Parents.{parents_of};
+ghost use Rattle.bib_faults.specs.TypeError.{no_memory};
+
+use crate::entry::Entry;
+use bib_chunks::chunk::format_verbatim;
+use bib_faults::type_error::TypeError;
+use bib_values::lists::read_strings;
+use std::alloc::{AllocError, Global};
+
+fn parents_of(alloc: Global, entry: &Entry) -> Result<Vec<String>, AllocError>
+    ensures { IfOk result (λ names. map (λ s. string_bytes s) names.items ≡ parents_of entry.now) }
+{
+    let mut names = match entry.get("xref") {
+        Some(chunks) => read_strings(alloc, chunks)?,
+        None => Vec::new(alloc),
+    };
+    if let Some(chunks) = entry.get("crossref") {
+        names.insert(0, format_verbatim(alloc, chunks)?)?;
+    }
+    Ok(names)
+}
+
+impl Entry {
+    /// The names of the entries that this one belongs to: the text of `crossref`, and then the parts of the comma list
+    /// `xref`. Refused only for want of memory.
+    pub fn parents(&self, alloc: Global) -> Result<Vec<String>, TypeError>
+        ensures parents { IfOk result (λ names.
+            map (λ s. string_bytes s) names.items ≡ parents_of self.now) }
+        ensures refused { IfErr result (λ e. e ≡ no_memory) }
+    {
+        Ok(parents_of(alloc, self)?)
+    }
+}

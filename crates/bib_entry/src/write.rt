@@ -1,0 +1,278 @@
+//! Entries as they are written in a file.
+
+ghost use Rattle.std.specs.Prelude.{◌≡◌, ◌++◌, OnOk, IfOk, codes, string_bytes, unwrap_or};
+ghost use Rattle.std.specs.FinMap.{entries};
+ghost use Rattle.std.specs.List.{flat_map};
+ghost use Rattle.bib_tables.specs.EntryType.{entry_type_name};
+ghost use Rattle.bib_text.specs.Enums.{named};
+ghost use Rattle.bib_entry.specs.Format.{entry_in, field_in, kind_in};
+ghost use Rattle.std.specs.Option.{option_map};
+ghost use Rattle.bib_dates.specs.Chunks.{date_read};
+ghost use Rattle.bib_entry.specs.WrittenEntries.{biblatex_entry, biblatex_name, bibtex_entry, bibtex_field, bibtex_name, bibtex_names, date_lines, date_or, line, part_line, side_lines, thesis_names, value_bytes};
+
+use crate::entry::Entry;
+use bib_chunks::chunk::{ChunksRef, write_value};
+use bib_contents::resolve::is_verbatim_field;
+use bib_dates::date::{Date, Datetime};
+use bib_faults::type_error::TypeErrorKind;
+use bib_tables::mechanics::EntryType;
+use bib_typed::typed::Type;
+use std::alloc::{AllocError, Global};
+
+/// The program whose types and fields an entry is written with.
+#[derive(Clone, Copy)]
+pub enum Format {
+    /// BibLaTeX.
+    Biblatex,
+    /// BibTeX.
+    Bibtex,
+}
+
+impl Format {
+    // The type that stands for a type.
+    fn kind(self, kind: &EntryType) -> EntryType
+        ensures { result ≡ kind_in self kind.now }
+    {
+        match self {
+            Format::Biblatex => kind.to_biblatex(),
+            Format::Bibtex => kind.to_bibtex(),
+        }
+    }
+}
+
+// The name that BibLaTeX has for a field.
+fn biblatex_name(name: &str) -> &str
+    ensures { result.now ≡ biblatex_name name.now }
+{
+    match name {
+        "journal" => "journaltitle",
+        "address" => "location",
+        "school" => "institution",
+        _ => name,
+    }
+}
+
+// Writes the line of a field with its own name and the one that it is written with.
+fn write_line(
+    out: &mut String,
+    written: &str,
+    name: &str,
+    chunks: ChunksRef<'_>,
+) -> Result<(), AllocError>
+    ensures { OnOk result (string_bytes out.new ≡ string_bytes out.old ++
+        line written.now (value_bytes name.now chunks.now)) }
+{
+    out.push_str(written)?;
+    out.push_str(" = ")?;
+    write_value(out, chunks, is_verbatim_field(name))?;
+    out.push_str(",\n")?;
+    Ok(())
+}
+
+// The name that BibTeX has for a field, whatever the type of its entry.
+fn plain_name(name: &str) -> &str
+    ensures { result.now ≡ unwrap_or (named bibtex_names name.now) name.now }
+{
+    match name {
+        "journaltitle" => "journal",
+        "location" => "address",
+        _ => name,
+    }
+}
+
+// The name that BibTeX has for a field of a thesis.
+fn thesis_name(name: &str) -> &str
+    ensures { result.now ≡ unwrap_or (named thesis_names name.now) name.now }
+{
+    match name {
+        "institution" => "school",
+        _ => plain_name(name),
+    }
+}
+
+// The name that BibTeX has for a field of an entry of this type.
+fn bibtex_name<'n>(kind: &EntryType, name: &'n str) -> &'n str
+    ensures { result.now ≡ bibtex_name kind.now name.now }
+{
+    match kind {
+        EntryType::Thesis | EntryType::MastersThesis | EntryType::PhdThesis => thesis_name(name),
+        _ => plain_name(name),
+    }
+}
+
+// Writes the line of a part of a date, if it is there.
+fn write_part(
+    out: &mut String,
+    prefix: &str,
+    name: &str,
+    part: Option<String>,
+) -> Result<(), AllocError>
+    ensures { OnOk result (string_bytes out.new ≡ string_bytes out.old ++
+        part_line (prefix.now ++ name.now) (option_map string_bytes part)) }
+{
+    let Some(text) = part else {
+        return Ok(());
+    };
+    out.push_str(prefix)?;
+    out.push_str(name)?;
+    out.push_str(" = {")?;
+    out.push_str(text.as_str())?;
+    out.push_str("},\n")?;
+    Ok(())
+}
+
+// Writes the lines of one side of a date, with this before their names.
+fn write_side(
+    alloc: Global,
+    out: &mut String,
+    prefix: &str,
+    side: Datetime,
+) -> Result<(), AllocError>
+    ensures { OnOk result (string_bytes out.new ≡ string_bytes out.old ++
+        side_lines prefix.now side) }
+{
+    write_part(out, prefix, "year", Some(side.year_text(alloc)?))?;
+    write_part(out, prefix, "month", side.month_text(alloc)?)?;
+    write_part(out, prefix, "day", side.day_text(alloc)?)
+}
+
+// Writes a date in fields of their own.
+fn write_date(alloc: Global, out: &mut String, date: &Date) -> Result<(), AllocError>
+    ensures { OnOk result (string_bytes out.new ≡ string_bytes out.old ++ date_lines date.now) }
+{
+    write_side(alloc, out, "", date.value.first_side())?;
+    let Some(end) = date.value.second_side() else {
+        return Ok(());
+    };
+    write_side(alloc, out, "end", end)
+}
+
+// Writes what stands for the field `date`: the date, if one is read in it.
+fn write_date_field(
+    alloc: Global,
+    out: &mut String,
+    chunks: ChunksRef<'_>,
+) -> Result<(), AllocError>
+    ensures { OnOk result (string_bytes out.new ≡ string_bytes out.old ++
+        date_or (line (codes "date") (value_bytes (codes "date") chunks.now)) (date_read chunks.now)) }
+{
+    match Date::from_chunks(alloc, chunks) {
+        Ok(date) => write_date(alloc, out, &date),
+        Err(error) => match error.kind {
+            TypeErrorKind::OutOfMemory => Err(AllocError),
+            _ => write_line(out, "date", "date", chunks),
+        },
+    }
+}
+
+// Writes a field of an entry of this type with BibTeX's names.
+fn write_bibtex_field(
+    alloc: Global,
+    out: &mut String,
+    kind: &EntryType,
+    name: &str,
+    chunks: ChunksRef<'_>,
+) -> Result<(), AllocError>
+    ensures { OnOk result (string_bytes out.new ≡ string_bytes out.old ++
+        bibtex_field kind.now (name.now, chunks.now)) }
+{
+    if name == "date" {
+        return write_date_field(alloc, out, chunks);
+    }
+    write_line(out, bibtex_name(kind, name), name, chunks)
+}
+
+// Writes a field of an entry of this type.
+fn write_field(
+    alloc: Global,
+    out: &mut String,
+    kind: &EntryType,
+    name: &str,
+    chunks: ChunksRef<'_>,
+    format: Format,
+) -> Result<(), AllocError>
+    ensures { OnOk result (string_bytes out.new ≡ string_bytes out.old ++
+        field_in format kind.now (name.now, chunks.now)) }
+{
+    match format {
+        Format::Biblatex => write_line(out, biblatex_name(name), name, chunks),
+        Format::Bibtex => write_bibtex_field(alloc, out, kind, name, chunks),
+    }
+}
+
+// Writes what stands before the fields of an entry.
+fn write_head(out: &mut String, kind: &str, key: &str) -> Result<(), AllocError>
+    ensures { OnOk result (string_bytes out.new ≡ string_bytes out.old ++
+        (codes "@" ++ (kind.now ++ (codes "{" ++ (key.now ++ codes ",\n"))))) }
+{
+    out.push('@')?;
+    out.push_str(kind)?;
+    out.push('{')?;
+    out.push_str(key)?;
+    out.push_str(",\n")?;
+    Ok(())
+}
+
+// Writes the fields of an entry.
+fn write_fields(
+    alloc: Global,
+    out: &mut String,
+    entry: &Entry,
+    format: Format,
+) -> Result<(), AllocError>
+    ensures { OnOk result (string_bytes out.new ≡ string_bytes out.old ++
+        flat_map (field_in format entry.now.entry_type) (entries entry.now.fields)) }
+{
+    'fields: for (name, chunks) in &entry.fields {
+        write_field(
+            alloc,
+            out,
+            &entry.entry_type,
+            name.as_str(),
+            chunks.as_slice(),
+            format,
+        )?;
+    }
+    Ok(())
+}
+
+/// Writes an entry at the end of a text, with the types and fields of a format.
+pub fn write_entry(
+    alloc: Global,
+    out: &mut String,
+    entry: &Entry,
+    format: Format,
+) -> Result<(), AllocError>
+    ensures { OnOk result (string_bytes out.new ≡ string_bytes out.old ++
+        entry_in format entry.now) }
+{
+    let kind = format.kind(&entry.entry_type);
+    write_head(out, kind.name(), entry.key.as_str())?;
+    write_fields(alloc, out, entry, format)?;
+    out.push('}')?;
+    Ok(())
+}
+
+impl Entry {
+    /// The entry as it is written in a file with BibLaTeX's types and fields: `journal`, `address` and `school` become
+    /// `journaltitle`, `location` and `institution`. The fields stand in the order of their own names' bytes.
+    pub fn to_biblatex_string(&self, alloc: Global) -> Result<String, AllocError>
+        ensures { IfOk result (λ text. string_bytes text ≡ biblatex_entry self.now) }
+    {
+        let mut out = String::new(alloc);
+        write_entry(alloc, &mut out, self, Format::Biblatex)?;
+        Ok(out)
+    }
+
+    /// The entry as it is written in a file with BibTeX's types and fields: `journaltitle` and `location` become `journal`
+    /// and `address`, the `institution` of a thesis its `school`, and a `date` that is read as a date its `year`, `month`
+    /// and `day`, of a range with two sides also `endyear`, `endmonth` and `endday`. A date that isn't read stays as it is.
+    /// The fields stand in the order of their own names' bytes.
+    pub fn to_bibtex_string(&self, alloc: Global) -> Result<String, AllocError>
+        ensures { IfOk result (λ text. string_bytes text ≡ bibtex_entry self.now) }
+    {
+        let mut out = String::new(alloc);
+        write_entry(alloc, &mut out, self, Format::Bibtex)?;
+        Ok(out)
+    }
+}

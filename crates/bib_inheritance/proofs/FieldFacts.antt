@@ -1,0 +1,143 @@
+-- The fields of a map that was made, and changed.
+use Rattle.std.proofs.Common.{◌≡◌, ℕ, zero, suc, ◌+◌, ◌-◌, ◌<◌, arith, drop, length, get_or, List, [], ◌∷◌, ◌++◌, Bool, true, false, cond, ◌||◌, reverse, refl, sym, ap, ◌∙◌, Option, Some, None, option_map, is_some, codes}
+use Rattle.std.specs.Str.{bytes_eq}
+use Rattle.std.specs.FinMap.{get, find, entries, insert, remove, from_entries, get-from_entries, get-insert, get-remove, get-entries}
+use Rattle.std.proofs.lemmas.Bool.{false≢true}
+use Rattle.std.proofs.lemmas.Cmp.{nat_list_cmp_total}
+use Rattle.std.proofs.lemmas.List.{reverse-reverse, at_drop_more}
+use Rattle.std.proofs.lemmas.Map.Text.{is_eq-slice_cmp}
+use Rattle.bib_chunks.specs.Styled.{Atom, styled}
+use Rattle.bib_maps.specs.Sorted.{ByText, by_bytes}
+use Rattle.bib_tables.specs.Requirements.{is_one_of}
+use Rattle.bib_tables.specs.declared.mechanics.EntryType.{EntryType}
+use Rattle.bib_inheritance.specs.Dating.{date_for, last_date, dated_text, dating}
+use Rattle.bib_inheritance.specs.Inherited.{date_parts, field_by, inherited, plain_field, taken}
+use Rattle.bib_inheritance.specs.Sources.{Fields, Source, fields_of, first_named, first_some, source_of, sources}
+use Rattle.bib_inheritance.specs.declared.offers.Reference.{Reference}
+use Rattle.bib_inheritance.proofs.LentFacts.{Value, bytes_turned, first_behind}
+
+abbrev pub Map : Type 0
+Map = ByText Value
+
+removed_at : (m : Map) (k q : List ℕ) → get (remove m k) q ≡ cond (bytes_eq q k) None (get m q)
+removed_at m k q = get-remove nat_list_cmp_total m k q ∙ ap (λ b. cond b None (get m q)) (is_eq-slice_cmp q k)
+
+-- own fields count before those that are given
+abbrev pub made : List (List ℕ × Value) → Map
+made pairs = from_entries pairs
+
+pub field_gathered : (own : Map) (given : List (List ℕ × Value)) (gone q : List ℕ) → get (remove (made (reverse (reverse (entries own ++ given)))) gone) q ≡ cond (bytes_eq q gone) None (first_some (get own q) (first_named given q))
+field_gathered own given gone q =
+    removed_at (made (reverse (reverse (entries own ++ given)))) gone q
+    ∙ ap (cond (bytes_eq q gone) None)
+    (get-from_entries nat_list_cmp_total (reverse (reverse (entries own ++ given))) q
+    ∙ ap (find by_bytes q) (reverse-reverse (entries own ++ given))
+    ∙ first_behind q (entries own) given
+    ∙ ap (λ o. first_some o (first_named given q)) (sym (get-entries own q)))
+
+three : {A : Type 0} (a b c : Bool) (x : Option A) → cond c None (cond b None (cond a None x)) ≡ cond (a || (b || (c || false))) None x
+three true true true x = refl
+three true true false x = refl
+three true false true x = refl
+three true false false x = refl
+three false true true x = refl
+three false true false x = refl
+three false false true x = refl
+three false false false x = refl
+
+inserted_at : (m : Map) (k : List ℕ) (v : Value) (q : List ℕ) → get (insert m k v) q ≡ cond (bytes_eq q k) (Some v) (get m q)
+inserted_at m k v q = get-insert nat_list_cmp_total m k v q ∙ ap (λ b. cond b (Some v) (get m q)) (is_eq-slice_cmp q k)
+
+-- a field where three names are taken out and another is set
+pub field_dated : (m : Map) (a b c k : List ℕ) (v : Value) (q : List ℕ) → get (insert (remove (remove (remove m a) b) c) k v) q ≡ cond (bytes_eq q k) (Some v) (cond (bytes_eq a q || (bytes_eq b q || (bytes_eq c q || false))) None (get m q))
+field_dated m a b c k v q =
+    inserted_at (remove (remove (remove m a) b) c) k v q
+    ∙ ap (cond (bytes_eq q k) (Some v))
+    (removed_at (remove (remove m a) b) c q
+    ∙ ap (cond (bytes_eq q c) None) (removed_at (remove m a) b q ∙ ap (cond (bytes_eq q b) None) (removed_at m a q))
+    ∙ three (bytes_eq q a) (bytes_eq q b) (bytes_eq q c) (get m q)
+    ∙ ap (λ x. cond (x || (bytes_eq q b || (bytes_eq q c || false))) None (get m q)) (bytes_turned q a)
+    ∙ ap (λ x. cond (bytes_eq a q || (x || (bytes_eq q c || false))) None (get m q)) (bytes_turned q b)
+    ∙ ap (λ x. cond (bytes_eq a q || (bytes_eq b q || (x || false))) None (get m q)) (bytes_turned q c))
+
+-- Dates
+
+-- a date that stands behind is the last
+date_front : (k : ℕ) (refs : List Reference) (date : List Atom) → last_date (sources (drop k refs)) ≡ Some date → last_date (sources refs) ≡ Some date
+date_front zero refs date h = h
+date_front (suc k) [] date h = h
+date_front (suc k) (r ∷ rest) date h = ap (λ o. first_some o (dated_text (dating (fields_of r.fields.now)))) (date_front k rest date h)
+
+-- what one reference more has as a date, the last first, where those behind it have none
+date_next : (refs : List Reference) (done : ℕ) (r : Reference) → done < length refs → r ≡ get_or refs (length refs - 1 - done) r → last_date (sources (drop (length refs - done) refs)) ≡ None
+    → last_date (sources (drop (length refs - (done + 1)) refs)) ≡ dated_text (dating (fields_of r.fields.now))
+date_next refs done r within at none =
+    let k : ℕ = length refs - (done + 1) in
+    let here : length refs - 1 - done ≡ k = omega arith in
+    let behind : length refs - done ≡ k + 1 = omega arith in
+    let next = at_drop_more (λ l. last_date (sources l)) refs k r (omega arith) in
+    let is : r ≡ get_or refs k r = at ∙ ap (λ n. get_or refs n r) here in
+    let none' = ap (λ n. last_date (sources (drop n refs))) (sym behind) ∙ none in
+    next ∙ ap (λ o. first_some o (dated_text (dating (fields_of (get_or refs k r).fields.now)))) none'
+    ∙ ap (λ x. dated_text (dating (fields_of x.fields.now))) (sym is)
+
+pub date_none : (refs : List Reference) (done : ℕ) (r : Reference) → done < length refs → r ≡ get_or refs (length refs - 1 - done) r → dated_text (dating (fields_of r.fields.now)) ≡ None → last_date (sources (drop (length refs - done) refs)) ≡ None
+    → last_date (sources (drop (length refs - (done + 1)) refs)) ≡ None
+date_none refs done r within at has none = date_next refs done r within at none ∙ has
+
+pub date_found : (refs : List Reference) (done : ℕ) (r : Reference) (date : List Atom) → done < length refs → r ≡ get_or refs (length refs - 1 - done) r → dated_text (dating (fields_of r.fields.now)) ≡ Some date → last_date (sources (drop (length refs - done) refs)) ≡ None
+    → last_date (sources refs) ≡ Some date
+date_found refs done r date within at has none = date_front (length refs - (done + 1)) refs date (date_next refs done r within at none ∙ has)
+
+-- The rule
+
+styled_first : (a b : Option Value) → option_map styled (first_some a b) ≡ first_some (option_map styled a) (option_map styled b)
+styled_first None b = refl
+styled_first (Some x) b = refl
+
+styled_if : (b : Bool) (x y : Option Value) → option_map styled (cond b x y) ≡ cond b (option_map styled x) (option_map styled y)
+styled_if true x y = refl
+styled_if false x y = refl
+
+styled_plain : (own given : List ℕ → Option Value) (name : List ℕ) → option_map styled (plain_field own given name) ≡ plain_field (λ n. option_map styled (own n)) (λ n. option_map styled (given n)) name
+styled_plain own given name = styled_if (bytes_eq name (codes "xdata")) None (first_some (own name) (given name)) ∙ ap (cond (bytes_eq name (codes "xdata")) None) (styled_first (own name) (given name))
+
+styled_by : (date : Option Value) (own given : List ℕ → Option Value) (name : List ℕ) → option_map styled (field_by date own given name) ≡ field_by (option_map styled date) (λ n. option_map styled (own n)) (λ n. option_map styled (given n)) name
+styled_by None own given name = styled_plain own given name
+styled_by (Some date) own given name =
+    styled_if (bytes_eq name (codes "date")) (Some date) (cond (is_one_of date_parts name) None (plain_field own given name))
+    ∙ ap (cond (bytes_eq name (codes "date")) (Some (styled date)))
+    (styled_if (is_one_of date_parts name) None (plain_field own given name) ∙ ap (cond (is_one_of date_parts name) None) (styled_plain own given name))
+
+-- what an entry has itself isn't looked for
+plain_lacked : {A : Type 0} (own given : Option A) → first_some own (cond (is_some own) None given) ≡ first_some own given
+plain_lacked None given = refl
+plain_lacked (Some x) given = refl
+
+by_lacked : (date : Option (List Atom)) (own given : Fields) (name : List ℕ) → field_by date own (λ n. cond (is_some (own n)) None (given n)) name ≡ field_by date own given name
+by_lacked None own given name = ap (cond (bytes_eq name (codes "xdata")) None) (plain_lacked (own name) (given name))
+by_lacked (Some date) own given name =
+    ap (λ o. cond (bytes_eq name (codes "date")) (Some date) (cond (is_one_of date_parts name) None (cond (bytes_eq name (codes "xdata")) None o))) (plain_lacked (own name) (given name))
+
+-- an entry with what it takes over is what the rule says
+pub inherits : (kind : EntryType) (own fields : Map) (refs : List Source) (given : List (List ℕ × Value)) (date : Option Value)
+    → ((name : List ℕ) → option_map styled (first_named given name) ≡ cond (is_some (fields_of own name)) None (taken kind name refs))
+    → option_map styled date ≡ date_for (source_of kind own) refs → ((name : List ℕ) → get fields name ≡ field_by date (get own) (first_named given) name)
+    → source_of kind fields ≡ inherited (source_of kind own) refs
+inherits kind own fields refs given date gives dated h =
+    let same : (name : List ℕ) → fields_of fields name ≡ field_by (date_for (source_of kind own) refs) (fields_of own) (λ n. taken kind n refs) name =
+    λ name. ap (option_map styled) (h name) ∙ styled_by date (get own) (first_named given) name
+    ∙ ap (λ d. field_by d (fields_of own) (λ n. option_map styled (first_named given n)) name) dated
+    ∙ ap (λ (f : Fields). field_by (date_for (source_of kind own) refs) (fields_of own) f name) (λ i n. gives n i)
+    ∙ by_lacked (date_for (source_of kind own) refs) (fields_of own) (λ n. taken kind n refs) name
+    in
+    λ i. record { kind = kind; fields = λ name. same name i }
+
+-- a value that is there, or isn't
+pub is_there : {A B : Type 0} (o : Option A) → is_some o ≡ true → ((a : A) → o ≡ Some a → B) → B
+is_there None t k = absurd (false≢true t)
+is_there (Some a) t k = k a refl
+
+pub is_absent : {A : Type 0} (o : Option A) → is_some o ≡ false → o ≡ None
+is_absent None t = refl
+is_absent (Some a) t = absurd (false≢true (sym t))

@@ -1,0 +1,3 @@
+pub mod FieldFacts
+pub mod LentFacts
+pub mod OfferFacts

@@ -1,0 +1,13 @@
+-- The first of some fields that is there.
+use Rattle.std.proofs.Common.{◌≡◌, ℕ, ◌+◌, ◌<◌, ◌≤◌, List, length, get_or, drop, None}
+use Rattle.std.proofs.lemmas.List.{at_drop_more, at_drop_all}
+use denote.Ref.{Bor}
+use Rattle.bib_tables.specs.Requirements.{texts}
+use Rattle.bib_inheritance.specs.Inherited.{first_of}
+use Rattle.bib_inheritance.specs.Sources.{Fields, first_some}
+
+pub first_of_more : (fields : Fields) (names : List (Bor (List ℕ))) (i : ℕ) (d : Bor (List ℕ)) → i < length names → first_of fields (texts (drop i names)) ≡ first_some (fields (get_or names i d).now) (first_of fields (texts (drop (i + 1) names)))
+first_of_more fields names i d h = at_drop_more (λ l. first_of fields (texts l)) names i d h
+
+pub first_of_none : (fields : Fields) (names : List (Bor (List ℕ))) (i : ℕ) → length names ≤ i → first_of fields (texts (drop i names)) ≡ None
+first_of_none fields names i h = at_drop_all (λ l. first_of fields (texts l)) names i h

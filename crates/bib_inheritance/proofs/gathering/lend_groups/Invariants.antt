@@ -1,0 +1,11 @@
+use Rattle.std.proofs.Common.{◌≡◌, List, ℕ, take}
+use Rattle.std.specs.List.{flat_map}
+use Rattle.bib_tables.specs.Requirements.{texts}
+use Rattle.bib_inheritance.specs.Lent.{lent, offered_among}
+use Rattle.bib_inheritance.specs.Sources.{first_some, source_at}
+use Rattle.bib_inheritance.proofs.gathering.lend_groups.Given as goal
+
+-- what the groups so far have lent
+abbrev pub invariant-groups : goal.invariant-groups
+invariant-groups l = (q : List ℕ)
+    → lent l.loans q ≡ first_some (offered_among (flat_map (λ group. texts group.now) (take l.group-index l.groups)) (source_at l.reference) q) (lent l.initial.loans q)

@@ -1,0 +1,8 @@
+use Rattle.std.proofs.Common.{◌≡◌, drop}
+use Rattle.bib_tables.specs.Requirements.{texts}
+use Rattle.bib_inheritance.specs.Inherited.{first_of}
+use Rattle.bib_inheritance.specs.Sources.{fields_of}
+use Rattle.bib_inheritance.proofs.offers.first_of.Given as goal
+
+abbrev pub invariant-names : goal.invariant-names
+invariant-names l = first_of (fields_of l.fields) (texts l.names) ≡ first_of (fields_of l.fields) (texts (drop l.name-index l.names))

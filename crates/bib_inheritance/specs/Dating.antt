@@ -1,0 +1,77 @@
+-- Meaning: words of public contracts.
+-- What an entry has as a date for those that inherit it.
+use Rattle.std.specs.Prelude.{ℕ, Bool, true, false, not, ◌&&◌, ◌||◌, List, [], ◌∷◌, map, codes, option_map, Option, Some, None, IsSomeAnd, if◌then◌else◌}
+use Rattle.std.specs.Str.{chars}
+use Rattle.bib_chunks.specs.Styled.{Atom}
+use Rattle.bib_faults.specs.declared.type_error.TypeErrorKind.{TypeErrorKind}
+use Rattle.bib_tables.specs.Requirements.{rules_of}
+use Rattle.bib_dates.specs.Anew.{date_anew}
+use Rattle.bib_dates.specs.Readings.{MayRefuse, Reading, value_of}
+use Rattle.bib_dates.specs.ThreeFields.{three_fields_of}
+use Rattle.bib_dates.specs.Written.{date_text}
+use Rattle.bib_dates.specs.declared.date.Date.{Date}
+use Rattle.bib_inheritance.specs.References.{plain}
+use Rattle.bib_inheritance.specs.Sources.{Fields, Source, first_some, has}
+
+-- a text of normal characters
+abbrev pub written : List ℕ → List Atom
+written text = map Atom.normal (chars text)
+
+-- an entry has no date, one that can't be read, or one with a text
+pub data Dating : Type 0 where
+  undated : Dating
+  unreadable : Dating
+  dated : List Atom → Dating
+
+-- what a field `date` gives: its date written anew, without its time, or as it is where it can't be read
+abbrev pub of_one_field : List Atom → Option (List ℕ) → Dating
+of_one_field own None = Dating.dated own
+of_one_field own (Some text) = Dating.dated (written text)
+
+-- what the year, the month and the day of an entry are read as, by this text of the year
+abbrev pub three_fields : Fields → List ℕ → Reading Date
+three_fields fields year = three_fields_of year (option_map plain (fields (codes "month"))) (option_map plain (fields (codes "day")))
+
+-- what they give: their date, written, where they can be read
+abbrev pub of_three_fields : Option Date → Dating
+of_three_fields None = Dating.unreadable
+of_three_fields (Some date) = Dating.dated (written (date_text date))
+
+-- `date` counts before `year`
+abbrev pub dating_by : Fields → Option (List Atom) → Option (List Atom) → Dating
+dating_by fields (Some date) year = of_one_field date (date_anew (plain date))
+dating_by fields None (Some year) = of_three_fields (value_of (three_fields fields (plain year)))
+dating_by fields None None = Dating.undated
+
+abbrev pub dating : Fields → Dating
+dating fields = dating_by fields (fields (codes "date")) (fields (codes "year"))
+
+-- the text of a date
+abbrev pub dated_text : Dating → Option (List Atom)
+dated_text (Dating.dated atoms) = Some atoms
+dated_text Dating.undated = None
+dated_text Dating.unreadable = None
+
+-- whether a date is there that can't be read
+abbrev pub is_unreadable : Dating → Bool
+is_unreadable Dating.unreadable = true
+is_unreadable Dating.undated = false
+is_unreadable (Dating.dated atoms) = false
+
+-- whether an entry looks for a date to those that it refers to: its type needs one, and it has no `date` and no `year`
+-- of its own
+abbrev pub looks_for_date : Source → Bool
+looks_for_date own = (rules_of own.kind).needs_date && not (has own (codes "date") || has own (codes "year"))
+
+-- the date of the last entry that has one
+abbrev pub last_date : List Source → Option (List Atom)
+last_date [] = None
+last_date (r ∷ rest) = first_some (last_date rest) (dated_text (dating r.fields))
+
+-- the date that an entry takes over
+abbrev pub date_for : Source → List Source → Option (List Atom)
+date_for own references = if looks_for_date own then last_date references else None
+
+-- a kind of fault that the year, the month and the day of an entry may be refused with
+abbrev pub DateMayFail : Fields → TypeErrorKind → Type 0
+DateMayFail fields kind = IsSomeAnd (fields (codes "year")) (λ year. MayRefuse (three_fields fields (plain year)) kind)

@@ -1,0 +1,5 @@
+pub mod Dating
+pub mod Inherited
+pub mod Lent
+pub mod References
+pub mod Sources

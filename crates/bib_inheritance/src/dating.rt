@@ -1,0 +1,177 @@
+//! What an entry has as a date for those that inherit it.
+
+ghost use Rattle.std.specs.Prelude.{◌≡◌, ℕ, List, Some, IfOk, IfSome, codes, is_some, option_map};
+ghost use Rattle.std.specs.Option.{option_copied};
+ghost use Rattle.bib_chunks.specs.Styled.{styled};
+ghost use Rattle.bib_dates.specs.Anew.{date_anew};
+ghost use Rattle.bib_dates.specs.Chunks.{IsAnswer};
+ghost use Rattle.bib_dates.specs.Readings.{Reading, value_of};
+ghost use Rattle.bib_dates.specs.Written.{date_text};
+ghost use Rattle.bib_dates.specs.declared.date.Date.{Date as ADate};
+ghost use Rattle.bib_inheritance.specs.Dating.{DateMayFail, date_for, dated_text, dating, is_unreadable, last_date, looks_for_date, of_one_field, three_fields, written};
+ghost use Rattle.bib_inheritance.specs.References.{plain};
+ghost use Rattle.bib_inheritance.specs.Sources.{fields_of, source_of, sources};
+ghost use Rattle.bib_values.specs.Values.{text};
+
+use crate::offers::Reference;
+use bib_chunks::chunk::{Chunk, Chunks, ChunksRef, Spanned, format_styled, whole_span};
+use bib_dates::date::Date;
+use bib_faults::type_error::{TypeError, TypeErrorKind};
+use bib_maps::text_map::TextMap;
+use bib_tables::mechanics::EntryType;
+use bib_text::items::Items;
+use bib_text::text::Text;
+use bib_typed::typed::Type;
+use std::alloc::{AllocError, Global};
+
+// The styled text as one verbatim chunk in its place, which is read as its plain text.
+fn as_text(alloc: Global, chunks: &Chunks) -> Result<Chunks, AllocError>
+    ensures { IfOk result (λ one. text one ≡ plain (styled chunks.now)) }
+{
+    let text = format_styled(alloc, chunks.as_slice())?;
+    let mut one = Items::new(alloc);
+    one.push(Spanned {
+        v: Chunk::Verbatim(Text::from_string(text)),
+        span: whole_span(chunks.as_slice()),
+    })?;
+    Ok(one)
+}
+
+// A field as such a chunk, if it is there.
+fn field_as_text(
+    alloc: Global,
+    fields: &TextMap<Chunks>,
+    name: &str,
+) -> Result<Option<Chunks>, AllocError>
+    ensures { IfOk result (λ one. option_map text one ≡
+        option_map plain (fields_of fields.now name.now)) }
+{
+    match fields.get(name) {
+        Some(chunks) => Ok(Some(as_text(alloc, chunks)?)),
+        None => Ok(None),
+    }
+}
+
+fn lent(chunks: &Option<Chunks>) -> Option<ChunksRef<'_>>
+    ensures { option_copied result ≡ chunks.now }
+{
+    match chunks {
+        Some(chunks) => Some(chunks.as_slice()),
+        None => None,
+    }
+}
+
+// What the year, the month and the day of an entry are read as.
+fn three_fields(alloc: Global, year: &Chunks, fields: &TextMap<Chunks>) -> Result<Date, TypeError>
+    ensures { IsAnswer (three_fields (fields_of fields.now) (plain (styled year.now))) result }
+{
+    let year = as_text(alloc, year)?;
+    let month = field_as_text(alloc, fields, "month")?;
+    let day = field_as_text(alloc, fields, "day")?;
+    Date::parse_three_fields(alloc, year.as_slice(), lent(&month), lent(&day))
+}
+
+// A date that was read, written anew; None where it can't be read.
+fn anew(alloc: Global, read: Result<Date, TypeError>) -> Result<Option<Chunks>, AllocError>
+    ensures { IfOk result (λ date. (reading : Reading ADate) → IsAnswer reading read →
+        option_map styled date ≡ option_map (λ d. written (date_text d)) (value_of reading)) }
+{
+    match read {
+        Ok(date) => Ok(Some(date.to_chunks(alloc)?)),
+        Err(e) => {
+            if matches!(e.kind, TypeErrorKind::OutOfMemory) {
+                return Err(AllocError);
+            }
+            Ok(None)
+        }
+    }
+}
+
+// The date in a field `date`: written anew, or copied where it can't be read.
+fn from_one_field(alloc: Global, date: &Chunks) -> Result<Chunks, AllocError>
+    ensures { IfOk result (λ chunks. Some (styled chunks) ≡
+        dated_text (of_one_field (styled date.now) (date_anew (plain (styled date.now))))) }
+{
+    let one = as_text(alloc, date)?;
+    let read = Date::parse(alloc, one.as_slice());
+    match anew(alloc, read)? {
+        Some(anew) => Ok(anew),
+        None => date.clone(),
+    }
+}
+
+// The date of an entry with these fields, if it has one: of a readable one the text without its time, and of an
+// unreadable field `date` that field.
+fn date(alloc: Global, fields: &TextMap<Chunks>) -> Result<Option<Chunks>, AllocError>
+    ensures { IfOk result (λ date. option_map styled date ≡ dated_text (dating (fields_of fields.now))) }
+{
+    if let Some(date) = fields.get("date") {
+        return Ok(Some(from_one_field(alloc, date)?));
+    }
+    let Some(year) = fields.get("year") else {
+        return Ok(None);
+    };
+    anew(alloc, three_fields(alloc, year, fields))
+}
+
+/// Why the date of an entry with these fields can't be read, if it has one that can't. A field `date` always can.
+pub fn date_fault(alloc: Global, fields: &TextMap<Chunks>) -> Result<Option<TypeError>, AllocError>
+    ensures unreadable { IfOk result (λ fault. is_some fault ≡
+        is_unreadable (dating (fields_of fields.now))) }
+    ensures kind { IfOk result (λ fault. IfSome fault
+        (λ e. DateMayFail (fields_of fields.now) e.kind)) }
+{
+    if fields.get("date").is_some() {
+        return Ok(None);
+    }
+    let Some(year) = fields.get("year") else {
+        return Ok(None);
+    };
+    match three_fields(alloc, year, fields) {
+        Ok(_) => Ok(None),
+        Err(e) => {
+            if matches!(e.kind, TypeErrorKind::OutOfMemory) {
+                return Err(AllocError);
+            }
+            Ok(Some(e))
+        }
+    }
+}
+
+// The date of the last reference that has one.
+fn last_date(alloc: Global, references: &[Reference<'_>]) -> Result<Option<Chunks>, AllocError>
+    ensures { IfOk result (λ date. option_map styled date ≡ last_date (sources references.now)) }
+{
+    let count = references.len();
+    'references: for done in 0..count {
+        let reference = &references[count - 1 - done];
+        let date = date(alloc, reference.fields)?;
+        if date.is_some() {
+            return Ok(date);
+        }
+    }
+    Ok(None)
+}
+
+/// Whether an entry looks for a date to those that it refers to. It takes no memory.
+pub fn looks_for_date(kind: &EntryType, own: &TextMap<Chunks>) -> bool
+    ensures { result ≡ looks_for_date (source_of kind.now own.now) }
+{
+    kind.row().needs_date && own.get("date").is_none() && own.get("year").is_none()
+}
+
+/// The date that an entry of a type takes over from its references: the last one, if the entry looks for a date.
+pub fn inherited_date(
+    alloc: Global,
+    kind: &EntryType,
+    own: &TextMap<Chunks>,
+    references: &[Reference<'_>],
+) -> Result<Option<Chunks>, AllocError>
+    ensures { IfOk result (λ date. option_map styled date ≡
+        date_for (source_of kind.now own.now) (sources references.now)) }
+{
+    if !looks_for_date(kind, own) {
+        return Ok(None);
+    }
+    last_date(alloc, references)
+}

@@ -1,0 +1,119 @@
+//! What an entry offers to those that refer to it.
+
+ghost use Rattle.std.specs.Prelude.{◌≡◌, Some, option_map};
+ghost use Rattle.std.specs.Option.{option_copied};
+ghost use Rattle.bib_text.specs.Enums.{named};
+ghost use Rattle.bib_chunks.specs.Styled.{styled};
+ghost use Rattle.bib_tables.specs.Requirements.{texts};
+ghost use Rattle.bib_inheritance.specs.Inherited.{is_periodical, journal_titles, book_titles, main_titles, title_for, other_names, first_of, offer};
+ghost use Rattle.bib_inheritance.specs.Sources.{fields_of, source_at};
+
+use bib_chunks::chunk::Chunks;
+use bib_maps::text_map::TextMap;
+use bib_tables::mechanics::EntryType;
+
+/// An entry that another refers to.
+#[derive(Clone, Copy)]
+pub struct Reference<'a> {
+    /// The type of the entry.
+    pub entry_type: &'a EntryType,
+    /// The fields of the entry, with those that it inherits.
+    pub fields: &'a TextMap<Chunks>,
+}
+
+fn is_periodical(kind: &EntryType) -> bool
+    ensures { result ≡ is_periodical kind.now }
+{
+    matches!(kind, EntryType::Periodical)
+}
+
+fn journal_title(name: &str) -> Option<&'static [&'static str]>
+    ensures { option_map (λ names. texts names.now) result ≡ named journal_titles name.now }
+{
+    match name {
+        "journaltitle" => Some(&["title"]),
+        "journalsubtitle" => Some(&["subtitle"]),
+        _ => None,
+    }
+}
+
+fn book_title(name: &str) -> Option<&'static [&'static str]>
+    ensures { option_map (λ names. texts names.now) result ≡ named book_titles name.now }
+{
+    match name {
+        "booktitle" => Some(&["title"]),
+        "booksubtitle" => Some(&["subtitle"]),
+        "booktitleaddon" => Some(&["titleaddon"]),
+        _ => None,
+    }
+}
+
+fn main_title(name: &str) -> Option<&'static [&'static str]>
+    ensures { option_map (λ names. texts names.now) result ≡ named main_titles name.now }
+{
+    match name {
+        "maintitle" => Some(&["title"]),
+        "mainsubtitle" => Some(&["subtitle"]),
+        "maintitleaddon" => Some(&["titleaddon"]),
+        _ => None,
+    }
+}
+
+// The field that an entry offers for a name, where that is one of its own titles.
+fn title_for(kind: &EntryType, name: &str) -> Option<&'static [&'static str]>
+    ensures { option_map (λ names. texts names.now) result ≡ title_for kind.now name.now }
+{
+    if is_periodical(kind) {
+        if let Some(names) = journal_title(name) {
+            return Some(names);
+        }
+    }
+    if kind.is_collection() {
+        if let Some(names) = book_title(name) {
+            return Some(names);
+        }
+    }
+    if kind.is_multi_volume() {
+        return main_title(name);
+    }
+    None
+}
+
+// The fields that an entry offers for one of the same meaning: the first that it has.
+fn same_meaning(name: &str) -> Option<&'static [&'static str]>
+    ensures { option_map (λ names. texts names.now) result ≡ named other_names name.now }
+{
+    match name {
+        "address" => Some(&["address", "location"]),
+        "institution" => Some(&["institution", "school"]),
+        "school" => Some(&["school", "institution"]),
+        "journaltitle" => Some(&["journaltitle", "journal"]),
+        _ => None,
+    }
+}
+
+// The first of some fields that is there.
+#[tactic(auto, using(crate::proofs::OfferFacts::first_of_more, crate::proofs::OfferFacts::first_of_none))]
+fn first_of<'a>(fields: &'a TextMap<Chunks>, names: &[&str]) -> Option<&'a Chunks>
+    ensures { option_map styled (option_copied result) ≡ first_of (fields_of fields.now) (texts names.now) }
+{
+    'names: for name in names {
+        if let Some(chunks) = fields.get(name) {
+            return Some(chunks);
+        }
+    }
+    None
+}
+
+/// What an entry offers for a name.
+pub fn offer<'a>(reference: &Reference<'a>, name: &str) -> Option<&'a Chunks>
+    ensures { option_map styled (option_copied result) ≡ offer (source_at reference.now) name.now }
+{
+    if let Some(names) = title_for(reference.entry_type, name) {
+        return first_of(reference.fields, names);
+    }
+    if let Some(names) = same_meaning(name) {
+        return first_of(reference.fields, names);
+    }
+    reference.fields.get(name)
+}

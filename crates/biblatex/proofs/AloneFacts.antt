@@ -1,0 +1,119 @@
+-- Settled entries refer to nothing: references add nothing to what is read again.
+use Rattle.std.proofs.Common.{◌≡◌, ℕ, zero, suc, ◌<◌, Bool, true, false, List, [], ◌∷◌, length, map, refl, sym, ap, ◌∙◌, subst, Option, Some, None, arith, inl, inr, cond}
+use Rattle.std.specs.Prelude.{◌&&◌, slice_index_or, codes, bytes_eq, option_map}
+use Rattle.std.specs.List.{AllByRecursion, AllZip, Contains}
+use Rattle.std.specs.FinMap as by_name
+use Rattle.std.proofs.lemmas.Bool.{cases_Bool}
+use Rattle.std.proofs.lemmas.Slice.Eq.{bytes_eq-Decides}
+use Rattle.bib_chunks.specs.Styled.{Atom, styled}
+use Rattle.bib_maps.specs.Sorted.{ByText}
+use Rattle.bib_entry.specs.declared.entry.Entry.{Entry}
+use Rattle.bib_graph.specs.Graph.{refs_of, Leads, HasNoCircle}
+use Rattle.bib_inheritance.specs.Dating.{date_for, last_date, looks_for_date}
+use Rattle.bib_inheritance.specs.Inherited.{inherited, plain_field, field_by}
+use Rattle.bib_inheritance.specs.References.{references}
+use Rattle.bib_inheritance.specs.Sources.{Source, fields_of, first_some, nowhere}
+use Rattle.biblatex.specs.Resolved.{names_of, graph_by, graph_of, source_of_entry, sources_of, at_place, rule_by, Inherits, AreDatesRead, has_bad_date}
+
+-- an entry that refers to nothing
+pub record RefersToNothing (e : Entry) : Type 0 where
+  pub crossref : by_name.get e.fields (codes "crossref") ≡ None
+  pub xdata : by_name.get e.fields (codes "xdata") ≡ None
+
+no_references : (names : ByText ℕ) (e : Entry) → RefersToNothing e → references names (fields_of e.fields) ≡ []
+no_references names e none = rw (none.crossref, none.xdata) refl
+
+-- no row of the graph has a reference
+no_row : (names : ByText ℕ) (own : List Entry) (place : ℕ) → AllByRecursion RefersToNothing own → refs_of (graph_by names own) place ≡ []
+no_row names [] place all = refl
+no_row names (e ∷ own) zero all = no_references names e all.0
+no_row names (e ∷ own) (suc place) all = no_row names own place all.1
+
+nothing_in : {a : ℕ} {xs : List ℕ} → xs ≡ [] → Contains xs a → ⊥
+nothing_in {a} {xs} none holds = let here = subst (λ ys. Contains ys a) none holds in absurd (omega (arith, here.1))
+
+pub no_circle : (own : List Entry) → AllByRecursion RefersToNothing own → HasNoCircle (graph_of own)
+no_circle own all place within leads = none leads
+  where
+    none : {a b : ℕ} → Leads (graph_of own) a b → ⊥
+    none {a} (Leads.one holds) = nothing_in (no_row (names_of own) own a all) holds
+    none {a} (Leads.more holds rest) = nothing_in (no_row (names_of own) own a all) holds
+
+and_last : (a : Bool) → (a && false) ≡ false
+and_last true = refl
+and_last false = refl
+
+pub no_dates : (own : List Entry) (values : List Source) → AllByRecursion RefersToNothing own → AreDatesRead (sources_of own) (graph_of own) values
+no_dates own values all place = rw (no_row (names_of own) own place all) (and_last (looks_for_date (at_place (sources_of own) place)))
+
+rows_length : (names : ByText ℕ) (own : List Entry) → length (graph_by names own) ≡ length own
+rows_length names [] = refl
+rows_length names (e ∷ own) = ap suc (rows_length names own)
+
+-- the value at a place is the entry's own
+own_value : (own : List Entry) (values : List Source) (place : ℕ) → AllByRecursion RefersToNothing own → Inherits (sources_of own) (graph_of own) values → place < length own
+    → at_place values place ≡ inherited (at_place (sources_of own) place) []
+own_value own values place all inherits within =
+    inherits.each place (subst (λ n. place < n) (sym (rows_length (names_of own) own)) within)
+    ∙ ap (λ refs. inherited (at_place (sources_of own) place) (map (λ r. slice_index_or values r nowhere) refs)) (no_row (names_of own) own place all)
+
+bytes_same : (one two : List ℕ) → bytes_eq one two ≡ true → one ≡ two
+bytes_same one two same = (bytes_eq-Decides one two).0 same
+
+-- the rule leaves an entry alone that refers to nothing
+plain_alone : (own : List ℕ → Option (List Atom)) (name : List ℕ) → own (codes "xdata") ≡ None → plain_field own (λ name. None) name ≡ own name
+plain_alone own name none =
+    elim (cases_Bool (bytes_eq name (codes "xdata"))) [
+      | inl is ↦ rw is (sym (ap own (bytes_same name (codes "xdata") is) ∙ none))
+      | inr other ↦ rw other (found (own name))
+    ]
+  where
+    found : (o : Option (List Atom)) → first_some o None ≡ o
+    found None = refl
+    found (Some atoms) = refl
+
+no_date : (own : Source) → date_for own [] ≡ None
+no_date own = go (looks_for_date own)
+  where
+    go : (b : Bool) → cond b (last_date []) None ≡ None
+    go true = refl
+    go false = refl
+
+rule_alone : (own : Source) (name : List ℕ) → own.fields (codes "xdata") ≡ None → (inherited own []).fields name ≡ own.fields name
+rule_alone own name none = ap (λ date. field_by date own.fields (λ name. None) name) (no_date own) ∙ plain_alone own.fields name none
+
+-- an entry that is a source by itself
+pub record IsAsWritten (own entry : Entry) : Type 0 where
+  pub kind : entry.entry_type ≡ own.entry_type
+  pub fields : (name : List ℕ) → option_map styled (by_name.get entry.fields name) ≡ option_map styled (by_name.get own.fields name)
+
+as_written : (own entry : Entry) → RefersToNothing own → source_of_entry entry ≡ inherited (source_of_entry own) [] → IsAsWritten own entry
+as_written own entry none same = record {
+  kind = ap (λ s. s.kind) same;
+  fields = λ name. ap (λ s. s.fields name) same ∙ rule_alone (source_of_entry own) name (rw none.xdata refl);
+}
+
+at_suc : {v : Source} (values : List Source) (place : ℕ) → at_place (v ∷ values) (suc place) ≡ at_place values place
+at_suc values place = refl
+
+-- values that are each entry's own
+all_as_written : (own entries : List Entry) → AllByRecursion RefersToNothing own → length entries ≡ length own
+    → ((place : ℕ) → place < length own → at_place (sources_of entries) place ≡ inherited (at_place (sources_of own) place) []) → AllZip IsAsWritten own entries
+all_as_written [] [] all size each = tt
+all_as_written [] (e ∷ entries) all size each = absurd (omega (arith, size))
+all_as_written (o ∷ own) [] all size each = absurd (omega (arith, size))
+all_as_written (o ∷ own) (e ∷ entries) all size each = (
+  as_written o e all.0 (each zero (omega arith)),
+  all_as_written own entries all.1 (omega (arith, size)) (λ place within. each (suc place) (omega (arith, within))),
+)
+
+length-map : {A B : Type 0} (f : A → B) (xs : List A) → length (map f xs) ≡ length xs
+length-map f [] = refl
+length-map f (x ∷ xs) = ap suc (length-map f xs)
+
+-- the entries of a solution are as they are written
+pub entries_as_written : (own entries : List Entry) → AllByRecursion RefersToNothing own → Inherits (sources_of own) (graph_of own) (sources_of entries) → AllZip IsAsWritten own entries
+entries_as_written own entries all inherits =
+    all_as_written own entries all
+    (sym (length-map source_of_entry entries) ∙ inherits.same_length ∙ rows_length (names_of own) own)
+    (λ place within. own_value own (sources_of entries) place all inherits within)

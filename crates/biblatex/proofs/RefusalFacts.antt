@@ -1,0 +1,126 @@
+-- Why a file is refused.
+use Rattle.std.proofs.Common.{◌≡◌, ℕ, zero, suc, ◌<◌, List, [], ◌∷◌, ◌++◌, Bool, false, ◌&&◌, length, get_or, drop, take, map, refl, sym, ap, ◌∙◌, subst, inl, inr, ◌⊎◌, Some, Result, Ok, Err}
+use Rattle.std.specs.Prelude.{IfErr, slice_get}
+use Rattle.std.specs.List.{list_any}
+use Rattle.std.specs.declared.ops.Range.{Range}
+use Rattle.bib_entry.specs.declared.entry.Entry.{Entry}
+use Rattle.bib_contents.specs.Abbreviations.{Definitions}
+use Rattle.bib_faults.specs.declared.type_error.TypeError.{TypeError}
+use Rattle.bib_graph.specs.Graph.{Graph, HasNoCircle, IsFirstOnCircle, refs_of}
+use Rattle.bib_inheritance.specs.Dating.{looks_for_date}
+use Rattle.bib_inheritance.specs.Sources.{Source}
+use Rattle.bib_maps.specs.Sorted.{ByText}
+use Rattle.bib_syntax.specs.Faults.{Refuses, out_of_memory}
+use Rattle.bib_syntax.specs.Grammar.{IsRawReading}
+use Rattle.bib_syntax.specs.Reading.{EntryReading, FileReading}
+use Rattle.bib_syntax.specs.Views.{entry_of}
+use Rattle.bib_syntax.specs.declared.raw.ParseError.{ParseError}
+use Rattle.bib_syntax.specs.declared.raw.ParseErrorKind.TheVariants.{ReferenceCycle, ResolutionError}
+use Rattle.bib_syntax.specs.declared.raw.RawEntry.{RawEntry}
+use Rattle.bib_text.specs.declared.spanned.Spanned.{Spanned}
+use Rattle.biblatex.specs.Library.{Library}
+use Rattle.biblatex.specs.Loaded.{AreEntries, definition_in}
+use Rattle.biblatex.specs.Resolved.{AreDatesRead, AreOwn, Inherits, IsAccepted, IsDateFault, IsFaultOf, IsLoaded, at_place, graph_by, graph_of, has_bad_date, is_bad_date, names_of, source_of_entry, sources_of}
+use Rattle.biblatex.specs.Turning.{AreResolved, IsCircleAt, IsFirstUnread, IsResolvingFault, is_unread_at}
+use Rattle.biblatex.proofs.ResolvedFacts.{accepted_faultless}
+
+some_same : {A : Type 0} {x y : A} → Some x ≡ Some y → x ≡ y
+some_same e = cc
+
+-- what a file says of the entry at a place
+told : {definitions : Definitions} {claimed : List (List ℕ)} (said : List EntryReading) (own : List Entry) (place : ℕ) (entry : Entry) → AreEntries definitions claimed said own → slice_get own place ≡ Some entry
+    → (one : EntryReading) × (slice_get said place ≡ Some one) × (entry.key ≡ one.key.text)
+told said own place entry AreEntries.none there = cc
+told (one ∷ said) (first ∷ own) zero entry (AreEntries.next fresh is rest) there = (one, refl, sym (ap (λ (e : Entry). e.key) (some_same there)) ∙ is.key)
+told (one ∷ said) (first ∷ own) (suc place) entry (AreEntries.next fresh is rest) there = told said own place entry rest there
+
+raw_at : (raw : List (Spanned RawEntry)) (place : ℕ) (one : EntryReading) (span : Range ℕ) → slice_get (map entry_of raw) place ≡ Some one → slice_get (map (λ r. r.span) raw) place ≡ Some span
+    → (one.start ≡ span.start) × (one.end ≡ span.end)
+raw_at [] place one span there stands = cc
+raw_at (r ∷ raw) zero one span there stands = (ap (λ (o : EntryReading). o.start) (sym (some_same there)) ∙ ap (λ (s : Range ℕ). s.start) (some_same stands), ap (λ (o : EntryReading). o.end) (sym (some_same there)) ∙ ap (λ (s : Range ℕ). s.end) (some_same stands))
+raw_at (r ∷ raw) (suc place) one span there stands = raw_at raw place one span there stands
+
+range_is : (s t : Range ℕ) → s.start ≡ t.start → s.end ≡ t.end → s ≡ t
+range_is s t a b = λ i. record { start = a i; end = b i }
+
+-- the fault of a circle is told of what the file says
+circle_told : {definitions : Definitions} {claimed : List (List ℕ)} (raw : List (Spanned RawEntry)) (own : List Entry) (place : ℕ) (e : ParseError) → AreEntries definitions claimed (map entry_of raw) own → IsCircleAt (map (λ r. r.span) raw) own place e
+    → (one : EntryReading) × (slice_get (map entry_of raw) place ≡ Some one) × (let span : Range ℕ = record { start = one.start; end = one.end } in e ≡ record { span = span; kind = ReferenceCycle one.key.text })
+circle_told raw own place e are at =
+    let one = told (map entry_of raw) own place at.entry are at.here in
+    let stands = raw_at raw place one.0 at.span one.1 at.stands in (
+      one.0,
+      one.1,
+      at.is ∙ ap (λ (s : Range ℕ). (let f : ParseError = record { span = s; kind = ReferenceCycle at.entry.key } in f)) (range_is at.span (record { start = one.0.start; end = one.0.end }) (sym stands.0) (sym stands.1))
+          ∙ ap (λ k. (let f : ParseError = record { span = record { start = one.0.start; end = one.0.end }; kind = ReferenceCycle k } in f)) one.2,
+    )
+
+-- a fault of what entries inherit is one of the file
+pub resolving_told : {says : FileReading} (raw : List (Spanned RawEntry)) (own : List Entry) (names : ByText ℕ) (e : ParseError) → says.entries ≡ map entry_of raw → AreOwn says own → names_of own ≡ names → IsResolvingFault (map (λ r. r.span) raw) own (graph_by names own) e
+    → IsFaultOf says e
+resolving_told {says} raw own names e says_raw are named (IsResolvingFault.circle {place = place} first at) =
+    let one = circle_told raw own place e (subst (λ l. AreEntries (definition_in says.abbreviations) [] l own) says_raw are) at in
+    IsFaultOf.circle are (subst (λ n. IsFirstOnCircle (graph_by n own) place) (sym named) first) (record { said = one.0; there = ap (λ l. slice_get l place) says_raw ∙ one.1; is = one.2 })
+resolving_told {says} raw own names e says_raw are named (IsResolvingFault.date {values = values} {place = place} none solves looks earlier is) =
+    IsFaultOf.date are (subst (λ n. HasNoCircle (graph_by n own)) (sym named) none) (subst (λ n. Inherits (sources_of own) (graph_by n own) values) (sym named) solves) looks
+    (subst (λ n. (other : ℕ) → other < place → has_bad_date (sources_of own) (graph_by n own) values other ≡ false) (sym named) earlier)
+    (subst (λ n. IsDateFault (graph_by n own) values place e) (sym named) is)
+
+pub refused : {says : FileReading} {T : Type 0} (r : Result T ParseError) (e : ParseError) → r ≡ Err e → (e ≡ out_of_memory) ⊎ IsFaultOf says e → IfErr r (λ e. (e ≡ out_of_memory) ⊎ (IsFaultOf says e × (IsAccepted says → ⊥)))
+refused {says} r e is (inl memory) = subst (λ r. IfErr r (λ e. (e ≡ out_of_memory) ⊎ (IsFaultOf says e × (IsAccepted says → ⊥)))) (sym is) (inl memory)
+refused {says} r e is (inr fault) = subst (λ r. IfErr r (λ e. (e ≡ out_of_memory) ⊎ (IsFaultOf says e × (IsAccepted says → ⊥)))) (sym is) (inr (fault, λ accepted. accepted_faultless accepted fault))
+
+pub refused_text : {T : Type 0} (X : Type 0) {says : FileReading} (text : List ℕ) (r : Result T ParseError) → IsRawReading text says → IfErr r (λ e. (e ≡ out_of_memory) ⊎ (IsFaultOf says e × (IsAccepted says → ⊥)))
+    → IfErr r (λ e. Refuses text e X ⊎ ((x : FileReading) × IsRawReading text x × IsFaultOf x e × (IsAccepted x → ⊥)))
+refused_text X text (Ok x) reads h = tt
+refused_text X text (Err e) reads (inl memory) = inl (inl memory)
+refused_text X {says} text (Err e) reads (inr fault) = inr (says, reads, fault.0, fault.1)
+
+-- ---- dates
+
+pub looks_at : (own : List Entry) (place : ℕ) → get_or (map (λ e. looks_for_date (source_of_entry e)) own) place false ≡ looks_for_date (at_place (sources_of own) place)
+looks_at [] place = refl
+looks_at (e ∷ own) zero = refl
+looks_at (e ∷ own) (suc place) = looks_at own place
+
+bad_at : (own : List Entry) (looks : List Bool) (graph : Graph) (values : List Source) (place : ℕ) → looks ≡ map (λ e. looks_for_date (source_of_entry e)) own → is_unread_at looks graph values place ≡ has_bad_date (sources_of own) graph values place
+bad_at own looks graph values place are = ap (λ b. b && list_any (is_bad_date values) (refs_of graph place)) (ap (λ l. get_or l place false) are ∙ looks_at own place)
+
+pub dates_read : (own : List Entry) (looks : List Bool) (graph : Graph) (values : List Source) → looks ≡ map (λ e. looks_for_date (source_of_entry e)) own → ((place : ℕ) → is_unread_at looks graph values place ≡ false) → AreDatesRead (sources_of own) graph values
+dates_read own looks graph values are read place = sym (bad_at own looks graph values place are) ∙ read place
+
+pub date_unread : (spans : List (Range ℕ)) (own : List Entry) (looks : List Bool) (graph : Graph) (values : List Source) (fault : TypeError) (e : ParseError) → looks ≡ map (λ e. looks_for_date (source_of_entry e)) own → HasNoCircle graph → Inherits (sources_of own) graph values
+    → IsFirstUnread looks graph values fault → e ≡ record { span = fault.span; kind = ResolutionError fault.kind } → IsResolvingFault spans own graph e
+date_unread spans own looks graph values fault e are none solves first is =
+    IsResolvingFault.date none solves (sym (ap (λ l. get_or l first.place false) are ∙ looks_at own first.place) ∙ first.marked)
+    (λ other before. sym (bad_at own looks graph values other are) ∙ first.earlier other before)
+    (record { reference = first.unread.reference; first = first.unread.first; kind = fault.kind; is = ap (λ (x : ParseError). x.kind) is; may = first.unread.may })
+
+-- ---- a slice of all that a vector has
+
+taken_front : {A : Type 0} (new rest : List A) → take (length new) (new ++ rest) ≡ new
+taken_front [] rest = refl
+taken_front (x ∷ new) rest = ap (λ l. x ∷ l) (taken_front new rest)
+
+pub all_taken : {A : Type 0} (n : ℕ) (new old : List A) → length new ≡ n → take n (new ++ drop (length new) old) ≡ new
+all_taken n new old e = subst (λ k. take k (new ++ drop (length new) old) ≡ new) e (taken_front new (drop (length new) old))
+
+-- ---- what is loaded
+
+pub entries_count : {definitions : Definitions} {claimed : List (List ℕ)} (said : List EntryReading) (own : List Entry) → AreEntries definitions claimed said own → length said ≡ length own
+entries_count said own AreEntries.none = refl
+entries_count (one ∷ said) (first ∷ own) (AreEntries.next fresh is rest) = ap suc (entries_count said own rest)
+
+pub loaded : {says : FileReading} (own entries : List Entry) (names : ByText ℕ) → AreOwn says own → names_of own ≡ names → AreResolved own (graph_by names own) entries → IsLoaded says (let l : Library = record { entries = entries; names = names } in l)
+loaded own entries names are named resolved =
+    let graph : graph_by names own ≡ graph_of own = ap (λ n. graph_by n own) (sym named) in
+    record {
+      own = own;
+      entries = are;
+      no_circle = subst HasNoCircle graph resolved.no_circle;
+      keys = resolved.keys;
+      inherits = subst (λ g. Inherits (sources_of own) g (sources_of entries)) graph resolved.inherits;
+      dates = subst (λ g. AreDatesRead (sources_of own) g (sources_of entries)) graph resolved.dates;
+      chunks = resolved.chunks;
+      names = sym named;
+    }

@@ -1,0 +1,186 @@
+-- What a file says as a bibliography, once: its entries as they are written, and with what they inherit.
+use Rattle.std.proofs.Common.{◌≡◌, ℕ, ◌+◌, ◌<◌, List, [], ◌∷◌, ◌++◌, Bool, true, false, cond, length, get_or, drop, map, refl, sym, ap, ◌∙◌, subst, arith, Option, Some, None, option_map, length-append, MatchOption}
+use Rattle.std.specs.Prelude.{◌&&◌, ◌||◌, find}
+use Rattle.std.specs.List.{All, filter_map, list_any, cons_option}
+use Rattle.std.specs.FinMap as by_name
+use Rattle.std.proofs.lemmas.Bool.{false≢true}
+use Rattle.std.proofs.lemmas.List.{append-nil, append_assoc, length-map}
+use Rattle.std.proofs.lemmas.List.Elements.{All-cons, All-nil}
+use Rattle.bib_chunks.specs.Styled.{styled}
+use Rattle.bib_chunks.specs.declared.chunk.Chunk.{Chunk}
+use Rattle.bib_contents.specs.Abbreviations.{Definitions}
+use Rattle.bib_contents.proofs.LawFacts.{evaluates_same}
+use Rattle.bib_entry.specs.declared.entry.Entry.{Entry}
+use Rattle.bib_graph.specs.Graph.{Graph, HasNoCircle, HasOneSolution, IsInRange, Leads, refs_of}
+use Rattle.bib_graph.proofs.Walks as walks
+use Rattle.bib_inheritance.specs.Dating.{looks_for_date}
+use Rattle.bib_inheritance.specs.References.{references, referred}
+use Rattle.bib_inheritance.specs.Sources.{Fields, Source, fields_of, nowhere}
+use Rattle.bib_maps.specs.Names.{ArePlacesBelow, claimed, claims_for}
+use Rattle.bib_maps.specs.Sorted.{ByText}
+use Rattle.bib_syntax.specs.Reading.{EntryReading, FieldReading, FileReading}
+use Rattle.bib_syntax.specs.declared.raw.ParseError.{ParseError}
+use Rattle.bib_tables.specs.declared.mechanics.EntryType.{EntryType}
+use Rattle.bib_text.specs.declared.spanned.Spanned.{Spanned}
+use Rattle.biblatex.specs.Library.{Library, appended, claims, nothing}
+use Rattle.biblatex.specs.Loaded.{AreEntries, IsEntry, Says, field_in, loaded_behind}
+use Rattle.biblatex.specs.Resolved.{AreDatesRead, AreOwn, Inherits, IsAccepted, IsFaultOf, IsLoaded, at_place, graph_by, graph_of, is_bad_date, names_of, rule_by, source_of_entry, sources_of}
+use Rattle.biblatex.proofs.LibraryFacts.{below_claimed, below_empty, below_more}
+use Rattle.biblatex.proofs.LoadedFacts.{claims_same, no_entries}
+
+-- ---- two lists of entries that one file says
+
+source_same : (k l : EntryType) (f g : Fields) → k ≡ l → ((name : List ℕ) → f name ≡ g name) → (let s : Source = record { kind = k; fields = f } in s) ≡ (let t : Source = record { kind = l; fields = g } in t)
+source_same k l f g kinds fields = λ i. record { kind = kinds i; fields = λ name. fields name i }
+
+found_same : (definitions : Definitions) (found : Option FieldReading) (one two : Option (List (Spanned Chunk)))
+    → MatchOption found (one ≡ None) (λ f. (chunks : List (Spanned Chunk)) × (one ≡ Some chunks) × Says definitions f chunks)
+    → MatchOption found (two ≡ None) (λ f. (chunks : List (Spanned Chunk)) × (two ≡ Some chunks) × Says definitions f chunks)
+    → option_map styled one ≡ option_map styled two
+found_same definitions None one two first second = rw (first, second) refl
+found_same definitions (Some f) one two first second = rw (first.1, second.1) (ap Some (evaluates_same first.2.says second.2.says))
+
+entries_same : (definitions : Definitions) (said : EntryReading) (one two : Entry) → IsEntry definitions said one → IsEntry definitions said two → source_of_entry one ≡ source_of_entry two
+entries_same definitions said one two first second =
+    source_same one.entry_type two.entry_type (fields_of one.fields) (fields_of two.fields) (first.kind ∙ sym second.kind)
+    (λ name. found_same definitions (field_in said.fields name) (by_name.get one.fields name) (by_name.get two.fields name) (first.fields name) (second.fields name))
+
+sources_go : {definitions : Definitions} {said : List EntryReading} {one two : List Entry} (claimed : List (List ℕ)) → AreEntries definitions claimed said one → AreEntries definitions claimed said two → sources_of one ≡ sources_of two
+sources_go claimed AreEntries.none AreEntries.none = refl
+sources_go {definitions} claimed (AreEntries.next {said = s} {rest = rest} {entry = a} {entries = as'} fresh is behind) (AreEntries.next {entry = b} {entries = bs} fresh' is' behind') =
+    ap (λ x. x ∷ sources_of as') (entries_same definitions s a b is is')
+    ∙ ap (λ xs. source_of_entry b ∷ xs) (sources_go (claimed ++ claims a) behind (subst (λ names. AreEntries definitions (claimed ++ names) rest bs) (claims_same b a is' is) behind'))
+
+claims_go : {definitions : Definitions} {said : List EntryReading} {one two : List Entry} (claimed : List (List ℕ)) → AreEntries definitions claimed said one → AreEntries definitions claimed said two → map claims one ≡ map claims two
+claims_go claimed AreEntries.none AreEntries.none = refl
+claims_go {definitions} claimed (AreEntries.next {said = s} {rest = rest} {entry = a} {entries = as'} fresh is behind) (AreEntries.next {entry = b} {entries = bs} fresh' is' behind') =
+    ap (λ x. x ∷ map claims as') (claims_same a b is is')
+    ∙ ap (λ xs. claims b ∷ xs) (claims_go (claimed ++ claims a) behind (subst (λ names. AreEntries definitions (claimed ++ names) rest bs) (claims_same b a is' is) behind'))
+
+keys_go : {definitions : Definitions} {said : List EntryReading} {one two : List Entry} (claimed : List (List ℕ)) → AreEntries definitions claimed said one → AreEntries definitions claimed said two → map (λ e. e.key) one ≡ map (λ e. e.key) two
+keys_go claimed AreEntries.none AreEntries.none = refl
+keys_go {definitions} claimed (AreEntries.next {said = s} {rest = rest} {entry = a} {entries = as'} fresh is behind) (AreEntries.next {entry = b} {entries = bs} fresh' is' behind') =
+    ap (λ x. x ∷ map (λ (e : Entry). e.key) as') (is.key ∙ sym is'.key)
+    ∙ ap (λ xs. b.key ∷ xs) (keys_go (claimed ++ claims a) behind (subst (λ names. AreEntries definitions (claimed ++ names) rest bs) (claims_same b a is' is) behind'))
+
+names_go : (l m : Library) (a b : List Entry) → length l.entries ≡ length m.entries → l.names ≡ m.names → map claims a ≡ map claims b → (loaded_behind l a).names ≡ (loaded_behind m b).names
+names_go l m [] [] n e c = e
+names_go l m [] (y ∷ b) n e c = cc
+names_go l m (x ∷ a) [] n e c = cc
+names_go l m (x ∷ a) (y ∷ b) n e c =
+    let head : claims x ≡ claims y = ap (λ cs. get_or cs 0 []) c in
+    names_go (appended l x) (appended m y) a b
+    (length-append l.entries (x ∷ []) ∙ ap (λ k. k + 1) n ∙ sym (length-append m.entries (y ∷ [])))
+    (ap (λ names. claimed names (claims_for (claims x) (length l.entries))) e ∙ ap (λ cs. claimed m.names (claims_for cs (length l.entries))) head ∙ ap (λ k. claimed m.names (claims_for (claims y) k)) n)
+    (ap (drop 1) c)
+
+-- the entries that a file says are one list, but for the borders of chunks and their places
+module _ (says : FileReading) {one two : List Entry} (first : AreOwn says one) (second : AreOwn says two) where
+  pub sources_same : sources_of one ≡ sources_of two
+  sources_same = sources_go [] first second
+
+  pub keys_same : map (λ e. e.key) one ≡ map (λ e. e.key) two
+  keys_same = keys_go [] first second
+
+  pub names_same : names_of one ≡ names_of two
+  names_same = names_go nothing nothing one two refl refl (claims_go [] first second)
+
+  pub graph_same : graph_of one ≡ graph_of two
+  graph_same = by_sources (names_of one) one ∙ ap (λ names. map (λ (s : Source). references names s.fields) (sources_of one)) names_same
+      ∙ ap (map (λ (s : Source). references (names_of two) s.fields)) sources_same ∙ sym (by_sources (names_of two) two) where
+        by_sources : (names : ByText ℕ) (own : List Entry) → graph_by names own ≡ map (λ (s : Source). references names s.fields) (sources_of own)
+        by_sources names [] = refl
+        by_sources names (e ∷ own) = ap (λ rows. references names (fields_of e.fields) ∷ rows) (by_sources names own)
+
+-- ---- each reference is to an entry
+
+places_below : (n : ℕ) (names : ByText ℕ) → ArePlacesBelow n names → (texts : List (List ℕ)) → All (λ r. r < n) (filter_map (by_name.get names) texts)
+places_below n names below [] = All-nil (λ r. r < n)
+places_below n names below (t ∷ texts) = one (by_name.get names t) (filter_map (by_name.get names) texts) (below t) (places_below n names below texts) where
+  one : (o : Option ℕ) (rest : List ℕ) → ((place : ℕ) → o ≡ Some place → place < n) → All (λ r. r < n) rest → All (λ r. r < n) (cons_option o rest)
+  one None rest lies all = all
+  one (Some p) rest lies all = All-cons (λ r. r < n) p rest (lies p refl) all
+
+rows_below : (n : ℕ) (names : ByText ℕ) → ArePlacesBelow n names → (own : List Entry) → All (λ refs. All (λ r. r < n) refs) (graph_by names own)
+rows_below n names below [] = All-nil (λ refs. All (λ r. r < n) refs)
+rows_below n names below (e ∷ own) = All-cons (λ refs. All (λ r. r < n) refs) (references names (fields_of e.fields)) (graph_by names own) (places_below n names below (referred (fields_of e.fields))) (rows_below n names below own)
+
+pub graph_in_range : (names : ByText ℕ) (own : List Entry) → ArePlacesBelow (length own) names → IsInRange (graph_by names own)
+graph_in_range names own below = subst (λ n. All (λ refs. All (λ r. r < n) refs) (graph_by names own)) (sym (length-map own (λ (e : Entry). references names (fields_of e.fields)))) (rows_below (length own) names below own)
+
+names_below_go : (l : Library) (own : List Entry) → ArePlacesBelow (length l.entries) l.names → ArePlacesBelow (length (loaded_behind l own).entries) (loaded_behind l own).names
+names_below_go l [] below = below
+names_below_go l (e ∷ own) below =
+    let longer = length-append l.entries (e ∷ []) in
+    names_below_go (appended l e) own
+    (below_claimed (length (l.entries ++ e ∷ [])) (claims e) l.names (length l.entries) (below_more (length l.entries) (length (l.entries ++ e ∷ [])) l.names below (omega (arith, longer))) (omega (arith, longer)))
+
+entries_behind : (l : Library) (own : List Entry) → length (loaded_behind l own).entries ≡ length l.entries + length own
+entries_behind l [] = omega arith
+entries_behind l (e ∷ own) = let longer = length-append l.entries (e ∷ []) in omega (arith, entries_behind (appended l e) own, longer)
+
+pub names_below : (own : List Entry) → ArePlacesBelow (length own) (names_of own)
+names_below own =
+    let many : length (loaded_behind nothing own).entries ≡ length own = entries_behind nothing own ∙ (omega arith) in
+    subst (λ n. ArePlacesBelow n (names_of own)) many (names_below_go nothing own (below_empty 0))
+
+-- ---- one solution
+
+pub solved_once : (own : List Entry) → HasNoCircle (graph_of own) → HasOneSolution nowhere (rule_by (sources_of own)) (graph_of own)
+solved_once own none = walks.one_solution (graph_of own) (graph_in_range (names_of own) own (names_below own)) none nowhere (rule_by (sources_of own))
+
+pub solutions_same : (own : List Entry) (a b : List Source) → HasNoCircle (graph_of own) → Inherits (sources_of own) (graph_of own) a → Inherits (sources_of own) (graph_of own) b → a ≡ b
+solutions_same own a b none first second = let one = solved_once own none in one.2 a first ∙ sym (one.2 b second)
+
+pub loaded_accepted : {says : FileReading} (library : Library) → IsLoaded says library → IsAccepted says
+loaded_accepted library loaded = record {
+  own = loaded.own;
+  entries = loaded.entries;
+  no_circle = loaded.no_circle;
+  dates = λ values solves. subst (AreDatesRead (sources_of loaded.own) (graph_of loaded.own)) (solutions_same loaded.own (sources_of library.entries) values loaded.no_circle loaded.inherits solves) loaded.dates;
+}
+
+pub fields_once : {says : FileReading} (one other : Library) → IsLoaded says one → IsLoaded says other → sources_of one.entries ≡ sources_of other.entries
+fields_once {says} one other first second =
+    let moved : Inherits (sources_of first.own) (graph_of first.own) (sources_of other.entries) =
+    subst (λ g. Inherits (sources_of first.own) g (sources_of other.entries)) (graph_same says second.entries first.entries)
+    (subst (λ s. Inherits s (graph_of second.own) (sources_of other.entries)) (sources_same says second.entries first.entries) second.inherits)
+    in
+    solutions_same first.own (sources_of one.entries) (sources_of other.entries) first.no_circle first.inherits moved
+
+-- ---- what can be a bibliography has no fault
+
+bad_apart : (own : List Source) (graph : Graph) (values : List Source) (place : ℕ) → looks_for_date (at_place own place) ≡ true → list_any (is_bad_date values) (refs_of graph place) ≡ true → AreDatesRead own graph values → ⊥
+bad_apart own graph values place looks bad read = false≢true (sym (read place) ∙ ap (λ b. b && list_any (is_bad_date values) (refs_of graph place)) looks ∙ bad)
+
+found_any : {A : Type 0} (test : A → Bool) (xs : List A) (x : A) → find test xs ≡ Some x → list_any test xs ≡ true
+found_any test [] x found = cc
+found_any {A} test (y ∷ xs) x found = go (test y) (find test xs) found (found_any test xs x) where
+  go : (b : Bool) (rest : Option A) → cond b (Some y) rest ≡ Some x → (rest ≡ Some x → list_any test xs ≡ true) → (b || list_any test xs) ≡ true
+  go true rest is later = refl
+  go false rest is later = later is
+
+pub accepted_faultless : {says : FileReading} {e : ParseError} → IsAccepted says → IsFaultOf says e → ⊥
+accepted_faultless accepted (IsFaultOf.entry fault) = no_entries fault accepted.entries
+accepted_faultless {says} accepted (IsFaultOf.circle {place = place} own first is) =
+    accepted.no_circle place (subst (λ g. place < length g) (graph_same says own accepted.entries) first.within) (subst (λ g. Leads g place place) (graph_same says own accepted.entries) first.circle)
+accepted_faultless {says} accepted (IsFaultOf.date {own = own} {values = values} {place = place} are none solves looks earlier is) =
+    let moved : Inherits (sources_of accepted.own) (graph_of accepted.own) values =
+    subst (λ g. Inherits (sources_of accepted.own) g values) (graph_same says are accepted.entries)
+    (subst (λ s. Inherits s (graph_of own) values) (sources_same says are accepted.entries) solves)
+    in
+    bad_apart (sources_of accepted.own) (graph_of accepted.own) values place (subst (λ s. looks_for_date (at_place s place) ≡ true) (sources_same says are accepted.entries) looks)
+    (subst (λ g. list_any (is_bad_date values) (refs_of g place) ≡ true) (graph_same says are accepted.entries) (found_any (is_bad_date values) (refs_of (graph_of own) place) is.reference is.first))
+    (accepted.dates values moved)
+
+-- ---- own entries with their names
+
+abbrev pub with_names : List Entry → ByText ℕ → Library
+with_names own names = record { entries = own; names = names }
+
+entries_go : (l : Library) (own : List Entry) → (loaded_behind l own).entries ≡ l.entries ++ own
+entries_go l [] = sym (append-nil l.entries)
+entries_go l (e ∷ own) = entries_go (appended l e) own ∙ append_assoc l.entries (e ∷ []) own
+
+pub all_behind : (own : List Entry) {names : ByText ℕ} → names ≡ names_of own → loaded_behind nothing own ≡ with_names own names
+all_behind own is = ap (λ es. with_names es (names_of own)) (entries_go nothing own) ∙ ap (with_names own) (sym is)

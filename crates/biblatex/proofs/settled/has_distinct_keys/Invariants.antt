@@ -1,0 +1,6 @@
+use Rattle.std.proofs.Common.{ℕ, ◌<◌}
+use Rattle.biblatex.proofs.DistinctFacts.{IsAlone, keys_of}
+use Rattle.biblatex.proofs.settled.has_distinct_keys.Given as goal
+
+abbrev pub invariant-places : goal.invariant-places
+invariant-places l = (i : ℕ) → i < l.place → IsAlone l.names (keys_of l.entries) i

@@ -1,0 +1,9 @@
+-- Machinery: words of private contracts.
+-- Keys, and whether one stands more than once.
+use Rattle.std.specs.Prelude.{ℕ, ◌+◌, Bool, ◌||◌, List, [], take, drop, bytes_eq, slice_index_or}
+use Rattle.std.specs.List.{list_any}
+
+-- whether the key at a place stands at another
+abbrev pub stands_elsewhere : List (List ℕ) → ℕ → Bool
+stands_elsewhere keys place =
+    list_any (bytes_eq (slice_index_or keys place [])) (take place keys) || list_any (bytes_eq (slice_index_or keys place [])) (drop (place + 1) keys)
