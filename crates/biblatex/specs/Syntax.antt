@@ -8,7 +8,11 @@ pub use Rattle.bib_syntax.specs.Reading.{EntryReading, FileReading, Part}
 pub use Rattle.bib_syntax.specs.Views.{entry_of, file_of}
 pub use Rattle.bib_syntax.specs.declared.raw.ParseError.{ParseError}
 pub use Rattle.bib_syntax.specs.declared.raw.ParseErrorKind.TheVariants.{OutOfMemory}
+pub use Rattle.bib_entry.specs.Reports.{AreMalformed, missing_of, superfluous_of}
 pub use Rattle.bib_entry.specs.WrittenEntries.{biblatex_entry, bibtex_entry, entries_text}
 pub use Rattle.bib_entry.specs.declared.entry.Entry.{Entry}
 pub use Rattle.bib_reread.specs.Mapped.{IsMapped}
 pub use Rattle.bib_reread.specs.Settled.{AreSettled}
+pub use Rattle.bib_faults.specs.TypeError.{type_kind_text}
+pub use Rattle.bib_faults.specs.declared.type_error.TypeError.{TypeError}
+pub use Rattle.bib_tables.specs.Requirements.{Names, texts}
