@@ -5,6 +5,7 @@ pub mod InsideFacts
 pub mod LibraryFacts
 pub mod LoadedFacts
 pub mod LoadingFacts
+pub mod NoReferences
 pub mod PlaceLaws
 pub mod RawFacts
 pub mod RefusalFacts
