@@ -5,7 +5,6 @@ pub mod InsideFacts
 pub mod LibraryFacts
 pub mod LoadedFacts
 pub mod LoadingFacts
-pub mod NoReferences
 pub mod PlaceLaws
 pub mod RawFacts
 pub mod RefusalFacts
