@@ -1,3 +1,4 @@
 pub mod DateFacts
 pub mod EntryFacts
 pub mod FieldFacts
+pub mod ReportFacts

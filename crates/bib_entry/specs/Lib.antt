@@ -1,4 +1,7 @@
 pub mod Fields
+pub mod Editors
+pub mod Judging
+pub mod Reports
 pub mod Format
 pub mod Parents
 pub mod WrittenEntries

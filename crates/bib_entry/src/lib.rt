@@ -2,8 +2,10 @@
 #![tactic(auto)]
 
 mod dates;
+mod editors;
 pub mod entry;
 mod fields;
 mod parents;
+pub mod report;
 pub mod retrieval;
 pub mod write;

@@ -18,6 +18,7 @@ pub use bib_contents::resolve::{FieldReader, is_escapable, is_verbatim_field, pa
 pub use bib_dates::date::{Date, DateValue, Datetime, Time, TimeOffset};
 pub use bib_dates::separators::{parse_colon, parse_hyphen};
 pub use bib_entry::entry::{Entry, SetError};
+pub use bib_entry::report::Report;
 pub use bib_entry::retrieval::RetrievalError;
 pub use bib_faults::type_error::{TypeError, TypeErrorKind};
 pub use bib_maps::text_map::TextMap;
