@@ -4,7 +4,7 @@ use Rattle.std.proofs.lemmas.Slice.Eq.{bytes_eq-Decides}
 use Rattle.biblatex.specs.Syntax.{Refuses, IsFile, ParseError, OutOfMemory}
 use Rattle.std.specs.Str.{IsUtf8}
 use Rattle.biblatex.specs.Library.{Library}
-use Rattle.biblatex.specs.Loaded.{IsAccepted, IsFaultOf}
+use Rattle.biblatex.specs.Resolved.{IsAccepted, IsFaultOf}
 use Rattle.biblatex.specs.Syntax.{IsRawReading, FileReading}
 use Rattle.bib.specs.Answering.{IsLibraryOf}
 use Rattle.bib.specs.Output.{IsCommandAnswer, IsKeysAnswer, IsLibraryAnswer, TellsFault, TellsNoBibliography, not_utf8}

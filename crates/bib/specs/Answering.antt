@@ -2,7 +2,7 @@
 -- A bibliography that is read, or the answer that there is none.
 use Rattle.std.specs.Prelude.{◌≡◌, ℕ, List, Result, Ok, Err, string_bytes}
 use Rattle.biblatex.specs.Library.{Library}
-use Rattle.biblatex.specs.Loaded.{IsLoaded}
+use Rattle.biblatex.specs.Resolved.{IsLoaded}
 use Rattle.biblatex.specs.Syntax.{IsRawReading, FileReading}
 use Rattle.bib.specs.Output.{TellsNoBibliography}
 use Rattle.bib.specs.declared.run.Answer.{Answer}

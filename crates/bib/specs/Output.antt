@@ -4,7 +4,7 @@ use Rattle.std.specs.Prelude.{◌≡◌, ℕ, List, [], ◌∷◌, ◌++◌, cod
 use Rattle.std.specs.List.{flat_map}
 use Rattle.std.specs.Str.{IsUtf8}
 use Rattle.biblatex.specs.Library.{Library}
-use Rattle.biblatex.specs.Loaded.{IsAccepted, IsFaultOf, IsLoaded}
+use Rattle.biblatex.specs.Resolved.{IsAccepted, IsFaultOf, IsLoaded}
 use Rattle.biblatex.specs.Syntax.{IsSyntaxFault, error_text, IsFile, IsRawReading, FileReading, ParseError, AreSettled, biblatex_entry, bibtex_entry, entries_text}
 use Rattle.bib.specs.declared.run.Command.{Command}
 use Rattle.bib.specs.declared.run.Command.TheVariants.{Keys, Biblatex, Bibtex, Settled}

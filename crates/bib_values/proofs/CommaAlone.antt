@@ -152,5 +152,5 @@ kept_alone (t ∷ texts) utf8 same =
     let written = strings_written (t ∷ texts) in
     let are_texts : AreTexts written = (utf8.0, written_texts texts utf8.1) in
     let normal : list_all is_normal_scalar (styled written) ≡ true =
-        all-append is_normal_scalar (map Atom.normal (chars t)) _ (scalar_atoms (chars t) (scalars-chars t utf8.0)) (written_normal texts utf8.1) in
+    all-append is_normal_scalar (map Atom.normal (chars t)) _ (scalar_atoms (chars t) (scalars-chars t utf8.0)) (written_normal texts utf8.1) in
     (omega arith, all_plain (comma_list written) (t ∷ texts) utf8 same (parts_all is_normal_scalar (comma_list_whole written are_texts) normal) (comma_list_no_comma written are_texts))

@@ -13,7 +13,7 @@ use Rattle.bib_inheritance.specs.Dating.{date_for, last_date, looks_for_date}
 use Rattle.bib_inheritance.specs.Inherited.{inherited, plain_field, field_by}
 use Rattle.bib_inheritance.specs.References.{references}
 use Rattle.bib_inheritance.specs.Sources.{Source, fields_of, first_some, nowhere}
-use Rattle.biblatex.specs.Resolved.{names_of, graph_by, graph_of, source_of_entry, sources_of, at_place, rule_by, Inherits, AreDatesRead, has_bad_date}
+use Rattle.biblatex.specs.Resolved.{names_of, graph_by, graph_of, source_of_entry, sources_of, at_place, Inherits, AreDatesRead}
 
 -- an entry that refers to nothing
 pub record RefersToNothing (e : Entry) : Type 0 where
@@ -92,9 +92,6 @@ as_written own entry none same = record {
   kind = ap (λ s. s.kind) same;
   fields = λ name. ap (λ s. s.fields name) same ∙ rule_alone (source_of_entry own) name (rw none.xdata refl);
 }
-
-at_suc : {v : Source} (values : List Source) (place : ℕ) → at_place (v ∷ values) (suc place) ≡ at_place values place
-at_suc values place = refl
 
 -- values that are each entry's own
 all_as_written : (own entries : List Entry) → AllByRecursion RefersToNothing own → length entries ≡ length own

@@ -10,7 +10,7 @@ use Rattle.std.specs.Ordering.{is_eq}
 use Rattle.std.specs.FinMap as by_name
 use Rattle.std.specs.FinMap.{get-from_entries}
 use Rattle.std.proofs.Math.Utf8.{scalars}
-use Rattle.std.proofs.lemmas.Bool.{both_ways, or_parts, cases_Bool}
+use Rattle.std.proofs.lemmas.Bool.{both_ways, cases_Bool}
 use Rattle.std.proofs.lemmas.Str.{scalars-chars, IsUtf8-string_bytes}
 use Rattle.std.proofs.lemmas.Cmp.{nat_list_cmp_total}
 use Rattle.std.proofs.lemmas.List.{append-nil}
@@ -25,7 +25,7 @@ use Rattle.bib_chunks.specs.Lists.{comma_texts}
 use Rattle.bib_chunks.specs.Styled.{Atom, styled}
 use Rattle.bib_chunks.specs.Written.{written_chunks}
 use Rattle.bib_chunks.specs.declared.chunk.Chunk.{Chunk}
-use Rattle.bib_syntax.specs.Reading.{Part, part, Piece, FieldReading, EntryReading}
+use Rattle.bib_syntax.specs.Reading.{Part, part, Piece, FieldReading, EntryReading, FileReading}
 use Rattle.bib_syntax.specs.Reading.Piece.{literal}
 use Rattle.bib_contents.specs.Abbreviations.{Definitions, Evaluates, IsReadable, Reaches, is_verbatim_field}
 use Rattle.bib_contents.specs.Contents.{IsContent}
@@ -285,18 +285,18 @@ module _ (definitions : Definitions) where
 
 -- what is mapped by the entries of a file as they are written is mapped by those that are loaded
 loaded_mapped : (es own entries : List Entry) → AllZip IsMapped es own → AllZip IsAsWritten own entries → map (λ e. e.key) entries ≡ map (λ e. e.key) own → AllZip IsMapped es entries
-loaded_mapped [] [] [] all as keys = tt
-loaded_mapped [] [] (x ∷ xs) all as keys = absurd as
-loaded_mapped [] (o ∷ os) entries all as keys = absurd all
-loaded_mapped (e ∷ es) [] entries all as keys = absurd all
-loaded_mapped (e ∷ es) (o ∷ os) [] all as keys = absurd as
-loaded_mapped (e ∷ es) (o ∷ os) (x ∷ xs) all as keys = (
+loaded_mapped [] [] [] all plain keys = tt
+loaded_mapped [] [] (x ∷ xs) all plain keys = absurd plain
+loaded_mapped [] (o ∷ os) entries all plain keys = absurd all
+loaded_mapped (e ∷ es) [] entries all plain keys = absurd all
+loaded_mapped (e ∷ es) (o ∷ os) [] all plain keys = absurd plain
+loaded_mapped (e ∷ es) (o ∷ os) (x ∷ xs) all plain keys = (
   record {
     key = ap (λ l. get_or l 0 []) keys ∙ all.0.key;
-    kind = as.0.kind ∙ all.0.kind;
-    fields = λ name. as.0.fields name ∙ all.0.fields name;
+    kind = plain.0.kind ∙ all.0.kind;
+    fields = λ name. plain.0.fields name ∙ all.0.fields name;
   },
-  loaded_mapped es os xs all.1 as.1 (ap (drop 1) keys),
+  loaded_mapped es os xs all.1 plain.1 (ap (drop 1) keys),
 )
 
 -- what is mapped by the entries of a file as they are written is mapped by those of each bibliography that it says

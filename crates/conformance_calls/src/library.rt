@@ -47,6 +47,24 @@ fn reads_a_raw_reading(alloc: Global) -> Reading {
     Ok(is_file(&Bibliography::from_raw(alloc, raw)?))
 }
 
+fn counts_turns(alloc: Global) -> Reading {
+    let raw = RawBibliography::parse(alloc, FILE)?;
+    let (library, turns) = Bibliography::from_raw_counted(alloc, raw)?;
+    Ok(is_file(&library) && turns.len() == 2)
+}
+
+fn names_parents(alloc: Global) -> Reading {
+    let library = Bibliography::parse(alloc, "@misc{c, crossref={p}, xref={a}}")?;
+    let Some(entry) = library.get("c") else {
+        return Ok(false);
+    };
+    let parents = entry.parents(alloc).map_err(|_| AllocError)?;
+    let [first, second] = parents.as_slice() else {
+        return Ok(false);
+    };
+    Ok(first.as_str() == "p" && second.as_str() == "a")
+}
+
 fn clones_a_bibliography(alloc: Global) -> Reading {
     Ok(is_file(&read(alloc)?.clone()?))
 }
@@ -104,6 +122,8 @@ fn entries_and_bibliographies(rt: HostRuntime) {
     let calls = [
         ("Bibliography::parse", reads_a_file(alloc)),
         ("Bibliography::from_raw", reads_a_raw_reading(alloc)),
+        ("Bibliography::from_raw_counted", counts_turns(alloc)),
+        ("Entry::parents", names_parents(alloc)),
         ("Bibliography::clone", clones_a_bibliography(alloc)),
         ("Bibliography::alias", gives_another_name(alloc)),
         ("Entry::set", sets_a_field(alloc)),

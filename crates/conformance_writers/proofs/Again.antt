@@ -3,7 +3,7 @@ use Rattle.std.proofs.Common.{◌≡◌, ℕ, List, subst, inl, inr}
 use Rattle.std.specs.Prelude.{◌⊎◌, Result, Ok, Err, IfOk, IfErr}
 use Rattle.std.specs.List.{AllZip}
 use Rattle.biblatex.specs.Library.{Library}
-use Rattle.biblatex.specs.Loaded.{IsAccepted, IsFaultOf, IsLoaded}
+use Rattle.biblatex.specs.Resolved.{IsAccepted, IsFaultOf, IsLoaded}
 use Rattle.biblatex.specs.Reread.{IsReread}
 use Rattle.biblatex.specs.Syntax.{Entry, FileReading, IsFile, IsMapped, IsRawReading, ParseError, Refuses, out_of_memory}
 

@@ -1,0 +1,7 @@
+//! The examples of docs/GUIDE.md, each as a test.
+#![tactic(auto)]
+
+#[cfg(test)]
+mod change;
+#[cfg(test)]
+mod read;

@@ -1,0 +1,108 @@
+//! Reading: files, faults, people, dates, pages.
+
+use biblatex::{Bibliography, ChunksExt, DateValue, Entry, PermissiveType};
+use std::alloc::Global;
+use std::test::Fail;
+
+// The one entry of a file.
+fn only_entry(alloc: Global, src: &str) -> Result<Entry, Fail> {
+    let library = Bibliography::parse(alloc, src)?;
+    let mut entries = library.into_vec();
+    let Some(entry) = entries.pop() else {
+        return Err(Fail::from("no entry"));
+    };
+    Ok(entry)
+}
+
+#[test]
+fn parse_a_file(rt: HostRuntime) -> Result<(), Fail> {
+    let alloc = rt.alloc();
+    let src = "@book{tolkien1937, title = {The {Hobbit}}}";
+    let library = Bibliography::parse(alloc, src)?;
+    let Some(book) = library.get("tolkien1937") else {
+        return Err(Fail::from("no such entry"));
+    };
+    let title = book.title(alloc)?.format_verbatim(alloc)?;
+    assert!(rt; title.as_str() == "The Hobbit");
+    Ok(())
+}
+
+// The line of a byte in a text, and its column in characters, both counted from 1.
+fn line_and_column(src: &str, at: usize) -> (usize, usize) {
+    let mut line = 1usize;
+    let mut column = 1usize;
+    'characters: for (i, c) in src.char_indices() {
+        if i >= at {
+            return (line, column);
+        }
+        if c == '\n' {
+            line = line.saturating_add(1);
+            column = 1;
+        } else {
+            column = column.saturating_add(1);
+        }
+    }
+    (line, column)
+}
+
+#[test]
+fn tell_a_fault(rt: HostRuntime) -> Result<(), Fail> {
+    let alloc = rt.alloc();
+    let src = "@misc{a, title={A}}\n@misc{b, title={B}";
+    let Err(fault) = Bibliography::parse(alloc, src) else {
+        return Err(Fail::from("this file has a fault"));
+    };
+    assert!(rt; line_and_column(src, fault.span.start) == (2, 19));
+    let text = fault.to_string(alloc)?;
+    assert!(rt; text.as_str() == "expected comma: 38-38");
+    Ok(())
+}
+
+#[test]
+fn names_of_authors(rt: HostRuntime) -> Result<(), Fail> {
+    let alloc = rt.alloc();
+    let entry = only_entry(
+        alloc,
+        "@misc{k, author={Jean de La Fontaine and Doe, Jr., J.}}",
+    )?;
+    let authors = entry.author(alloc)?;
+    let mut names = String::new(alloc);
+    for person in &authors {
+        names.push_str(person.name.as_str())?;
+        names.push_str(", ")?;
+        names.push_str(person.given_name.as_str())?;
+        names.push_str("; ")?;
+    }
+    assert!(rt; names.as_str() == "La Fontaine, Jean; Doe, J.; ");
+    Ok(())
+}
+
+#[test]
+fn years_of_dates(rt: HostRuntime) -> Result<(), Fail> {
+    let alloc = rt.alloc();
+    let entry = only_entry(alloc, "@misc{k, year={1937}, month={sep}}")?;
+    let PermissiveType::Typed(date) = entry.date(alloc)? else {
+        return Err(Fail::from("this date can be read"));
+    };
+    let DateValue::At(day) = date.value else {
+        return Err(Fail::from("this date is no range"));
+    };
+    assert!(rt; day.year == 1937);
+    assert!(rt; day.month == Some(8));
+    Ok(())
+}
+
+#[test]
+fn numbers_of_pages(rt: HostRuntime) -> Result<(), Fail> {
+    let alloc = rt.alloc();
+    let entry = only_entry(alloc, "@misc{k, pages={31--43, 52}}")?;
+    let PermissiveType::Typed(pages) = entry.pages(alloc)? else {
+        return Err(Fail::from("these pages can be read"));
+    };
+    let Some(first) = pages.as_slice().first() else {
+        return Err(Fail::from("there are pages"));
+    };
+    assert!(rt; pages.len() == 2);
+    assert!(rt; first.start == 31 && first.end == 43);
+    Ok(())
+}
