@@ -15,7 +15,10 @@ fn fields_of_each_type(rt: HostRuntime) -> Result<(), Fail> {
             "ok",
         ),
         ("@xdata{e, volume={}}", "no volume(missing number)"),
-        ("@xdata{e, edition={x}, langid={y}, editortype={z}, year={1}}", "ok"),
+        (
+            "@xdata{e, edition={x}, langid={y}, editortype={z}, year={1}}",
+            "ok",
+        ),
     ];
     are_reported(&rt, rt.alloc(), &rows)
 }

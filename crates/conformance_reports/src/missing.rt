@@ -22,9 +22,15 @@ fn each_rule_for_authors(rt: HostRuntime) -> Result<(), Fail> {
             "@incollection{e, title={T}, publisher={P}, booktitle={B}, year={1}, editora={A}}",
             "no -author",
         ),
-        ("@unpublished{e, title={T}, note={N}, editor={A}}", "no -author"),
+        (
+            "@unpublished{e, title={T}, note={N}, editor={A}}",
+            "no -author",
+        ),
         ("@mvbook{e, title={T}, date={1}, editor={A}}", "no -author"),
-        ("@collection{e, title={T}, date={1}, author={A}}", "no -editor +author"),
+        (
+            "@collection{e, title={T}, date={1}, author={A}}",
+            "no -editor +author",
+        ),
         ("@collection{e, title={T}, date={1}, editorb={A}}", "ok"),
     ];
     are_reported(&rt, rt.alloc(), &rows)
@@ -49,9 +55,18 @@ fn each_rule_for_pages(rt: HostRuntime) -> Result<(), Fail> {
             "@mvcollection{e, title={T}, year={1}, editor={A}, chapter={1}, pages={1}, author={A}}",
             "no +author +pages +chapter",
         ),
-        ("@book{e, title={T}, publisher={P}, year={1}, author={A}, chapter={1}}", "ok"),
-        ("@online{e, title={T}, url={u}, year={1}, author={A}, pages={1}}", "ok"),
-        ("@article{e, title={T}, journaltitle={J}, year={1}, author={A}}", "ok"),
+        (
+            "@book{e, title={T}, publisher={P}, year={1}, author={A}, chapter={1}}",
+            "ok",
+        ),
+        (
+            "@online{e, title={T}, url={u}, year={1}, author={A}, pages={1}}",
+            "ok",
+        ),
+        (
+            "@article{e, title={T}, journaltitle={J}, year={1}, author={A}}",
+            "ok",
+        ),
     ];
     are_reported(&rt, rt.alloc(), &rows)
 }
@@ -60,9 +75,18 @@ fn each_rule_for_pages(rt: HostRuntime) -> Result<(), Fail> {
 fn other_names_and_empty_fields(rt: HostRuntime) -> Result<(), Fail> {
     let rows = [
         ("@article{e,}", "no -title -journaltitle -author -year"),
-        ("@article{e, title={T}, journal={J}, year={1}, author={A}}", "ok"),
-        ("@article{e, title={}, journal={J}, date={}, author={}}", "ok"),
-        ("@phdthesis{e, title={T}, institution={I}, year={1}, author={A}}", "ok"),
+        (
+            "@article{e, title={T}, journal={J}, year={1}, author={A}}",
+            "ok",
+        ),
+        (
+            "@article{e, title={}, journal={J}, date={}, author={}}",
+            "ok",
+        ),
+        (
+            "@phdthesis{e, title={T}, institution={I}, year={1}, author={A}}",
+            "ok",
+        ),
         (
             "@thesis{e, title={T}, school={I}, type={t}, year={1}, author={A}}",
             "no -institution",
