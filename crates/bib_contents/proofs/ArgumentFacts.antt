@@ -1,16 +1,17 @@
 -- Facts on the units that a cursor takes.
-use Rattle.std.proofs.Common.{◌≡◌, ℕ, suc, ◌+◌, ◌-◌, ◌<◌, ◌≤◌, Bool, true, false, not, ◌&&◌, if◌then◌else◌, List, [], ◌∷◌, ◌++◌, length, drop, replicate, refl, sym, ap, ◌∙◌, subst, arith, append_assoc, length-append, length-drop, take, ◌^◌, inl, inr, add-one}
+use Rattle.std.proofs.Common.{◌≡◌, ℕ, suc, ◌+◌, ◌-◌, ◌<◌, ◌≤◌, Bool, true, false, not, ◌&&◌, if◌then◌else◌, List, [], ◌∷◌, ◌++◌, length, drop, replicate, refl, sym, ap, ◌∙◌, subst, arith, append_assoc, length-append, length-drop, take, ◌^◌, inl, inr, add-one, Option, None, Some, MatchOption}
 use Rattle.std.specs.Prelude.{◌==◌, nat_lt, encode_utf8_all}
 use Rattle.std.specs.List.{list_all, list_any}
-use Rattle.std.specs.Str.{chars, IsUtf8}
+use Rattle.std.specs.Str.{chars, IsUtf8, IsCharBoundary}
 use Rattle.std.proofs.lemmas.Bool.{and_parts, cases_Bool, both_ways, not-true, eqb-true, lt-ltb}
-use Rattle.std.proofs.lemmas.List.{append-nil, take_at}
-use Rattle.std.proofs.lemmas.Str.{encodes-chars, length-encode, len_utf8_bounds}
+use Rattle.std.proofs.lemmas.List.{append-nil, take_at, length-take-le, drop-take}
+use Rattle.std.proofs.lemmas.Str.{encodes-chars, length-encode, len_utf8_bounds, IsCharBoundary-from_drop}
 use Rattle.std.specs.Char.{len_utf8}
 use Rattle.std.specs.Prelude.{encode_utf8}
 use Rattle.bib_text.specs.Places.{Place, place, between}
-use Rattle.bib_text.proofs.TextFacts.{chars_whole, encode_one}
+use Rattle.bib_text.proofs.TextFacts.{chars_whole, chars_past, encode_one}
 use Rattle.bib_contents.specs.Contents.{ContentUnit, begins, balances, unit_spelling, fits, IsNext}
+use Rattle.bib_contents.specs.Arguments.{Closes, Encloses}
 use Rattle.bib_contents.specs.Passing.{left, Passes}
 use Rattle.bib_contents.proofs.UnitFacts.{prefix, first_unit, unit_first}
 use Rattle.bib_contents.proofs.PassingFacts.{passes_then, passes_none}
@@ -26,6 +27,11 @@ passes_within {u} {v} {cs} passed within =
 pub passes_ahead : {u v : Place} {cs : List ℕ} → Passes u cs v → u.at ≤ v.at
 passes_ahead {u} {v} {cs} passed =
     let next : v.at ≡ u.at + length (encode_utf8_all cs) = passed.next in
+    omega arith
+
+pub passes_shorter : {u v : Place} {cs : List ℕ} → Passes u cs v → length (left v) ≤ length (left u)
+passes_shorter {u} {v} {cs} passed =
+    let size : length (left u) ≡ length cs + length (left v) = ap length passed.left ∙ length-append cs (left v) in
     omega arith
 
 pub passes_one : {u v : Place} {c : ℕ} → Passes u (c ∷ []) v → u.at + 1 ≤ v.at
@@ -168,14 +174,14 @@ braced_close {u} {s} {t} {depth} read within passed = record {
 }
 
 -- where a run of other characters ends, the next one is a brace
-next_brace : (c : ℕ) (xs rest : List ℕ) → begins is_no_brace xs ≡ false → xs ≡ c ∷ rest → is_no_brace c ≡ false
+pub next_brace : (c : ℕ) (xs rest : List ℕ) → begins is_no_brace xs ≡ false → xs ≡ c ∷ rest → is_no_brace c ≡ false
 next_brace c xs rest ends is = rw is at ends
 
 pub braced_opens : {u s t w : Place} {depth : ℕ} {run : List ℕ} → BracedRead u depth s → Passes s run t → list_all is_no_brace run ≡ true → Passes t (123 ∷ []) w → BracedRead u (depth + 1) w
 braced_opens read passed plain brace = braced_open (braced_run read passed plain) brace
 
 -- the brace is one that closes
-is_closing : (c : ℕ) → is_no_brace c ≡ false → (c ≡ 123 → ⊥) → c ≡ 125
+pub is_closing : (c : ℕ) → is_no_brace c ≡ false → (c ≡ 123 → ⊥) → c ≡ 125
 is_closing c brace differs = grind arith
 
 pub braced_closes : {u s t w : Place} {depth : ℕ} {run : List ℕ} {c : ℕ} → BracedRead u depth s → Passes s run t → list_all is_no_brace run ≡ true → begins is_no_brace (left t) ≡ false → Passes t (c ∷ []) w → (c ≡ 123 → ⊥) → nat_lt 0 depth ≡ true
@@ -221,13 +227,65 @@ braced_closed {u} {s} {t} {w} {depth} {run} {c} read bound passed plain ends bra
       (let one : t.at + 1 ≤ w.at = passes_one brace in let run' : s.at ≤ t.at = passes_ahead passed in omega arith),
     )
 
--- the text of the argument
-pub braced_text : {u s t w : Place} {depth : ℕ} {run : List ℕ} {c : ℕ} (start : ℕ) (bs : List ℕ) → BracedRead u depth s → depth ≡ 0 → Passes s run t → list_all is_no_brace run ≡ true → begins is_no_brace (left t) ≡ false → Passes t (c ∷ []) w → (c ≡ 123 → ⊥)
-    → start ≡ u.at → IsUtf8 bs → bs ≡ between (place t.text start) t → (left u ≡ chars bs ++ 125 ∷ left w) × (balances 0 (chars bs) ≡ true)
-braced_text {u} {s} {t} {w} {depth} {run} {c} start bs read none passed plain ends brace differs is utf8 taken =
+-- an argument was passed, and the brace that closes it
+pub encloses : {u t w inside : Place} {cs : List ℕ} (start : ℕ) → Passes u cs t → balances 0 cs ≡ true → Passes t (125 ∷ []) w → inside ≡ place (take t.at t.text) start → start ≡ u.at → IsUtf8 (drop inside.at inside.text) → t.at ≤ length t.text → Encloses u inside w
+encloses {u} {t} {w} {inside} {cs} start passed balanced brace is here utf8 within =
+    let size : length (take t.at t.text) ≡ t.at = length-take-le t.at t.text within in
+    let long : length inside.text ≡ t.at = ap (λ p. length p.text) is ∙ size in
+    let at : inside.at ≡ u.at = ap (λ p. p.at) is ∙ here in
+    let next : t.at ≡ u.at + length (encode_utf8_all cs) = passed.next in
+    let behind : t.at + 1 ≤ w.at = passes_one brace in
+    let cut : drop inside.at inside.text ≡ encode_utf8_all cs =
+    ap (λ p. drop p.at p.text) is ∙ ap (λ n. drop n (take t.at t.text)) here ∙ ap (λ n. drop u.at (take n t.text)) next ∙ drop-take u.at (length (encode_utf8_all cs)) t.text
+    ∙ ap (λ bs. take (length (encode_utf8_all cs)) (drop u.at bs)) passed.same ∙ ap (take (length (encode_utf8_all cs))) passed.here ∙ take_at (encode_utf8_all cs) (drop t.at t.text) (length (encode_utf8_all cs)) refl in
+    let same : left inside ≡ cs = chars_whole cs (drop inside.at inside.text) utf8 cut in
+    record {
+      stands = record {
+        cut = ap (λ p. p.text) is ∙ ap (λ bs. take t.at bs) passed.same ∙ ap (λ n. take n u.text) (sym long);
+        behind = omega (arith, at);
+        within = omega (arith, at, long, next);
+        ends = omega (arith, long, behind);
+      };
+      spelt = passed.left ∙ ap (λ xs. cs ++ xs) brace.left ∙ ap (λ xs. xs ++ 125 ∷ left w) (sym same);
+      balanced = ap (balances 0) same ∙ balanced;
+    }
+
+pub braced_encloses : {u s t w inside : Place} {depth : ℕ} {run : List ℕ} {c : ℕ} (start : ℕ) → BracedRead u depth s → depth ≡ 0 → Passes s run t → list_all is_no_brace run ≡ true → begins is_no_brace (left t) ≡ false → Passes t (c ∷ []) w → (c ≡ 123 → ⊥)
+    → inside ≡ place (take t.at t.text) start → start ≡ u.at → IsUtf8 (drop inside.at inside.text) → t.at ≤ length t.text → Encloses u inside w
+braced_encloses {u} {s} {t} {w} {inside} {depth} {run} {c} start read none passed plain ends brace differs is here utf8 within =
     let found = braced_found (subst (λ d. BracedRead u d s) none read) passed plain ends brace differs in
-    let same : chars bs ≡ found.0 = passes_text start bs found.1 is utf8 taken in
-    rw same (found.2, found.3)
+    let closing : c ≡ 125 = is_closing c (next_brace c (left t) (left w) ends brace.left) differs in
+    encloses start found.1 found.3 (subst (λ x. Passes t (x ∷ []) w) closing brace) is here utf8 within
+
+-- the characters behind a brace
+chars_brace : (bs rest : List ℕ) → IsUtf8 bs → bs ≡ 125 ∷ rest → chars bs ≡ 125 ∷ chars rest
+unfolding lib.Utf8.encode
+chars_brace bs rest utf8 is = (chars_past (125 ∷ []) bs rest utf8 is).0
+
+brace_eaten : {t w : Place} {rest : List ℕ} (found : Option ℕ) → MatchOption found ((left t ≡ []) × (w ≡ t)) (λ c. Passes t (c ∷ []) w) → left t ≡ 125 ∷ rest → Passes t (125 ∷ []) w
+brace_eaten None eaten ahead = absurd (cc (eaten.0, ahead))
+brace_eaten {t} {w} (Some c) eaten ahead = let is : c ≡ 125 = cc (eaten.left, ahead) in subst (λ x. Passes t (x ∷ []) w) is eaten
+
+-- an argument whose end is known
+pub known_encloses : {u t w inside : Place} (start end : ℕ) (found : Option ℕ) → Closes u.text start end → start ≡ u.at → t ≡ place u.text end → IsUtf8 (drop u.at u.text) → end < length u.text → MatchOption found ((left t ≡ []) × (w ≡ t)) (λ c. Passes t (c ∷ []) w)
+    → inside ≡ place (take t.at t.text) start → IsUtf8 (drop inside.at inside.text) → Encloses u inside w
+known_encloses {u} {t} {w} {inside} start end found closes here there utf8 within eaten is inside_utf8 =
+    let spelt : drop u.at u.text ≡ encode_utf8_all closes.inside ++ drop end u.text = subst (λ n. drop n u.text ≡ encode_utf8_all closes.inside ++ drop end u.text) here closes.spelt in
+    let past = chars_past closes.inside (drop u.at u.text) (drop end u.text) utf8 spelt in
+    let passed : Passes u closes.inside t = record {
+      same = ap (λ p. p.text) there;
+      here = spelt ∙ ap (λ bs. encode_utf8_all closes.inside ++ bs) (sym (ap (λ p. drop p.at p.text) there));
+      next = ap (λ p. p.at) there ∙ closes.width ∙ ap (λ n. n + length (encode_utf8_all closes.inside)) here;
+      left = past.0 ∙ ap (λ cs. closes.inside ++ cs) (sym (ap (λ p. chars (drop p.at p.text)) there));
+    } in
+    let ahead : left t ≡ 125 ∷ chars (drop (end + 1) u.text) =
+    ap (λ p. chars (drop p.at p.text)) there ∙ chars_brace (drop end u.text) (drop (end + 1) u.text) past.1 closes.brace in
+    encloses start passed closes.balanced (brace_eaten found eaten ahead) is here inside_utf8 (omega (arith, ap (λ p. p.at) there, within, ap (λ p. length p.text) there))
+
+-- a place before a brace is one between characters
+pub closes_boundary : {text : List ℕ} {start end : ℕ} → Closes text start end → IsUtf8 (drop start text) → end < length text → IsCharBoundary text end
+closes_boundary {text} {start} {end} closes utf8 within =
+    IsCharBoundary-from_drop text end (omega (arith, within)) (chars_past closes.inside (drop start text) (drop end text) utf8 closes.spelt).1
 
 pub braced_bound : {u s : Place} {depth : ℕ} → BracedRead u depth s → u.at ≤ length u.text → length u.text < 2 ^ 63 → depth ≤ s.at → depth < 2 ^ 63
 braced_bound {u} {s} {depth} read within fits bound =

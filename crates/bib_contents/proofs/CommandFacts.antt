@@ -1,5 +1,5 @@
 -- Facts on what commands stand for: the code's table is the definition's, and how a mark is put on a letter.
-use Rattle.std.proofs.Common.{◌≡◌, ℕ, ◌<◌, Bool, true, false, cond, eqb, List, [], ◌∷◌, ◌++◌, length, map, Option, None, Some, refl, sym, ap, ◌∙◌, arith, bytes_eq, encode_utf8_all}
+use Rattle.std.proofs.Common.{append_assoc, ◌≡◌, ℕ, ◌<◌, Bool, true, false, cond, eqb, List, [], ◌∷◌, ◌++◌, length, map, Option, None, Some, refl, sym, ap, ◌∙◌, arith, bytes_eq, encode_utf8_all}
 use Rattle.std.specs.Prelude.{codes}
 use Rattle.std.specs.Char.{encode_utf8}
 use Rattle.std.specs.List.{list_all}
@@ -11,7 +11,8 @@ use Rattle.std.proofs.lemmas.List.{append-nil}
 use Rattle.std.proofs.lemmas.Slice.Eq.{bytes_eq-Decides}
 use Rattle.std.proofs.lemmas.Str.{encodes_same, encodes-chars, chars_past_char, chars-nil, IsUtf8-past_char}
 use Rattle.bib_text.specs.Enums.{named}
-use Rattle.bib_text.proofs.TextFacts.{chars_past}
+use Rattle.bib_text.proofs.TextFacts.{chars_past, chars_whole}
+use lib.Utf8.{scalars}
 use Rattle.bib_contents.specs.declared.resolve.commands.TheConstants.{SYMBOLS}
 use Rattle.bib_contents.specs.Commands.{accents, symbols, stroke, letter, marked, accented, other, given}
 use Rattle.unicode_normalization.specs.Compose.{primary_composite, compose, compose_after}
@@ -81,7 +82,7 @@ unfolding unicode_normalization
 stroke_stays = refl
 
 -- what holds of each value of a table
-named_passes : {A : Type 0} (test : A → Bool) (rows : List (List ℕ × A)) (name : List ℕ) (value : A) → list_all (λ row. test row.1) rows ≡ true → named rows name ≡ Some value → test value ≡ true
+pub named_passes : {A : Type 0} (test : A → Bool) (rows : List (List ℕ × A)) (name : List ℕ) (value : A) → list_all (λ row. test row.1) rows ≡ true → named rows name ≡ Some value → test value ≡ true
 named_passes {A = A} test [] name value all found = cc
 named_passes {A = A} test (row ∷ rows) name value all found =
     let parts = and_parts (test row.1) (list_all (λ row. test row.1) rows) all in
@@ -213,3 +214,18 @@ symbol_text (Some text) bytes is = (text, refl, cc)
 pub symbol_none : (found : Option (List ℕ)) → None ≡ option_map encode_utf8_all found → found ≡ None
 symbol_none None is = refl
 symbol_none (Some text) is = absurd (cc)
+
+-- the symbols' texts are texts
+symbols_scalars : list_all (λ row. scalars row.1) symbols ≡ true
+unfolding symbols
+symbols_scalars = refl
+
+pub symbol_utf8 : (name text bytes : List ℕ) → named symbols name ≡ Some text → bytes ≡ encode_utf8_all text → IsUtf8 bytes
+symbol_utf8 name text bytes found is = rw is (text, (named_passes scalars symbols name text symbols_scalars found, refl))
+
+pub symbol_chars : (name text bytes : List ℕ) → named symbols name ≡ Some text → bytes ≡ encode_utf8_all text → chars bytes ≡ text
+symbol_chars name text bytes found is = chars_whole text bytes (symbol_utf8 name text bytes found is) is
+
+-- a command that is not known, and its argument
+pub unknown_shape : (name argument : List ℕ) → codes "\\" ++ name ++ codes "{" ++ argument ++ codes "}" ≡ 92 ∷ (name ++ 123 ∷ (argument ++ 125 ∷ []))
+unknown_shape name argument = simp append_assoc

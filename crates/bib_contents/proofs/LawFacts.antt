@@ -1,12 +1,12 @@
 -- Pieces say one styled text at most, and have one first fault at most.
-use Rattle.std.proofs.Common.{◌≡◌, ℕ, List, [], ◌∷◌, ◌++◌, Bool, refl, sym, ap, ◌∙◌, subst, inl, inr, Some, None}
+use Rattle.std.proofs.Common.{◌≡◌, ℕ, List, [], ◌∷◌, ◌++◌, Bool, refl, sym, ap, ◌∙◌, subst, inl, inr, Some}
 use Rattle.std.specs.Str.{chars}
 use Rattle.std.specs.Prelude.{map}
 use Rattle.bib_chunks.specs.Styled.{Atom}
 use Rattle.bib_syntax.specs.declared.raw.ParseError.{ParseError}
 use Rattle.bib_syntax.specs.Reading.{Part, Piece}
 use Rattle.bib_syntax.specs.Reading.Piece.{literal, abbreviation}
-use Rattle.bib_contents.specs.Abbreviations.{Definitions, HoldsName, Reaches, Evaluates, IsOnPath, IsFirstFault, AreOneFault, month}
+use Rattle.bib_contents.specs.Abbreviations.{Definitions, HoldsName, Reaches, Evaluates, IsOnPath, IsFirstFault, AreOneFault}
 use Rattle.bib_contents.specs.Abbreviations.{Reaches as reaches, Evaluates as evaluates, IsFirstFault as first_fault}
 use Rattle.bib_contents.proofs.AbbreviationFacts.{readable}
 use Rattle.bib_contents.proofs.ContentFacts.{read_same}

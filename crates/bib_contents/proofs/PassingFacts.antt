@@ -46,6 +46,10 @@ pub taken : (u v : Place) (found : Option ℕ) → IsUtf8 (ahead u) → MatchOpt
 taken u v None utf8 end = (chars_at_end u end.0, end.1)
 taken u v (Some c) utf8 char = passes (passed_char char utf8)
 
+pub taken_same : (u v : Place) (found : Option ℕ) → MatchOption found (AtEnd u × (v ≡ u)) (λ c. CharAt u c v) → v.text ≡ u.text
+taken_same u v None end = ap (λ w. w.text) end.1
+taken_same u v (Some c) char = char.same
+
 pub taken_utf8 : (u v : Place) (found : Option ℕ) → IsUtf8 (ahead u) → MatchOption found (AtEnd u × (v ≡ u)) (λ c. CharAt u c v) → IsUtf8 (ahead v)
 taken_utf8 u v None utf8 end = rw end.1 utf8
 taken_utf8 u v (Some c) utf8 char = (passed_char char utf8).utf8
@@ -59,6 +63,10 @@ pub taken_if : (u v : Place) (c : ℕ) (found : Bool) → IsUtf8 (ahead u) → M
     → MatchBool found (Passes u (c ∷ []) v) ((v ≡ u) × (begins (λ d. d == c) (left u) ≡ false))
 taken_if u v c true utf8 char = passes (passed_char char utf8)
 taken_if u v c false utf8 none = (none.0, begins_not (λ d. d == c) u (left u) utf8 refl (λ d w char. false_from_ne_true (d == c) (λ same. none.1 w (subst (λ x. CharAt u x w) (eqb-true d c same) char))))
+
+pub taken_if_same : (u v : Place) (c : ℕ) (found : Bool) → MatchBool found (CharAt u c v) ((v ≡ u) × ((w : Place) → CharAt u c w → ⊥)) → v.text ≡ u.text
+taken_if_same u v c true char = char.same
+taken_if_same u v c false none = ap (λ w. w.text) none.0
 
 pub taken_if_utf8 : (u v : Place) (c : ℕ) (found : Bool) → IsUtf8 (ahead u) → MatchBool found (CharAt u c v) ((v ≡ u) × ((w : Place) → CharAt u c w → ⊥)) → IsUtf8 (ahead v)
 taken_if_utf8 u v c true utf8 char = (passed_char char utf8).utf8

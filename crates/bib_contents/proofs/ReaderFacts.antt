@@ -27,7 +27,7 @@ goes_then {is_verbatim} {depth} {after} {last} {text} {rest} {tail} {first} {sec
 }
 
 -- what stands behind the first unit is read, where the whole is
-unit_back : {is_verbatim : Bool} {depth : ℕ} {text rest : List ℕ} {u : ContentUnit} {whole : List Atom} → IsNext is_verbatim u text rest → Reads is_verbatim depth text whole
+pub unit_back : {is_verbatim : Bool} {depth : ℕ} {text rest : List ℕ} {u : ContentUnit} {whole : List Atom} → IsNext is_verbatim u text rest → Reads is_verbatim depth text whole
     → (is_closable depth u ≡ true) × ((argument : List ℕ) → held u ≡ Some argument → (inner : List Atom) × Reads false 0 argument inner) × ((more : List Atom) × Reads is_verbatim (depth_after depth u) rest more)
 unit_back one end = absurd (no_unit_at_end one)
 unit_back {is_verbatim} {depth} {text} {rest} {u} one (next {u = w} {rest = left} {inner = inner} {atoms = atoms} two closable argument read) =

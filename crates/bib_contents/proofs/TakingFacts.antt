@@ -1,5 +1,5 @@
 -- Facts on what a unit adds to the chunks.
-use Rattle.std.proofs.Common.{◌≡◌, ℕ, ◌+◌, ◌-◌, ◌≤◌, true, false, List, [], ◌∷◌, ◌++◌, length, map, refl, sym, ap, ◌∙◌, arith, append_assoc, length-append, add-one, Some}
+use Rattle.std.proofs.Common.{◌≡◌, ℕ, ◌+◌, ◌-◌, ◌≤◌, Bool, true, false, List, [], ◌∷◌, ◌++◌, length, map, refl, sym, ap, subst, ◌∙◌, arith, append_assoc, length-append, add-one, Some}
 use Rattle.std.specs.Prelude.{encode_utf8_all, string_bytes}
 use Rattle.std.specs.Str.{chars, IsUtf8}
 use Rattle.std.proofs.lemmas.Bool.{lt-ltb}
@@ -10,13 +10,19 @@ use Rattle.bib_chunks.specs.Writing.{Writes}
 use Rattle.bib_chunks.specs.declared.chunk.Chunk.{Chunk}
 use Rattle.bib_text.specs.declared.spanned.Spanned.{Spanned}
 use Rattle.bib_text.proofs.TextFacts.{chars_whole}
-use Rattle.bib_contents.specs.Contents.{Argument, ContentUnit, unit_spelling, Reads, character, meaning, is_closable, depth_after, held, unit_text}
+use Rattle.bib_contents.specs.Contents.{Argument, ContentUnit, IsNext, unit_spelling, Reads, character, meaning, is_closable, depth_after, held, unit_text}
 use Rattle.bib_contents.specs.Joined.{ArePlaced}
-use Rattle.bib_contents.specs.Passing.{Took, so_far}
-use Rattle.bib_contents.specs.UnitViews.{text_unit_of, argument_of}
+use Rattle.bib_contents.specs.Passing.{Took, left, so_far}
+use Rattle.bib_contents.proofs.UnitFacts.{command_parts}
+use Rattle.bib_contents.specs.UnitViews.{text_unit_of, argument_of, unit_of}
 use Rattle.bib_contents.specs.declared.resolve.growing.Open.{Open}
 use Rattle.std.specs.Borrow.{Bor}
 use Rattle.bib_contents.specs.declared.resolve.units.Argument as units
+use Rattle.bib_chunks.specs.Formatted.{formatted_atoms}
+use Rattle.bib_contents.specs.Arguments.{IsNamed, StandsIn, unit_written}
+use Rattle.bib_contents.specs.Commands.{given}
+use Rattle.bib_contents.specs.declared.resolve.units.Unit as all_units
+use Rattle.bib_contents.specs.declared.resolve.units.Unit.TheVariants as any_unit
 use Rattle.bib_contents.specs.declared.resolve.units.TextUnit.{TextUnit}
 use Rattle.bib_contents.specs.declared.resolve.units.TextUnit.TheVariants as shown
 use Rattle.bib_contents.proofs.ReaderFacts.{nothing_grows, no_argument, placed_wider}
@@ -27,12 +33,12 @@ grown_chars bs more cs utf8 utf8' grew =
     chars_whole (chars bs ++ cs) more utf8' (grew ∙ ap (λ xs. xs ++ encode_utf8_all cs) (sym (encodes-chars bs utf8)) ∙ sym (encodes-append (chars bs) cs))
 
 -- what a unit of text is: it stands anywhere, leaves the depth, and stands for characters
-record IsTextUnit (depth : ℕ) (u : ContentUnit) : Type 0 where
-  closable : is_closable depth u ≡ true
-  deep : depth ≡ depth_after depth u
-  means : (inner : List Atom) → meaning depth u inner ≡ map (character depth) (unit_text u inner)
+pub record IsTextUnit (depth : ℕ) (u : ContentUnit) : Type 0 where
+  pub closable : is_closable depth u ≡ true
+  pub deep : depth ≡ depth_after depth u
+  pub means : (inner : List Atom) → meaning depth u inner ≡ map (character depth) (unit_text u inner)
 
-text_unit : (depth : ℕ) (u : TextUnit) → IsTextUnit depth (text_unit_of u)
+pub text_unit : (depth : ℕ) (u : TextUnit) → IsTextUnit depth (text_unit_of u)
 text_unit depth (shown.Hyphens n) = record { closable = refl; deep = refl; means = λ inner. refl }
 text_unit depth (shown.Spaces text) = record { closable = refl; deep = refl; means = λ inner. refl }
 text_unit depth (shown.Escaped c) = record { closable = refl; deep = refl; means = λ inner. refl }
@@ -41,12 +47,15 @@ text_unit depth (shown.Copied c) = record { closable = refl; deep = refl; means 
 text_unit depth (shown.Command name space argument) = record { closable = refl; deep = refl; means = λ inner. refl }
 text_unit depth (shown.Other c) = record { closable = refl; deep = refl; means = λ inner. refl }
 
+-- the argument that is held
+pub held_is : {text argument : List ℕ} → Some text ≡ Some argument → text ≡ argument
+held_is same = cc
+
 -- characters were added to the growing chunk
-pub took_text : (unit : TextUnit) (growing grown : Open) (out : List (Spanned Chunk)) (inner : List Atom) → ((argument : List ℕ) → held (text_unit_of unit) ≡ Some argument → Reads false 0 argument inner)
-    → Writes growing.text grown.text (unit_text (text_unit_of unit) inner) → grown.depth ≡ growing.depth → Took (text_unit_of unit) growing.depth (so_far out growing) grown.depth (so_far out grown)
-took_text unit growing grown out inner argument written depth =
-    let is : IsTextUnit growing.depth (text_unit_of unit) = text_unit growing.depth unit in
-    let cs = unit_text (text_unit_of unit) inner in
+took_characters : (u : ContentUnit) (growing grown : Open) (out : List (Spanned Chunk)) (inner : List Atom) → IsTextUnit growing.depth u → ((argument : List ℕ) → held u ≡ Some argument → Reads false 0 argument inner)
+    → Writes growing.text grown.text (unit_text u inner) → grown.depth ≡ growing.depth → Took u growing.depth (so_far out growing) grown.depth (so_far out grown)
+took_characters u growing grown out inner is argument written depth =
+    let cs = unit_text u inner in
     let grew : chars (string_bytes grown.text) ≡ chars (string_bytes growing.text) ++ cs = grown_chars (string_bytes growing.text) (string_bytes grown.text) cs (IsUtf8-string_bytes growing.text) (IsUtf8-string_bytes grown.text) written in
     record {
       inner = inner;
@@ -60,6 +69,29 @@ took_text unit growing grown out inner argument written depth =
           ∙ sym (append_assoc (styled out) _ _)
           ∙ ap (λ xs. so_far out growing ++ xs) (sym (is.means inner));
     }
+
+pub took_text : (unit : TextUnit) (growing grown : Open) (out : List (Spanned Chunk)) (inner : List Atom) → ((argument : List ℕ) → held (text_unit_of unit) ≡ Some argument → Reads false 0 argument inner)
+    → Writes growing.text grown.text (unit_text (text_unit_of unit) inner) → grown.depth ≡ growing.depth → Took (text_unit_of unit) growing.depth (so_far out growing) grown.depth (so_far out grown)
+took_text unit growing grown out inner argument written depth = took_characters (text_unit_of unit) growing grown out inner (text_unit growing.depth unit) argument written depth
+
+-- a command with an argument in braces
+pub took_applied : (name space argument : List ℕ) (growing grown : Open) (out : List (Spanned Chunk)) (inner : List Atom) → Reads false 0 argument inner → Writes growing.text grown.text (given name (Some (formatted_atoms false inner))) → grown.depth ≡ growing.depth
+    → Took (ContentUnit.command name space (Argument.braced argument)) growing.depth (so_far out growing) grown.depth (so_far out grown)
+took_applied name space argument growing grown out inner read written depth =
+    took_characters (ContentUnit.command name space (Argument.braced argument)) growing grown out inner record { closable = refl; deep = refl; means = λ inner. refl } (λ text holds. subst (λ t. Reads false 0 t inner) (held_is holds) read) written depth
+
+-- what is not put on one line is written as it is
+as_is : (unit : TextUnit) → unit_written false (text_unit_of unit) ≡ unit_text (text_unit_of unit) []
+as_is (shown.Hyphens n) = refl
+as_is (shown.Spaces text) = refl
+as_is (shown.Escaped c) = refl
+as_is shown.Backslash = refl
+as_is (shown.Copied c) = refl
+as_is (shown.Command name space argument) = refl
+as_is (shown.Other c) = refl
+
+pub as_text : (old new : List ℕ) (unit : TextUnit) → new ≡ old ++ encode_utf8_all (unit_written false (text_unit_of unit)) → new ≡ old ++ encode_utf8_all (unit_text (text_unit_of unit) [])
+as_text old new unit wrote = wrote ∙ ap (λ cs. old ++ encode_utf8_all cs) (as_is unit)
 
 -- math was added
 pub took_formula : (text : List ℕ) (depth : ℕ) (grown : Open) (before : List Atom) (out : List (Spanned Chunk)) → string_bytes grown.text ≡ [] → grown.depth ≡ depth → styled out ≡ before ++ Atom.math text ∷ []
@@ -121,12 +153,20 @@ braced_wide name space text =
 pub placed_behind : (low end behind start : ℕ) (out : List (Spanned Chunk)) → ArePlaced low end out → end ≤ behind → start ≡ behind → ArePlaced low start out × (start ≤ behind)
 placed_behind low end behind start out placed wider is = (placed_wider low end start out placed (omega (arith, wider, is)), omega (arith, is))
 
--- the argument that is held
-pub held_is : {text argument : List ℕ} → Some text ≡ Some argument → text ≡ argument
-held_is same = cc
-
 -- a command with this argument
 pub command_is : {unit : TextUnit} {name space : Bor (List ℕ)} {given : units.Argument} (argument : units.Argument) → unit ≡ shown.Command name space given → given ≡ argument
     → text_unit_of unit ≡ ContentUnit.command (chars name.now) (chars space.now) (argument_of argument)
 command_is {unit} {name} {space} {given} argument is same =
     ap text_unit_of is ∙ ap (λ a. ContentUnit.command (chars name.now) (chars space.now) (argument_of a)) same
+
+-- where the argument of a unit stands
+pub stands_at : (text : List ℕ) (low high start end : ℕ) → start ≡ low → end ≡ high → (unit : all_units.Unit) → StandsIn text low unit high → StandsIn text start unit end
+stands_at text low high start end first last unit stands = rw (first, last) stands
+
+-- a command that is next has a name
+pub unit_named : (unit : all_units.Unit) {is_verbatim : Bool} {text rest : List ℕ} → IsNext is_verbatim (unit_of unit) text rest → IsNamed unit
+unit_named (any_unit.Shown shown) one = tt
+unit_named (any_unit.Applied name space inside) {is_verbatim} {text} {rest} one = (command_parts is_verbatim (chars name.now) (chars space.now) rest (Argument.braced (left inside)) one.fits).1
+unit_named (any_unit.Formula text) one = tt
+unit_named any_unit.Opening one = tt
+unit_named any_unit.Closing one = tt

@@ -2,18 +2,24 @@
 -- What the program's units of contents are.
 use Rattle.std.specs.Str.{chars}
 use Rattle.bib_contents.specs.Contents as contents
+use Rattle.bib_contents.specs.Passing.{left}
 use Rattle.bib_contents.specs.declared.resolve.units.Argument.{Argument}
-use Rattle.bib_contents.specs.declared.resolve.units.Argument.TheVariants.{Without, Empty, Single, Braced}
+use Rattle.bib_contents.specs.declared.resolve.units.Argument.TheVariants.{Without, Empty, Single}
+use Rattle.bib_contents.specs.declared.resolve.units.Found.{Found}
+use Rattle.bib_contents.specs.declared.resolve.units.Found.TheVariants.{Plain, Braced as InBraces}
 use Rattle.bib_contents.specs.declared.resolve.units.TextUnit.{TextUnit}
 use Rattle.bib_contents.specs.declared.resolve.units.TextUnit.TheVariants.{Hyphens, Spaces, Escaped, Backslash, Copied, Command, Other}
 use Rattle.bib_contents.specs.declared.resolve.units.Unit.{Unit}
-use Rattle.bib_contents.specs.declared.resolve.units.Unit.TheVariants.{Shown, Formula, Opening, Closing}
+use Rattle.bib_contents.specs.declared.resolve.units.Unit.TheVariants.{Shown, Applied, Formula, Opening, Closing}
 
 abbrev pub argument_of : Argument → contents.Argument
 argument_of Without = contents.Argument.without
 argument_of Empty = contents.Argument.empty
 argument_of (Single c) = contents.Argument.single c
-argument_of (Braced text) = contents.Argument.braced (chars text.now)
+
+abbrev pub found_of : Found → contents.Argument
+found_of (Plain argument) = argument_of argument
+found_of (InBraces inside) = contents.Argument.braced (left inside)
 
 abbrev pub text_unit_of : TextUnit → contents.ContentUnit
 text_unit_of (Hyphens n) = contents.ContentUnit.hyphens n
@@ -26,6 +32,7 @@ text_unit_of (Other c) = contents.ContentUnit.other c
 
 abbrev pub unit_of : Unit → contents.ContentUnit
 unit_of (Shown unit) = text_unit_of unit
+unit_of (Applied name space inside) = contents.ContentUnit.command (chars name.now) (chars space.now) (contents.Argument.braced (left inside))
 unit_of (Formula text) = contents.ContentUnit.formula (chars text.now)
 unit_of Opening = contents.ContentUnit.opening
 unit_of Closing = contents.ContentUnit.closing

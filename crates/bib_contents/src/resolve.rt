@@ -12,15 +12,19 @@ ghost use Rattle.bib_syntax.specs.Reading.Piece.{literal};
 ghost use Rattle.bib_syntax.specs.Views.{piece_of};
 
 mod abbreviations;
+mod arguments;
 mod characters;
 mod classes;
 mod commands;
 mod contents;
 mod definitions;
+mod ends;
+mod faults;
 mod growing;
 mod joining;
 mod reader;
 mod units;
+mod writing;
 
 use abbreviations::field_contents;
 use bib_chunks::chunk::Chunks;

@@ -398,6 +398,62 @@ fn reads_a_long_chain_of_names(rt: HostRuntime) -> Result<(), Fail> {
     Ok(())
 }
 
+// A command so many times in its own argument, around a text.
+fn in_itself(alloc: Global, command: &str, text: &str, times: u32) -> Result<String, AllocError> {
+    let mut out = String::new(alloc);
+    for _ in 0..times {
+        out.push_str(command)?;
+        out.push('{')?;
+    }
+    out.push_str(text)?;
+    for _ in 0..times {
+        out.push('}')?;
+    }
+    Ok(out)
+}
+
+#[test]
+fn reads_commands_in_one_another(rt: HostRuntime) -> Result<(), Fail> {
+    let alloc = rt.alloc();
+    let text = in_itself(alloc, "\\emph", "x", 200)?;
+    let want = format!(in alloc; "N[{text}]")?;
+    agrees(&rt, title(alloc, text.as_str())?.as_str(), want.as_str());
+    Ok(())
+}
+
+#[test]
+fn reads_commands_deep_in_one_another(rt: HostRuntime) -> Result<(), Fail> {
+    let alloc = rt.alloc();
+    let text = in_itself(alloc, "\\emph", "x", 20_000)?;
+    let want = format!(in alloc; "N[{text}]")?;
+    agrees(&rt, title(alloc, text.as_str())?.as_str(), want.as_str());
+    let symbols = in_itself(alloc, "\\ss", "x", 20_000)?;
+    agrees(&rt, title(alloc, symbols.as_str())?.as_str(), "N[\u{DF}]");
+    let accents = in_itself(alloc, "\\'", "e", 20_000)?;
+    let found = title(alloc, accents.as_str())?;
+    assert!(rt; found.len() == 40_003);
+    Ok(())
+}
+
+#[test]
+fn puts_arguments_on_one_line(rt: HostRuntime) -> Result<(), Fail> {
+    let rows = [
+        ("\\foo{a\\\n b}", "N[\\foo{a\\  b}]"),
+        ("\\foo{{\\\n b}}", "N[\\foo{\\\n b}]"),
+        ("\\foo{\\bar{{\\\n b}}}", "N[\\foo{\\bar{\\  b}}]"),
+        ("\\foo{{\\bar{\\\n b}}}", "N[\\foo{\\bar{\\  b}}]"),
+        ("\\foo{{$a\n b$}}", "N[\\foo{$a\n b$}]"),
+        ("\\foo{\\bar{$a \nb$}}", "N[\\foo{\\bar{$a b$}}]"),
+        ("\\ss{\\foo{x}}y", "N[\u{DF}y]"),
+        ("\\foo{\\'{ae}}", "N[\\foo{a\u{E9}}]"),
+        ("\\foo{\\copyright{\\o{ao}}}", "N[\\foo{\u{A9}ao\u{338}}]"),
+    ];
+    for (text, want) in rows {
+        agrees(&rt, title(rt.alloc(), text)?.as_str(), want);
+    }
+    Ok(())
+}
+
 // What each field of a file's last entry says, or its fault, by one reader, each behind a line's end.
 fn said_by_one_reader(alloc: Global, file: &str) -> Result<String, Fail> {
     let raw = parsed(alloc, file)?;

@@ -1,6 +1,6 @@
 //! A cursor over the characters of a text.
 
-ghost use Rattle.std.specs.Prelude.{◌≡◌, ℕ, ◌≤◌, ◌<◌, ◌==◌, ◌^◌, Bool, true, false, List, [], ◌∷◌, length, drop, MatchOption, MatchBool};
+ghost use Rattle.std.specs.Prelude.{◌≡◌, ℕ, ◌≤◌, ◌<◌, ◌==◌, ◌^◌, Bool, true, false, List, [], ◌∷◌, length, take, drop, MatchOption, MatchBool};
 ghost use Rattle.std.specs.List.{list_all};
 ghost use Rattle.std.specs.Str.{chars, IsCharBoundary, IsUtf8};
 ghost use Rattle.bib_text.specs.Places.{Place, place, Answers, between};
@@ -13,11 +13,12 @@ use std::marker::Model;
 // A text and a place in it. Contracts speak of the characters that are left.
 #[derive(Drop)]
 pub(crate) struct Characters<'s> {
+    text: &'s str,
     scanner: Scanner<'s>,
 }
 
 impl<'s> Model for Characters<'s> {
-    ghost use Rattle.std.specs.Prelude.{drop};
+    ghost use Rattle.std.specs.Prelude.{◌≡◌, drop};
     ghost use Rattle.std.specs.Str.{IsUtf8};
     ghost use Rattle.bib_text.specs.Places.{Place};
 
@@ -25,7 +26,8 @@ impl<'s> Model for Characters<'s> {
 
     ghost view = { λ c. c.scanner };
 
-    ghost invariant = { λ c. IsUtf8 (drop c.scanner.at c.scanner.text) };
+    ghost invariant = { λ c. IsUtf8 c.text.now × (c.text.now ≡ c.scanner.text) ×
+        IsUtf8 (drop c.scanner.at c.scanner.text) };
 }
 
 impl<'s> Characters<'s> {
@@ -34,6 +36,7 @@ impl<'s> Characters<'s> {
         ensures { result ≡ place text.now 0 }
     {
         Characters {
+            text,
             scanner: Scanner::new(text),
         }
     }
@@ -100,5 +103,42 @@ impl<'s> Characters<'s> {
         ensures { result.now ≡ between (place self.now.text start) self.now }
     {
         self.scanner.from(start)
+    }
+
+    // The length of the text, in bytes.
+    pub(crate) fn len(&self) -> usize
+        ensures { result ≡ length self.now.text }
+    {
+        self.text.len()
+    }
+
+    // Moves to another place of the text.
+    pub(crate) fn jump(&mut self, target: usize)
+        requires { IsCharBoundary self.old.text target }
+        ensures place { self.new ≡ place self.old.text target }
+        ensures utf8 { IsUtf8 (drop target self.old.text) }
+    {
+        self.scanner.jump(target);
+    }
+
+    // A cursor over the text up to here, at an earlier place.
+    pub(crate) fn back_to(&self, start: usize) -> Characters<'s>
+        requires boundary { IsCharBoundary self.now.text start }
+        requires behind { start ≤ self.now.at }
+        ensures place { result ≡ place (take self.now.at self.now.text) start }
+        ensures utf8 { IsUtf8 (drop result.at result.text) }
+    {
+        let mut inside = Characters::new(self.scanner.before());
+        inside.jump(start);
+        inside
+    }
+
+    // Another cursor at this place.
+    pub(crate) fn copy(&self) -> Characters<'s>
+        ensures { result ≡ self.now }
+    {
+        let mut copy = Characters::new(self.text);
+        copy.jump(self.cursor());
+        copy
     }
 }

@@ -1,11 +1,12 @@
 //! What a command stands for.
 
-ghost use Rattle.std.specs.Prelude.{◌≡◌, ◌∷◌, [], ◌++◌, OnOk, IsTrue, Some, None, map, string_bytes, encode_utf8_all};
+ghost use Rattle.std.specs.Prelude.{◌≡◌, ℕ, List, ◌∷◌, [], ◌++◌, length, OnOk, IsTrue, Some, None, map, string_bytes, encode_utf8_all};
 ghost use Rattle.std.specs.Option.{option_map};
 ghost use Rattle.std.specs.Str.{chars};
 ghost use Rattle.bib_text.specs.Enums.{named};
 ghost use Rattle.bib_chunks.specs.Writing.{Writes};
-ghost use Rattle.bib_contents.specs.Commands.{accents, symbols, letter, bare, marked, accented, other, given};
+ghost use Rattle.bib_contents.specs.Commands.{accents, symbols, letter, bare, marked, other, given};
+ghost use Rattle.bib_contents.specs.Effects.{made, made_before, IsFit};
 ghost use Rattle.unicode_normalization.specs.Forms.{Nfd, nfc, is_in_form};
 
 use std::alloc::AllocError;
@@ -125,32 +126,22 @@ fn write_marked_letter(out: &mut String, letter: char, mark: char) -> Result<(),
     Ok(())
 }
 
-// Writes a text with a mark on its last character.
-fn write_marked(out: &mut String, text: &str, mark: char) -> Result<(), AllocError>
+// Puts a mark on the last character of the text that begins at `start`.
+fn mark_last(out: &mut String, start: usize, mark: char) -> Result<(), AllocError>
     requires { IsTrue (is_in_form Nfd (mark ∷ [])) }
-    ensures { OnOk result (Writes out.old out.new (marked mark (chars text.now))) }
+    ensures { (base inside : List ℕ) → length (encode_utf8_all base) ≡ start →
+        string_bytes out.old ≡ encode_utf8_all (base ++ inside) →
+        OnOk result (string_bytes out.new ≡ encode_utf8_all (base ++ marked mark inside)) }
 {
-    let mut chars = text.chars();
-    let Some(last) = chars.next_back() else {
+    if out.len() <= start {
         out.push(bare(mark))?;
         return Ok(());
-    };
-    out.push_str(chars.as_str())?;
-    write_marked_letter(out, letter(last), mark)?;
-    Ok(())
-}
-
-// Writes what an accent with this mark stands for.
-fn write_accent(out: &mut String, argument: Option<&str>, mark: char) -> Result<(), AllocError>
-    requires { IsTrue (is_in_form Nfd (mark ∷ [])) }
-    ensures { OnOk result (Writes out.old out.new
-        (accented mark (option_map (λ text. chars text.now) argument.entry))) }
-{
-    let Some(text) = argument else {
-        out.push(mark)?;
+    }
+    let Some(last) = out.pop() else {
         return Ok(());
     };
-    write_marked(out, text, mark)
+    write_marked_letter(out, letter(last), mark)?;
+    Ok(())
 }
 
 // Writes what a command without an argument stands for that is neither an accent nor a symbol.
@@ -169,49 +160,106 @@ fn write_other_alone(out: &mut String, name: &str) -> Result<(), AllocError>
     Ok(())
 }
 
-// Writes what a command with an argument stands for that is neither an accent nor a symbol.
-fn write_other(out: &mut String, name: &str, argument: &str) -> Result<(), AllocError>
-    ensures { OnOk result (Writes out.old out.new
-        (other (chars name.now) (Some (chars argument.now)))) }
-{
-    match name {
-        "o" => return write_marked(out, argument, '\u{338}'),
-        "copyright" => {
-            out.push('©')?;
-            out.push_str(argument)?;
-        }
-        _ => {
-            out.push('\\')?;
-            out.push_str(name)?;
-            out.push('{')?;
-            out.push_str(argument)?;
-            out.push('}')?;
-        }
-    }
-    Ok(())
-}
-
-// Writes what a command with this name and this argument stands for.
-pub(crate) fn write_command(
-    out: &mut String,
-    name: &str,
-    argument: Option<&str>,
-) -> Result<(), AllocError>
-    ensures { OnOk result (string_bytes out.new ≡
-        string_bytes out.old ++ encode_utf8_all
-        (given (chars name.now) (option_map (λ text. chars text.now) argument.entry))) }
+// Writes what a command with this name stands for where it has no argument.
+pub(crate) fn write_alone(out: &mut String, name: &str) -> Result<(), AllocError>
+    ensures { OnOk result (Writes out.old out.new (given (chars name.now) None)) }
 {
     if let Some(mark) = accent_mark(name) {
-        return write_accent(out, argument, mark);
+        out.push(mark)?;
+        return Ok(());
     }
     if let Some(text) = symbol(name) {
         out.push_str(text)?;
         return Ok(());
     }
-    let Some(text) = argument else {
-        return write_other_alone(out, name);
-    };
-    write_other(out, name, text)
+    write_other_alone(out, name)
+}
+
+// What a command makes of its argument.
+#[derive(Clone, Copy)]
+pub(crate) enum Effect {
+    // A mark goes on its last character.
+    Mark(char),
+    // A symbol stands in its place.
+    Symbol(&'static str),
+    // The copyright sign stands before it.
+    Copyright,
+    // The command is not known, and stays.
+    Unknown,
+}
+
+impl Effect {
+    // What the command with this name makes of its argument.
+    pub(crate) fn of(name: &str) -> Self
+        ensures made { (argument : List ℕ) →
+            given (chars name.now) (Some argument) ≡ made result (chars name.now) argument }
+        ensures fit { IsFit result }
+    {
+        if let Some(mark) = accent_mark(name) {
+            return Effect::Mark(mark);
+        }
+        if let Some(text) = symbol(name) {
+            return Effect::Symbol(text);
+        }
+        match name {
+            "o" => Effect::Mark('\u{338}'),
+            "copyright" => Effect::Copyright,
+            _ => Effect::Unknown,
+        }
+    }
+
+    // Writes what stands before the argument.
+    pub(crate) fn begin(self, out: &mut String, name: &str) -> Result<(), AllocError>
+        ensures { OnOk result (Writes out.old out.new (made_before self (chars name.now))) }
+    {
+        match self {
+            Effect::Mark(_) => {}
+            Effect::Symbol(_) => {}
+            Effect::Copyright => out.push('©')?,
+            Effect::Unknown => {
+                out.push('\\')?;
+                out.push_str(name)?;
+                out.push('{')?;
+            }
+        }
+        Ok(())
+    }
+
+    // Ends the argument, whose text begins at `start`.
+    pub(crate) fn end(self, out: &mut String, start: usize) -> Result<(), AllocError>
+        requires fit { IsFit self }
+        requires begun { (base inside : List ℕ) × (length (encode_utf8_all base) ≡ start) ×
+            (string_bytes out.old ≡ encode_utf8_all (base ++ inside)) }
+        ensures { (base name inside : List ℕ) →
+            length (encode_utf8_all (base ++ made_before self name)) ≡ start →
+            string_bytes out.old ≡ encode_utf8_all ((base ++ made_before self name) ++ inside) →
+            OnOk result (string_bytes out.new ≡
+            encode_utf8_all (base ++ made self name inside)) }
+    {
+        match self {
+            Effect::Mark(mark) => mark_last(out, start, mark)?,
+            Effect::Symbol(text) => {
+                out.truncate(start);
+                out.push_str(text)?;
+            }
+            Effect::Copyright => {}
+            Effect::Unknown => out.push('}')?,
+        }
+        Ok(())
+    }
+}
+
+// Writes what a command with this name and this argument stands for.
+pub(crate) fn write_command(out: &mut String, name: &str, argument: &str) -> Result<(), AllocError>
+    ensures { OnOk result (Writes out.old out.new
+        (given (chars name.now) (Some (chars argument.now)))) }
+{
+    let effect = Effect::of(name);
+    effect.begin(out, name)?;
+    let start = out.len();
+    out.push_str(argument)?;
+    effect.end(out, start)?;
+    Ok(())
 }
 
 static SYMBOLS: [(&str, &str); 70] = [

@@ -1,28 +1,30 @@
-use Rattle.std.proofs.Common.{◌∙◌, sym}
+use Rattle.std.proofs.Common.{◌≡◌, ◌++◌, sym, ap, length, arith}
+use Rattle.std.specs.Prelude.{encode_utf8_all, string_bytes}
 use Rattle.std.specs.Str.{chars}
+use Rattle.std.proofs.lemmas.Str.{encodes-chars, IsUtf8-string_bytes}
 use Rattle.bib_text.proofs.TextFacts.{pushed_chars}
-use Rattle.bib_contents.proofs.CommandFacts.{mark_stays, given_accent, given_symbol, given_other, symbol_text, symbol_none}
+use Rattle.bib_contents.specs.Effects.{made_before}
+use Rattle.bib_contents.proofs.EffectFacts.{wrote_behind, wrote_more, wrote_from}
 use Rattle.bib_contents.proofs.resolve.commands.write_command.Goals as goal
 
-pub write_accent-requires : goal.write_accent-requires
-write_accent-requires c = mark_stays (chars c.args.name.now) c.in-Some.mark (sym c.accent_mark.ensures ∙ c.in-Some.is)
-
-pub returns-in-Some : goal.returns-in-Some
-returns-in-Some c =
-    rw (given_accent (chars c.args.name.now) _ c.in-Some.mark (sym c.accent_mark.ensures ∙ c.in-Some.is)) c.write_accent.ensures
-
-pub returns-in-Some-symbol : goal.returns-in-Some-symbol
-returns-in-Some-symbol c =
-    let text = symbol_text _ _ c.in-Some-symbol.ensures in
-    rw (given_symbol (chars c.args.name.now) _ text.0 (sym c.accent_mark.ensures ∙ c.in_default.is) text.1)
-    (pushed_chars _ _ _ _ text.0 c.in_ok-push_str.was c.push_str.ensures.bytes text.2)
-
-pub returns-in_default-argument : goal.returns-in_default-argument
-returns-in_default-argument c =
-    rw (given_other (chars c.args.name.now) _ (sym c.accent_mark.ensures ∙ c.in_default.is) (symbol_none _ c.in_default-symbol.ensures), c.in_default-argument.is)
-    c.write_other_alone.ensures
+pub end-requires : goal.end-requires
+end-requires c = record {
+  fit = c.of-effect.ensures.fit;
+  begun = (
+    chars (string_bytes c.begin.new.out),
+    chars c.args.argument.now,
+    omega (arith, ap length (encodes-chars _ (IsUtf8-string_bytes c.begin.new.out)), c.len-start.ensures),
+    wrote_behind _ _ (chars c.args.argument.now) (IsUtf8-string_bytes c.begin.new.out)
+        (pushed_chars _ _ _ _ (chars c.args.argument.now) c.in_ok-push_str.was c.push_str.ensures.bytes (sym (encodes-chars _ c.utf8.argument))),
+  );
+}
 
 pub returns : goal.returns
 returns c =
-    rw (given_other (chars c.args.name.now) _ (sym c.accent_mark.ensures ∙ c.in_default.is) (symbol_none _ c.in_default-symbol.ensures), c.in-Some-argument.is)
-    c.write_other.ensures
+    let old = string_bytes c.args.out.now in
+    let begun = wrote_behind old (string_bytes c.begin.new.out) _ (IsUtf8-string_bytes c.args.out.now) c.in_ok-begin.ensures in
+    let size : length (encode_utf8_all (chars old ++ made_before c.of-effect.result (chars c.args.name.now))) ≡ c.len-start.result = omega (arith, ap length begun, c.len-start.ensures) in
+    let pushed = wrote_more (string_bytes c.begin.new.out) (string_bytes c.push_str.new.self) _ (chars c.args.argument.now) begun
+    (pushed_chars _ _ _ _ (chars c.args.argument.now) c.in_ok-push_str.was c.push_str.ensures.bytes (sym (encodes-chars _ c.utf8.argument))) in
+    rw c.of-effect.ensures.made
+    (wrote_from old _ _ (IsUtf8-string_bytes c.args.out.now) (c.in_ok-end.ensures (chars old) (chars c.args.name.now) (chars c.args.argument.now) size pushed))

@@ -1,31 +1,16 @@
-use Rattle.std.proofs.Common.{rules, arith}
-use Rattle.bib_contents.proofs.ArgumentFacts.{is_no_brace, braced_never, braced_opened, braced_closed, braced_text, braced_bound}
+use Rattle.std.proofs.Common.{◌<◌, length, arith}
+use Rattle.bib_contents.specs.Arguments.{Closes}
+use Rattle.bib_contents.proofs.ArgumentFacts.{known_encloses, closes_boundary}
 use Rattle.bib_contents.proofs.resolve.units.braced.Goals as goal
 
-pub eat_while-requires-clause-is_test : goal.eat_while-requires-clause-is_test
-eat_while-requires-clause-is_test c = (is_no_brace, λ x r post. search rules)
+pub jump-requires : goal.jump-requires
+jump-requires c =
+    let within : c.in-Some.end < length c.args.s.now.text = omega (arith, c.len.ensures, c.if-len-end.false) in
+    let closes : Closes c.args.s.now.text c.cursor-start.result c.in-Some.end = c.in-Some.ensures c.args.s.now.text c.requires.known within in
+    closes_boundary closes (rw c.cursor-start.ensures.place c.cursor-start.ensures.utf8) within
 
-pub returns-in_default-clause-found : goal.returns-in_default-clause-found
-returns-in_default-clause-found c =
-    let run = c.eat_while.ensures.longest is_no_brace (λ x r post. search rules) in
-    braced_never c.braces.invariant.0 c.eat_while.ensures.passed run.0 c.in_default.ensures.0
-
-pub overflow_add-depth : goal.overflow_add-depth
-overflow_add-depth c =
-    let fits = braced_bound c.braces.invariant.0 (rw (← c.cursor-start.ensures.place) c.cursor-start.ensures.boundary.0) c.cursor-start.ensures.fits c.braces.invariant.1 in
-    omega (arith, fits)
-
-pub braces-preserved-then-brace-eq123 : goal.braces-preserved-then-brace-eq123
-braces-preserved-then-brace-eq123 c =
-    let run = c.eat_while.ensures.longest is_no_brace (λ x r post. search rules) in
-    braced_opened c.braces.invariant.0 c.braces.invariant.1 c.eat_while.ensures.passed run.0 c.in-Some.ensures c.if-brace-eq123.true
-
-pub returns-then-depth-eq0-clause-found : goal.returns-then-depth-eq0-clause-found
-returns-then-depth-eq0-clause-found c =
-    let run = c.eat_while.ensures.longest is_no_brace (λ x r post. search rules) in
-    braced_text c.cursor-start.result c.from-text.result.now c.braces.invariant.0 c.if-depth-eq0.true c.eat_while.ensures.passed run.0 run.1 c.in-Some.ensures c.if-brace-eq123.false c.cursor-start.ensures.place c.from-text.utf8 c.from-text.ensures
-
-pub braces-preserved : goal.braces-preserved
-braces-preserved c =
-    let run = c.eat_while.ensures.longest is_no_brace (λ x r post. search rules) in
-    braced_closed c.braces.invariant.0 c.braces.invariant.1 c.eat_while.ensures.passed run.0 run.1 c.in-Some.ensures c.if-brace-eq123.false c.if-depth-eq0.false
+pub returns-clause-found : goal.returns-clause-found
+returns-clause-found c =
+    let within : c.in-Some.end < length c.args.s.now.text = omega (arith, c.len.ensures, c.if-len-end.false) in
+    let closes : Closes c.args.s.now.text c.cursor-start.result c.in-Some.end = c.in-Some.ensures c.args.s.now.text c.requires.known within in
+    known_encloses c.cursor-start.result c.in-Some.end c.eat.result closes c.cursor-start.ensures.place c.jump.ensures.place c.cursor-start.ensures.utf8 within c.eat.ensures c.back_to-inside.ensures.place c.back_to-inside.ensures.utf8

@@ -1,0 +1,98 @@
+-- What a command makes of the end of a text.
+use Rattle.std.proofs.Common.{◌≡◌, ℕ, ◌+◌, ◌<◌, ◌≤◌, List, [], ◌∷◌, ◌++◌, length, take, refl, sym, ap, subst, ◌∙◌, arith, append_assoc, append-nil, length-append}
+use Rattle.std.specs.Prelude.{encode_utf8, encode_utf8_all}
+use Rattle.std.specs.Str.{chars, IsUtf8, IsCharBoundary}
+use Rattle.std.proofs.lemmas.List.{take_at}
+use Rattle.std.proofs.lemmas.Str.{encodes-append, encodes-chars, length-le-encodes, IsCharBoundary-at_seam}
+use Rattle.bib_text.proofs.TextFacts.{chars_whole, chars_past, three_parts}
+use Rattle.bib_contents.specs.Commands.{marked, letter, bare}
+use Rattle.bib_contents.proofs.CommandFacts.{marked-push, chars_last}
+use Rattle.bib_contents.proofs.LaidFacts.{last_of}
+use Rattle.unicode_normalization.specs.Forms.{nfc}
+
+-- characters written behind others
+pub wrote_more : (now more before cs : List ℕ) → now ≡ encode_utf8_all before → more ≡ now ++ encode_utf8_all cs → more ≡ encode_utf8_all (before ++ cs)
+wrote_more now more before cs was grew = grew ∙ ap (λ bs. bs ++ encode_utf8_all cs) was ∙ sym (encodes-append before cs)
+
+no_characters : (cs : List ℕ) → length cs ≤ 0 → cs ≡ []
+no_characters [] none = refl
+no_characters (c ∷ cs) none = absurd (omega (arith, none))
+
+-- a text that ends where its last part begins
+pub nothing_behind : (base inside : List ℕ) → length (encode_utf8_all (base ++ inside)) ≤ length (encode_utf8_all base) → inside ≡ []
+nothing_behind base inside short =
+    let size : length (encode_utf8_all (base ++ inside)) ≡ length (encode_utf8_all base) + length (encode_utf8_all inside) = ap length (encodes-append base inside) ∙ length-append (encode_utf8_all base) _ in
+    let wide : length inside ≤ length (encode_utf8_all inside) = length-le-encodes inside in
+    no_characters inside (omega (arith, short, size, wide))
+
+pub marked_none : (base inside : List ℕ) (mark : ℕ) (sign old new : List ℕ) {start : ℕ} → length (encode_utf8_all base) ≡ start → old ≡ encode_utf8_all (base ++ inside) → length old ≤ start → sign ≡ bare mark → new ≡ old ++ encode_utf8_all sign
+    → new ≡ encode_utf8_all (base ++ marked mark inside)
+marked_none base inside mark sign old new {start} size is short bare_is grew =
+    let none : inside ≡ [] = nothing_behind base inside (omega (arith, short, size, ap length is)) in
+    wrote_more old new (base ++ inside) sign is grew ∙ ap (λ cs. encode_utf8_all ((base ++ cs) ++ sign)) none ∙ ap (λ cs. encode_utf8_all (cs ++ sign)) (append-nil base)
+    ∙ ap (λ cs. encode_utf8_all (base ++ cs)) bare_is ∙ ap (λ cs. encode_utf8_all (base ++ marked mark cs)) (sym none)
+
+-- texts with one character more are equal part by part
+pub last_same : (xs ys : List ℕ) (c d : ℕ) → xs ++ c ∷ [] ≡ ys ++ d ∷ [] → (xs ≡ ys) × (c ≡ d)
+last_same [] [] c d is = (refl, cc)
+last_same [] (y ∷ []) c d is = absurd (cc)
+last_same [] (y ∷ e ∷ ys) c d is = absurd (cc)
+last_same (x ∷ []) [] c d is = absurd (cc)
+last_same (x ∷ e ∷ xs) [] c d is = absurd (cc)
+last_same (x ∷ xs) (y ∷ ys) c d is =
+    let rest = last_same xs ys c d (cc) in
+    let first : x ≡ y = cc in
+    (ap (λ z. z ∷ xs) first ∙ ap (λ zs. y ∷ zs) rest.0, rest.1)
+
+pub marked_some : (base : List ℕ) (c : ℕ) (cs : List ℕ) (mark last : ℕ) (old front new : List ℕ) → IsUtf8 old → IsUtf8 front → old ≡ encode_utf8_all (base ++ c ∷ cs) → old ≡ front ++ encode_utf8 last
+    → new ≡ front ++ encode_utf8_all (nfc (letter last ∷ mark ∷ [])) → new ≡ encode_utf8_all (base ++ marked mark (c ∷ cs))
+marked_some base c cs mark last old front new utf8 front_utf8 is popped grew =
+    let split = last_of c cs in
+    let whole : chars old ≡ (base ++ split.0) ++ split.1 ∷ [] = chars_whole (base ++ c ∷ cs) old utf8 is ∙ ap (λ xs. base ++ xs) split.2 ∙ sym (append_assoc base split.0 (split.1 ∷ [])) in
+    let parts = last_same (chars front) (base ++ split.0) last split.1 (sym (chars_last old front last utf8 front_utf8 popped) ∙ whole) in
+    wrote_more front new (chars front) (nfc (letter last ∷ mark ∷ [])) (sym (encodes-chars front front_utf8)) grew
+    ∙ ap (λ xs. encode_utf8_all (xs ++ nfc (letter last ∷ mark ∷ []))) parts.0
+    ∙ ap encode_utf8_all (append_assoc base split.0 _ ∙ ap (λ d. base ++ (split.0 ++ nfc (letter d ∷ mark ∷ []))) parts.1 ∙ ap (λ xs. base ++ xs) (sym (ap (marked mark) split.2 ∙ marked-push mark split.0 split.1)))
+
+pub marked_behind : (base inside : List ℕ) (mark last : ℕ) (old front new : List ℕ) {start : ℕ} → length (encode_utf8_all base) ≡ start → start < length old → IsUtf8 old → IsUtf8 front → old ≡ encode_utf8_all (base ++ inside) → old ≡ front ++ encode_utf8 last
+    → new ≡ front ++ encode_utf8_all (nfc (letter last ∷ mark ∷ [])) → new ≡ encode_utf8_all (base ++ marked mark inside)
+marked_behind base [] mark last old front new size more utf8 front_utf8 is popped grew =
+    let same : length old ≡ length (encode_utf8_all base) = ap length is ∙ ap (λ cs. length (encode_utf8_all cs)) (append-nil base) in
+    absurd (omega (arith, size, more, same))
+marked_behind base (c ∷ cs) mark last old front new size more utf8 front_utf8 is popped grew = marked_some base c cs mark last old front new utf8 front_utf8 is popped grew
+
+-- a text is cut back to where its last part began
+pub cut_back : (base inside now cut : List ℕ) {start : ℕ} → length (encode_utf8_all base) ≡ start → now ≡ encode_utf8_all (base ++ inside) → cut ≡ take start now → cut ≡ encode_utf8_all base
+cut_back base inside now cut {start} size is taken =
+    taken ∙ ap (take start) (is ∙ encodes-append base inside) ∙ take_at (encode_utf8_all base) (encode_utf8_all inside) start size
+
+-- a text can be cut between characters
+pub boundary_at : (base inside bs : List ℕ) {start : ℕ} → length (encode_utf8_all base) ≡ start → bs ≡ encode_utf8_all (base ++ inside) → IsUtf8 bs → IsCharBoundary bs start
+boundary_at base inside bs {start} size is utf8 =
+    let parts : bs ≡ encode_utf8_all base ++ encode_utf8_all inside = is ∙ encodes-append base inside in
+    subst (IsCharBoundary bs) size (IsCharBoundary-at_seam bs (encode_utf8_all base) (encode_utf8_all inside) parts (chars_past base bs (encode_utf8_all inside) utf8 parts).1)
+
+-- a symbol in the place of an argument
+pub symbol_end : (base inside now cut new text : List ℕ) {start : ℕ} → length (encode_utf8_all (base ++ [])) ≡ start → now ≡ encode_utf8_all ((base ++ []) ++ inside) → cut ≡ take start now → new ≡ cut ++ text → IsUtf8 text
+    → new ≡ encode_utf8_all (base ++ chars text)
+symbol_end base inside now cut new text {start} size is taken grew utf8 =
+    let back : cut ≡ encode_utf8_all base = cut_back (base ++ []) inside now cut size is taken ∙ ap encode_utf8_all (append-nil base) in
+    wrote_more cut new base (chars text) back (grew ∙ ap (λ bs. cut ++ bs) (sym (encodes-chars text utf8)))
+
+-- the end of a command that is not known
+pub unknown_end : (base name inside now new : List ℕ) → now ≡ encode_utf8_all ((base ++ 92 ∷ (name ++ 123 ∷ [])) ++ inside) → new ≡ now ++ encode_utf8_all (125 ∷ []) → new ≡ encode_utf8_all (base ++ 92 ∷ (name ++ 123 ∷ (inside ++ 125 ∷ [])))
+unknown_end base name inside now new is grew = wrote_more now new _ (125 ∷ []) is grew ∙ ap encode_utf8_all (regrouped base name inside)
+  where
+    regrouped : (base name inside : List ℕ) → ((base ++ 92 ∷ (name ++ 123 ∷ [])) ++ inside) ++ 125 ∷ [] ≡ base ++ 92 ∷ (name ++ 123 ∷ (inside ++ 125 ∷ []))
+    regrouped base name inside = simp append_assoc
+
+-- a text that was written before, and more
+pub wrote_behind : (old new cs : List ℕ) → IsUtf8 old → new ≡ old ++ encode_utf8_all cs → new ≡ encode_utf8_all (chars old ++ cs)
+wrote_behind old new cs utf8 grew = wrote_more old new (chars old) cs (sym (encodes-chars old utf8)) grew
+
+pub wrote_from : (old new cs : List ℕ) → IsUtf8 old → new ≡ encode_utf8_all (chars old ++ cs) → new ≡ old ++ encode_utf8_all cs
+wrote_from old new cs utf8 is = is ∙ encodes-append (chars old) cs ∙ ap (λ bs. bs ++ encode_utf8_all cs) (encodes-chars old utf8)
+
+-- math between dollar signs
+pub between_dollars : (cs old one two new : List ℕ) → one ≡ old ++ encode_utf8_all (36 ∷ []) → two ≡ one ++ encode_utf8_all cs → new ≡ two ++ encode_utf8_all (36 ∷ []) → new ≡ old ++ encode_utf8_all (36 ∷ (cs ++ 36 ∷ []))
+between_dollars cs old one two new first middle last = three_parts old one two new (36 ∷ []) cs (36 ∷ []) first middle last
