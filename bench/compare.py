@@ -61,7 +61,7 @@ def run(program, command, path):
     with open(path, "rb") as text:
         process = subprocess.Popen([program, command], stdin=text, stdout=subprocess.DEVNULL)
         _, status, usage = os.wait4(process.pid, 0)
-    if status != 0:
+    if os.waitstatus_to_exitcode(status) not in (0, 4):
         sys.exit(f"{program} {command}: status {status}")
     return usage.ru_utime + usage.ru_stime, usage.ru_maxrss
 

@@ -64,9 +64,42 @@ printf '@misc{a, title={Foo}}' >"$files/input"
 run 'a settled bibliography' 0 $'settled\n' settled
 printf '@misc{a, title={a{$}$b}}' >"$files/input"
 run 'math that is not settled' 4 $'not settled\n' settled
+printf '@article{e,}' >"$files/input"
+run 'an entry that lacks fields' 4 $'e: missing title\ne: missing journaltitle\ne: missing author\ne: missing year\n' check
+printf '@mvbook{m, title={x}, volume={y}}' >"$files/input"
+run 'a volume that is not asked for, and no number' 4 $'m: missing author\nm: missing year\nm: superfluous volume\nm: malformed volume: invalid number\n' check
+printf '@misc{a, title={A}, author={B}}' >"$files/input"
+run 'an entry without faults' 0 '' check
 printf '@misc{a, title={x}}@misc{a,}' >"$files/input"
 run 'a key twice' 1 $'error: duplicate key "a": 19-27\n' biblatex
 run 'a key twice, of which keys know nothing' 0 $'a\na\n' keys
+
+# worked examples, cut short at every byte: each front is read or refused
+examples=(
+    '@string{BT = "bibtex"}' '@article{,}' '@article{a}' '@misc{a, title={x}, %1
+%2
+}' '@misc{a, title={Foo \& \{ {NASA} $x^2$}}' '@string{a = b} @string{b = a} @misc{k, title = a}' '@misc{a, ids={b},} @misc{b,}'
+    '@mvbook{p, title={Works}} @book{c, title={One}, crossref={p}}' '@book{a, crossref={a}}' '@misc{a, title={a~b}, url={x~y}}'
+    '@xdata{x, date={1999}} @xdata{y, year={2001}} @article{a, date={1990-05}, xdata={x, y}}'
+    '@book{p, year={2020}, month={Jan-Feb}} @inbook{c, crossref={p}}' '@article{k, journal={A}, journaltitle={B}}'
+    '@thesis{t, institution={TU}, date={2019-10}}' '@misc{a, title={x}} junk % @misc{b,}' '@comment{x @misc{b,} y}'
+    '@misc{a, title="a {" # "b}"}' '@preamble{"x"" @misc{b,}' '@misc{a, title={a{$}$b}}' '@misc{k, title = DEC # {é}}'
+    '@misc{a, title={\"{A}ther und {"\LaTeX "} {\relax for you\}}}}' '@misc{c, crossref={p}, xref={a, b}}'
+)
+cuts=0
+for example in "${examples[@]}"; do
+    for ((end = 0; end <= ${#example}; end++)); do
+        for word in keys biblatex; do
+            printf %s "${example:0:end}" | "$program" "$word" >/dev/null
+            status=$?
+            cuts=$((cuts + 1))
+            [ "$status" -le 1 ] || {
+                failed=$((failed + 1))
+                echo "failed: $word on ${example:0:end} (status $status)"
+            }
+        done
+    done
+done
 
 key=$(head -c 2097152 /dev/zero | tr '\0' k)
 printf '@misc{%s,}' "$key" >"$files/input"
@@ -76,5 +109,5 @@ run 'a key of 2 MiB' 0 "$key"$'\n' keys
 head -c 67108864 /dev/zero | (ulimit -v 32768 && exec "$program" keys) >"$files/output"
 count 'no memory for the input' $? 3 $'error: out of memory\n'
 
-echo "runs: $passed passed, $failed failed"
+echo "runs: $passed passed, $failed failed, $cuts fronts of examples read or refused"
 [ "$failed" = 0 ]

@@ -9,7 +9,7 @@ use Rattle.biblatex.specs.Syntax.{IsRawReading, FileReading}
 use Rattle.bib.specs.Answering.{IsLibraryOf}
 use Rattle.bib.specs.Output.{IsCommandAnswer, IsKeysAnswer, IsLibraryAnswer, TellsFault, TellsNoBibliography, not_utf8}
 use Rattle.bib.specs.declared.run.Command.{Command}
-use Rattle.bib.specs.declared.run.Command.TheVariants.{Keys, Biblatex, Bibtex, Settled}
+use Rattle.bib.specs.declared.run.Command.TheVariants.{Keys, Biblatex, Bibtex, Check, Settled}
 use Rattle.bib.specs.Output.IsKeysAnswer.{no_file}
 use Rattle.bib.specs.declared.run.Answer.{Answer}
 use Rattle.std.specs.Prelude.{◌⊎◌, IfOk, string_bytes, ◌≢◌}
@@ -67,4 +67,5 @@ pub no_text_shown : (command : Command) (bytes : List ℕ) → (IsUtf8 bytes →
 no_text_shown Keys bytes none = IsKeysAnswer.no_text none
 no_text_shown Biblatex bytes none = IsLibraryAnswer.no_text none
 no_text_shown Bibtex bytes none = IsLibraryAnswer.no_text none
+no_text_shown Check bytes none = IsLibraryAnswer.no_text none
 no_text_shown Settled bytes none = IsLibraryAnswer.no_text none

@@ -1,13 +1,13 @@
 -- Meaning: words of public contracts.
 -- What the program prints, and its status.
-use Rattle.std.specs.Prelude.{◌≡◌, ℕ, List, [], ◌∷◌, ◌++◌, codes, IfSome}
+use Rattle.std.specs.Prelude.{◌≡◌, ◌≢◌, ℕ, List, [], ◌∷◌, ◌++◌, codes, map, All, IfSome}
 use Rattle.std.specs.List.{flat_map}
 use Rattle.std.specs.Str.{IsUtf8}
 use Rattle.biblatex.specs.Library.{Library}
 use Rattle.biblatex.specs.Resolved.{IsAccepted, IsFaultOf, IsLoaded}
-use Rattle.biblatex.specs.Syntax.{IsSyntaxFault, error_text, IsFile, IsRawReading, FileReading, ParseError, AreSettled, biblatex_entry, bibtex_entry, entries_text}
+use Rattle.biblatex.specs.Syntax.{IsSyntaxFault, error_text, IsFile, IsRawReading, FileReading, ParseError, Entry, AreSettled, biblatex_entry, bibtex_entry, entries_text, TypeError, type_kind_text, missing_of, superfluous_of, AreMalformed}
 use Rattle.bib.specs.declared.run.Command.{Command}
-use Rattle.bib.specs.declared.run.Command.TheVariants.{Keys, Biblatex, Bibtex, Settled}
+use Rattle.bib.specs.declared.run.Command.TheVariants.{Keys, Biblatex, Bibtex, Check, Settled}
 
 -- a text and a line feed
 abbrev pub line : List ℕ → List ℕ
@@ -58,6 +58,42 @@ pub record ShowsBibtex (library : Library) (printed : List ℕ) (status : ℕ) :
   pub text : printed ≡ entries_text bibtex_entry library.entries
   pub done : status ≡ 0
 
+-- a line on the entry with this key: what is wrong with it, and of which field
+abbrev pub field_line : List ℕ → List ℕ → List ℕ → List ℕ
+field_line key wrong field = key ++ (codes ": " ++ (wrong ++ (codes " " ++ line field)))
+
+-- a line on a field that isn't read, with the kind of its fault
+abbrev pub malformed_line : List ℕ → List ℕ × TypeError → List ℕ
+malformed_line key fault = field_line key (codes "malformed") (fault.0 ++ (codes ": " ++ type_kind_text fault.1.kind))
+
+-- a report: an entry, and the faults that are told of its fields
+abbrev pub Reported : Type 0
+Reported = Entry × List (List ℕ × TypeError)
+
+-- what a report prints: the fields that the entry lacks, those that it must not have, and those that aren't read, each
+-- in a line of its own
+abbrev pub report_lines : Reported → List ℕ
+report_lines report =
+    flat_map (field_line report.0.key (codes "missing")) (missing_of report.0)
+    ++ (flat_map (field_line report.0.key (codes "superfluous")) (superfluous_of report.0)
+    ++ flat_map (malformed_line report.0.key) report.1)
+
+-- a report tells the faults of the fields that aren't read, each with a kind that its field allows
+abbrev pub IsReport : Reported → Type 0
+IsReport report = AreMalformed report.0 report.1
+
+-- a text has a report on each of these entries, in their order
+pub record AreReported (entries : List Entry) (printed : List ℕ) : Type 0 where
+  pub reports : List Reported
+  pub told : map (λ report. report.0) reports ≡ entries
+  pub allowed : All IsReport reports
+  pub text : printed ≡ flat_map report_lines reports
+
+-- the reports on the bibliography's entries, and whether there is nothing to report
+pub data ShowsReports (library : Library) : List ℕ → ℕ → Type 0 where
+  clean : AreReported library.entries [] → ShowsReports library [] 0
+  told : {printed : List ℕ} → AreReported library.entries printed → printed ≢ [] → ShowsReports library printed 4
+
 -- whether the bibliography is settled
 pub data ShowsSettled (library : Library) : List ℕ → ℕ → Type 0 where
   settled : AreSettled library.entries → ShowsSettled library (line (codes "settled")) 0
@@ -68,6 +104,7 @@ abbrev pub command_name : Command → List ℕ
 command_name Keys = codes "keys"
 command_name Biblatex = codes "biblatex"
 command_name Bibtex = codes "bibtex"
+command_name Check = codes "check"
 command_name Settled = codes "settled"
 
 -- what a command prints for these bytes, and the status
@@ -75,6 +112,7 @@ abbrev pub IsCommandAnswer : Command → List ℕ → List ℕ → ℕ → Type 
 IsCommandAnswer Keys = IsKeysAnswer
 IsCommandAnswer Biblatex = IsLibraryAnswer ShowsBiblatex
 IsCommandAnswer Bibtex = IsLibraryAnswer ShowsBibtex
+IsCommandAnswer Check = IsLibraryAnswer ShowsReports
 IsCommandAnswer Settled = IsLibraryAnswer ShowsSettled
 
 -- the words name this command

@@ -1,6 +1,7 @@
 //! The program `bib`: it reads a bibliography from standard input, and prints what the command asks for.
 #![tactic(auto)]
 
+mod reports;
 mod run;
 mod start;
 mod streams;

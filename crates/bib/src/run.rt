@@ -1,16 +1,17 @@
 //! The engine of the program.
 
-ghost use Rattle.std.specs.Prelude.{◌≡◌, ◌≢◌, ℕ, ◌-◌, ◌^◌, ◌<◌, List, [], ◌∷◌, ◌++◌, map, codes, IfOk, MatchOption};
+ghost use Rattle.std.specs.Prelude.{◌≡◌, ◌≢◌, ◌==◌, ℕ, ◌-◌, ◌^◌, ◌<◌, if◌then◌else◌, List, [], ◌∷◌, ◌++◌, length, map, codes, IfOk, MatchOption};
 ghost use Rattle.std.specs.Io.KnownBytes.{Appends};
+ghost use Rattle.std.specs.Str.{IsUtf8};
 ghost use Rattle.std.specs.String.{string_bytes};
 ghost use Rattle.biblatex.specs.Syntax.{IsFile, IsRawReading, FileReading, file_of};
 ghost use Rattle.biblatex.specs.Syntax.{OutOfMemory};
 ghost use Rattle.bib.specs.Answering.{IsLibraryOf};
-ghost use Rattle.bib.specs.Output.{IsAnswer, IsCommand, IsCommandAnswer, IsKeysAnswer, IsLibraryAnswer, Name, ShowsBiblatex, ShowsBibtex, ShowsSettled, TellsFault, command_name, key_lines};
+ghost use Rattle.bib.specs.Output.{IsAnswer, IsCommand, IsCommandAnswer, IsKeysAnswer, IsLibraryAnswer, Name, ShowsBiblatex, ShowsBibtex, ShowsReports, ShowsSettled, TellsFault, command_name, key_lines};
 
+use crate::reports::reports;
 use biblatex::{Bibliography, ParseError, ParseErrorKind, RawBibliography, Sink};
 use std::alloc::{AllocError, Global};
-use std::str;
 
 /// Why an input could not be read.
 #[derive(Debug, Clone, Copy, PartialEq, Eq)]
@@ -53,6 +54,8 @@ pub enum Command {
     Biblatex,
     /// The bibliography with BibTeX's types and fields.
     Bibtex,
+    /// What is wrong with the bibliography's entries.
+    Check,
     /// Whether the bibliography is settled.
     Settled,
 }
@@ -77,6 +80,7 @@ fn named(word: &str) -> Option<Command>
         "keys" => Some(Command::Keys),
         "biblatex" => Some(Command::Biblatex),
         "bibtex" => Some(Command::Bibtex),
+        "check" => Some(Command::Check),
         "settled" => Some(Command::Settled),
         _ => None,
     }
@@ -110,7 +114,7 @@ fn keys(alloc: Global, text: &str) -> Result<Answer, AllocError>
 }
 
 // The bibliography that a text is, or the answer that it is none.
-fn library(alloc: Global, text: &str) -> Result<Result<Bibliography, Answer>, AllocError>
+fn parsed(alloc: Global, text: &str) -> Result<Result<Bibliography, Answer>, AllocError>
     ensures { IfOk result (IsLibraryOf text.now) }
 {
     match Bibliography::parse(alloc, text) {
@@ -119,9 +123,17 @@ fn library(alloc: Global, text: &str) -> Result<Result<Bibliography, Answer>, Al
     }
 }
 
+// The bibliography that a text is, or the answer that it is none. The text's memory is free behind it.
+fn library(alloc: Global, text: String) -> Result<Result<Bibliography, Answer>, AllocError>
+    ensures text { IsUtf8 (string_bytes text) }
+    ensures library { IfOk result (IsLibraryOf (string_bytes text)) }
+{
+    parsed(alloc, text.as_str())
+}
+
 // The answer of the command `biblatex` for a text.
-fn biblatex(alloc: Global, text: &str) -> Result<Answer, AllocError>
-    ensures { IfOk result (λ answer. IsLibraryAnswer ShowsBiblatex text.now
+fn biblatex(alloc: Global, text: String) -> Result<Answer, AllocError>
+    ensures { IfOk result (λ answer. IsLibraryAnswer ShowsBiblatex (string_bytes text)
         (string_bytes answer.text) answer.status) }
 {
     let library = match library(alloc, text)? {
@@ -135,8 +147,8 @@ fn biblatex(alloc: Global, text: &str) -> Result<Answer, AllocError>
 }
 
 // The answer of the command `bibtex` for a text.
-fn bibtex(alloc: Global, text: &str) -> Result<Answer, AllocError>
-    ensures { IfOk result (λ answer. IsLibraryAnswer ShowsBibtex text.now
+fn bibtex(alloc: Global, text: String) -> Result<Answer, AllocError>
+    ensures { IfOk result (λ answer. IsLibraryAnswer ShowsBibtex (string_bytes text)
         (string_bytes answer.text) answer.status) }
 {
     let library = match library(alloc, text)? {
@@ -149,9 +161,32 @@ fn bibtex(alloc: Global, text: &str) -> Result<Answer, AllocError>
     })
 }
 
+// The status of reports: 4 where there is a line.
+fn status_of(lines: &str) -> u8
+    ensures { result ≡ (if length lines.now == 0 then 0 else 4) }
+{
+    if lines.is_empty() { 0 } else { 4 }
+}
+
+// The answer of the command `check` for a text.
+fn check(alloc: Global, text: String) -> Result<Answer, AllocError>
+    ensures { IfOk result (λ answer. IsLibraryAnswer ShowsReports (string_bytes text)
+        (string_bytes answer.text) answer.status) }
+{
+    let library = match library(alloc, text)? {
+        Ok(library) => library,
+        Err(answer) => return Ok(answer),
+    };
+    let text = reports(alloc, &library)?;
+    Ok(Answer {
+        status: status_of(&text),
+        text,
+    })
+}
+
 // The answer of the command `settled` for a text.
-fn settled(alloc: Global, text: &str) -> Result<Answer, AllocError>
-    ensures { IfOk result (λ answer. IsLibraryAnswer ShowsSettled text.now
+fn settled(alloc: Global, text: String) -> Result<Answer, AllocError>
+    ensures { IfOk result (λ answer. IsLibraryAnswer ShowsSettled (string_bytes text)
         (string_bytes answer.text) answer.status) }
 {
     let library = match library(alloc, text)? {
@@ -171,24 +206,25 @@ fn settled(alloc: Global, text: &str) -> Result<Answer, AllocError>
 }
 
 // The answer of a command for a text.
-fn answer_text(alloc: Global, command: Command, text: &str) -> Result<Answer, AllocError>
-    ensures { IfOk result (λ answer. IsCommandAnswer command text.now
+fn answer_text(alloc: Global, command: Command, text: String) -> Result<Answer, AllocError>
+    ensures { IfOk result (λ answer. IsCommandAnswer command (string_bytes text)
         (string_bytes answer.text) answer.status) }
 {
     match command {
-        Command::Keys => keys(alloc, text),
+        Command::Keys => keys(alloc, text.as_str()),
         Command::Biblatex => biblatex(alloc, text),
         Command::Bibtex => bibtex(alloc, text),
+        Command::Check => check(alloc, text),
         Command::Settled => settled(alloc, text),
     }
 }
 
 // The answer of a command for an input.
-fn answer_to(alloc: Global, command: Command, bytes: &[u8]) -> Result<Answer, AllocError>
-    ensures { IfOk result (λ answer. IsCommandAnswer command bytes.now
+fn answer_to(alloc: Global, command: Command, bytes: Vec<u8>) -> Result<Answer, AllocError>
+    ensures { IfOk result (λ answer. IsCommandAnswer command bytes.items
         (string_bytes answer.text) answer.status) }
 {
-    match str::from_utf8(bytes) {
+    match String::from_utf8(bytes) {
         Ok(text) => answer_text(alloc, command, text),
         Err(_) => Ok(Answer {
             text: String::from_str(alloc, "error: input is not UTF-8\n")?,
@@ -242,7 +278,7 @@ pub fn run<S: Source, K: Sink>(alloc: Global, words: &[String], input: &mut S, o
         Err(SourceError::Failed) => return print(output, "error: input failed\n", 1),
         Err(SourceError::OutOfMemory) => return print(output, "error: out of memory\n", 3),
     };
-    match answer_to(alloc, command, &bytes) {
+    match answer_to(alloc, command, bytes) {
         Ok(answer) => print(output, &answer.text, answer.status),
         Err(AllocError) => print(output, "error: out of memory\n", 3),
     }

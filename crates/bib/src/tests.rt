@@ -165,6 +165,48 @@ fn prints_bibliographies(rt: HostRuntime) -> Result<(), Fail> {
 }
 
 #[test]
+fn prints_reports(rt: HostRuntime) -> Result<(), Fail> {
+    let rows = [
+        ("", "", 0),
+        (
+            "@article{e,}",
+            "e: missing title\ne: missing journaltitle\ne: missing author\ne: missing year\n",
+            4,
+        ),
+        (
+            "@mvbook{m, title={x}, volume={y}}",
+            "m: missing author\nm: missing year\nm: superfluous volume\nm: malformed volume: invalid number\n",
+            4,
+        ),
+        (
+            "@book{a, title={A}, publisher={P}, author={B}, date={1999}}",
+            "",
+            0,
+        ),
+        (
+            "@misc{b,} @misc{a, title={A}, editor={E}} @misc{c, title={C}, author={A}, volumes={y}}",
+            "b: missing title\nb: missing author\nc: malformed volumes: invalid number\n",
+            4,
+        ),
+        (
+            "@proceedings{p, title={T}, editor={E}, author={A}, year={12345}}",
+            "p: superfluous author\np: malformed date: wrong number of digits\n",
+            4,
+        ),
+        ("@article{a}", "error: expected comma: 10-10\n", 1),
+        (
+            "@misc{a, ids={b},} @misc{b,}",
+            "error: duplicate key \"b\": 19-27\n",
+            1,
+        ),
+    ];
+    for (text, want, status) in rows {
+        prints(&rt, rt.alloc(), &["check"], text.as_bytes(), want, status)?;
+    }
+    Ok(())
+}
+
+#[test]
 fn tells_its_usage(rt: HostRuntime) -> Result<(), Fail> {
     prints(&rt, rt.alloc(), &[], b"@article{a}", USAGE, 2)?;
     prints(&rt, rt.alloc(), &["key"], b"", USAGE, 2)?;

@@ -106,3 +106,19 @@ fn numbers_of_pages(rt: HostRuntime) -> Result<(), Fail> {
     assert!(rt; first.start == 31 && first.end == 43);
     Ok(())
 }
+
+#[test]
+fn what_is_wrong(rt: HostRuntime) -> Result<(), Fail> {
+    let alloc = rt.alloc();
+    let entry = only_entry(alloc, "@mvbook{m, title={x}, volume={y}}")?;
+    let report = entry.verify(alloc)?;
+    assert!(rt; report.missing.as_slice() == ["author", "year"].as_slice());
+    assert!(rt; report.superfluous.as_slice() == ["volume"].as_slice());
+    let mut faults = String::new(alloc);
+    for (name, fault) in &report.malformed {
+        let told = format!(in alloc; "{}: {}; ", name.as_str(), fault.kind)?;
+        faults.push_str(told.as_str())?;
+    }
+    assert!(rt; faults.as_str() == "volume: invalid number; ");
+    Ok(())
+}

@@ -20,9 +20,9 @@ returns-in-Err-OutOfMemory-clause-printed g c limit same =
 pub returns-in-Ok-answer_to-clause-printed : goal.returns-in-Ok-answer_to-clause-printed
 returns-in-Ok-answer_to-clause-printed g c limit same =
     let p = c.print-in-Ok-answer_to.ensures.printed limit same in
-    (_, p.0, rw (p.1, c.deref-in-Ok-answer_to.ensures) (answer.answered c.in-Some.command c.in-Some.ensures c.in-Ok.ensures.given (rw c.deref.ensures.value at c.in-Ok-answer_to.ensures)))
+    (_, p.0, rw (p.1, c.deref.ensures) (answer.answered c.in-Some.command c.in-Some.ensures c.in-Ok.ensures.given c.in-Ok-answer_to.ensures))
 
-pub returns-clause-printed : goal.returns-clause-printed
-returns-clause-printed g c limit same =
+pub returns-in-Err-clause-printed : goal.returns-in-Err-clause-printed
+returns-in-Err-clause-printed g c limit same =
     let p = c.print-in-Err.ensures.printed limit same in
     (_, p.0, rw p.1 (answer.no_memory (c.in-Some.command, c.in-Some.ensures)))

@@ -1,5 +1,5 @@
 use Rattle.bib.proofs.Answers.{no_library}
-use Rattle.bib.proofs.run.library.Goals as goal
+use Rattle.bib.proofs.run.parsed.Goals as goal
 
 pub returns-in_ok-fault-in-Err : goal.returns-in_ok-fault-in-Err
 returns-in_ok-fault-in-Err c =
