@@ -12,6 +12,7 @@ use bib_entry::entry::Entry;
 use bib_maps::text_map::TextMap;
 use bib_syntax::raw::{Field, Pair, ParseError, RawEntry};
 use bib_tables::mechanics::EntryType;
+use bib_text::items::Items;
 use bib_text::text::Text;
 use std::alloc::{AllocError, Global};
 use std::collections::BTreeMap;
@@ -71,5 +72,14 @@ fn read_field<'f, 's>(
 {
     let name = field.key.v.to_ascii_lowercase(alloc)?;
     let chunks = reader.read(name.as_str(), &field.value.v)?;
-    Ok((Text::from_string(name), chunks))
+    Ok((Text::from_string(name), fitted(chunks)))
+}
+
+// The same chunks, without room for more: most fields are one chunk, and a list that grew has room for four.
+fn fitted(chunks: Chunks) -> Chunks
+    ensures { result ≡ chunks }
+{
+    let mut list = chunks.into_vec();
+    list.shrink_to_fit();
+    Items::from_vec(list)
 }
