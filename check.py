@@ -6,6 +6,7 @@
 - docs/PROMISES.md names each wrong body, in the column of its folder, and none that isn't there.
 - docs/DEFINITIONS.md names each word that a public contract cites.
 - Each file of specs/ says in its first line whether it is meaning or machinery.
+- Each public call of `biblatex` that may be refused memory is named in a test, which calls it where memory is there.
 """
 import pathlib
 import re
@@ -113,11 +114,41 @@ def check_specs():
             fault(file, "its first line doesn't say whether it is meaning or machinery")
 
 
+def exported():
+    """The names that biblatex exports, its own ones and those of the crates below."""
+    library = (CRATES / "biblatex" / "src" / "lib.rt").read_text()
+    return set(re.findall(r"\b(\w+)[,;}]", " ".join(re.findall(r"pub use ([^;]+;)", library))))
+
+
+def calls(file, names):
+    """The public functions of a file that may be refused memory: those of an exported type, and exported ones."""
+    within = None
+    for line in re.finditer(r"(?m)^(impl\b[^{]*|\}|( *)pub fn (\w+)[^{;]*?(?=\n *(?:ensures|requires|\{)|\{))", file.read_text()):
+        text = line[0]
+        if text.startswith(("impl", "}")):
+            found = re.search(r"(\w+)(?:<[^<>]*>)?$", text.strip())
+            within = found[1] if found else None
+        elif re.search(r"Error>|AllocFailed<", text) and (within if line[2] else line[3]) in names:
+            yield within if line[2] else None, line[3]
+
+
+def check_calls():
+    tests = [it for folder in ("conformance*", "guide") for it in CRATES.glob(f"{folder}/src/**/*.rt")]
+    text = "\n".join(it.read_text() for it in tests)
+    names = exported()
+    for file in sorted(CRATES.glob("bib*/src/**/*.rt")):
+        for within, name in calls(file, names):
+            called = rf"[.:]{name}\b" if within else rf"\b{name}\("
+            if not re.search(called, text):
+                fault(file, f"no test calls {within + '::' if within else ''}{name}, which may be refused memory")
+
+
 def main():
     names = edits()
     check_promises(names)
     check_definitions()
     check_specs()
+    check_calls()
     for it in faults:
         print(f"check: {it}")
     print(f"check: {len(names['must-fail'])} wrong bodies for the gate and {len(names['wrong'])} others, {len(faults)} faults")

@@ -16,4 +16,6 @@ mod maps;
 #[cfg(test)]
 mod texts;
 #[cfg(test)]
+mod typed;
+#[cfg(test)]
 mod values;

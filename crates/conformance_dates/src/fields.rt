@@ -12,6 +12,7 @@ fn years(rt: HostRuntime) -> Result<(), Fail> {
         ("476 AD.", None, None, "at 476 - - -"),
         ("3 bce", None, None, "at 3 - - -"),
         (" - 5", None, None, "invalid format: 10-14"),
+        ("- 5", None, None, "invalid format: 10-13"),
         ("-5", None, None, "at -5 - - -"),
         ("2020/21", None, None, "at 2020 - - -"),
         ("0", None, None, "at 0 - - -"),

@@ -9,6 +9,8 @@ mod checks;
 #[cfg(test)]
 mod chunks;
 #[cfg(test)]
+mod fronts;
+#[cfg(test)]
 mod library;
 #[cfg(test)]
 mod plain;

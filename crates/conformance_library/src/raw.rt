@@ -97,6 +97,23 @@ fn reads_elements_that_no_file_gives(rt: HostRuntime) -> Result<(), Fail> {
     Ok(())
 }
 
+// Whether an entry of this key and no fields is accepted and settled.
+fn is_settled(alloc: Global, key: &str) -> Result<bool, ParseError> {
+    let mut entries = Vec::new(alloc);
+    entries.push(entry(alloc, key, 0..1))?;
+    let library = Bibliography::from_raw(alloc, of_entries(alloc, entries))?;
+    Ok(library.is_settled())
+}
+
+#[test]
+fn keys_that_no_file_gives_are_not_settled(rt: HostRuntime) -> Result<(), Fail> {
+    for (key, want) in [("a b", false), ("a,b", false), ("ab", true), ("", true)] {
+        let found = is_settled(rt.alloc(), key)?;
+        assert!(rt; found == want, "{key:?}");
+    }
+    Ok(())
+}
+
 // The fault of two entries with one key, of which the second stands at these bytes.
 fn fault_of_two(alloc: Global, key: &str, span: Span) -> Result<String, AllocError> {
     let mut entries = Vec::new(alloc);

@@ -1,0 +1,60 @@
+#!/usr/bin/env python3
+"""Cuts each worked example short at every character, and runs a built `bib` on what is left.
+
+    bench/fronts.py PROGRAM
+
+The examples are those of crates/conformance_library/src/fronts.rt. `keys` and `biblatex` must read each front, with status 0, or
+refuse it with one line that begins with `error: `, and status 1; the place that a syntax fault tells lies in the front. The
+status of this script is 1 where one of them didn't.
+"""
+import os
+import re
+import subprocess
+import sys
+
+TOP = os.path.dirname(os.path.dirname(os.path.abspath(__file__)))
+SYNTAX = re.compile(r"error: (?:unexpected|expected) [\w ]+: (\d+)-(\d+)\n")
+ESCAPES = {"n": "\n", '"': '"', "\\": "\\"}
+
+
+def examples():
+    """The texts between quotes in the table of the test."""
+    with open(os.path.join(TOP, "crates/conformance_library/src/fronts.rt"), encoding="utf-8") as file:
+        table = re.search(r"static FILES.*?= \[\n(.*?)\n\];", file.read(), re.S)[1]
+    for literal in re.findall(r'"((?:[^"\\]|\\.)*)"', table, re.S):
+        text = re.sub(r"\\\n\s*", "", literal)
+        yield re.sub(r"\\(.)", lambda found: ESCAPES[found[1]], text)
+
+
+def fault(program, word, front):
+    """Why a run on this front is wrong, or nothing."""
+    done = subprocess.run([program, word], input=front.encode(), stdout=subprocess.PIPE)
+    answer = done.stdout.decode()
+    if done.returncode == 0:
+        return "" if not answer.startswith("error: ") else "a fault with status 0"
+    if done.returncode != 1 or not re.fullmatch(r"error: .*\n", answer):
+        return f"status {done.returncode}, {answer!r}"
+    place = SYNTAX.fullmatch(answer)
+    if place and not int(place[1]) <= int(place[2]) <= len(front.encode()):
+        return f"a place outside: {answer!r}"
+    return ""
+
+
+def main():
+    if len(sys.argv) != 2:
+        sys.exit(__doc__)
+    runs, failed = 0, 0
+    for text in examples():
+        for end in range(len(text) + 1):
+            for word in ("keys", "biblatex"):
+                why = fault(os.path.abspath(sys.argv[1]), word, text[:end])
+                runs += 1
+                failed += bool(why)
+                if why:
+                    print(f"{word} on {text[:end]!r}: {why}")
+    print(f"fronts: {runs} runs, {failed} failed")
+    return 1 if failed or runs == 0 else 0
+
+
+if __name__ == "__main__":
+    sys.exit(main())
