@@ -12,6 +12,7 @@ ghost use Rattle.bib.specs.Output.{IsAnswer, IsCommand, IsCommandAnswer, IsKeysA
 use crate::reports::reports;
 use biblatex::{Bibliography, ParseError, ParseErrorKind, RawBibliography, Sink};
 use std::alloc::{AllocError, Global};
+use std::mem;
 
 /// Why an input could not be read.
 #[derive(Debug, Clone, Copy, PartialEq, Eq)]
@@ -131,7 +132,8 @@ fn library(alloc: Global, text: String) -> Result<Result<Bibliography, Answer>, 
     parsed(alloc, text.as_str())
 }
 
-// The answer of the command `biblatex` for a text.
+// The answer of the command `biblatex` for a text. Here and below the memory of the bibliography isn't given back entry by
+// entry: the program ends behind its answer.
 fn biblatex(alloc: Global, text: String) -> Result<Answer, AllocError>
     ensures { IfOk result (λ answer. IsLibraryAnswer ShowsBiblatex (string_bytes text)
         (string_bytes answer.text) answer.status) }
@@ -140,10 +142,9 @@ fn biblatex(alloc: Global, text: String) -> Result<Answer, AllocError>
         Ok(library) => library,
         Err(answer) => return Ok(answer),
     };
-    Ok(Answer {
-        text: library.to_biblatex_string(alloc)?,
-        status: 0,
-    })
+    let text = library.to_biblatex_string(alloc)?;
+    mem::forget(library);
+    Ok(Answer { text, status: 0 })
 }
 
 // The answer of the command `bibtex` for a text.
@@ -155,10 +156,9 @@ fn bibtex(alloc: Global, text: String) -> Result<Answer, AllocError>
         Ok(library) => library,
         Err(answer) => return Ok(answer),
     };
-    Ok(Answer {
-        text: library.to_bibtex_string(alloc)?,
-        status: 0,
-    })
+    let text = library.to_bibtex_string(alloc)?;
+    mem::forget(library);
+    Ok(Answer { text, status: 0 })
 }
 
 // The status of reports: 4 where there is a line.
@@ -178,6 +178,7 @@ fn check(alloc: Global, text: String) -> Result<Answer, AllocError>
         Err(answer) => return Ok(answer),
     };
     let text = reports(alloc, &library)?;
+    mem::forget(library);
     Ok(Answer {
         status: status_of(&text),
         text,
@@ -193,7 +194,9 @@ fn settled(alloc: Global, text: String) -> Result<Answer, AllocError>
         Ok(library) => library,
         Err(answer) => return Ok(answer),
     };
-    if library.is_settled() {
+    let is_settled = library.is_settled();
+    mem::forget(library);
+    if is_settled {
         return Ok(Answer {
             text: String::from_str(alloc, "settled\n")?,
             status: 0,

@@ -60,35 +60,6 @@ field_dated m a b c k v q =
     ∙ ap (λ x. cond (bytes_eq a q || (x || (bytes_eq q c || false))) None (get m q)) (bytes_turned q b)
     ∙ ap (λ x. cond (bytes_eq a q || (bytes_eq b q || (x || false))) None (get m q)) (bytes_turned q c))
 
--- Dates
-
--- a date that stands behind is the last
-date_front : (k : ℕ) (refs : List Reference) (date : List Atom) → last_date (sources (drop k refs)) ≡ Some date → last_date (sources refs) ≡ Some date
-date_front zero refs date h = h
-date_front (suc k) [] date h = h
-date_front (suc k) (r ∷ rest) date h = ap (λ o. first_some o (dated_text (dating (fields_of r.fields.now)))) (date_front k rest date h)
-
--- what one reference more has as a date, the last first, where those behind it have none
-date_next : (refs : List Reference) (done : ℕ) (r : Reference) → done < length refs → r ≡ get_or refs (length refs - 1 - done) r → last_date (sources (drop (length refs - done) refs)) ≡ None
-    → last_date (sources (drop (length refs - (done + 1)) refs)) ≡ dated_text (dating (fields_of r.fields.now))
-date_next refs done r within at none =
-    let k : ℕ = length refs - (done + 1) in
-    let here : length refs - 1 - done ≡ k = omega arith in
-    let behind : length refs - done ≡ k + 1 = omega arith in
-    let next = at_drop_more (λ l. last_date (sources l)) refs k r (omega arith) in
-    let is : r ≡ get_or refs k r = at ∙ ap (λ n. get_or refs n r) here in
-    let none' = ap (λ n. last_date (sources (drop n refs))) (sym behind) ∙ none in
-    next ∙ ap (λ o. first_some o (dated_text (dating (fields_of (get_or refs k r).fields.now)))) none'
-    ∙ ap (λ x. dated_text (dating (fields_of x.fields.now))) (sym is)
-
-pub date_none : (refs : List Reference) (done : ℕ) (r : Reference) → done < length refs → r ≡ get_or refs (length refs - 1 - done) r → dated_text (dating (fields_of r.fields.now)) ≡ None → last_date (sources (drop (length refs - done) refs)) ≡ None
-    → last_date (sources (drop (length refs - (done + 1)) refs)) ≡ None
-date_none refs done r within at has none = date_next refs done r within at none ∙ has
-
-pub date_found : (refs : List Reference) (done : ℕ) (r : Reference) (date : List Atom) → done < length refs → r ≡ get_or refs (length refs - 1 - done) r → dated_text (dating (fields_of r.fields.now)) ≡ Some date → last_date (sources (drop (length refs - done) refs)) ≡ None
-    → last_date (sources refs) ≡ Some date
-date_found refs done r date within at has none = date_front (length refs - (done + 1)) refs date (date_next refs done r within at none ∙ has)
-
 -- The rule
 
 styled_first : (a b : Option Value) → option_map styled (first_some a b) ≡ first_some (option_map styled a) (option_map styled b)
@@ -132,12 +103,3 @@ inherits kind own fields refs given date gives dated h =
     ∙ by_lacked (date_for (source_of kind own) refs) (fields_of own) (λ n. taken kind n refs) name
     in
     λ i. record { kind = kind; fields = λ name. same name i }
-
--- a value that is there, or isn't
-pub is_there : {A B : Type 0} (o : Option A) → is_some o ≡ true → ((a : A) → o ≡ Some a → B) → B
-is_there None t k = absurd (false≢true t)
-is_there (Some a) t k = k a refl
-
-pub is_absent : {A : Type 0} (o : Option A) → is_some o ≡ false → o ≡ None
-is_absent None t = refl
-is_absent (Some a) t = absurd (false≢true (sym t))

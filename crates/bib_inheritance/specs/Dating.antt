@@ -1,8 +1,8 @@
 -- Meaning: words of public contracts.
 -- What an entry has as a date for those that inherit it.
-use Rattle.std.specs.Prelude.{ℕ, Bool, true, false, not, ◌&&◌, ◌||◌, List, [], ◌∷◌, map, codes, option_map, Option, Some, None, IsSomeAnd, if◌then◌else◌}
+use Rattle.std.specs.Prelude.{◌≡◌, ℕ, Bool, true, false, not, ◌&&◌, ◌||◌, List, [], ◌∷◌, map, codes, option_map, Option, Some, None, IsSomeAnd, if◌then◌else◌}
 use Rattle.std.specs.Str.{chars}
-use Rattle.bib_chunks.specs.Styled.{Atom}
+use Rattle.bib_chunks.specs.Styled.{Atom, styled}
 use Rattle.bib_faults.specs.declared.type_error.TypeErrorKind.{TypeErrorKind}
 use Rattle.bib_tables.specs.Requirements.{rules_of}
 use Rattle.bib_dates.specs.Anew.{date_anew}
@@ -11,6 +11,8 @@ use Rattle.bib_dates.specs.ThreeFields.{three_fields_of}
 use Rattle.bib_dates.specs.Written.{date_text}
 use Rattle.bib_dates.specs.declared.date.Date.{Date}
 use Rattle.bib_inheritance.specs.References.{plain}
+use Rattle.bib_inheritance.specs.declared.dating.Dating.{Dating as Kept}
+use Rattle.bib_inheritance.specs.declared.dating.Dating.TheVariants.{Undated, Unreadable, Dated}
 use Rattle.bib_inheritance.specs.Sources.{Fields, Source, first_some, has}
 
 -- a text of normal characters
@@ -75,3 +77,9 @@ date_for own references = if looks_for_date own then last_date references else N
 -- a kind of fault that the year, the month and the day of an entry may be refused with
 abbrev pub DateMayFail : Fields → TypeErrorKind → Type 0
 DateMayFail fields kind = IsSomeAnd (fields (codes "year")) (λ year. MayRefuse (three_fields fields (plain year)) kind)
+
+-- what an entry with these fields has as a date, as it is kept once it is read
+abbrev pub IsDating : Fields → Kept → Type 0
+IsDating fields Undated = dating fields ≡ Dating.undated
+IsDating fields (Unreadable fault) = (dating fields ≡ Dating.unreadable) × DateMayFail fields fault.kind
+IsDating fields (Dated chunks) = dating fields ≡ Dating.dated (styled chunks)

@@ -1,6 +1,6 @@
 //! What an entry has as a date for those that inherit it.
 
-ghost use Rattle.std.specs.Prelude.{◌≡◌, ℕ, List, Some, IfOk, IfSome, codes, is_some, option_map};
+ghost use Rattle.std.specs.Prelude.{◌≡◌, Some, IfOk, codes, option_map};
 ghost use Rattle.std.specs.Option.{option_copied};
 ghost use Rattle.bib_chunks.specs.Styled.{styled};
 ghost use Rattle.bib_dates.specs.Anew.{date_anew};
@@ -8,12 +8,11 @@ ghost use Rattle.bib_dates.specs.Chunks.{IsAnswer};
 ghost use Rattle.bib_dates.specs.Readings.{Reading, value_of};
 ghost use Rattle.bib_dates.specs.Written.{date_text};
 ghost use Rattle.bib_dates.specs.declared.date.Date.{Date as ADate};
-ghost use Rattle.bib_inheritance.specs.Dating.{DateMayFail, date_for, dated_text, dating, is_unreadable, last_date, looks_for_date, of_one_field, three_fields, written};
+ghost use Rattle.bib_inheritance.specs.Dating.{IsDating, dated_text, looks_for_date, of_one_field, three_fields, written};
 ghost use Rattle.bib_inheritance.specs.References.{plain};
-ghost use Rattle.bib_inheritance.specs.Sources.{fields_of, source_of, sources};
+ghost use Rattle.bib_inheritance.specs.Sources.{fields_of, source_of};
 ghost use Rattle.bib_values.specs.Values.{text};
 
-use crate::offers::Reference;
 use bib_chunks::chunk::{Chunk, Chunks, ChunksRef, Spanned, format_styled, whole_span};
 use bib_dates::date::Date;
 use bib_faults::type_error::{TypeError, TypeErrorKind};
@@ -100,57 +99,38 @@ fn from_one_field(alloc: Global, date: &Chunks) -> Result<Chunks, AllocError>
     }
 }
 
-// The date of an entry with these fields, if it has one: of a readable one the text without its time, and of an
-// unreadable field `date` that field.
-fn date(alloc: Global, fields: &TextMap<Chunks>) -> Result<Option<Chunks>, AllocError>
-    ensures { IfOk result (λ date. option_map styled date ≡ dated_text (dating (fields_of fields.now))) }
-{
-    if let Some(date) = fields.get("date") {
-        return Ok(Some(from_one_field(alloc, date)?));
-    }
-    let Some(year) = fields.get("year") else {
-        return Ok(None);
-    };
-    anew(alloc, three_fields(alloc, year, fields))
+/// What an entry has as a date for those that inherit it.
+#[derive(Drop)]
+pub enum Dating {
+    /// It has no date.
+    Undated,
+    /// Its year, month and day can't be read, for this reason.
+    Unreadable(TypeError),
+    /// It has this date: a readable one without its time, or a field `date` that can't be read as it is.
+    Dated(Chunks),
 }
 
-/// Why the date of an entry with these fields can't be read, if it has one that can't. A field `date` always can.
-pub fn date_fault(alloc: Global, fields: &TextMap<Chunks>) -> Result<Option<TypeError>, AllocError>
-    ensures unreadable { IfOk result (λ fault. is_some fault ≡
-        is_unreadable (dating (fields_of fields.now))) }
-    ensures kind { IfOk result (λ fault. IfSome fault
-        (λ e. DateMayFail (fields_of fields.now) e.kind)) }
-{
-    if fields.get("date").is_some() {
-        return Ok(None);
-    }
-    let Some(year) = fields.get("year") else {
-        return Ok(None);
-    };
-    match three_fields(alloc, year, fields) {
-        Ok(_) => Ok(None),
-        Err(e) => {
-            if matches!(e.kind, TypeErrorKind::OutOfMemory) {
-                return Err(AllocError);
+impl Dating {
+    /// Reads what an entry with these fields has as a date. A field `date` counts before `year`, `month` and `day`.
+    pub fn of(alloc: Global, fields: &TextMap<Chunks>) -> Result<Dating, AllocError>
+        ensures { IfOk result (IsDating (fields_of fields.now)) }
+    {
+        if let Some(date) = fields.get("date") {
+            return Ok(Dating::Dated(from_one_field(alloc, date)?));
+        }
+        let Some(year) = fields.get("year") else {
+            return Ok(Dating::Undated);
+        };
+        match three_fields(alloc, year, fields) {
+            Ok(date) => Ok(Dating::Dated(date.to_chunks(alloc)?)),
+            Err(e) => {
+                if matches!(e.kind, TypeErrorKind::OutOfMemory) {
+                    return Err(AllocError);
+                }
+                Ok(Dating::Unreadable(e))
             }
-            Ok(Some(e))
         }
     }
-}
-
-// The date of the last reference that has one.
-fn last_date(alloc: Global, references: &[Reference<'_>]) -> Result<Option<Chunks>, AllocError>
-    ensures { IfOk result (λ date. option_map styled date ≡ last_date (sources references.now)) }
-{
-    let count = references.len();
-    'references: for done in 0..count {
-        let reference = &references[count - 1 - done];
-        let date = date(alloc, reference.fields)?;
-        if date.is_some() {
-            return Ok(date);
-        }
-    }
-    Ok(None)
 }
 
 /// Whether an entry looks for a date to those that it refers to. It takes no memory.
@@ -158,20 +138,4 @@ pub fn looks_for_date(kind: &EntryType, own: &TextMap<Chunks>) -> bool
     ensures { result ≡ looks_for_date (source_of kind.now own.now) }
 {
     kind.row().needs_date && own.get("date").is_none() && own.get("year").is_none()
-}
-
-/// The date that an entry of a type takes over from its references: the last one, if the entry looks for a date.
-pub fn inherited_date(
-    alloc: Global,
-    kind: &EntryType,
-    own: &TextMap<Chunks>,
-    references: &[Reference<'_>],
-) -> Result<Option<Chunks>, AllocError>
-    ensures { IfOk result (λ date. option_map styled date ≡
-        date_for (source_of kind.now own.now) (sources references.now)) }
-{
-    if !looks_for_date(kind, own) {
-        return Ok(None);
-    }
-    last_date(alloc, references)
 }

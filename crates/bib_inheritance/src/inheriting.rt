@@ -21,6 +21,7 @@ fn with_fields(
 {
     let mut given = given;
     let mut pairs = own.into_pairs();
+    pairs.reserve_exact(given.len())?;
     pairs.append(&mut given)?;
     pairs.reverse();
     let mut fields = TextMap::from_pairs(pairs)?;
@@ -57,5 +58,6 @@ pub fn inherit(
     if let Some(date) = date {
         set_date(alloc, &mut fields, date)?;
     }
+    fields.shrink_to_fit();
     Ok(fields)
 }

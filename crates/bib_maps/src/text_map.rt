@@ -132,6 +132,13 @@ impl<V> TextMap<V> {
             Err(_) => None,
         }
     }
+
+    /// Gives memory back that the map keeps for more pairs. Where that can't be, it keeps it.
+    pub fn shrink_to_fit(&mut self)
+        ensures { self.new ≡ self.old }
+    {
+        self.pairs.shrink_to_fit();
+    }
 }
 
 impl<V: Drop> TextMap<V> {

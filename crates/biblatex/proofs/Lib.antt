@@ -10,6 +10,4 @@ pub mod RawFacts
 pub mod RefusalFacts
 pub mod RereadFacts
 pub mod ResolvedFacts
-pub mod TurnFacts
-pub mod UnreadFacts
 pub mod WritingFacts

@@ -20,8 +20,9 @@ use Rattle.bib_syntax.specs.declared.raw.RawEntry.{RawEntry}
 use Rattle.bib_text.specs.declared.spanned.Spanned.{Spanned}
 use Rattle.biblatex.specs.Library.{Library}
 use Rattle.biblatex.specs.Loaded.{AreEntries, definition_in}
-use Rattle.biblatex.specs.Resolved.{AreDatesRead, AreOwn, Inherits, IsAccepted, IsDateFault, IsFaultOf, IsLoaded, at_place, graph_by, graph_of, has_bad_date, is_bad_date, names_of, source_of_entry, sources_of}
-use Rattle.biblatex.specs.Turning.{AreResolved, IsCircleAt, IsFirstUnread, IsResolvingFault, is_unread_at}
+use Rattle.bib_resolving.specs.Resolving.{AreDatesRead, AreResolved, Inherits, IsCircleAt, IsDateFault, IsResolvingFault, at_place, graph_by, has_bad_date, is_bad_date, source_of_entry, sources_of}
+use Rattle.biblatex.specs.Resolved.{AreOwn, IsAccepted, IsFaultOf, IsLoaded, graph_of, names_of}
+use Rattle.bib_resolving.specs.Turning.{IsFirstUnread, is_unread_at}
 use Rattle.biblatex.proofs.ResolvedFacts.{accepted_faultless}
 
 some_same : {A : Type 0} {x y : A} → Some x ≡ Some y → x ≡ y
@@ -75,26 +76,6 @@ pub refused_text : {T : Type 0} (X : Type 0) {says : FileReading} (text : List �
 refused_text X text (Ok x) reads h = tt
 refused_text X text (Err e) reads (inl memory) = inl (inl memory)
 refused_text X {says} text (Err e) reads (inr fault) = inr (says, reads, fault.0, fault.1)
-
--- ---- dates
-
-pub looks_at : (own : List Entry) (place : ℕ) → get_or (map (λ e. looks_for_date (source_of_entry e)) own) place false ≡ looks_for_date (at_place (sources_of own) place)
-looks_at [] place = refl
-looks_at (e ∷ own) zero = refl
-looks_at (e ∷ own) (suc place) = looks_at own place
-
-bad_at : (own : List Entry) (looks : List Bool) (graph : Graph) (values : List Source) (place : ℕ) → looks ≡ map (λ e. looks_for_date (source_of_entry e)) own → is_unread_at looks graph values place ≡ has_bad_date (sources_of own) graph values place
-bad_at own looks graph values place are = ap (λ b. b && list_any (is_bad_date values) (refs_of graph place)) (ap (λ l. get_or l place false) are ∙ looks_at own place)
-
-pub dates_read : (own : List Entry) (looks : List Bool) (graph : Graph) (values : List Source) → looks ≡ map (λ e. looks_for_date (source_of_entry e)) own → ((place : ℕ) → is_unread_at looks graph values place ≡ false) → AreDatesRead (sources_of own) graph values
-dates_read own looks graph values are read place = sym (bad_at own looks graph values place are) ∙ read place
-
-pub date_unread : (spans : List (Range ℕ)) (own : List Entry) (looks : List Bool) (graph : Graph) (values : List Source) (fault : TypeError) (e : ParseError) → looks ≡ map (λ e. looks_for_date (source_of_entry e)) own → HasNoCircle graph → Inherits (sources_of own) graph values
-    → IsFirstUnread looks graph values fault → e ≡ record { span = fault.span; kind = ResolutionError fault.kind } → IsResolvingFault spans own graph e
-date_unread spans own looks graph values fault e are none solves first is =
-    IsResolvingFault.date none solves (sym (ap (λ l. get_or l first.place false) are ∙ looks_at own first.place) ∙ first.marked)
-    (λ other before. sym (bad_at own looks graph values other are) ∙ first.earlier other before)
-    (record { reference = first.unread.reference; first = first.unread.first; kind = fault.kind; is = ap (λ (x : ParseError). x.kind) is; may = first.unread.may })
 
 -- ---- a slice of all that a vector has
 

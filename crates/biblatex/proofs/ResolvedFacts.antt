@@ -24,7 +24,8 @@ use Rattle.bib_tables.specs.declared.mechanics.EntryType.{EntryType}
 use Rattle.bib_text.specs.declared.spanned.Spanned.{Spanned}
 use Rattle.biblatex.specs.Library.{Library, appended, claims, nothing}
 use Rattle.biblatex.specs.Loaded.{AreEntries, IsEntry, Says, field_in, loaded_behind}
-use Rattle.biblatex.specs.Resolved.{AreDatesRead, AreOwn, Inherits, IsAccepted, IsFaultOf, IsLoaded, at_place, graph_by, graph_of, is_bad_date, names_of, rule_by, source_of_entry, sources_of}
+use Rattle.bib_resolving.specs.Resolving.{AreDatesRead, Inherits, at_place, graph_by, is_bad_date, rule_by, source_of_entry, sources_of}
+use Rattle.biblatex.specs.Resolved.{AreOwn, IsAccepted, IsFaultOf, IsLoaded, graph_of, names_of}
 use Rattle.biblatex.proofs.LibraryFacts.{below_claimed, below_empty, below_more}
 use Rattle.biblatex.proofs.LoadedFacts.{claims_same, no_entries}
 
@@ -92,21 +93,7 @@ module _ (says : FileReading) {one two : List Entry} (first : AreOwn says one) (
         by_sources names [] = refl
         by_sources names (e ∷ own) = ap (λ rows. references names (fields_of e.fields) ∷ rows) (by_sources names own)
 
--- ---- each reference is to an entry
-
-places_below : (n : ℕ) (names : ByText ℕ) → ArePlacesBelow n names → (texts : List (List ℕ)) → All (λ r. r < n) (filter_map (by_name.get names) texts)
-places_below n names below [] = All-nil (λ r. r < n)
-places_below n names below (t ∷ texts) = one (by_name.get names t) (filter_map (by_name.get names) texts) (below t) (places_below n names below texts) where
-  one : (o : Option ℕ) (rest : List ℕ) → ((place : ℕ) → o ≡ Some place → place < n) → All (λ r. r < n) rest → All (λ r. r < n) (cons_option o rest)
-  one None rest lies all = all
-  one (Some p) rest lies all = All-cons (λ r. r < n) p rest (lies p refl) all
-
-rows_below : (n : ℕ) (names : ByText ℕ) → ArePlacesBelow n names → (own : List Entry) → All (λ refs. All (λ r. r < n) refs) (graph_by names own)
-rows_below n names below [] = All-nil (λ refs. All (λ r. r < n) refs)
-rows_below n names below (e ∷ own) = All-cons (λ refs. All (λ r. r < n) refs) (references names (fields_of e.fields)) (graph_by names own) (places_below n names below (referred (fields_of e.fields))) (rows_below n names below own)
-
-pub graph_in_range : (names : ByText ℕ) (own : List Entry) → ArePlacesBelow (length own) names → IsInRange (graph_by names own)
-graph_in_range names own below = subst (λ n. All (λ refs. All (λ r. r < n) refs) (graph_by names own)) (sym (length-map own (λ (e : Entry). references names (fields_of e.fields)))) (rows_below (length own) names below own)
+-- ---- each name is of an entry
 
 names_below_go : (l : Library) (own : List Entry) → ArePlacesBelow (length l.entries) l.names → ArePlacesBelow (length (loaded_behind l own).entries) (loaded_behind l own).names
 names_below_go l [] below = below

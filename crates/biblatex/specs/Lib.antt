@@ -11,5 +11,4 @@ pub mod Reread
 pub mod Resolved
 pub mod SameLibrary
 pub mod Syntax
-pub mod Turning
 pub mod Writing

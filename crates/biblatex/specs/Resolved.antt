@@ -28,44 +28,8 @@ AreOwn says own = AreEntries (definition_in says.abbreviations) [] says.entries 
 abbrev pub names_of : List Entry → ByText ℕ
 names_of own = (loaded_behind nothing own).names
 
--- the entries that each of some entries refers to, by names and by its fields as they are written
-abbrev pub graph_by : ByText ℕ → List Entry → Graph
-graph_by names own = map (λ e. references names (fields_of e.fields)) own
-
 abbrev pub graph_of : List Entry → Graph
 graph_of own = graph_by (names_of own) own
-
--- what inheritance knows of an entry
-abbrev pub source_of_entry : Entry → Source
-source_of_entry e = source_of e.entry_type e.fields
-
-abbrev pub sources_of : List Entry → List Source
-sources_of = map source_of_entry
-
-abbrev pub at_place : List Source → ℕ → Source
-at_place values place = slice_index_or values place nowhere
-
--- what the rule of inheritance makes of the entry at a place, by these entries as they are written and by those that it
--- refers to
-abbrev pub rule_by : List Source → ℕ → List Source → Source
-rule_by own place references = inherited (at_place own place) references
-
--- the inheritance equation: each entry is what the rule makes of it and of those that it refers to, which solve the
--- equation themselves
-abbrev pub Inherits : List Source → Graph → List Source → Type 0
-Inherits own graph values = Solves nowhere (rule_by own) graph values
-
--- whether the entry at a place has a date that can't be read
-abbrev pub is_bad_date : List Source → ℕ → Bool
-is_bad_date values place = is_unreadable (dating (at_place values place).fields)
-
--- whether the entry at a place looks for a date and refers to one that can't be read
-abbrev pub has_bad_date : List Source → Graph → List Source → ℕ → Bool
-has_bad_date own graph values place = looks_for_date (at_place own place) && list_any (is_bad_date values) (refs_of graph place)
-
--- each date that an entry looks for can be read
-abbrev pub AreDatesRead : List Source → Graph → List Source → Type 0
-AreDatesRead own graph values = (place : ℕ) → has_bad_date own graph values place ≡ false
 
 -- what a file says can be a bibliography: its fields can be read and no key was claimed before, no entry leads to
 -- itself, and each date that an entry looks for can be read
@@ -74,11 +38,6 @@ pub record IsAccepted (says : FileReading) : Type 0 where
   pub entries : AreOwn says own
   pub no_circle : HasNoCircle (graph_of own)
   pub dates : (values : List Source) → Inherits (sources_of own) (graph_of own) values → AreDatesRead (sources_of own) (graph_of own) values
-
--- what an entry has of its own stays, chunk for chunk, or is gone
-abbrev pub KeepsChunks : Entry → Entry → Type 0
-KeepsChunks own entry = (name : List ℕ) (chunks : List (Spanned Chunk)) → by_name.get own.fields name ≡ Some chunks
-    → (by_name.get entry.fields name ≡ Some chunks) ⊎ (by_name.get entry.fields name ≡ None)
 
 -- a bibliography is what a file says: its entries in order, each with its key, the type of its kind, and the fields that
 -- it has and inherits; and each name points where it was last claimed
@@ -97,15 +56,6 @@ pub record IsCircleFault (says : FileReading) (place : ℕ) (e : ParseError) : T
   pub said : EntryReading
   pub there : slice_get says.entries place ≡ Some said
   pub is : e ≡ record { span = record { start = said.start; end = said.end }; kind = ReferenceCycle said.key.text }
-
--- the fault of a date that can't be read, which the entry at this place looks for: that of the first such entry that it
--- refers to, with a kind that its year, month and day may be refused with
-pub record IsDateFault (graph : Graph) (values : List Source) (place : ℕ) (e : ParseError) : Type 0 where
-  pub reference : ℕ
-  pub first : find (is_bad_date values) (refs_of graph place) ≡ Some reference
-  pub kind : TypeErrorKind
-  pub is : e.kind ≡ ResolutionError kind
-  pub may : DateMayFail (at_place values reference).fields kind
 
 -- the first fault of what a file says: that of an entry by itself; else that of the first entry that leads to itself;
 -- else that of the first that looks for a date which can't be read

@@ -21,10 +21,10 @@ ghost use Rattle.biblatex.specs.Library.{aliased, aliases, claims, entry_of, ins
 ghost use Rattle.biblatex.specs.SameLibrary.{same_library, same_library_per, same_library_equiv};
 
 use crate::reading::{load, spans};
-use crate::resolving::resolve;
 use bib_chunks::chunk::lists::comma_texts;
 use bib_entry::entry::Entry;
 use bib_maps::names::Names;
+use bib_resolving::resolving::resolve;
 use bib_syntax::raw::{ParseError, RawBibliography};
 use bib_text::text::Text;
 use std::alloc::{AllocError, Global};

@@ -8,7 +8,8 @@ ghost use Rattle.bib_syntax.specs.Reading.{FileReading};
 ghost use Rattle.bib_syntax.specs.declared.raw.ParseError.{ParseError};
 ghost use Rattle.biblatex.specs.Library.{Library};
 ghost use Rattle.biblatex.specs.Places.{HasFreshKeys, PointsToLastClaims};
-ghost use Rattle.biblatex.specs.Resolved.{AreOneFaultOf, AreOwn, IsAccepted, IsFaultOf, IsLoaded, rule_by, sources_of};
+ghost use Rattle.bib_resolving.specs.Resolving.{rule_by, sources_of};
+ghost use Rattle.biblatex.specs.Resolved.{AreOneFaultOf, AreOwn, IsAccepted, IsFaultOf, IsLoaded};
 
 /// Where no entry refers to itself, by others or at once, the equation of inheritance has exactly one solution.
 pub fn inherits_in_one_way()

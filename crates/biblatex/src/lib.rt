@@ -5,12 +5,8 @@ pub mod bibliography;
 pub mod laws;
 mod loading;
 mod reading;
-mod references;
-mod resolving;
 mod settled;
 pub mod sink;
-mod turning;
-mod unread;
 pub mod write;
 
 pub use bib_chunks::chunk::{Chunk, Chunks, ChunksRef, Span, Spanned, is_settled};

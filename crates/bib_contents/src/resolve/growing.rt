@@ -48,7 +48,8 @@ pub(crate) fn turn(
         growing.old.start ≤ end → ArePlaced low end out.new) }
 {
     let empty = String::new(*growing.text.allocator());
-    let text = std::mem::replace(&mut growing.text, empty);
+    let mut text = std::mem::replace(&mut growing.text, empty);
+    text.shrink_to_fit();
     append(
         out,
         Spanned::new(chunk_of(growing.depth, text), growing.start..end),

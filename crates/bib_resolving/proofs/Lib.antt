@@ -1,0 +1,5 @@
+pub mod DateFacts
+pub mod DatesRead
+pub mod RangeFacts
+pub mod TurnFacts
+pub mod UnreadFacts

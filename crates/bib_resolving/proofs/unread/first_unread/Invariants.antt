@@ -1,0 +1,12 @@
+use Rattle.std.proofs.Common.{◌≡◌, false, take}
+use Rattle.std.specs.List.{list_any}
+use Rattle.bib_resolving.specs.Resolving.{is_bad_date, sources_of}
+use Rattle.bib_resolving.specs.Turning.{AreDates}
+use Rattle.bib_resolving.proofs.unread.first_unread.Given as goal
+
+-- the dates of the entries so far can be read
+abbrev pub invariant-places : goal.invariant-places
+invariant-places l = record {
+  read : list_any (is_bad_date (sources_of l.entries)) (take l.r-index l.places) ≡ false;
+  dates : AreDates (sources_of l.entries) l.dates;
+}

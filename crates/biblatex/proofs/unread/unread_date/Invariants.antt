@@ -1,9 +1,0 @@
-use Rattle.std.proofs.Common.{◌≡◌, ℕ, ◌<◌, false}
-use Rattle.bib_graph.specs.Rows.{rows}
-use Rattle.biblatex.specs.Resolved.{sources_of}
-use Rattle.biblatex.specs.Turning.{is_unread_at}
-use Rattle.biblatex.proofs.unread.unread_date.Given as goal
-
--- the entries so far refer to none whose date can't be read
-abbrev pub invariant-entries : goal.invariant-entries
-invariant-entries l = (other : ℕ) → other < l.place → is_unread_at l.looks (rows l.refs) (sources_of l.entries) other ≡ false
