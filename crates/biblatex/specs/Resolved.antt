@@ -1,22 +1,17 @@
 -- Meaning: words of public contracts.
 -- What a file says as a bibliography, with what its entries inherit.
-use Rattle.std.specs.Prelude.{◌≡◌, ℕ, ◌<◌, ◌⊎◌, Bool, true, false, ◌&&◌, List, [], map, slice_get, slice_index_or, find, Some, None}
-use Rattle.std.specs.List.{list_any}
-use Rattle.std.specs.FinMap as by_name
-use Rattle.bib_chunks.specs.declared.chunk.Chunk.{Chunk}
+use Rattle.std.specs.Prelude.{◌≡◌, ℕ, ◌<◌, ◌⊎◌, true, false, List, [], map, slice_get, Some}
 use Rattle.bib_contents.specs.Abbreviations.{AreOneFault}
 use Rattle.bib_entry.specs.declared.entry.Entry.{Entry}
 use Rattle.bib_faults.specs.declared.type_error.TypeErrorKind.{TypeErrorKind}
-use Rattle.bib_graph.specs.Graph.{Graph, refs_of, HasNoCircle, IsFirstOnCircle, Solves}
-use Rattle.bib_inheritance.specs.Dating.{DateMayFail, dating, is_unreadable, looks_for_date}
-use Rattle.bib_inheritance.specs.Inherited.{inherited}
-use Rattle.bib_inheritance.specs.References.{references}
-use Rattle.bib_inheritance.specs.Sources.{Source, fields_of, nowhere, source_of}
+use Rattle.bib_graph.specs.Graph.{Graph, HasNoCircle, IsFirstOnCircle}
+use Rattle.bib_inheritance.specs.Dating.{looks_for_date}
+use Rattle.bib_inheritance.specs.Sources.{Source}
 use Rattle.bib_maps.specs.Sorted.{ByText}
+use Rattle.bib_resolving.specs.Resolving.{AreDatesRead, Inherits, IsDateFault, KeepsChunks, at_place, graph_by, has_bad_date, sources_of}
 use Rattle.bib_syntax.specs.Reading.{EntryReading, FileReading}
 use Rattle.bib_syntax.specs.declared.raw.ParseError.{ParseError}
 use Rattle.bib_syntax.specs.declared.raw.ParseErrorKind.TheVariants.{ReferenceCycle, ResolutionError}
-use Rattle.bib_text.specs.declared.spanned.Spanned.{Spanned}
 use Rattle.biblatex.specs.Library.{Library, nothing}
 use Rattle.biblatex.specs.Loaded.{AreEntries, IsFaultOfEntries, definition_in, loaded_behind}
 
