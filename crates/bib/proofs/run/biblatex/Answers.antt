@@ -9,4 +9,4 @@ returns-in-Err c = no_library_shown {shows = ShowsBiblatex} c.in_ok-library.fiel
 pub returns : goal.returns
 returns c =
     library_shown {shows = ShowsBiblatex} c.in_ok-library.field-0 c.in-Ok.library c.in_ok-library.ensures.text c.in_ok-library.ensures.library c.in-Ok.is
-    (record { text = c.in_ok-to_biblatex_string.ensures.text; done = refl })
+    (record { text = c.in_ok-text.ensures.text; done = refl })

@@ -9,8 +9,8 @@ returns-in-Err c = no_library_shown {shows = ShowsSettled} c.in_ok-library.field
 
 pub returns-then-is_settled : goal.returns-then-is_settled
 returns-then-is_settled c =
-    rw c.in_ok-from_str.ensures.ok (library_shown {shows = ShowsSettled} c.in_ok-library.field-0 c.in-Ok.library c.in_ok-library.ensures.text c.in_ok-library.ensures.library c.in-Ok.is (ShowsSettled.settled (c.is_settled.ensures.0 c.if-is_settled.true)))
+    rw c.in_ok-from_str.ensures.ok (library_shown {shows = ShowsSettled} c.in_ok-library.field-0 c.in-Ok.library c.in_ok-library.ensures.text c.in_ok-library.ensures.library c.in-Ok.is (ShowsSettled.settled (c.is_settled-is_settled.ensures.0 c.if-is_settled.true)))
 
 pub returns : goal.returns
 returns c =
-    rw c.in_ok-from_str-2.ensures.ok (library_shown {shows = ShowsSettled} c.in_ok-library.field-0 c.in-Ok.library c.in_ok-library.ensures.text c.in_ok-library.ensures.library c.in-Ok.is (ShowsSettled.unsettled (λ settled. false≢true (sym c.if-is_settled.false ∙ c.is_settled.ensures.1 settled))))
+    rw c.in_ok-from_str-2.ensures.ok (library_shown {shows = ShowsSettled} c.in_ok-library.field-0 c.in-Ok.library c.in_ok-library.ensures.text c.in_ok-library.ensures.library c.in-Ok.is (ShowsSettled.unsettled (λ settled. false≢true (sym c.if-is_settled.false ∙ c.is_settled-is_settled.ensures.1 settled))))
