@@ -1,9 +1,7 @@
 -- Dates that can't be read, in order.
-use Rattle.std.proofs.Common.{◌≡◌, ℕ, zero, suc, ◌+◌, ◌<◌, List, [], ◌∷◌, Bool, true, false, cond, ◌||◌, length, get_or, take, refl, sym, ap, ◌∙◌, subst, arith, Some}
-use Rattle.std.specs.Prelude.{find}
-use Rattle.std.specs.BTreeMap.{get}
+use Rattle.std.proofs.Common.{◌≡◌, ℕ, zero, suc, ◌+◌, ◌<◌, List, [], ◌∷◌, Bool, true, false, cond, ◌||◌, length, get_or, take, refl, sym, ap, ◌∙◌, subst, arith, Option, Some, None}
+use Rattle.std.specs.Prelude.{IsSome, find}
 use Rattle.std.specs.List.{list_any}
-use Rattle.std.specs.Ordering.{nat_cmp}
 use Rattle.std.proofs.lemmas.Bool.{false≢true}
 use Rattle.std.proofs.lemmas.List.Folds.{list_any_more}
 use Rattle.bib_faults.specs.declared.type_error.TypeError.{TypeError}
@@ -12,8 +10,10 @@ use Rattle.bib_inheritance.specs.Sources.{Source}
 use Rattle.bib_inheritance.specs.declared.dating.Dating.{Dating as Kept}
 use Rattle.bib_inheritance.specs.declared.dating.Dating.TheVariants.{Undated, Unreadable, Dated}
 use Rattle.bib_resolving.specs.Resolving.{at_place, is_bad_date}
-use Rattle.bib_resolving.specs.Turning.{AreDates, IsUnread}
-use Rattle.bib_resolving.proofs.DateFacts.{Dates}
+use Rattle.bib_resolving.specs.Turning.{AreDates, Dates, IsUnread, date_at, fault_in}
+
+some_same : {A : Type 0} {x y : A} → Some x ≡ Some y → x ≡ y
+some_same e = cc
 
 none_more : (b c : Bool) → b ≡ false → c ≡ false → (b || c) ≡ false
 none_more b c first second = ap (λ x. x || c) first ∙ second
@@ -31,26 +31,29 @@ find_here test (x ∷ xs) (suc i) d within none here = behind (test x) (list_any
   behind true c none rest here = absurd (false≢true (sym none))
   behind false c none rest here = rest none here
 
--- the first entry whose date can't be read
-pub unread_here : (values : List Source) (dates : Dates) (places : List ℕ) (i : ℕ) (fault copy : TypeError) → i < length places → AreDates values dates → get nat_cmp dates (get_or places i 0) ≡ Some (Unreadable fault) → copy ≡ fault
-    → list_any (is_bad_date values) (take i places) ≡ false → IsUnread values places copy
-unread_here values dates places i fault copy within are is same none =
-    let p : ℕ = get_or places i 0 in
-    let bad = are p (Unreadable fault) is in
-    record {
-      reference = p;
-      first = find_here (is_bad_date values) places i 0 within none (ap is_unreadable bad.0);
-      may = subst (λ (f : TypeError). DateMayFail (at_place values p).fields f.kind) (sym same) bad.1;
-    }
-
--- a date that can be read
-pub read_here : (values : List Source) (dates : Dates) (places : List ℕ) (i : ℕ) (d : Kept) → i < length places → AreDates values dates → get nat_cmp dates (get_or places i 0) ≡ Some d → ((fault : TypeError) → d ≡ Unreadable fault → ⊥)
-    → list_any (is_bad_date values) (take i places) ≡ false → list_any (is_bad_date values) (take (i + 1) places) ≡ false
-read_here values dates places i d within are is readable none = any_more (is_bad_date values) places i 0 within (good d readable (are p d is)) none where
-  p : ℕ
+-- an entry whose date can't be read, or can
+module _ (values : List Source) (dates : Dates) (places : List ℕ) (i : ℕ) (within : i < length places) (are : AreDates values dates) (none : list_any (is_bad_date values) (take i places) ≡ false) where
+  abbrev p : ℕ
   p = get_or places i 0
 
-  good : (d : Kept) → ((fault : TypeError) → d ≡ Unreadable fault → ⊥) → IsDating (at_place values p).fields d → is_bad_date values p ≡ false
-  good Undated readable is = ap is_unreadable is
-  good (Unreadable fault) readable is = absurd (readable fault refl)
-  good (Dated chunks) readable is = ap is_unreadable is
+  pub unread_here : (fault : TypeError) → fault_in (date_at dates p) ≡ Some fault → IsUnread values places fault
+  unread_here fault is = go (date_at dates p) refl is where
+    go : (o : Option Kept) → date_at dates p ≡ o → fault_in o ≡ Some fault → IsUnread values places fault
+    go None there is = cc
+    go (Some Undated) there is = cc
+    go (Some (Dated chunks)) there is = cc
+    go (Some (Unreadable found)) there is =
+        let bad = are p (Unreadable found) there in
+        record {
+          reference = p;
+          first = find_here (is_bad_date values) places i 0 within none (ap is_unreadable bad.0);
+          may = subst (λ (f : TypeError). DateMayFail (at_place values p).fields f.kind) (some_same is) bad.1;
+        }
+
+  pub read_here : IsSome (date_at dates p) → fault_in (date_at dates p) ≡ None → list_any (is_bad_date values) (take (i + 1) places) ≡ false
+  read_here was is = any_more (is_bad_date values) places i 0 within (go (date_at dates p) refl was is) none where
+    go : (o : Option Kept) → date_at dates p ≡ o → IsSome o → fault_in o ≡ None → is_bad_date values p ≡ false
+    go None there was is = absurd (false≢true was)
+    go (Some Undated) there was is = ap is_unreadable (are p Undated there)
+    go (Some (Dated chunks)) there was is = ap is_unreadable (are p (Dated chunks) there)
+    go (Some (Unreadable found)) there was is = cc

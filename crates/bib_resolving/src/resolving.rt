@@ -8,7 +8,7 @@ ghost use Rattle.bib_syntax.specs.Faults.{out_of_memory};
 ghost use Rattle.bib_syntax.specs.declared.raw.ParseErrorKind.TheVariants.{ResolutionError as ADate};
 ghost use Rattle.bib_resolving.specs.Resolving.{AreResolved, IsCircleAt, IsResolvingFault, graph_by};
 
-use crate::dates::Dates;
+use crate::dates::unread_dates;
 use crate::references::{graph, looks};
 use crate::turning::take_turns;
 use crate::unread::unread_date;
@@ -94,7 +94,7 @@ pub fn resolve(
     let refs = graph(alloc, entries, names)?;
     let looks = looks(alloc, entries)?;
     let order = order(alloc, &refs, spans, entries)?;
-    let mut dates = Dates::new(alloc);
+    let mut dates = unread_dates(alloc, entries.len())?;
     let turns = take_turns(alloc, &order, &refs, entries, &mut dates)?;
     match unread_date(alloc, &refs, &looks, entries, &mut dates)? {
         Some(fault) => Err(unread(fault)),

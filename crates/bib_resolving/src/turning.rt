@@ -1,7 +1,6 @@
 //! Entries take over what they inherit, each in one turn.
 
-ghost use Rattle.std.specs.Prelude.{◌≡◌, ◌<◌, ◌++◌, ◌∷◌, [], ℕ, List, None, OnOk, IfOk, length, map, option_map, is_some, if◌then◌else◌, slice_set, slice_index_or};
-ghost use Rattle.std.specs.BTreeMap.{IsEmpty};
+ghost use Rattle.std.specs.Prelude.{◌≡◌, ◌<◌, ◌++◌, ◌∷◌, [], ℕ, List, None, IsNone, OnOk, IfOk, length, map, option_map, is_some, if◌then◌else◌, slice_set, slice_index_or};
 ghost use Rattle.std.specs.FinMap as by_name;
 ghost use Rattle.std.specs.List.{All, Contains};
 ghost use Rattle.bib_chunks.specs.Styled.{styled};
@@ -13,12 +12,12 @@ ghost use Rattle.bib_inheritance.specs.Inherited.{field_by, inherited, taken};
 ghost use Rattle.bib_inheritance.specs.Sources.{Source, first_named, sources};
 ghost use Rattle.bib_tables.specs.declared.mechanics.EntryType.{EntryType};
 ghost use Rattle.bib_resolving.specs.Resolving.{AllKeepChunks, Inherits, KeepsChunks, at_place, source_of_entry, sources_of};
-ghost use Rattle.bib_resolving.specs.Turning.{AddsAmong, AreDates, IsTurned};
+ghost use Rattle.bib_resolving.specs.Turning.{AddsAmong, AreDates, IsTurned, date_at};
 
-use crate::dates::{Dates, last_date};
+use crate::dates::last_date;
 use bib_chunks::chunk::Chunks;
 use bib_entry::entry::Entry;
-use bib_inheritance::dating::looks_for_date;
+use bib_inheritance::dating::{Dating, looks_for_date};
 use bib_inheritance::gathering::gathered;
 use bib_inheritance::inheriting::inherit;
 use bib_inheritance::offers::Reference;
@@ -91,15 +90,17 @@ fn date_at(
     alloc: Global,
     places: &[usize],
     entries: &[Entry],
-    dates: &mut Dates,
+    dates: &mut [Option<Dating>],
     place: usize,
 ) -> Result<Option<Chunks>, AllocError>
     requires references { All (λ r. r < length entries.now) places.now }
     requires place { place < length entries.now }
+    requires as_long { length dates.old ≡ length entries.now }
     requires dates { AreDates (sources_of entries.now) dates.old }
     ensures date { IfOk result (λ date. option_map styled date ≡
         date_for (at_place (sources_of entries.now) place)
         (map (at_place (sources_of entries.now)) places.now)) }
+    ensures as_long { length dates.new ≡ length entries.now }
     ensures dates { AreDates (sources_of entries.now) dates.new }
     ensures added { AddsAmong places.now dates.old dates.new }
 {
@@ -133,18 +134,20 @@ fn take_turn(
     alloc: Global,
     places: &[usize],
     entries: &mut [Entry],
-    dates: &mut Dates,
+    dates: &mut [Option<Dating>],
     turns: &mut Vec<usize>,
     place: usize,
 ) -> Result<(), AllocError>
     requires references { All (λ r. r < length entries.old) places.now }
     requires place { place < length entries.old }
+    requires as_long { length dates.old ≡ length entries.old }
     requires dates { AreDates (sources_of entries.old) dates.old }
     ensures length { length entries.new ≡ length entries.old }
     ensures turns { OnOk result (turns.new.items ≡ turns.old.items ++ place ∷ []) }
     ensures turned { OnOk result ((entry : AnEntry) × (entries.new ≡ slice_set entries.old place entry) ×
         IsTurned (slice_index_or entries.old place entry)
         (map (at_place (sources_of entries.old)) places.now) entry) }
+    ensures as_long { length dates.new ≡ length entries.old }
     ensures dates { AreDates (sources_of entries.old) dates.new }
     ensures added { AddsAmong places.now dates.old dates.new }
 {
@@ -165,18 +168,20 @@ pub(crate) fn take_turns(
     order: &[usize],
     refs: &[Vec<usize>],
     entries: &mut [Entry],
-    dates: &mut Dates,
+    dates: &mut [Option<Dating>],
 ) -> Result<Vec<usize>, AllocError>
     requires order { AreTurns (rows refs.now) order.now }
     requires in_range { IsInRange (rows refs.now) }
     requires as_long { length entries.old ≡ length refs.now }
-    requires unread { IsEmpty dates.old }
+    requires as_many { length dates.old ≡ length entries.old }
+    requires unread { (place : ℕ) → IsNone (date_at dates.old place) }
     ensures turns { IfOk result (λ turns. turns.items ≡ order.now) }
     ensures length { length entries.new ≡ length entries.old }
     ensures keys { OnOk result (map (λ e. e.key) entries.new ≡ map (λ e. e.key) entries.old) }
     ensures inherits { OnOk result (Inherits (sources_of entries.old) (rows refs.now) (sources_of entries.new)) }
     ensures chunks { OnOk result (AllKeepChunks entries.old entries.new) }
     ensures dates { OnOk result (AreDates (sources_of entries.new) dates.new) }
+    ensures as_many { OnOk result (length dates.new ≡ length entries.new) }
 {
     let mut turns = Vec::with_capacity(alloc, order.len())?;
     'order: for place in order {

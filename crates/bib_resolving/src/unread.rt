@@ -7,7 +7,7 @@ ghost use Rattle.bib_graph.specs.Rows.{rows};
 ghost use Rattle.bib_resolving.specs.Resolving.{is_bad_date, sources_of};
 ghost use Rattle.bib_resolving.specs.Turning.{AreDates, IsFirstUnread, IsUnread, is_unread_at};
 
-use crate::dates::{Dates, read_date};
+use crate::dates::{fault, read_date};
 use bib_entry::entry::Entry;
 use bib_faults::type_error::TypeError;
 use bib_inheritance::dating::Dating;
@@ -18,18 +18,20 @@ fn first_unread(
     alloc: Global,
     places: &[usize],
     entries: &[Entry],
-    dates: &mut Dates,
+    dates: &mut [Option<Dating>],
 ) -> Result<Option<TypeError>, AllocError>
     requires places { All (λ r. r < length entries.now) places.now }
+    requires as_many { length dates.old ≡ length entries.now }
     requires dates { AreDates (sources_of entries.now) dates.old }
     ensures unread { IfOk result (λ fault. MatchOption fault
         (list_any (is_bad_date (sources_of entries.now)) places.now ≡ false)
         (IsUnread (sources_of entries.now) places.now)) }
+    ensures as_many { length dates.new ≡ length entries.now }
     ensures dates { AreDates (sources_of entries.now) dates.new }
 {
     'places: for r in places {
         read_date(alloc, entries, dates, *r)?;
-        if let Dating::Unreadable(fault) = &dates[r] {
+        if let Some(fault) = fault(&dates[*r]) {
             return Ok(Some(fault.clone()?));
         }
     }
@@ -42,11 +44,12 @@ pub(crate) fn unread_date(
     refs: &[Vec<usize>],
     looks: &[bool],
     entries: &[Entry],
-    dates: &mut Dates,
+    dates: &mut [Option<Dating>],
 ) -> Result<Option<TypeError>, AllocError>
     requires in_range { IsInRange (rows refs.now) }
     requires as_long { length entries.now ≡ length refs.now }
     requires marks { length looks.now ≡ length refs.now }
+    requires as_many { length dates.old ≡ length entries.now }
     requires dates { AreDates (sources_of entries.now) dates.old }
     ensures { IfOk result (λ fault. MatchOption fault
         ((place : ℕ) → is_unread_at looks.now (rows refs.now) (sources_of entries.now) place ≡ false)

@@ -8,6 +8,7 @@ use Rattle.bib_resolving.proofs.dates.last_date.Given as goal
 abbrev pub invariant-places : goal.invariant-places
 invariant-places l = record {
   none : last_date (map (at_place (sources_of l.entries)) (drop (length l.places - l.done) l.places)) ≡ None;
+  as_many : length l.dates ≡ length l.entries;
   dates : AreDates (sources_of l.entries) l.dates;
   added : AddsAmong l.places l.initial.dates l.dates;
 }

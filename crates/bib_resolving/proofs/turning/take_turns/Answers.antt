@@ -1,5 +1,6 @@
 use Rattle.std.proofs.Common.{◌≡◌, ◌∙◌, ◌++◌, ◌∷◌, [], ◌<◌, ℕ, ap, sym, subst, get_or, length, arith, rules}
 use Rattle.std.specs.List.{All}
+use Rattle.std.proofs.lemmas.Bool.{false≢true}
 use Rattle.std.proofs.lemmas.List.{take_more, length-map}
 use Rattle.bib_graph.specs.Rows.{rows}
 use Rattle.bib_graph.specs.Solving.{IsSolvedTo}
@@ -8,7 +9,7 @@ use Rattle.bib_graph.proofs.Solving.{solved_all}
 use Rattle.bib_inheritance.specs.Sources.{nowhere}
 use Rattle.bib_resolving.specs.Resolving.{rule_by, source_of_entry, sources_of}
 use Rattle.bib_resolving.specs.Turning.{AreDates}
-use Rattle.bib_resolving.proofs.DateFacts.{behind_more, dates_kept, none_read, none_there, turn_unread}
+use Rattle.bib_resolving.proofs.DateFacts.{behind_more, dates_kept, none_read, turn_unread}
 use Rattle.bib_resolving.proofs.TurnFacts.{turn_within, turned_chunks, turned_more, turned_none}
 use Rattle.bib_resolving.proofs.turning.take_turns.Goals as goal
 
@@ -17,7 +18,8 @@ order-init c = record {
   turns = c.in_ok-turns.ensures.items;
   turned = turned_none (rows c.args.refs.now) c.args.order.now c.args.entries.now;
   dates = none_read (sources_of c.args.entries.now) c.args.dates.now c.requires.unread;
-  behind = λ place there. absurd (none_there c.args.dates.now place c.requires.unread there);
+  behind = λ place there. absurd (false≢true (sym (c.requires.unread place) ∙ there));
+  as_many = c.requires.as_many;
 }
 
 pub offset_bounds-refs-place : goal.offset_bounds-refs-place
@@ -63,6 +65,7 @@ order-preserved c =
           (turn_unread (rows refs) c.args.order.now c.deref.result.now i c.requires.order c.order-test.true row c.order.dates c.take_turn.new.dates c.in_ok-take_turn.ensures.added c.order.invariant.behind)
           c.in_ok-take_turn.ensures.dates);
       behind = behind_more (rows refs) c.args.order.now c.deref.result.now i c.requires.order c.order-test.true row c.order.dates c.take_turn.new.dates c.in_ok-take_turn.ensures.added c.order.invariant.behind;
+      as_many = c.in_ok-take_turn.ensures.as_long ∙ sym c.in_ok-take_turn.ensures.length;
     }
 
 pub returns-clause-inherits : goal.returns-clause-inherits

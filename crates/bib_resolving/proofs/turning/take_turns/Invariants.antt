@@ -1,4 +1,4 @@
-use Rattle.std.proofs.Common.{◌≡◌, take}
+use Rattle.std.proofs.Common.{◌≡◌, length, take}
 use Rattle.bib_graph.specs.Rows.{rows}
 use Rattle.bib_resolving.specs.Resolving.{sources_of}
 use Rattle.bib_resolving.specs.Turning.{AreDates}
@@ -13,4 +13,5 @@ invariant-order l = record {
   turned : HaveTurned (rows l.refs) l.order l.initial.entries l.entries l.place-index;
   dates : AreDates (sources_of l.entries) l.dates;
   behind : AreBehind (take l.place-index l.order) l.dates;
+  as_many : length l.dates ≡ length l.entries;
 }

@@ -1,4 +1,4 @@
-use Rattle.std.proofs.Common.{◌≡◌, false, take}
+use Rattle.std.proofs.Common.{◌≡◌, length, false, take}
 use Rattle.std.specs.List.{list_any}
 use Rattle.bib_resolving.specs.Resolving.{is_bad_date, sources_of}
 use Rattle.bib_resolving.specs.Turning.{AreDates}
@@ -8,5 +8,6 @@ use Rattle.bib_resolving.proofs.unread.first_unread.Given as goal
 abbrev pub invariant-places : goal.invariant-places
 invariant-places l = record {
   read : list_any (is_bad_date (sources_of l.entries)) (take l.r-index l.places) ≡ false;
+  as_many : length l.dates ≡ length l.entries;
   dates : AreDates (sources_of l.entries) l.dates;
 }

@@ -1,4 +1,4 @@
-use Rattle.std.proofs.Common.{◌≡◌, ℕ, ◌<◌, false}
+use Rattle.std.proofs.Common.{◌≡◌, length, ℕ, ◌<◌, false}
 use Rattle.bib_graph.specs.Rows.{rows}
 use Rattle.bib_resolving.specs.Resolving.{sources_of}
 use Rattle.bib_resolving.specs.Turning.{AreDates, is_unread_at}
@@ -8,5 +8,6 @@ use Rattle.bib_resolving.proofs.unread.unread_date.Given as goal
 abbrev pub invariant-entries : goal.invariant-entries
 invariant-entries l = record {
   read : (other : ℕ) → other < l.place → is_unread_at l.looks (rows l.refs) (sources_of l.entries) other ≡ false;
+  as_many : length l.dates ≡ length l.entries;
   dates : AreDates (sources_of l.entries) l.dates;
 }
