@@ -1,12 +1,12 @@
 #!/usr/bin/env python3
 """Compares a built `bib` with another program on generated bibliographies.
 
-    bench/compare.py OTHER [COMMAND] [--bib PATH] [--rounds N]
+    bench/compare.py OTHER [COMMAND] [--bib PATH] [--rounds N] [--references]
 
 OTHER is a program that takes the same argument and reads standard input. Both run in turn on the same files, on one
 core, and what is printed are ratios, `bib` over OTHER: processor time (user and system, the least of the rounds), peak
 memory, instructions (by valgrind, where it is there), and for each program how its time grows from 1,000 to 100,000
-entries, per entry.
+entries, per entry. With --references nine of ten entries refer to another, and inherit five fields of it and its date.
 """
 import argparse
 import os
@@ -48,12 +48,29 @@ def entry(chance, number):
     return f"@{kind}{{key{number},\n{lines}}}\n"
 
 
-def generate(path, entries):
+def reference(chance, number):
+    """One entry of proceedings, or of a paper in the last ones."""
+    def some(words, most):
+        return " ".join(chance.choice(words) for _ in range(chance.randint(1, most)))
+
+    if number % 10 == 0:
+        kind, fields = "proceedings", {
+            "title": some(WORDS, 12), "editor": f"{some(FAMILIES, 1)}, {some(NAMES, 2)}", "publisher": "Example Press",
+            "location": "Berlin", "isbn": f"978-3-16-148410-{number % 7}", "year": str(chance.randint(1960, 2024))}
+    else:
+        kind, fields = "inproceedings", {
+            "author": f"{some(FAMILIES, 1)}, {some(NAMES, 2)}", "title": some(WORDS, 12), "crossref": f"key{number // 10 * 10}",
+            "pages": f"{number % 500 + 1}--{number % 500 + 20}"}
+    lines = "".join(f"  {name:<10} = {{{value}}},\n" for name, value in fields.items())
+    return f"@{kind}{{key{number},\n{lines}}}\n"
+
+
+def generate(path, entries, make):
     chance = random.Random(7)
     with open(path, "w", encoding="utf-8") as file:
         file.write('@string{jacm = "Journal of the {ACM}"}\n\n')
         for number in range(entries):
-            file.write(entry(chance, number) + "\n")
+            file.write(make(chance, number) + "\n")
 
 
 def run(program, command, path):
@@ -91,6 +108,7 @@ def main():
     options.add_argument("command", nargs="?", default="keys")
     options.add_argument("--bib", default=os.path.join(top, "crates/bib/out/bib"))
     options.add_argument("--rounds", type=int, default=9)
+    options.add_argument("--references", action="store_true")
     chosen = options.parse_args()
     programs = [chosen.bib, chosen.other]
     os.sched_setaffinity(0, {min(os.sched_getaffinity(0))})
@@ -99,7 +117,7 @@ def main():
     with tempfile.TemporaryDirectory() as folder:
         for entries in (1_000, 10_000, 100_000):
             path = os.path.join(folder, f"{entries}.bib")
-            generate(path, entries)
+            generate(path, entries, reference if chosen.references else entry)
             ours, theirs = measure(programs, chosen.command, path, chosen.rounds)
             times[entries] = (ours[0], theirs[0])
             print(f"{entries:>7} entries, {os.path.getsize(path) / 1e6:.1f} MB: "

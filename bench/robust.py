@@ -8,8 +8,8 @@ commands; a command that PROGRAM only tells its usage for is left out. A line of
 bytes of the largest input with its answer, the processor time (user and system, the least of N runs, and of more where that
 is too slow, since other work slows runs down), the peak memory, and by which power of input and answer both grow from the
 smallest size to the largest. An input passes where each run ends with the wanted status and answer, in time and memory
-below a limit that is linear in input and answer, and neither power is above 1.05, or 1.25 where names have to be sorted; `-`
-stands where a run is too short or too small to tell. The status of this script is 1 where an input failed.
+below a limit that is linear in input and answer, and neither power is above 1.05, or 1.25 where names in no order have to be
+sorted; `-` stands where a run is too short or too small to tell. The status of this script is 1 where an input failed.
 """
 import argparse
 import math
@@ -77,6 +77,12 @@ def fields(size):
     yield "@misc{a"
     yield from (f", f{n * 7919 % size}={{v}}" for n in range(size))
     yield "}"
+
+
+def long_date(size):
+    """An entry whose month is long, and as many others, each a byte of it, that inherit its date."""
+    yield "@book{p, year={2020}, month={" + " " * size + "5}}"
+    yield from (f"@inbook{{x{n}, crossref={{p}}}}\n" for n in range(size))
 
 
 def value(size):
@@ -148,6 +154,7 @@ INPUTS = [
     Input("a child of many parents", star, MANY, power=SORTED),
     Input("many children of a parent", listed("@book{p, publisher={P}, year={2020}}", "@inbook{{x{}, crossref={{p}}}}", "\n", ""),
           MANY),
+    Input("a long date of many children", long_date, MANY),
     Input("fields of an entry", fields, TWICE, power=SORTED),
     Input("one field again and again", listed("@misc{a,", "f={{{}}}", ",", "}"), TWICE),
     Input("names of an entry", listed("@misc{a, ids={", "n{}", ",", "}}"), TWICE, power=SORTED),

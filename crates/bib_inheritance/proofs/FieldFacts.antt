@@ -1,19 +1,17 @@
 -- The fields of a map that was made, and changed.
-use Rattle.std.proofs.Common.{◌≡◌, ℕ, zero, suc, ◌+◌, ◌-◌, ◌<◌, arith, drop, length, get_or, List, [], ◌∷◌, ◌++◌, Bool, true, false, cond, ◌||◌, reverse, refl, sym, ap, ◌∙◌, Option, Some, None, option_map, is_some, codes}
+use Rattle.std.proofs.Common.{◌≡◌, ℕ, List, ◌++◌, Bool, true, false, cond, ◌||◌, reverse, refl, sym, ap, ◌∙◌, Option, Some, None, option_map, is_some, codes}
 use Rattle.std.specs.Str.{bytes_eq}
 use Rattle.std.specs.FinMap.{get, find, entries, insert, remove, from_entries, get-from_entries, get-insert, get-remove, get-entries}
-use Rattle.std.proofs.lemmas.Bool.{false≢true}
 use Rattle.std.proofs.lemmas.Cmp.{nat_list_cmp_total}
-use Rattle.std.proofs.lemmas.List.{reverse-reverse, at_drop_more}
+use Rattle.std.proofs.lemmas.List.{reverse-reverse}
 use Rattle.std.proofs.lemmas.Map.Text.{is_eq-slice_cmp}
 use Rattle.bib_chunks.specs.Styled.{Atom, styled}
 use Rattle.bib_maps.specs.Sorted.{ByText, by_bytes}
 use Rattle.bib_tables.specs.Requirements.{is_one_of}
 use Rattle.bib_tables.specs.declared.mechanics.EntryType.{EntryType}
-use Rattle.bib_inheritance.specs.Dating.{date_for, last_date, dated_text, dating}
+use Rattle.bib_inheritance.specs.Dating.{date_for}
 use Rattle.bib_inheritance.specs.Inherited.{date_parts, field_by, inherited, plain_field, taken}
-use Rattle.bib_inheritance.specs.Sources.{Fields, Source, fields_of, first_named, first_some, source_of, sources}
-use Rattle.bib_inheritance.specs.declared.offers.Reference.{Reference}
+use Rattle.bib_inheritance.specs.Sources.{Fields, Source, fields_of, first_named, first_some, source_of}
 use Rattle.bib_inheritance.proofs.LentFacts.{Value, bytes_turned, first_behind}
 
 abbrev pub Map : Type 0

@@ -1,5 +1,5 @@
 -- Each reference is to an entry.
-use Rattle.std.proofs.Common.{◌≡◌, ℕ, ◌<◌, List, [], ◌∷◌, length, map, refl, sym, subst, Option, Some, None}
+use Rattle.std.proofs.Common.{◌≡◌, ℕ, ◌<◌, List, [], ◌∷◌, length, refl, sym, subst, Option, Some, None}
 use Rattle.std.specs.List.{All, filter_map, cons_option}
 use Rattle.std.specs.FinMap as by_name
 use Rattle.std.proofs.lemmas.List.{length-map}

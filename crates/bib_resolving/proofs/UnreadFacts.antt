@@ -5,7 +5,7 @@ use Rattle.std.specs.List.{list_any}
 use Rattle.std.proofs.lemmas.Bool.{false≢true}
 use Rattle.std.proofs.lemmas.List.Folds.{list_any_more}
 use Rattle.bib_faults.specs.declared.type_error.TypeError.{TypeError}
-use Rattle.bib_inheritance.specs.Dating.{DateMayFail, IsDating, dating, is_unreadable}
+use Rattle.bib_inheritance.specs.Dating.{DateMayFail, is_unreadable}
 use Rattle.bib_inheritance.specs.Sources.{Source}
 use Rattle.bib_inheritance.specs.declared.dating.Dating.{Dating as Kept}
 use Rattle.bib_inheritance.specs.declared.dating.Dating.TheVariants.{Undated, Unreadable, Dated}

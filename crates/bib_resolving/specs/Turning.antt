@@ -1,6 +1,6 @@
 -- Machinery: words of private contracts.
 -- The turn of an entry, dates that were read, and the first that can't be.
-use Rattle.std.specs.Prelude.{◌≡◌, ℕ, ◌<◌, ◌⊎◌, Bool, true, false, ◌&&◌, List, map, slice_index_or, find, Option, IsSome, Some, None}
+use Rattle.std.specs.Prelude.{◌≡◌, ℕ, ◌<◌, ◌⊎◌, Bool, true, false, ◌&&◌, List, slice_index_or, find, Option, IsSome, Some, None}
 use Rattle.std.specs.List.{Contains, list_any}
 use Rattle.bib_chunks.specs.declared.chunk.Chunk.{Chunk}
 use Rattle.bib_entry.specs.declared.entry.Entry.{Entry}

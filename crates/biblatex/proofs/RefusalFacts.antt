@@ -1,28 +1,23 @@
 -- Why a file is refused.
-use Rattle.std.proofs.Common.{◌≡◌, ℕ, zero, suc, ◌<◌, List, [], ◌∷◌, ◌++◌, Bool, false, ◌&&◌, length, get_or, drop, take, map, refl, sym, ap, ◌∙◌, subst, inl, inr, ◌⊎◌, Some, Result, Ok, Err}
+use Rattle.std.proofs.Common.{◌≡◌, ℕ, zero, suc, ◌<◌, List, [], ◌∷◌, ◌++◌, false, length, drop, take, map, refl, sym, ap, ◌∙◌, subst, inl, inr, ◌⊎◌, Some, Result, Ok, Err}
 use Rattle.std.specs.Prelude.{IfErr, slice_get}
-use Rattle.std.specs.List.{list_any}
 use Rattle.std.specs.declared.ops.Range.{Range}
 use Rattle.bib_entry.specs.declared.entry.Entry.{Entry}
 use Rattle.bib_contents.specs.Abbreviations.{Definitions}
-use Rattle.bib_faults.specs.declared.type_error.TypeError.{TypeError}
-use Rattle.bib_graph.specs.Graph.{Graph, HasNoCircle, IsFirstOnCircle, refs_of}
-use Rattle.bib_inheritance.specs.Dating.{looks_for_date}
-use Rattle.bib_inheritance.specs.Sources.{Source}
+use Rattle.bib_graph.specs.Graph.{HasNoCircle, IsFirstOnCircle}
 use Rattle.bib_maps.specs.Sorted.{ByText}
 use Rattle.bib_syntax.specs.Faults.{Refuses, out_of_memory}
 use Rattle.bib_syntax.specs.Grammar.{IsRawReading}
 use Rattle.bib_syntax.specs.Reading.{EntryReading, FileReading}
 use Rattle.bib_syntax.specs.Views.{entry_of}
 use Rattle.bib_syntax.specs.declared.raw.ParseError.{ParseError}
-use Rattle.bib_syntax.specs.declared.raw.ParseErrorKind.TheVariants.{ReferenceCycle, ResolutionError}
+use Rattle.bib_syntax.specs.declared.raw.ParseErrorKind.TheVariants.{ReferenceCycle}
 use Rattle.bib_syntax.specs.declared.raw.RawEntry.{RawEntry}
 use Rattle.bib_text.specs.declared.spanned.Spanned.{Spanned}
 use Rattle.biblatex.specs.Library.{Library}
 use Rattle.biblatex.specs.Loaded.{AreEntries, definition_in}
-use Rattle.bib_resolving.specs.Resolving.{AreDatesRead, AreResolved, Inherits, IsCircleAt, IsDateFault, IsResolvingFault, at_place, graph_by, has_bad_date, is_bad_date, source_of_entry, sources_of}
+use Rattle.bib_resolving.specs.Resolving.{AreDatesRead, AreResolved, Inherits, IsCircleAt, IsDateFault, IsResolvingFault, graph_by, has_bad_date, sources_of}
 use Rattle.biblatex.specs.Resolved.{AreOwn, IsAccepted, IsFaultOf, IsLoaded, graph_of, names_of}
-use Rattle.bib_resolving.specs.Turning.{IsFirstUnread, is_unread_at}
 use Rattle.biblatex.proofs.ResolvedFacts.{accepted_faultless}
 
 some_same : {A : Type 0} {x y : A} → Some x ≡ Some y → x ≡ y

@@ -1,20 +1,19 @@
 -- What a file says as a bibliography, once: its entries as they are written, and with what they inherit.
 use Rattle.std.proofs.Common.{◌≡◌, ℕ, ◌+◌, ◌<◌, List, [], ◌∷◌, ◌++◌, Bool, true, false, cond, length, get_or, drop, map, refl, sym, ap, ◌∙◌, subst, arith, Option, Some, None, option_map, length-append, MatchOption}
 use Rattle.std.specs.Prelude.{◌&&◌, ◌||◌, find}
-use Rattle.std.specs.List.{All, filter_map, list_any, cons_option}
+use Rattle.std.specs.List.{list_any}
 use Rattle.std.specs.FinMap as by_name
 use Rattle.std.proofs.lemmas.Bool.{false≢true}
-use Rattle.std.proofs.lemmas.List.{append-nil, append_assoc, length-map}
-use Rattle.std.proofs.lemmas.List.Elements.{All-cons, All-nil}
+use Rattle.std.proofs.lemmas.List.{append-nil, append_assoc}
 use Rattle.bib_chunks.specs.Styled.{styled}
 use Rattle.bib_chunks.specs.declared.chunk.Chunk.{Chunk}
 use Rattle.bib_contents.specs.Abbreviations.{Definitions}
 use Rattle.bib_contents.proofs.LawFacts.{evaluates_same}
 use Rattle.bib_entry.specs.declared.entry.Entry.{Entry}
-use Rattle.bib_graph.specs.Graph.{Graph, HasNoCircle, HasOneSolution, IsInRange, Leads, refs_of}
+use Rattle.bib_graph.specs.Graph.{Graph, HasNoCircle, HasOneSolution, Leads, refs_of}
 use Rattle.bib_graph.proofs.Walks as walks
 use Rattle.bib_inheritance.specs.Dating.{looks_for_date}
-use Rattle.bib_inheritance.specs.References.{references, referred}
+use Rattle.bib_inheritance.specs.References.{references}
 use Rattle.bib_inheritance.specs.Sources.{Fields, Source, fields_of, nowhere}
 use Rattle.bib_maps.specs.Names.{ArePlacesBelow, claimed, claims_for}
 use Rattle.bib_maps.specs.Sorted.{ByText}
