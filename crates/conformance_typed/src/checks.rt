@@ -1,10 +1,14 @@
 //! What the tests ask and say, in one place: each assertion is a call of these.
 
 use crate::shown::{Shown, shown_chunks, told};
-use biblatex::{
-    Chunk, Chunks, ChunksExt, ChunksRef, Entry, EntryType, Items, RetrievalError, Spanned, Text,
-    Type,
-};
+use bib_chunks::chunk::{Chunk, Chunks, ChunksRef, Spanned};
+use bib_entry::entry::Entry;
+use bib_entry::retrieval::RetrievalError;
+use bib_tables::mechanics::EntryType;
+use bib_text::items::Items;
+use bib_text::text::Text;
+use bib_typed::ext::ChunksExt;
+use bib_typed::typed::Type;
 use std::alloc::{AllocError, Global};
 use std::ops::Range;
 use std::process::Abort;

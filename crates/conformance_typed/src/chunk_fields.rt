@@ -6,7 +6,9 @@ ghost use Rattle.bib_entry.specs.declared.entry.Entry.{Entry as AnEntry};
 ghost use Rattle.bib_values.specs.Values.{Value};
 
 use crate::checks::{has_fields, is_got, misc, named, with};
-use biblatex::{Chunks, ChunksRef, Entry, RetrievalError, SetError};
+use bib_chunks::chunk::{Chunks, ChunksRef};
+use bib_entry::entry::{Entry, SetError};
+use bib_entry::retrieval::RetrievalError;
 use std::alloc::{AllocError, Global};
 use std::process::Abort;
 use std::test::Fail;

@@ -1,7 +1,9 @@
 //! Dates of entries: from one field, or from three, and set.
 
 use crate::checks::{has_chunks, is_value, misc, named, normal};
-use biblatex::{Date, Entry, PermissiveType, Type};
+use bib_dates::date::Date;
+use bib_entry::entry::Entry;
+use bib_typed::typed::{PermissiveType, Type};
 use std::alloc::{AllocError, Global};
 use std::process::Abort;
 use std::test::Fail;

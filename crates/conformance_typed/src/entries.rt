@@ -1,7 +1,9 @@
 //! Fields of entries, set to values and read as values.
 
 use crate::checks::{has_chunks, has_value, misc, normal};
-use biblatex::{Language, Pagination, PermissiveType};
+use bib_typed::typed::PermissiveType;
+use bib_types::types::Pagination;
+use bib_types::types::lang::Language;
 use std::ops::Range;
 use std::test::Fail;
 

@@ -2,7 +2,10 @@
 
 use crate::checks::{agrees, normal};
 use crate::shown::Shown;
-use biblatex::{PermissiveType, RetrievalError, Text, TypeError, TypeErrorKind};
+use bib_entry::retrieval::RetrievalError;
+use bib_faults::type_error::{TypeError, TypeErrorKind};
+use bib_text::text::Text;
+use bib_typed::typed::PermissiveType;
 use std::alloc::{AllocError, Global};
 use std::process::Abort;
 use std::test::Fail;

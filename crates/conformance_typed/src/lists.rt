@@ -1,7 +1,9 @@
 //! Texts, lists, and values that are left as chunks where they aren't read.
 
 use crate::checks::{reads, reads_parts};
-use biblatex::{Chunks, Language, PermissiveType};
+use bib_chunks::chunk::Chunks;
+use bib_typed::typed::PermissiveType;
+use bib_types::types::lang::Language;
 use std::ops::Range;
 use std::test::Fail;
 

@@ -1,7 +1,9 @@
 //! Names of people: how they are read, written, shown and ordered.
 
 use crate::checks::{Part, agrees, chunks, is_written, reads, reads_parts};
-use biblatex::{Chunks, Person, Type};
+use bib_chunks::chunk::Chunks;
+use bib_people::person::Person;
+use bib_typed::typed::Type;
 use std::alloc::{AllocError, Global};
 use std::cmp::Ordering;
 use std::process::Abort;

@@ -1,9 +1,14 @@
 //! Values, chunks and faults as texts, which the tests compare.
 
-use biblatex::{
-    Chunk, Chunks, ChunksRef, Date, DateValue, EditorType, Gender, Language, Pagination,
-    PermissiveType, Person, RetrievalError, Spanned, Text, TypeError,
-};
+use bib_chunks::chunk::{Chunk, Chunks, ChunksRef, Spanned};
+use bib_dates::date::{Date, DateValue};
+use bib_entry::retrieval::RetrievalError;
+use bib_faults::type_error::TypeError;
+use bib_people::person::Person;
+use bib_text::text::Text;
+use bib_typed::typed::PermissiveType;
+use bib_types::types::lang::Language;
+use bib_types::types::{EditorType, Gender, Pagination};
 use std::alloc::{AllocError, Global};
 use std::ops::Range;
 

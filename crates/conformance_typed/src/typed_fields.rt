@@ -6,9 +6,13 @@ ghost use Rattle.bib_entry.specs.declared.entry.Entry.{Entry as AnEntry};
 
 use crate::checks::{has_chunks, is_value, misc, named, normal, with};
 use crate::shown::Shown;
-use biblatex::{
-    Chunks, Entry, Gender, Language, Pagination, PermissiveType, Person, RetrievalError, Type,
-};
+use bib_chunks::chunk::Chunks;
+use bib_entry::entry::Entry;
+use bib_entry::retrieval::RetrievalError;
+use bib_people::person::Person;
+use bib_typed::typed::{PermissiveType, Type};
+use bib_types::types::lang::Language;
+use bib_types::types::{Gender, Pagination};
 use std::alloc::{AllocError, Global};
 use std::ops::Range;
 use std::process::Abort;

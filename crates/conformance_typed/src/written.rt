@@ -1,7 +1,11 @@
 //! What is written for values, and what it is read as.
 
 use crate::checks::{chunks, is_written, normal, survives};
-use biblatex::{Chunks, EditorType, Gender, Language, Pagination, PermissiveType, Text};
+use bib_chunks::chunk::Chunks;
+use bib_text::text::Text;
+use bib_typed::typed::PermissiveType;
+use bib_types::types::lang::Language;
+use bib_types::types::{EditorType, Gender, Pagination};
 use std::ops::Range;
 use std::test::Fail;
 
