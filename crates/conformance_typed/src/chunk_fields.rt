@@ -77,6 +77,12 @@ fn titles(rt: HostRuntime) -> Result<(), Fail> {
         Entry::set_eventtitle,
         Entry::eventtitle,
     )?;
+    Ok(())
+}
+
+#[test]
+fn titles_of_issues(rt: HostRuntime) -> Result<(), Fail> {
+    let alloc = rt.alloc();
     is_field(
         &rt,
         alloc,
@@ -152,6 +158,12 @@ fn titles_of_parts(rt: HostRuntime) -> Result<(), Fail> {
         Entry::set_main_title_addon,
         Entry::main_title_addon,
     )?;
+    Ok(())
+}
+
+#[test]
+fn short_titles(rt: HostRuntime) -> Result<(), Fail> {
+    let alloc = rt.alloc();
     is_field(
         &rt,
         alloc,

@@ -286,6 +286,13 @@ fn people_of_fields(rt: HostRuntime) -> Result<(), Fail> {
         Entry::set_commentator,
         Entry::commentator,
     )?;
+    Ok(())
+}
+
+#[test]
+fn people_of_more_fields(rt: HostRuntime) -> Result<(), Fail> {
+    let alloc = rt.alloc();
+    let people = people(alloc)?;
     let row = ("foreword", PEOPLE, "|Doe/J.//|Roe/Jane/de/Sr.");
     is_field(
         &rt,

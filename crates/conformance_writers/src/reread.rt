@@ -1,6 +1,6 @@
 //! A settled bibliography is written and read again, by the contracts of these calls alone.
 
-ghost use Rattle.std.specs.Prelude.{◌≡◌, IfOk, IfErr, IfSome};
+ghost use Rattle.std.specs.Prelude.{◌≡◌, ◌↔◌, IfOk, IfErr, IfSome, IsSome};
 ghost use Rattle.std.specs.List.{AllZip};
 ghost use Rattle.biblatex.specs.Syntax.{IsMapped, AreSettled, out_of_memory};
 
@@ -23,6 +23,7 @@ pub fn written_and_read(alloc: Global, library: &Bibliography) -> Result<Bibliog
 
 /// What is read again of a bibliography that says it is settled, and nothing of another.
 pub fn reread(alloc: Global, library: &Bibliography) -> Option<Result<Bibliography, ParseError>>
+    ensures settled { IsSome result ↔ AreSettled library.now.entries }
     ensures same { IfSome result (λ again. IfOk again
         (λ read. AllZip IsMapped library.now.entries read.entries)) }
     ensures read { IfSome result (λ again. IfErr again (λ e. e ≡ out_of_memory)) }
