@@ -3,9 +3,8 @@ use Rattle.std.specs.Str.{bytes_eq}
 use Rattle.std.proofs.lemmas.Slice.Eq.{bytes_eq-Decides}
 use Rattle.biblatex.specs.Syntax.{Refuses, IsFile, ParseError, OutOfMemory}
 use Rattle.std.specs.Str.{IsUtf8}
-use Rattle.biblatex.specs.Library.{Library}
 use Rattle.biblatex.specs.Resolved.{IsAccepted, IsFaultOf}
-use Rattle.biblatex.specs.Syntax.{IsRawReading, FileReading}
+use Rattle.biblatex.specs.Syntax.{IsRawReading, FileReading, Library}
 use Rattle.bib.specs.Answering.{IsLibraryOf}
 use Rattle.bib.specs.Output.{IsCommandAnswer, IsKeysAnswer, IsLibraryAnswer, TellsFault, TellsNoBibliography, not_utf8}
 use Rattle.bib.specs.declared.run.Command.{Command}

@@ -4,8 +4,7 @@ use Rattle.std.specs.Prelude.{◌==◌, if◌then◌else◌, codes}
 use Rattle.std.specs.List.{flat_map}
 use Rattle.std.proofs.lemmas.List.{map-append, flat_map_more, take_more}
 use Rattle.std.proofs.lemmas.List.Elements.{All-nil, All-push}
-use Rattle.biblatex.specs.Library.{Library}
-use Rattle.biblatex.specs.Syntax.{Entry, TypeError, AreMalformed, Names, missing_of, superfluous_of}
+use Rattle.biblatex.specs.Syntax.{Entry, Library, TypeError, AreMalformed, Names, missing_of, superfluous_of}
 use Rattle.bib.specs.Answering.{AddsReport}
 use Rattle.bib.specs.Output.{AreReported, IsReport, Reported, ShowsReports, field_line, malformed_line, report_lines}
 

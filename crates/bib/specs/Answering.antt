@@ -1,9 +1,8 @@
 -- Machinery: words of private contracts.
 -- A bibliography that is read, or the answer that there is none; and the report on an entry behind others.
 use Rattle.std.specs.Prelude.{◌≡◌, ℕ, List, ◌++◌, Result, Ok, Err, string_bytes}
-use Rattle.biblatex.specs.Library.{Library}
 use Rattle.biblatex.specs.Resolved.{IsLoaded}
-use Rattle.biblatex.specs.Syntax.{IsRawReading, FileReading, Entry, TypeError, AreMalformed}
+use Rattle.biblatex.specs.Syntax.{IsRawReading, FileReading, Entry, Library, TypeError, AreMalformed}
 use Rattle.bib.specs.Output.{TellsNoBibliography, report_lines}
 use Rattle.bib.specs.declared.run.Answer.{Answer}
 

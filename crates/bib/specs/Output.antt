@@ -3,9 +3,8 @@
 use Rattle.std.specs.Prelude.{◌≡◌, ◌≢◌, ℕ, List, [], ◌∷◌, ◌++◌, codes, map, All, IfSome}
 use Rattle.std.specs.List.{flat_map}
 use Rattle.std.specs.Str.{IsUtf8}
-use Rattle.biblatex.specs.Library.{Library}
 use Rattle.biblatex.specs.Resolved.{IsAccepted, IsFaultOf, IsLoaded}
-use Rattle.biblatex.specs.Syntax.{IsSyntaxFault, error_text, IsFile, IsRawReading, FileReading, ParseError, Entry, AreSettled, biblatex_entry, bibtex_entry, entries_text, TypeError, type_kind_text, missing_of, superfluous_of, AreMalformed}
+use Rattle.biblatex.specs.Syntax.{IsSyntaxFault, error_text, IsFile, IsRawReading, FileReading, ParseError, Entry, Library, AreSettled, biblatex_entry, bibtex_entry, entries_text, TypeError, type_kind_text, missing_of, superfluous_of, AreMalformed}
 use Rattle.bib.specs.declared.run.Command.{Command}
 use Rattle.bib.specs.declared.run.Command.TheVariants.{Keys, Biblatex, Bibtex, Check, Settled}
 

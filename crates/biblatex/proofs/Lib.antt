@@ -2,11 +2,7 @@ pub mod AloneFacts
 pub mod DistinctFacts
 pub mod FaultFacts
 pub mod InsideFacts
-pub mod LibraryFacts
-pub mod LoadedFacts
-pub mod LoadingFacts
 pub mod PlaceLaws
-pub mod RawFacts
 pub mod RefusalFacts
 pub mod RereadFacts
 pub mod ResolvedFacts

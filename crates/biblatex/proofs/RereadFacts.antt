@@ -41,14 +41,14 @@ use Rattle.bib_reread.proofs.RereadFacts.{reread}
 use Rattle.bib_reread.proofs.StandsFacts.{stands_between}
 use Rattle.bib_reread.proofs.EntryReread.{SaysLine, SayLines, SaysEntry, SayEntries, FileAgain}
 use Rattle.bib_reread.proofs.WrittenReread.{kind, by_written_name, same_rule, line_of, written_of, entries_again}
-use Rattle.biblatex.specs.Library.{Library, claims}
+use Rattle.bib_loading.specs.Library.{Library, claims}
 use Rattle.bib_resolving.specs.Resolving.{Inherits, sources_of}
 use Rattle.biblatex.specs.Resolved.{AreOwn, IsLoaded, graph_of}
-use Rattle.biblatex.specs.Loaded.{definition_in, name_of, field_in, Says, CanBeRead, AllCanBeRead, IsEntry, AreEntries, is_claimed}
+use Rattle.bib_loading.specs.Loaded.{definition_in, name_of, field_in, Says, CanBeRead, AllCanBeRead, IsEntry, AreEntries, is_claimed}
 use Rattle.biblatex.specs.Reread.{IsReread}
 use Rattle.biblatex.proofs.AloneFacts.{RefersToNothing, IsAsWritten, no_circle, no_dates, entries_as_written}
 use Rattle.biblatex.proofs.ResolvedFacts.{graph_same, keys_same, sources_same}
-use Rattle.biblatex.proofs.LoadingFacts.{AllZip-reverse}
+use Rattle.bib_loading.proofs.LoadingFacts.{AllZip-reverse}
 
 abbrev Value' : Type 0
 Value' = List (Spanned Chunk)

@@ -1,12 +1,7 @@
-pub mod Claiming
 pub mod Distinct
 pub mod Keys
 pub mod Lending
-pub mod Library
-pub mod Loaded
-pub mod Loading
 pub mod Places
-pub mod Reading
 pub mod Reread
 pub mod Resolved
 pub mod SameLibrary

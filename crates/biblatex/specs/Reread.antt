@@ -6,7 +6,7 @@ use Rattle.bib_syntax.specs.Grammar.{IsRawReading}
 use Rattle.bib_syntax.specs.Reading.{FileReading}
 use Rattle.bib_reread.specs.Mapped.{IsMapped}
 use Rattle.bib_entry.specs.declared.entry.Entry.{Entry}
-use Rattle.biblatex.specs.Library.{Library}
+use Rattle.bib_loading.specs.Library.{Library}
 use Rattle.biblatex.specs.Resolved.{IsAccepted, IsLoaded}
 
 -- a text is read again as these entries: it has a raw reading, what that says can be a bibliography, and any such

@@ -12,8 +12,8 @@ use Rattle.bib_resolving.specs.Resolving.{AreDatesRead, Inherits, IsDateFault, K
 use Rattle.bib_syntax.specs.Reading.{EntryReading, FileReading}
 use Rattle.bib_syntax.specs.declared.raw.ParseError.{ParseError}
 use Rattle.bib_syntax.specs.declared.raw.ParseErrorKind.TheVariants.{ReferenceCycle, ResolutionError}
-use Rattle.biblatex.specs.Library.{Library, nothing}
-use Rattle.biblatex.specs.Loaded.{AreEntries, IsFaultOfEntries, definition_in, loaded_behind}
+use Rattle.bib_loading.specs.Library.{Library, nothing}
+use Rattle.bib_loading.specs.Loaded.{AreEntries, IsFaultOfEntries, definition_in, loaded_behind}
 
 -- the entries of a file as they are written, each with its own fields
 abbrev pub AreOwn : FileReading → List Entry → Type 0

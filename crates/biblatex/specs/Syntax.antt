@@ -11,6 +11,7 @@ pub use Rattle.bib_syntax.specs.declared.raw.ParseErrorKind.TheVariants.{OutOfMe
 pub use Rattle.bib_entry.specs.Reports.{AreMalformed, missing_of, superfluous_of}
 pub use Rattle.bib_entry.specs.WrittenEntries.{biblatex_entry, bibtex_entry, entries_text}
 pub use Rattle.bib_entry.specs.declared.entry.Entry.{Entry}
+pub use Rattle.bib_loading.specs.Library.{Library}
 pub use Rattle.bib_reread.specs.Mapped.{IsMapped}
 pub use Rattle.bib_reread.specs.Settled.{AreSettled}
 pub use Rattle.bib_faults.specs.TypeError.{type_kind_text}

@@ -17,12 +17,12 @@ ghost use Rattle.biblatex.specs.Keys.{keys_left};
 ghost use Rattle.biblatex.specs.Resolved.{AreOwn, IsAccepted, IsFaultOf, IsLoaded, IsOfDate, graph_of};
 ghost use Rattle.biblatex.specs.Lending.{LendsEntry, LendsEntries};
 ghost use Rattle.bib_maps.specs.Names.{ArePlacesBelow, claimed, claims_for};
-ghost use Rattle.biblatex.specs.Library.{aliased, aliases, claims, entry_of, inserted, nothing, place_of, removed};
+ghost use Rattle.bib_loading.specs.Library.{aliased, aliases, claims, entry_of, inserted, nothing, place_of, removed};
 ghost use Rattle.biblatex.specs.SameLibrary.{same_library, same_library_per, same_library_equiv};
 
-use crate::reading::{load, spans};
-use bib_chunks::chunk::lists::comma_texts;
 use bib_entry::entry::Entry;
+use bib_loading::claiming::claims;
+use bib_loading::reading::{load, spans};
 use bib_maps::names::Names;
 use bib_resolving::resolving::resolve;
 use bib_syntax::raw::{ParseError, RawBibliography};
@@ -42,7 +42,7 @@ pub struct Bibliography {
 }
 
 impl Model for Bibliography {
-    ghost use Rattle.biblatex.specs.Library.{Library, library_code};
+    ghost use Rattle.bib_loading.specs.Library.{Library, library_code};
     ghost use Rattle.bib_maps.specs.Names.{ArePlacesBelow};
     ghost use Rattle.std.specs.Prelude.{length};
 
@@ -71,18 +71,6 @@ impl fmt::Display for InsertError {
 }
 
 impl Error for InsertError {}
-
-// The names that an entry claims: its key, then the parts of its field `ids`.
-pub(crate) fn claims(alloc: Global, entry: &Entry) -> Result<Vec<Text>, AllocError>
-    ensures { IfOk result (λ names. names.items ≡ claims entry.now) }
-{
-    let mut names = match entry.get("ids") {
-        Some(chunks) => comma_texts(alloc, chunks)?,
-        None => Vec::new(alloc),
-    };
-    names.insert(0, entry.key.clone()?)?;
-    Ok(names)
-}
 
 // Makes room for an entry behind the others, and lets the names that it claims point there.
 fn claim_next(entries: &mut Vec<Entry>, names: &mut Names, entry: &Entry) -> Result<(), AllocError>

@@ -3,8 +3,6 @@
 
 pub mod bibliography;
 pub mod laws;
-mod loading;
-mod reading;
 mod settled;
 pub mod sink;
 pub mod write;

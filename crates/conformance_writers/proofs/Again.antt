@@ -2,10 +2,9 @@
 use Rattle.std.proofs.Common.{◌≡◌, ℕ, List, subst, inl, inr}
 use Rattle.std.specs.Prelude.{◌⊎◌, Result, Ok, Err, IfOk, IfErr}
 use Rattle.std.specs.List.{AllZip}
-use Rattle.biblatex.specs.Library.{Library}
 use Rattle.biblatex.specs.Resolved.{IsAccepted, IsFaultOf, IsLoaded}
 use Rattle.biblatex.specs.Reread.{IsReread}
-use Rattle.biblatex.specs.Syntax.{Entry, FileReading, IsFile, IsMapped, IsRawReading, ParseError, Refuses, out_of_memory}
+use Rattle.biblatex.specs.Syntax.{Entry, FileReading, IsFile, IsMapped, IsRawReading, Library, ParseError, Refuses, out_of_memory}
 
 abbrev HasOneReading : Type 0
 HasOneReading = (text : List ℕ) (says tells : FileReading) → IsRawReading text says → IsRawReading text tells → says ≡ tells

@@ -1,7 +1,7 @@
 use Rattle.std.proofs.Common.{ap, ◌∙◌}
-use Rattle.biblatex.specs.Loading.{last_definition}
-use Rattle.biblatex.proofs.RawFacts.{definition_same, definitions_same}
-use Rattle.biblatex.proofs.reading.load.Goals as goal
+use Rattle.bib_loading.specs.Loading.{last_definition}
+use Rattle.bib_loading.proofs.RawFacts.{definition_same, definitions_same}
+use Rattle.bib_loading.proofs.reading.load.Goals as goal
 
 pub returns-clause-loaded : goal.returns-clause-loaded
 returns-clause-loaded c =

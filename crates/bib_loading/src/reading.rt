@@ -5,11 +5,11 @@ ghost use Rattle.bib_contents.specs.Abbreviations.{sorted_in};
 ghost use Rattle.bib_syntax.specs.Faults.{out_of_memory};
 ghost use Rattle.bib_syntax.specs.Views.{entry_of, file_of};
 ghost use Rattle.bib_syntax.specs.declared.raw.ParseErrorKind.TheVariants.{DuplicateKey};
-ghost use Rattle.biblatex.specs.Claiming.{IsLoadedSoFar};
-ghost use Rattle.biblatex.specs.Loaded.{IsFaultOfEntries, definition_in};
+ghost use Rattle.bib_loading.specs.Claiming.{IsLoadedSoFar};
+ghost use Rattle.bib_loading.specs.Loaded.{IsFaultOfEntries, definition_in};
 ghost use Rattle.bib_maps.specs.Names.{ArePlacesBelow};
 
-use crate::bibliography::claims;
+use crate::claiming::claims;
 use crate::loading::{definitions, read_entry};
 use bib_chunks::chunk::{Span, Spanned};
 use bib_contents::resolve::FieldReader;
@@ -60,8 +60,8 @@ fn load_entries<'f, 's>(
     Ok((entries, names.into_names(alloc)?))
 }
 
-// Where each entry stands in the file.
-pub(crate) fn spans(alloc: Global, raw: &[Spanned<RawEntry<'_>>]) -> Result<Vec<Span>, AllocError>
+/// Where each entry stands in the file. Refused only for want of memory.
+pub fn spans(alloc: Global, raw: &[Spanned<RawEntry<'_>>]) -> Result<Vec<Span>, AllocError>
     ensures { IfOk result (λ spans. spans.items ≡ map (λ said. said.span) raw.now) }
 {
     raw.iter()
@@ -69,11 +69,12 @@ pub(crate) fn spans(alloc: Global, raw: &[Spanned<RawEntry<'_>>]) -> Result<Vec<
         .collect(alloc)
 }
 
-// The entries of a file, and the names that they claim.
-pub(crate) fn load(
-    alloc: Global,
-    raw: RawBibliography<'_>,
-) -> Result<(Vec<Entry>, Names), ParseError>
+/// The entries of a file that was read already, each with its own fields, and the names that they claim. Each name points
+/// to the last entry that claims it.
+///
+/// Refused, in the order of the file, for the first entry whose key an earlier one claimed (`DuplicateKey`, at the entry)
+/// or which has a field that can't be read.
+pub fn load(alloc: Global, raw: RawBibliography<'_>) -> Result<(Vec<Entry>, Names), ParseError>
     ensures loaded { IfOk result (λ all. IsLoadedSoFar
         (definition_in (file_of raw.entry).abbreviations)
         (file_of raw.entry).entries all.0.items all.1) }

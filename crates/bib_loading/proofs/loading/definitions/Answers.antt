@@ -4,9 +4,9 @@ use Rattle.std.proofs.lemmas.Map.Text.{btree_map_updates_str}
 use Rattle.std.specs.Prelude.{bytes_eq}
 use Rattle.bib_contents.proofs.ExpansionFacts.{lookup_sorted}
 use Rattle.bib_syntax.specs.Views.{piece_of}
-use Rattle.biblatex.specs.Loading.{last_definition}
-use Rattle.biblatex.proofs.LoadingFacts.{defined_more}
-use Rattle.biblatex.proofs.loading.definitions.Goals as goal
+use Rattle.bib_loading.specs.Loading.{last_definition}
+use Rattle.bib_loading.proofs.LoadingFacts.{defined_more}
+use Rattle.bib_loading.proofs.loading.definitions.Goals as goal
 
 pub definitions-preserved : goal.definitions-preserved
 definitions-preserved c = λ name.

@@ -18,8 +18,8 @@ use Rattle.bib_syntax.specs.Faults.{out_of_memory}
 use Rattle.bib_syntax.specs.Reading.{Piece}
 use Rattle.bib_syntax.specs.declared.raw.Pair.{Pair}
 use Rattle.bib_syntax.specs.declared.raw.ParseError.{ParseError}
-use Rattle.biblatex.specs.Loading.{AreReadable, IsFieldOf, IsFieldReadable, IsFieldsFault, field_name, last_definition, last_field, pieces_of}
-use Rattle.biblatex.specs.Reading.{IsFieldFault}
+use Rattle.bib_loading.specs.Loading.{AreReadable, IsFieldOf, IsFieldReadable, IsFieldsFault, field_name, last_definition, last_field, pieces_of}
+use Rattle.bib_loading.specs.Reading.{IsFieldFault}
 use Rattle.bib_maps.specs.Sorted.{by_bytes}
 
 -- of definitions with one more behind them, that one stands for its name

@@ -1,7 +1,7 @@
 use Rattle.std.proofs.Common.{◌≡◌, List, ℕ, take}
 use Rattle.bib_contents.specs.Abbreviations.{sorted_in}
-use Rattle.biblatex.specs.Loading.{last_definition}
-use Rattle.biblatex.proofs.loading.definitions.Given as goal
+use Rattle.bib_loading.specs.Loading.{last_definition}
+use Rattle.bib_loading.proofs.loading.definitions.Given as goal
 
 -- the pairs so far are defined
 abbrev pub invariant-definitions : goal.invariant-definitions

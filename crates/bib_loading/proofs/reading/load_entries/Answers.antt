@@ -5,11 +5,11 @@ use Rattle.std.proofs.lemmas.List.{nil_from_length}
 use Rattle.std.proofs.lemmas.Result.{err_from_is_err_and}
 use Rattle.bib_contents.specs.Abbreviations.{given_by, sorted_in}
 use Rattle.bib_contents.proofs.AbbreviationFacts.{sorted_given}
-use Rattle.biblatex.specs.Library.{claims}
+use Rattle.bib_loading.specs.Library.{claims}
 use Rattle.bib_maps.specs.Names.{claimed, claims_for}
-use Rattle.biblatex.proofs.LoadedFacts.{loaded_none, loaded_next, loaded_all, fault_duplicate, fault_unreadable}
-use Rattle.biblatex.proofs.RawFacts.{entry_same, fault_same}
-use Rattle.biblatex.proofs.reading.load_entries.Goals as goal
+use Rattle.bib_loading.proofs.LoadedFacts.{loaded_none, loaded_next, loaded_all, fault_duplicate, fault_unreadable}
+use Rattle.bib_loading.proofs.RawFacts.{entry_same, fault_same}
+use Rattle.bib_loading.proofs.reading.load_entries.Goals as goal
 
 pub entries-init : goal.entries-init
 entries-init c = record {

@@ -1,8 +1,8 @@
 use Rattle.std.proofs.Common.{◌≡◌, take}
 use Rattle.std.specs.List.{AllZip}
 use Rattle.bib_contents.specs.Abbreviations.{given_by}
-use Rattle.biblatex.proofs.LoadingFacts.{IsRead}
-use Rattle.biblatex.proofs.loading.read_entry.Given as goal
+use Rattle.bib_loading.proofs.LoadingFacts.{IsRead}
+use Rattle.bib_loading.proofs.loading.read_entry.Given as goal
 
 -- the fields so far are read
 abbrev pub invariant-fields : goal.invariant-fields

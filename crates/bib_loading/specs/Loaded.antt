@@ -15,7 +15,7 @@ use Rattle.bib_syntax.specs.declared.raw.ParseError.{ParseError}
 use Rattle.bib_syntax.specs.declared.raw.ParseErrorKind.TheVariants.{DuplicateKey}
 use Rattle.bib_tables.specs.EntryType.{entry_type_of}
 use Rattle.bib_entry.specs.declared.entry.Entry.{Entry}
-use Rattle.biblatex.specs.Library.{Library, claims, appended}
+use Rattle.bib_loading.specs.Library.{Library, claims, appended}
 
 -- the definition of an abbreviation is its last one in the file, wherever it stands
 abbrev pub definition_in : List FieldReading → Definitions

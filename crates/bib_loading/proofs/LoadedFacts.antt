@@ -18,12 +18,12 @@ use Rattle.bib_contents.specs.Abbreviations.{Definitions}
 use Rattle.bib_syntax.specs.Reading.{FieldReading, EntryReading}
 use Rattle.bib_contents.proofs.LawFacts.{evaluates_same}
 use Rattle.bib_entry.specs.declared.entry.Entry.{Entry}
-use Rattle.biblatex.specs.Library.{Library, claims, aliases, appended, nothing}
+use Rattle.bib_loading.specs.Library.{Library, claims, aliases, appended, nothing}
 use Rattle.bib_chunks.specs.Lists.{comma_texts}
-use Rattle.biblatex.specs.Loaded.{AllCanBeRead, IsEntry, AreEntries, IsFaultOfFields, IsFaultOfEntries, Says, field_in, is_claimed, loaded_behind}
+use Rattle.bib_loading.specs.Loaded.{AllCanBeRead, IsEntry, AreEntries, IsFaultOfFields, IsFaultOfEntries, Says, field_in, is_claimed, loaded_behind}
 use Rattle.bib_maps.specs.Names.{ArePlacesBelow, claimed, claims_for}
 use Rattle.bib_maps.specs.Sorted.{ByText, by_bytes}
-use Rattle.biblatex.proofs.LibraryFacts.{below_empty, below_claimed, below_more}
+use Rattle.bib_loading.proofs.LibraryFacts.{below_empty, below_claimed, below_more}
 
 -- what a field `ids` of two entries claims
 aliases_found : (definitions : Definitions) (found : Option FieldReading) (one two : Option (List (Spanned Chunk)))

@@ -13,8 +13,8 @@ use Rattle.bib_syntax.specs.declared.raw.Pair.{Pair}
 use Rattle.bib_syntax.specs.declared.raw.RawEntry.{RawEntry}
 use Rattle.bib_syntax.specs.declared.raw.ParseError.{ParseError}
 use Rattle.bib_entry.specs.declared.entry.Entry.{Entry}
-use Rattle.biblatex.specs.Loading.{IsEntryOf, IsFieldsFault, AreReadable, IsFieldOf, last_definition, last_field}
-use Rattle.biblatex.specs.Loaded.{IsEntry, IsFaultOfFields, AllCanBeRead, Says, definition_in, field_in, name_of}
+use Rattle.bib_loading.specs.Loading.{IsEntryOf, IsFieldsFault, AreReadable, IsFieldOf, last_definition, last_field}
+use Rattle.bib_loading.specs.Loaded.{IsEntry, IsFaultOfFields, AllCanBeRead, Says, definition_in, field_in, name_of}
 
 -- finding goes through what each element is taken for
 find_map : {A B : Type 0} (test : B → Bool) (f : A → B) (xs : List A) → find test (map f xs) ≡ option_map f (find (λ x. test (f x)) xs)

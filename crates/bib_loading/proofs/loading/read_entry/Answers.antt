@@ -4,9 +4,9 @@ use Rattle.std.specs.List.{AllZip}
 use Rattle.std.proofs.lemmas.List.{take_all}
 use Rattle.std.proofs.lemmas.Result.{err_from_is_err_and}
 use Rattle.bib_contents.specs.Abbreviations.{given_by}
-use Rattle.biblatex.proofs.LoadingFacts.{IsRead, IsFound, are_readable, found_last, read_more, refused_at}
-use Rattle.biblatex.specs.Loading.{last_field}
-use Rattle.biblatex.proofs.loading.read_entry.Goals as goal
+use Rattle.bib_loading.proofs.LoadingFacts.{IsRead, IsFound, are_readable, found_last, read_more, refused_at}
+use Rattle.bib_loading.specs.Loading.{last_field}
+use Rattle.bib_loading.proofs.loading.read_entry.Goals as goal
 
 pub fields-preserved : goal.fields-preserved
 fields-preserved c = record {

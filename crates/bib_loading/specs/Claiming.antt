@@ -1,11 +1,11 @@
--- Machinery: words of private contracts.
+-- Meaning: words of public contracts.
 -- Entries as they are read, with the names that they claim.
 use Rattle.std.specs.Prelude.{◌≡◌, ℕ, List, []}
 use Rattle.bib_contents.specs.Abbreviations.{Definitions}
 use Rattle.bib_syntax.specs.Reading.{EntryReading}
 use Rattle.bib_entry.specs.declared.entry.Entry.{Entry}
-use Rattle.biblatex.specs.Loaded.{AreEntries, loaded_behind}
-use Rattle.biblatex.specs.Library.{nothing}
+use Rattle.bib_loading.specs.Loaded.{AreEntries, loaded_behind}
+use Rattle.bib_loading.specs.Library.{nothing}
 use Rattle.bib_maps.specs.Sorted.{ByText}
 
 -- the entries are what a file says, and each name points where it was last claimed

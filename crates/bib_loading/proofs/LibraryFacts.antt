@@ -10,7 +10,7 @@ use Rattle.std.specs.FinMap.{get-empty, get-insert}
 use Rattle.bib_entry.specs.declared.entry.Entry.{Entry}
 use Rattle.bib_maps.specs.Sorted.{ByText, by_bytes}
 use Rattle.bib_maps.specs.Names.{claimed, claims_for, moved, without_place, ArePlacesBelow}
-use Rattle.biblatex.specs.Library.{Library, place_of, entry_of}
+use Rattle.bib_loading.specs.Library.{Library, place_of, entry_of}
 use Rattle.bib_maps.proofs.NamesFacts.{get-without_place}
 
 same_value : {A : Type 0} (x y : A) → Some x ≡ Some y → x ≡ y

@@ -4,7 +4,7 @@ use Rattle.std.specs.Prelude.{[]}
 use Rattle.bib_contents.specs.Abbreviations.{Definitions, IsFirstFault, is_verbatim_field}
 use Rattle.bib_syntax.specs.declared.raw.Pair.{Pair}
 use Rattle.bib_syntax.specs.declared.raw.ParseError.{ParseError}
-use Rattle.biblatex.specs.Loading.{IsFieldReadable, field_name, pieces_of}
+use Rattle.bib_loading.specs.Loading.{IsFieldReadable, field_name, pieces_of}
 
 -- a field can't be read, and this is its first fault
 abbrev pub IsFieldFault : Definitions → Pair → ParseError → Type 0

@@ -3,8 +3,8 @@
 ghost use Rattle.std.specs.Prelude.{◌≡◌, ◌⊎◌, OnOk, IfOk, IfErr, List, ℕ};
 ghost use Rattle.bib_contents.specs.Abbreviations.{given_by, sorted_in};
 ghost use Rattle.bib_syntax.specs.Faults.{out_of_memory};
-ghost use Rattle.biblatex.specs.Loading.{IsEntryOf, IsFieldOf, IsFieldReadable, IsFieldsFault, field_name, last_definition};
-ghost use Rattle.biblatex.specs.Reading.{IsFieldFault};
+ghost use Rattle.bib_loading.specs.Loading.{IsEntryOf, IsFieldOf, IsFieldReadable, IsFieldsFault, field_name, last_definition};
+ghost use Rattle.bib_loading.specs.Reading.{IsFieldFault};
 
 use bib_chunks::chunk::Chunks;
 use bib_contents::resolve::FieldReader;

@@ -2,8 +2,8 @@ use Rattle.std.proofs.Common.{◌≡◌, map}
 use Rattle.std.specs.Vec.Iter.{into_iter_items}
 use Rattle.bib_contents.specs.Abbreviations.{pairs_in, sorted_in}
 use Rattle.bib_syntax.specs.Views.{entry_of}
-use Rattle.biblatex.proofs.LoadedFacts.{LoadedSoFar}
-use Rattle.biblatex.proofs.reading.load_entries.Given as goal
+use Rattle.bib_loading.proofs.LoadedFacts.{LoadedSoFar}
+use Rattle.bib_loading.proofs.reading.load_entries.Given as goal
 
 -- the entries so far were read, and their names are claimed
 abbrev pub invariant-entries : goal.invariant-entries

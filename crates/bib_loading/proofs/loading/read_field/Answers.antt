@@ -1,5 +1,5 @@
 use Rattle.std.proofs.Common.{◌∙◌}
-use Rattle.biblatex.proofs.loading.read_field.Goals as goal
+use Rattle.bib_loading.proofs.loading.read_field.Goals as goal
 
 pub returns-clause-value : goal.returns-clause-value
 returns-clause-value c =

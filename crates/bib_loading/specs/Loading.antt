@@ -13,7 +13,7 @@ use Rattle.bib_syntax.specs.declared.raw.ParseError.{ParseError}
 use Rattle.bib_syntax.specs.declared.raw.RawEntry.{RawEntry}
 use Rattle.bib_tables.specs.EntryType.{entry_type_of}
 use Rattle.bib_entry.specs.declared.entry.Entry.{Entry}
-use Rattle.biblatex.specs.Loaded.{AreContents}
+use Rattle.bib_loading.specs.Loaded.{AreContents}
 
 -- the elements of a value
 abbrev pub pieces_of : Pair → List Piece

@@ -1,0 +1,4 @@
+pub mod LibraryFacts
+pub mod LoadedFacts
+pub mod LoadingFacts
+pub mod RawFacts
