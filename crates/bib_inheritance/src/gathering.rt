@@ -143,7 +143,7 @@ fn copies(
     ensures { IfOk result (λ copies. (name : List ℕ) → option_map styled (first_named copies.items name) ≡
         (if is_some (fields_of own.now name) then None else lent loans.entry name)) }
 {
-    let mut copies = Vec::new(alloc);
+    let mut copies = Vec::with_capacity(alloc, loans.len())?;
     'loans: for (name, chunks) in loans {
         if own.get(name).is_some() {
             continue 'loans;

@@ -11,17 +11,19 @@ use bib_maps::text_map::TextMap;
 use bib_text::text::Text;
 use std::alloc::{AllocError, Global};
 
-// Fields, with those of others that they lack, and without `xdata`, which has done its work.
+// Fields, with those of others that they lack, and without `xdata`, which has done its work. There is room for as many
+// more as are said.
 fn with_fields(
     own: TextMap<Chunks>,
     given: Vec<(Text, Chunks)>,
+    more: usize,
 ) -> Result<TextMap<Chunks>, AllocError>
     ensures { IfOk result (λ fields. (name : List ℕ) → by_name.get fields name ≡
         plain_field (by_name.get own) (first_named given.items) name) }
 {
     let mut given = given;
     let mut pairs = own.into_pairs();
-    pairs.reserve_exact(given.len())?;
+    pairs.reserve_exact(given.len().saturating_add(more))?;
     pairs.append(&mut given)?;
     pairs.reverse();
     let mut fields = TextMap::from_pairs(pairs)?;
@@ -54,7 +56,7 @@ pub fn inherit(
     ensures { IfOk result (λ fields. (name : List ℕ) → by_name.get fields name ≡
         field_by date (by_name.get own) (first_named given.items) name) }
 {
-    let mut fields = with_fields(own, given)?;
+    let mut fields = with_fields(own, given, usize::from(date.is_some()))?;
     if let Some(date) = date {
         set_date(alloc, &mut fields, date)?;
     }

@@ -174,6 +174,15 @@ by_bytes-IsAntisymmetric = slice_cmp-IsAntisymmetric nat_cmp-IsAntisymmetric
 pub no_pairs : {V : Type 0} (es : List (List ℕ × V)) → es ≡ [] → from_sorted {R = by_bytes} es ≡ map.empty
 no_pairs es none = subst (λ l. from_sorted {R = by_bytes} l ≡ map.empty) (sym none) (empty_of_len _ (len-entries _ ∙ ap length (entries-from_sorted by_bytes [] tt)))
 
+-- without a name that isn't there, a map is the same
+pub remove_absent : {V : Type 0} (m : ByText V) (k : List ℕ) → map.get m k ≡ None → m ≡ map.remove m k
+remove_absent m k none = sym (same_map nat_list_cmp_total by_bytes-IsAntisymmetric _ _ (λ q.
+    get-remove nat_list_cmp_total m k q
+    ∙ elim (eq_by_cmp by_bytes q k) as (λ b. eq_by_cmp by_bytes q k ≡ b → cond b None (map.get m q) ≡ map.get m q) [
+      | true ↦ λ e. sym (ap (map.get m) (by_bytes-IsAntisymmetric q k (tied _ (holds _ e))) ∙ none)
+      | false ↦ λ e. refl
+    ] refl))
+
 -- what is not found is not there
 pub not_found : {V A : Type 0} {r : Option V} → r ≡ None → IsSome r → A
 not_found none some = absurd (subst (λ o. IsSome o → ⊥) (sym none) (λ e. false≢true e) some)
@@ -190,6 +199,11 @@ module _ {V : Type 0} (m : ByText V) (es : List (List ℕ × V)) (is : from_sort
 module _ {V : Type 0} (m : ByText V) (es : List (List ℕ × V)) (is : from_sorted es ≡ m) (sorted : IsSorted es) (k : List ℕ) where
   h : T (is_sorted by_bytes es)
   h = holds _ sorted
+
+  -- what looking through the pairs finds
+  pub get_found : map.get m k ≡ find by_bytes k es
+  unfolding h
+  get_found = subst (λ n. map.get n k ≡ find by_bytes k es) is (get-from_sorted by_bytes es k h)
 
   module _ (i : ℕ) (at : IsPlaceOf es k i) where
     pub get_at : (d : List ℕ × V) → map.get m k ≡ Some (get_or es i d).1

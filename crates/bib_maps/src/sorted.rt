@@ -1,8 +1,9 @@
 //! Pairs of a name and a value, sorted by the names' bytes, each name once.
 
 ghost use Rattle.std.specs.Prelude.{◌≡◌, MatchResult, IfOk, reverse};
+ghost use Rattle.std.specs.Option.{option_copied};
 ghost use Rattle.std.specs.FinMap as map;
-ghost use Rattle.bib_maps.specs.Sorted.{IsSorted, IsPlaceOf, IsGapFor, map_of};
+ghost use Rattle.bib_maps.specs.Sorted.{IsSorted, IsPlaceOf, IsGapFor, by_bytes, map_of};
 
 use bib_text::text::Text;
 use std::alloc::AllocError;
@@ -13,6 +14,19 @@ pub(crate) fn search<V>(pairs: &[(Text, V)], name: &str) -> Result<usize, usize>
     ensures { MatchResult result (IsPlaceOf pairs.now name.now) (IsGapFor pairs.now name.now) }
 {
     pairs.binary_search_by(|pair| pair.0.as_str().cmp(name))
+}
+
+// The value of the first pair of a name, for which the pairs are gone through.
+#[tactic(auto, using(crate::proofs::LookingFacts::nowhere))]
+pub(crate) fn look<'a, V>(pairs: &'a [(Text, V)], name: &str) -> Option<&'a V>
+    ensures { option_copied result ≡ map.find by_bytes name.now pairs.now }
+{
+    'pairs: for pair in pairs {
+        if name == pair.0.as_str() {
+            return Some(&pair.1);
+        }
+    }
+    None
 }
 
 // Sorts pairs. Of pairs with one name the last stands.

@@ -8,12 +8,15 @@ ghost use Rattle.std.specs.Slice.Iter.{iter_rest};
 ghost use Rattle.bib_maps.specs.TextMapLending.{LendsValue};
 ghost use Rattle.bib_maps.specs.TextMap.{AreClones, same_pairs, same_pairs_per, same_pairs_equiv};
 
-use crate::sorted::{search, sorted};
+use crate::sorted::{look, search, sorted};
 use bib_text::text::Text;
 use std::alloc::{AllocError, AllocFailed, Global};
 use std::marker::Model;
 use std::mem;
 use std::slice::Iter;
+
+// So many names are looked through faster than they are halved: most differ in their lengths already.
+const FEW: usize = 16;
 
 /// A map by text. Contracts see it as a finite map from the bytes of texts, in their order.
 #[derive(Debug, Drop)]
@@ -74,10 +77,13 @@ impl<V> TextMap<V> {
         self.pairs.is_empty()
     }
 
-    /// The value of a name, if it has one.
+    /// The value of a name, if it has one. It is found by halving, where the names are more than a few.
     pub fn get(&self, name: &str) -> Option<&V>
         ensures { option_copied result ≡ map.get self.now name.now }
     {
+        if self.pairs.len() <= FEW {
+            return look(self.pairs.as_slice(), name);
+        }
         match search(self.pairs.as_slice(), name) {
             Ok(place) => Some(&self.pairs[place].1),
             Err(_) => None,
@@ -124,6 +130,7 @@ impl<V> TextMap<V> {
         ensures had { result ≡ map.get self.old name.now }
         ensures removed { self.new ≡ map.remove self.old name.now }
     {
+        self.get(name)?;
         match search(self.pairs.as_slice(), name) {
             Ok(place) => {
                 let (_, value) = self.pairs.remove(place);

@@ -33,6 +33,10 @@ fn distinct(alloc: Global, places: &[usize]) -> Result<Vec<usize>, AllocError>
     ensures same { IfOk result (λ first. (at : ℕ → Source) (kind : EntryType) (name : List ℕ) →
         taken kind name (map at first.items) ≡ taken kind name (map at places.now)) }
 {
+    if places.len() < 2 {
+        let all = places.to_vec(alloc)?;
+        return Ok(all);
+    }
     let mut seen = BTreeSet::new(alloc);
     let mut first = Vec::new(alloc);
     'places: for place in places {

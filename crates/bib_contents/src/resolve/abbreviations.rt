@@ -18,6 +18,7 @@ use crate::resolve::definitions::LookUp;
 use crate::resolve::joining::append_copies;
 use bib_chunks::chunk::{Chunk, Chunks, Span, Spanned};
 use bib_syntax::raw::{Field, ParseError, ParseErrorKind, RawChunk, is_word};
+use bib_text::items::Items;
 use bib_text::text::Text;
 use std::alloc::{AllocError, Global};
 use std::collections::{BTreeMap, HashMap};
@@ -155,7 +156,8 @@ impl<'m, 'f, 's> Source<'m, 'f, 's> {
         ensures placed { (p : Part) → map piece_of field.now.items ≡ literal p ∷ [] →
             p.end ≡ p.start + length p.text → IfOk result (ArePlaced p.start p.end) }
     {
-        let mut out = Chunks::new(self.alloc);
+        // most fields are one chunk
+        let mut out = Items::from_vec(Vec::with_capacity(self.alloc, 1)?);
         'pieces: for piece in field {
             self.expand(memo, &mut out, piece)?;
         }

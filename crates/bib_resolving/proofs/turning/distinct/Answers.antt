@@ -1,8 +1,9 @@
-use Rattle.std.proofs.Common.{◌≡◌, ◌+◌, ◌∷◌, [], ◌∙◌, ℕ, Bool, true, false, not, refl, ap, sym, subst, get_or, eqb, take}
+use Rattle.std.proofs.Common.{map, ◌≡◌, ◌+◌, ◌∷◌, [], ◌∙◌, ℕ, Bool, true, false, not, refl, ap, sym, subst, get_or, eqb, take}
 use Rattle.std.specs.BTreeSet.{contains}
 use Rattle.std.specs.List.{All, Contains, list_any}
 use Rattle.std.specs.Ordering.{nat_cmp}
-use Rattle.std.proofs.lemmas.List.Elements.{All-append, All-cons, All-nil, Contains-get_or}
+use Rattle.std.proofs.lemmas.List.Elements.{All-append, All-cons, All-contains_itself, All-nil, Contains-get_or}
+use Rattle.bib_inheritance.specs.Inherited.{taken}
 use Rattle.bib_resolving.proofs.TurnFacts.{GivesSame, gives_again, gives_more, seen_more}
 use Rattle.bib_resolving.proofs.turning.distinct.Goals as goal
 use Rattle.bib_resolving.proofs.turning.distinct.Goals.{then-branch+in_ok-push, else-branch}
@@ -34,3 +35,9 @@ places-preserved c =
             same = subst (λ l. GivesSame l (take (i + 1) places)) (sym kept) (gives_again c.places.first.items places i c.places-test.true again c.places.invariant.same);
           }
     ]
+
+pub returns-then-places-lt2-clause-among : goal.returns-then-places-lt2-clause-among
+returns-then-places-lt2-clause-among c = rw (c.in_ok-all.ensures.items_if_clones_equal (λ x y e. e)) (All-contains_itself c.args.places.now)
+
+pub returns-then-places-lt2-clause-same : goal.returns-then-places-lt2-clause-same
+returns-then-places-lt2-clause-same c = λ at kind name. ap (λ l. taken kind name (map at l)) (c.in_ok-all.ensures.items_if_clones_equal (λ x y e. e))

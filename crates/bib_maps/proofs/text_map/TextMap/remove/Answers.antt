@@ -1,6 +1,6 @@
-use Rattle.std.proofs.Common.{Some, sym, ap, ◌∙◌}
+use Rattle.std.proofs.Common.{Some, sym, ap, ◌∙◌, rules}
 use Rattle.bib_maps.specs.Sorted.{IsPlaceOf, IsGapFor}
-use Rattle.bib_maps.proofs.SortedFacts.{get_at, get_gap, remove_at, remove_sorted, remove_gap}
+use Rattle.bib_maps.proofs.SortedFacts.{get_at, get_gap, remove_absent, remove_at, remove_sorted, remove_gap}
 use Rattle.bib_maps.proofs.text_map.TextMap.remove.Goals as goal
 
 pub invariant_of-self : goal.invariant_of-self
@@ -27,3 +27,6 @@ pub returns-in-Err-clause-removed : goal.returns-in-Err-clause-removed
 returns-in-Err-clause-removed g c =
     let gap : IsGapFor c.self.inside.pairs.items c.args.name.now c.in-Err.field-0 = rw (← c.as_slice.ensures.value) c.in-Err.ensures in
     remove_gap _ _ c.self.view_is c.self.invariant _ _ gap
+
+pub returns-in_err-get-clause-removed : goal.returns-in_err-get-clause-removed
+returns-in_err-get-clause-removed g c = remove_absent c.args.self.now c.args.name.now (search rules)
