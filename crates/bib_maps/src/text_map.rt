@@ -130,6 +130,7 @@ impl<V> TextMap<V> {
         ensures had { result ≡ map.get self.old name.now }
         ensures removed { self.new ≡ map.remove self.old name.now }
     {
+        // most names that are taken out aren't there, and a few are looked through faster
         self.get(name)?;
         match search(self.pairs.as_slice(), name) {
             Ok(place) => {
