@@ -1,6 +1,8 @@
 #!/usr/bin/env python3
 """Proves and builds crates side by side, each as soon as those that it stands on are built: prove.py [--times] [CRATE ..]
 
+The crate that the longest chain of others waits for has two processors, or more where nothing else can be done, others one.
+
 Without a crate it is `bib`, the program. What was built before and hasn't changed is taken as it is, so a run that was
 stopped goes on where it was. `--times` prints for each crate its wall time, processor seconds and jobs. RT_JOBS=N uses N
 processors.
@@ -57,7 +59,7 @@ def lanes():
 def scratch():
     """The folder of the folders in which crates are proved."""
     found = subprocess.run(["git", "rev-parse", "--absolute-git-dir"], cwd=TOP, capture_output=True, text=True)
-    return (pathlib.Path(found.stdout.strip()) if found.returncode == 0 else TOP.parent) / "prove"
+    return pathlib.Path(found.stdout.strip()) / "prove" if found.returncode == 0 else TOP.parent / f".prove-{TOP.name}"
 
 
 def link(source, target):
@@ -137,7 +139,9 @@ def prove(wanted, has_times):
                 if idle <= 0:
                     break
                 left.remove(name)
-                crate = Crate(name, rows, room, max(1, min(4, idle - (len(ready) - at - 1))))
+                is_longest = chain[name] >= max([chain[it.name] for it in running.values()], default=0)
+                spare = idle - (len(ready) - at - 1)
+                crate = Crate(name, rows, room, max(1, min(4, idle, max(2 * is_longest, spare))))
                 running[crate.run.pid] = crate
             now = " ".join(sorted(it.name for it in running.values()))
             say(f"proving: {len(done)} of {len(needed)} crates after {(time.time() - start) / 60:.1f} minutes, now {now}", False)
