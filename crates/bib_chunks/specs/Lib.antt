@@ -1,13 +1,9 @@
 pub mod Cuts
 pub mod Cutting
 pub mod Formatted
-pub mod Joining
 pub mod Lending
-pub mod Lists
 pub mod Parted
 pub mod Separated
-pub mod Settled
-pub mod Settling
 pub mod Styled
 pub mod Values
 pub mod Writing

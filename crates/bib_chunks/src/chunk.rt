@@ -8,16 +8,13 @@ ghost use Rattle.bib_chunks.specs.Written.{written_chunk};
 
 pub mod cuts;
 mod formatting;
-pub mod lists;
 pub mod making;
-mod settling;
 mod writing;
 
 use bib_text::items::Items;
 pub use bib_text::spanned::{Span, Spanned};
 use bib_text::text::Text;
-pub use formatting::{format_sentence, format_styled, format_verbatim};
-pub use settling::is_settled;
+pub use formatting::{format_sentence, format_styled, format_verbatim, is_shown};
 use std::alloc::{AllocError, Global};
 pub use writing::{value_text, write_value};
 

@@ -1,2 +1,1 @@
 pub mod EntryTypeFacts
-pub mod RequirementsFacts

@@ -19,7 +19,7 @@ use Rattle.bib_syntax.specs.Reading.{FieldReading, EntryReading}
 use Rattle.bib_contents.proofs.LawFacts.{evaluates_same}
 use Rattle.bib_entry.specs.declared.entry.Entry.{Entry}
 use Rattle.bib_file_entries.specs.Library.{Library, claims, aliases, appended, nothing}
-use Rattle.bib_chunks.specs.Lists.{comma_texts}
+use Rattle.bib_styled.specs.Lists.{comma_texts}
 use Rattle.bib_file_entries.specs.Loaded.{AllCanBeRead, IsEntry, AreEntries, IsFaultOfFields, IsFaultOfEntries, Says, field_in, is_claimed, loaded_behind}
 use Rattle.bib_maps.specs.Names.{ArePlacesBelow, claimed, claims_for}
 use Rattle.bib_maps.specs.Sorted.{ByText, by_bytes}

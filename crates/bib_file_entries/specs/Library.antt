@@ -10,7 +10,7 @@ use Rattle.bib_entry.specs.declared.entry.Entry.{Entry}
 use Rattle.bib_entry.specs.contracts.entry.Entry as entry
 use Rattle.bib_maps.specs.Sorted.{ByText}
 use Rattle.bib_maps.specs.Names.{claimed, claims_for, without_place}
-use Rattle.bib_chunks.specs.Lists.{comma_texts}
+use Rattle.bib_styled.specs.Lists.{comma_texts}
 
 -- entries in order, and the places of names
 pub record Library : Type 0 where

@@ -5,7 +5,7 @@ use Rattle.std.specs.List.{filter_map}
 use Rattle.std.specs.Option.{option_map_or}
 use Rattle.std.specs.FinMap as by_name
 use Rattle.bib_chunks.specs.Formatted.{formatted_atoms}
-use Rattle.bib_chunks.specs.Lists.{comma_texts}
+use Rattle.bib_styled.specs.Lists.{comma_texts}
 use Rattle.bib_chunks.specs.Styled.{Atom}
 use Rattle.bib_maps.specs.Sorted.{ByText}
 use Rattle.bib_inheritance.specs.Sources.{Fields}

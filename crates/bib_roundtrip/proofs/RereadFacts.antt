@@ -8,7 +8,7 @@ use Rattle.std.proofs.lemmas.Bool.{both_ways, ne_eqb, eq-eqb, or_parts, cases_Bo
 use Rattle.std.proofs.lemmas.List.{append-nil}
 use lib.Utf8.{encode}
 use Rattle.bib_chunks.specs.Styled.{Atom, styled, atoms_of}
-use Rattle.bib_chunks.specs.Settled.{IsSettledAtom, AreApart, IsSettled, is_pair}
+use Rattle.bib_styled.specs.Settled.{IsSettledAtom, AreApart, IsSettled, is_pair}
 use Rattle.bib_chunks.specs.Written.{is_grouping, is_reserved, spelled, spelling, lead, trail, is_open_behind, written_chunk, written_chunks}
 use Rattle.bib_chunks.proofs.WrittenFacts.{spelled_grouping, spelled_verbatim, spelled_reserved, spelled_tilde, spelled_circumflex, spelled_other}
 use Rattle.bib_chunks.specs.declared.chunk.Chunk.{Chunk}

@@ -13,7 +13,7 @@ use Rattle.bib_text.specs.declared.spanned.Spanned.{Spanned}
 use Rattle.bib_chunks.specs.declared.chunk.Chunk.{Chunk}
 use Rattle.bib_chunks.specs.declared.chunk.Chunk.TheVariants.{Normal, Verbatim, Math}
 use Rattle.bib_chunks.specs.Styled.{Atom, styled, atoms_of}
-use Rattle.bib_chunks.specs.Settled.{IsSettledAtom}
+use Rattle.bib_styled.specs.Settled.{IsSettledAtom}
 use Rattle.bib_chunks.specs.Written.{is_grouping, is_reserved, spelled, spelling, lead, trail, is_open_behind, written_chunk, written_chunks}
 use Rattle.bib_roundtrip.proofs.StandsFacts.{Stands, stands_none, stands_split, stands_chars, parts_stand, parts_append, parts_plain}
 

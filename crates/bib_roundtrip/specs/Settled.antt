@@ -8,7 +8,7 @@ use Rattle.bib_text.specs.Enums.{words}
 use Rattle.bib_text.specs.Places.{Run, place}
 use Rattle.bib_text.specs.declared.spanned.Spanned.{Spanned}
 use Rattle.bib_chunks.specs.declared.chunk.Chunk.{Chunk}
-use Rattle.bib_chunks.specs.Settled.{IsSettled}
+use Rattle.bib_styled.specs.Settled.{IsSettled}
 use Rattle.bib_chunks.specs.Styled.{styled}
 use Rattle.bib_entry_types.specs.VerbatimFields.{is_verbatim_field}
 use Rattle.bib_syntax.specs.Characters.{is_key}

@@ -2,7 +2,7 @@
 //! alone.
 
 ghost use Rattle.std.specs.Prelude.{Bool, false, List};
-ghost use Rattle.bib_chunks.specs.Settled.{IsSettled};
+ghost use Rattle.bib_styled.specs.Settled.{IsSettled};
 ghost use Rattle.bib_chunks.specs.Styled.{styled};
 ghost use Rattle.bib_chunks.specs.Written.{written_chunks};
 ghost use Rattle.bib_chunks.specs.declared.chunk.Chunk.{Chunk};

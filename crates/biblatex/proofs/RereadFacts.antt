@@ -21,7 +21,7 @@ use Rattle.std.proofs.lemmas.Map.Text.{is_eq-slice_cmp}
 use Rattle.bib_text.proofs.TextFacts.{chars_whole}
 use Rattle.bib_text.specs.Places.{place}
 use Rattle.bib_text.specs.declared.spanned.Spanned.{Spanned}
-use Rattle.bib_chunks.specs.Lists.{comma_texts}
+use Rattle.bib_styled.specs.Lists.{comma_texts}
 use Rattle.bib_chunks.specs.Styled.{Atom, styled}
 use Rattle.bib_chunks.specs.Written.{written_chunks}
 use Rattle.bib_chunks.specs.declared.chunk.Chunk.{Chunk}

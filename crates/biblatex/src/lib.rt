@@ -7,7 +7,7 @@ mod settled;
 pub mod sink;
 pub mod write;
 
-pub use bib_chunks::chunk::{Chunk, Chunks, ChunksRef, Span, Spanned, is_settled};
+pub use bib_chunks::chunk::{Chunk, Chunks, ChunksRef, Span, Spanned};
 pub use bib_contents::resolve::{FieldReader, is_escapable, is_verbatim_field, parse_field};
 pub use bib_dates::date::{Date, DateValue, Datetime, Time, TimeOffset};
 pub use bib_dates::separators::{parse_colon, parse_hyphen};
@@ -25,6 +25,7 @@ pub use bib_entry_types::mechanics::{AuthorMode, EntryType, PagesChapterMode, Re
 pub use bib_text::items::Items;
 pub use bib_text::scanner::Scanner;
 pub use bib_text::text::Text;
+pub use bib_styled::settling::is_settled;
 pub use bib_typed::ext::ChunksExt;
 pub use bib_typed::typed::{PermissiveType, Type};
 pub use bib_enums::types::lang::Language;

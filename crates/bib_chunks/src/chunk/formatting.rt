@@ -104,8 +104,8 @@ pub fn format_verbatim(alloc: Global, chunks: ChunksRef<'_>) -> Result<String, A
     Ok(out)
 }
 
-// Whether a chunk shows in the styled text: it isn't normal or verbatim and empty.
-pub(super) fn is_shown(chunk: &Chunk) -> bool
+/// Whether a chunk shows in the styled text: it isn't normal or verbatim and empty.
+pub fn is_shown(chunk: &Chunk) -> bool
     ensures value { result ≡ is_shown chunk.now }
     ensures text { IsUtf8 (text_of chunk.now) }
 {

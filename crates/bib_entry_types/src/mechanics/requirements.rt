@@ -1,7 +1,7 @@
 //! The fields that each type of entry asks for.
 
 ghost use Rattle.std.specs.Prelude.{◌≡◌, [], IfOk, false};
-ghost use Rattle.bib_entry_types.specs.Requirements.{texts, rules_of, forbidden_of, author_names, page_names, named_in, is_one_of, is_container, inherits};
+ghost use Rattle.bib_entry_types.specs.Requirements.{texts, rules_of, forbidden_of, author_names, page_names};
 ghost use Rattle.bib_entry_types.specs.Row.{optional_of_row, rules_of_row};
 
 mod rows;
@@ -112,9 +112,6 @@ impl Requirements {
     }
 }
 
-/// The fields that no entry takes over.
-const NEVER_INHERITED: [&str; 3] = ["title", "addendum", "note"];
-
 impl EntryType {
     /// The fields that an entry of this type has to have, may have and must not have.
     pub fn requirements(&self, alloc: Global) -> Result<Requirements, AllocError>
@@ -139,24 +136,6 @@ impl EntryType {
             page_chapter_field: row.pages,
             needs_date: row.needs_date,
         })
-    }
-
-    /// Whether an entry of this type that lacks a field of this name takes it over from an entry that it refers to.
-    /// None takes over `title`, `addendum` or `note`. Of the others `XData` takes over each, and any other type those
-    /// that it requires, may have, or knows of authors, editors, pages and chapters. It takes no memory.
-    pub fn inherits(&self, name: &str) -> bool
-        ensures { result ≡ inherits self.now name.now }
-    {
-        if is_one_of(&NEVER_INHERITED, name) {
-            return false;
-        }
-        self.is_container() || self.row().names(name)
-    }
-
-    fn is_container(&self) -> bool
-        ensures { result ≡ is_container self.now }
-    {
-        matches!(self, Self::XData)
     }
 
     /// What this type asks for, lent by the table of types. It takes no memory.
@@ -242,31 +221,4 @@ impl Row {
         }
         Ok(names)
     }
-
-    /// Whether a name is one of those that the row knows.
-    fn names(&self, name: &str) -> bool
-        ensures { result ≡ is_one_of (named_in (rules_of_row self.now)) name.now }
-    {
-        is_one_of(self.required, name)
-            || self.allows(name)
-            || is_one_of(self.pages.possible(), name)
-            || is_one_of(self.author.possible(), name)
-    }
-
-    fn allows(&self, name: &str) -> bool
-        ensures { result ≡ is_one_of (optional_of_row self.now) name.now }
-    {
-        for group in self.optional {
-            if is_one_of(group, name) {
-                return true;
-            }
-        }
-        false
-    }
-}
-
-fn is_one_of(names: &[&str], name: &str) -> bool
-    ensures { result ≡ is_one_of (texts names.entry.now) name.now }
-{
-    names.contains(&name)
 }

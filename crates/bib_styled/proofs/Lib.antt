@@ -1,0 +1,3 @@
+mod BraceFacts
+pub mod ListFacts
+mod SettledFacts

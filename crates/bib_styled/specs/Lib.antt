@@ -1,0 +1,4 @@
+pub mod Joining
+pub mod Lists
+pub mod Settled
+pub mod Settling

@@ -1,0 +1,150 @@
+//! Whether chunks are read again as they were, once they are written.
+
+ghost use Rattle.std.specs.Prelude.{◌≡◌, ◌==◌, ◌↔◌, [], IsTrue, MatchBool, MatchOption};
+ghost use Rattle.std.specs.List.{list_any};
+ghost use Rattle.std.specs.Str.{chars};
+ghost use Rattle.bib_text.specs.Braces.{IsParts};
+ghost use Rattle.bib_styled.specs.Settled.{is_pair, IsSettled};
+ghost use Rattle.bib_styled.specs.Settling.{MayFollow, behind, character_atom, text_atoms, Continues, IsStuck, ContinuesIn, IsStuckIn, IsSettledMath};
+ghost use Rattle.bib_chunks.specs.Styled.{atoms_of, styled};
+
+use bib_chunks::chunk::{Chunk, ChunksRef};
+use bib_text::scanner::Scanner;
+
+// What stands before an atom: a normal or a verbatim character, or nothing that could run together with it.
+#[derive(Clone, Copy)]
+enum Before {
+    Nothing,
+    Normal(char),
+    Verbatim(char),
+}
+
+// Whether the two characters are read as one unit where they are neighbours.
+fn is_pair(c: char, d: char) -> bool
+    ensures { result ≡ is_pair c d }
+{
+    (c == ' ' && d == ' ') || (c == '-' && d == '-')
+}
+
+// Whether a character may stand behind what stands before it.
+fn may_follow(before: Before, c: char, is_braced: bool) -> bool
+    ensures { MatchBool result (MayFollow before (character_atom is_braced c))
+        (MayFollow before (character_atom is_braced c) → ⊥) }
+{
+    if c.is_whitespace() && c != ' ' {
+        return false;
+    }
+    match before {
+        Before::Nothing => true,
+        Before::Normal(b) => is_braced || !is_pair(b, c),
+        Before::Verbatim(b) => !is_braced || !is_pair(b, c),
+    }
+}
+
+// What stands before the atom behind a character.
+fn behind(c: char, is_braced: bool) -> Before
+    ensures { result ≡ behind (character_atom is_braced c) }
+{
+    if is_braced {
+        return Before::Verbatim(c);
+    }
+    Before::Normal(c)
+}
+
+// What stands behind a text, if its characters may stand there.
+fn behind_text(text: &str, is_braced: bool, before: Before) -> Option<Before>
+    ensures { MatchOption result (IsStuck before (text_atoms is_braced (chars text.now)))
+        (λ after. Continues before (text_atoms is_braced (chars text.now)) after []) }
+{
+    let mut scanner = Scanner::new(text);
+    let mut last = before;
+    'text: while let Some(c) = scanner.eat() {
+        if !may_follow(last, c, is_braced) {
+            return None;
+        }
+        last = behind(c, is_braced);
+    }
+    Some(last)
+}
+
+// Whether a dollar sign stands in the text.
+fn holds_dollar(text: &str) -> bool
+    ensures { result ≡ list_any (λ c. c == 36) (chars text.now) }
+{
+    let mut scanner = Scanner::new(text);
+    scanner.eat_while(|c| c != '$');
+    scanner.eat().is_some()
+}
+
+// Whether the braces of a text balance.
+fn is_parts(text: &str) -> bool
+    ensures { MatchBool result (IsParts text.now) (IsParts text.now → ⊥) }
+{
+    let mut scanner = Scanner::new(text);
+    let mut depth = 0usize;
+    'parts: while let Some(c) = scanner.eat() {
+        if c == '{' {
+            depth += 1;
+            continue 'parts;
+        }
+        if c == '}' {
+            if depth == 0 {
+                return false;
+            }
+            depth -= 1;
+            continue 'parts;
+        }
+        if c == '\\' {
+            let Some(_) = scanner.eat() else {
+                return false;
+            };
+        }
+    }
+    depth == 0
+}
+
+// Whether a math text is read again as it was.
+fn is_settled_math(text: &str) -> bool
+    ensures { MatchBool result (IsSettledMath text.now) (IsSettledMath text.now → ⊥) }
+{
+    if holds_dollar(text) {
+        return false;
+    }
+    is_parts(text)
+}
+
+// What stands behind a chunk, if its atoms may stand there.
+fn behind_chunk(chunk: &Chunk, is_verbatim: bool, before: Before) -> Option<Before>
+    ensures { MatchOption result (IsStuckIn is_verbatim before (atoms_of chunk.now))
+        (λ after. ContinuesIn is_verbatim before (atoms_of chunk.now) after []) }
+{
+    match chunk {
+        Chunk::Normal(text) => behind_text(text.as_str(), false, before),
+        Chunk::Verbatim(text) => behind_text(text.as_str(), true, before),
+        Chunk::Math(text) => {
+            if is_verbatim {
+                return None;
+            }
+            if !is_settled_math(text.as_str()) {
+                return None;
+            }
+            Some(Before::Nothing)
+        }
+    }
+}
+
+/// Whether a value of a field, verbatim or not, is read again with the same styled text once it is written: its white
+/// space is U+0020 alone, no two spaces or hyphens of one kind are neighbours, and math, outside verbatim fields only,
+/// holds no dollar sign and has its braces in balance. Takes no memory.
+pub fn is_settled(chunks: ChunksRef<'_>, is_verbatim: bool) -> bool
+    ensures { IsTrue result ↔ IsSettled (styled chunks.now) is_verbatim }
+{
+    let mut before = Before::Nothing;
+    'chunks: for chunk in chunks {
+        let Some(after) = behind_chunk(&chunk.v, is_verbatim, before) else {
+            return false;
+        };
+        before = after;
+    }
+    true
+}
