@@ -5,7 +5,11 @@ use std::alloc::{AllocError, Global};
 
 /// Whether the contents of a field with this name are verbatim.
 pub fn is_verbatim(alloc: Global, name: &str) -> Result<String, AllocError> {
-    let answer = if is_verbatim_field(name) { "true" } else { "false" };
+    let answer = if is_verbatim_field(name) {
+        "true"
+    } else {
+        "false"
+    };
     String::from_str(alloc, answer)
 }
 

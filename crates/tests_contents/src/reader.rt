@@ -43,7 +43,7 @@ fn field_text<'s>(
     }
 }
 
-// The contents of an entry's fields, a stroke before each.
+// The contents of an entry's fields, a bar before each.
 fn fields_text<'s>(
     alloc: Global,
     reader: &mut FieldReader<'_, 's>,
@@ -52,7 +52,7 @@ fn fields_text<'s>(
     let mut out = String::new(alloc);
     for field in fields {
         let text = field_text(alloc, reader, field)?;
-        out.push_str(" / ")?;
+        out.push('|')?;
         out.push_str(text.as_str())?;
     }
     Ok(out)
@@ -68,7 +68,7 @@ fn last_entry_text(alloc: Global, raw: &RawBibliography<'_>) -> Result<String, A
     }
 }
 
-/// The contents of the fields of a file's last entry, each a text or an error, with a stroke before each.
+/// The contents of the fields of a file's last entry, each a text or an error, a bar before each.
 pub fn fields(alloc: Global, file: &str) -> Result<String, AllocError> {
     match parsed(alloc, file) {
         Ok(raw) => last_entry_text(alloc, &raw),

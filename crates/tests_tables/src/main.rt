@@ -39,8 +39,8 @@ fn of_enumerations(alloc: Global, call: &str, text: &str) -> Result<Option<Strin
 // What a call on the types of entries answers.
 fn of_entry_types(alloc: Global, call: &str, text: &str) -> Result<Option<String>, AllocError> {
     Ok(Some(match call {
-        "EntryType" => entry_types::entry_type(alloc, text)?,
-        "from_str" => entry_types::named(alloc, text)?,
+        "EntryType::new" => entry_types::entry_type(alloc, text)?,
+        "EntryType::from_str" => entry_types::named(alloc, text)?,
         "==" => entry_types::are_same(alloc, text)?,
         "inherits" => requirements::inherited(alloc, text)?,
         "required" => requirements::required(alloc, text)?,

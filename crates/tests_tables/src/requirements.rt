@@ -44,7 +44,10 @@ pub fn none(alloc: Global) -> Result<String, AllocError> {
     let optional = none.optional.len();
     let forbidden = none.forbidden.len();
     let modes = modes_text(alloc, &none)?;
-    Ok(format!(in alloc; "{required} / {optional} / {forbidden} / {}", modes.as_str())?)
+    Ok(format!(in alloc;
+        "{required} / {optional} / {forbidden} / {}",
+        modes.as_str()
+    )?)
 }
 
 /// Those of the names after a type's name that an entry of the type takes over.
