@@ -1,5 +1,5 @@
-//! Reads rows, a call on chunks or on the contents of fields and a text in each line, and prints each with what the call
-//! answers.
+//! Reads rows, a call on chunks or on the contents of fields and a text in each line, and prints each with what the
+//! call answers.
 #![tactic(auto)]
 
 mod characters;
@@ -33,7 +33,6 @@ fn of_fields(alloc: Global, call: &str, text: &str) -> Result<Option<String>, Al
         "field" => fields::field(alloc, text)?,
         "field with bytes" => fields::field_with_bytes(alloc, text)?,
         "reader" => reader::fields(alloc, text)?,
-        "is_verbatim_field" => characters::is_verbatim(alloc, text)?,
         "is_escapable(false, false)" => characters::escapable(alloc, text, false, false)?,
         "is_escapable(false, true)" => characters::escapable(alloc, text, false, true)?,
         "is_escapable(true, false)" => characters::escapable(alloc, text, true, false)?,

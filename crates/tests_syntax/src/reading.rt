@@ -1,5 +1,5 @@
-//! The raw reading of a file as a text: the preamble, the abbreviations and the entries, each with its bytes. An element
-//! is `N<text>[0-2]`, and `A<name>[0-2]` where it is the name of an abbreviation.
+//! The raw reading of a file as a text: the preamble, the abbreviations and the entries, each with its bytes. An
+//! element is `N<text>[0-2]`, and `A<name>[0-2]` where it is the name of an abbreviation.
 
 use bib_syntax::raw::{BiblatexParser, Pair, ParseError, RawBibliography, RawChunk, RawEntry};
 use bib_text::spanned::{Span, Spanned};

@@ -1,6 +1,6 @@
 //! Types of entries by their names.
 
-use bib_tables::mechanics::EntryType;
+use bib_entry_types::mechanics::EntryType;
 use std::alloc::{AllocError, Global};
 use std::str::FromStr;
 
@@ -11,8 +11,8 @@ fn names(alloc: Global, kind: &EntryType) -> Result<String, AllocError> {
     Ok(format!(in alloc; "{kind} / {biblatex} / {bibtex}")?)
 }
 
-/// The type of a name, as it is written, and those of BibLaTeX and BibTeX that stand for it; then whether it has several
-/// volumes and whether it holds other works, and the text that an unknown type keeps.
+/// The type of a name, as it is written, and those of BibLaTeX and BibTeX that stand for it; then whether it has
+/// several volumes and whether it holds other works, and the text that an unknown type keeps.
 pub fn entry_type(alloc: Global, name: &str) -> Result<String, AllocError> {
     let kind = EntryType::new(alloc, name)?;
     let mut out = names(alloc, &kind)?;

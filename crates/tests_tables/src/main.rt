@@ -2,6 +2,7 @@
 #![tactic(auto)]
 
 mod entry_types;
+mod fields;
 mod genders;
 mod lists;
 mod names;
@@ -42,6 +43,7 @@ fn of_entry_types(alloc: Global, call: &str, text: &str) -> Result<Option<String
         "EntryType::new" => entry_types::entry_type(alloc, text)?,
         "EntryType::from_str" => entry_types::named(alloc, text)?,
         "==" => entry_types::are_same(alloc, text)?,
+        "is_verbatim_field" => fields::is_verbatim(alloc, text)?,
         "inherits" => requirements::inherited(alloc, text)?,
         "required" => requirements::required(alloc, text)?,
         "optional" => requirements::optional(alloc, text)?,
