@@ -1,8 +1,8 @@
 //! The cursor over a text, and values that know where they stand: each call once.
 
 use crate::checks::agrees;
-use bib_chunks::chunk::Spanned;
 use bib_text::scanner::Scanner;
+use bib_text::spanned::Spanned;
 use std::test::Fail;
 
 #[test]

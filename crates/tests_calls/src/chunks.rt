@@ -1,0 +1,18 @@
+//! The text of a chunk, lent and changed.
+
+use crate::checks::agrees;
+use bib_chunks::chunk::Chunk;
+use bib_text::text::Text;
+use std::test::Fail;
+
+#[test]
+fn gets_and_changes_texts(rt: HostRuntime) -> Result<(), Fail> {
+    let alloc = rt.alloc();
+    let mut chunk = Chunk::Math(Text::from_str(alloc, "x")?);
+    chunk.get_mut().push_str("^2")?;
+    agrees(&rt, chunk.get(), "x^2");
+    assert!(rt; chunk == Chunk::Math(Text::from_str(alloc, "x^2")?));
+    assert!(rt; chunk != Chunk::Verbatim(Text::from_str(alloc, "x^2")?));
+    assert!(rt; chunk.clone()? == chunk);
+    Ok(())
+}
