@@ -1,6 +1,7 @@
 //! Chunks, cut at commas, at words `and` and at a separator.
 
-use bib_chunks::chunk::{Chunks, cuts, format_verbatim, lists};
+use bib_chunks::chunk::{Chunks, cuts, format_verbatim};
+use bib_styled::lists;
 use bib_text::items::Items;
 use std::alloc::{AllocError, Global};
 use tests_support::chunks::{chunks_of, push_chunks};

@@ -2,8 +2,8 @@
 
 use std::alloc::{AllocError, Global};
 
-/// Adds a name after a blank, the first one without.
-pub fn push_name(out: &mut String, name: &str) -> Result<(), AllocError> {
+// Adds a name after a blank, the first one without.
+fn push_name(out: &mut String, name: &str) -> Result<(), AllocError> {
     if !out.is_empty() {
         out.push(' ')?;
     }

@@ -44,7 +44,6 @@ fn of_entry_types(alloc: Global, call: &str, text: &str) -> Result<Option<String
         "EntryType::from_str" => entry_types::named(alloc, text)?,
         "==" => entry_types::are_same(alloc, text)?,
         "is_verbatim_field" => fields::is_verbatim(alloc, text)?,
-        "inherits" => requirements::inherited(alloc, text)?,
         "required" => requirements::required(alloc, text)?,
         "optional" => requirements::optional(alloc, text)?,
         "forbidden" => requirements::forbidden(alloc, text)?,

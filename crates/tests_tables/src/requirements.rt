@@ -1,6 +1,6 @@
-//! What types of entries ask for and take over.
+//! What types of entries ask for.
 
-use crate::lists::{joined, push_name};
+use crate::lists::joined;
 use bib_entry_types::mechanics::{EntryType, Requirements};
 use std::alloc::{AllocError, Global};
 
@@ -48,17 +48,4 @@ pub fn none(alloc: Global) -> Result<String, AllocError> {
         "{required} / {optional} / {forbidden} / {}",
         modes.as_str()
     )?)
-}
-
-/// Those of the names after a type's name that an entry of the type takes over.
-pub fn inherited(alloc: Global, text: &str) -> Result<String, AllocError> {
-    let (kind, names) = text.split_once(' ').unwrap_or((text, ""));
-    let kind = EntryType::new(alloc, kind)?;
-    let mut out = String::new(alloc);
-    for name in names.split(' ') {
-        if kind.inherits(name) {
-            push_name(&mut out, name)?;
-        }
-    }
-    Ok(out)
 }
