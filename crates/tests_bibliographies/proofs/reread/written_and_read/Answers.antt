@@ -1,5 +1,5 @@
-use Rattle.conformance_writers.proofs.Again.{loaded_again, not_refused}
-use Rattle.conformance_writers.proofs.reread.written_and_read.Goals as goal
+use Rattle.tests_bibliographies.proofs.Again.{loaded_again, not_refused}
+use Rattle.tests_bibliographies.proofs.reread.written_and_read.Goals as goal
 
 pub returns-clause-same : goal.returns-clause-same
 returns-clause-same c settled =

@@ -9,7 +9,7 @@ use biblatex::{Bibliography, ParseError};
 use std::alloc::Global;
 
 /// What is read of what is written of a bibliography. Of a settled one, it has the entries in order, in BibLaTeX's types
-/// and fields, with equal styled texts; only want of memory keeps it back.
+/// and fields, with equal styled texts; only being out of memory prevents it.
 pub fn written_and_read(alloc: Global, library: &Bibliography) -> Result<Bibliography, ParseError>
     ensures same { AreSettled library.now.entries →
         IfOk result (λ read. AllZip IsMapped library.now.entries read.entries) }
