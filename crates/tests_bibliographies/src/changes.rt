@@ -21,7 +21,7 @@ fn misc(alloc: Global, key: &str) -> Result<Entry, AllocError> {
     Ok(Entry::new(alloc, key, EntryType::Misc))
 }
 
-// Sets a field, and hands out what it held. (It and the next four have no contracts, so that who calls them proves
+// Sets a field, and hands out what it held. (It and the next three have no contracts, so that who calls them proves
 // nothing again.)
 fn set(entry: &mut Entry, name: &str, chunks: Chunks) -> Result<Option<Chunks>, AllocError> {
     match entry.set(name, chunks) {
@@ -33,11 +33,6 @@ fn set(entry: &mut Entry, name: &str, chunks: Chunks) -> Result<Option<Chunks>, 
 // Takes a field out.
 fn unset(entry: &mut Entry, name: &str) -> Option<Chunks> {
     entry.remove(name)
-}
-
-// The entry that a name points to, to be changed.
-fn lent<'a>(library: &'a mut Bibliography, name: &str) -> Option<&'a mut Entry> {
-    library.get_mut(name)
 }
 
 // Adds an entry, and hands out the one that it exchanged.
@@ -88,7 +83,7 @@ fn alias(alloc: Global, library: &mut Bibliography, words: &str) -> Result<Strin
 // `NAME FIELD=TEXT`: sets a field of an entry that is lent; what it held.
 fn set_lent(alloc: Global, library: &mut Bibliography, words: &str) -> Result<String, AllocError> {
     let (name, field) = cut(words, ' ');
-    match lent(library, name) {
+    match library.get_mut(name) {
         Some(entry) => set_field(alloc, entry, field),
         None => String::from_str(alloc, "no entry"),
     }
@@ -101,7 +96,7 @@ fn unset_lent(
     words: &str,
 ) -> Result<String, AllocError> {
     let (name, field) = cut(words, ' ');
-    match lent(library, name) {
+    match library.get_mut(name) {
         Some(entry) => {
             let had = unset(entry, field);
             text_or_dash(alloc, had.as_ref().map(|it| it.as_slice()))
@@ -114,7 +109,7 @@ fn unset_lent(
 fn rename(alloc: Global, library: &mut Bibliography, words: &str) -> Result<String, AllocError> {
     let (name, key) = cut(words, ' ');
     let key = Text::from_str(alloc, key)?;
-    match lent(library, name) {
+    match library.get_mut(name) {
         Some(entry) => {
             entry.key = key;
             String::from_str(alloc, "done")
@@ -141,12 +136,15 @@ fn exchange_clone(alloc: Global, library: &mut Bibliography) -> Result<String, A
 }
 
 // Exchanges the bibliography for what is written and read again of it.
-fn exchange_again(alloc: Global, library: &mut Bibliography) -> Result<String, ParseError> {
-    let Some(again) = read_again(alloc, library) else {
-        return Ok(String::from_str(alloc, "not settled")?);
-    };
-    *library = again?;
-    Ok(String::from_str(alloc, "done")?)
+fn exchange_again(alloc: Global, library: &mut Bibliography) -> Result<String, AllocError> {
+    match read_again(alloc, library) {
+        Some(Ok(again)) => {
+            *library = again;
+            String::from_str(alloc, "done")
+        }
+        Some(Err(error)) => error.to_string(alloc),
+        None => String::from_str(alloc, "not settled"),
+    }
 }
 
 // The keys of the entries that a bibliography gives away, one after another.
@@ -160,21 +158,21 @@ fn give_away(alloc: Global, library: &mut Bibliography) -> Result<String, AllocE
 }
 
 // Takes a step: its verb, and words after it. A step that changes nothing asks.
-fn step(alloc: Global, library: &mut Bibliography, step: &str) -> Result<String, ParseError> {
+fn step(alloc: Global, library: &mut Bibliography, step: &str) -> Result<String, AllocError> {
     let (verb, words) = cut(step, ' ');
-    Ok(match verb {
-        "insert" => insert(alloc, library, words)?,
-        "remove" => remove(alloc, library, words)?,
-        "alias" => alias(alloc, library, words)?,
-        "set" => set_lent(alloc, library, words)?,
-        "unset" => unset_lent(alloc, library, words)?,
-        "rename" => rename(alloc, library, words)?,
-        "set_each" => set_each(alloc, library, words)?,
-        "clone" => exchange_clone(alloc, library)?,
-        "again" => exchange_again(alloc, library)?,
-        "give_away" => give_away(alloc, library)?,
-        _ => asked(alloc, library, verb, words)?,
-    })
+    match verb {
+        "insert" => insert(alloc, library, words),
+        "remove" => remove(alloc, library, words),
+        "alias" => alias(alloc, library, words),
+        "set" => set_lent(alloc, library, words),
+        "unset" => unset_lent(alloc, library, words),
+        "rename" => rename(alloc, library, words),
+        "set_each" => set_each(alloc, library, words),
+        "clone" => exchange_clone(alloc, library),
+        "again" => exchange_again(alloc, library),
+        "give_away" => give_away(alloc, library),
+        _ => asked(alloc, library, verb, words),
+    }
 }
 
 /// The answer of each step, separated by semicolons.

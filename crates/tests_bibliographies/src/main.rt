@@ -20,14 +20,6 @@ fn parsed(alloc: Global, file: &str) -> Result<Bibliography, ParseError> {
     Bibliography::parse(alloc, file)
 }
 
-// A text, or the error.
-fn text_or_error(alloc: Global, found: Result<String, ParseError>) -> Result<String, AllocError> {
-    match found {
-        Ok(text) => Ok(text),
-        Err(error) => format!(in alloc; "{error}"),
-    }
-}
-
 // Whether it is so, as a text.
 fn truth(alloc: Global, found: bool) -> Result<String, AllocError> {
     String::from_str(alloc, if found { "true" } else { "false" })
@@ -35,17 +27,18 @@ fn truth(alloc: Global, found: bool) -> Result<String, AllocError> {
 
 // What a call that takes a text answers.
 fn answer_of_text(alloc: Global, call: &str, text: &str) -> Result<Option<String>, ParseError> {
-    Ok(Some(match call {
-        "cuts" => cuts::cuts(alloc, text)?,
-        "changes" => changes::changes(alloc, text)?,
-        "from raw" => raw::entries(alloc, text)?,
-        "from raw counted" => raw::counted_entries(alloc, text)?,
-        "turns" => raw::turns(alloc, text)?,
-        "raw field" => raw::field(alloc, text)?,
-        "raw settled" => raw::settled(alloc, text)?,
-        "raw twice" => raw::twice(alloc, text)?,
+    let answer = match call {
+        "cuts" => Ok(cuts::cuts(alloc, text)?),
+        "changes" => changes::changes(alloc, text),
+        "from raw" => raw::entries(alloc, text),
+        "from raw counted" => raw::counted_entries(alloc, text),
+        "turns" => raw::turns(alloc, text),
+        "raw field" => raw::field(alloc, text),
+        "raw settled" => raw::settled(alloc, text),
+        "raw twice" => raw::twice(alloc, text),
         _ => return Ok(None),
-    }))
+    };
+    Ok(Some(answer?))
 }
 
 // What a call that takes a bibliography answers.
@@ -53,21 +46,22 @@ fn answer_of_library(
     alloc: Global,
     call: &str,
     library: &Bibliography,
-) -> Result<Option<String>, ParseError> {
-    Ok(Some(match call {
-        "entries" => entries::entries(alloc, library)?,
-        "types" => entries::types(alloc, library)?,
-        "chunks" => entries::chunks(alloc, library)?,
-        "number" => entries::number(alloc, library)?,
-        "parents" => reports::parents(alloc, library)?,
-        "editors" => reports::editors(alloc, library)?,
-        "report" => reports::report(alloc, library)?,
-        "biblatex" => written::biblatex(alloc, library)?,
-        "bibtex" => written::bibtex(alloc, library)?,
-        "settled" => written::settled(alloc, library)?,
-        "again" => written::again(alloc, library)?,
+) -> Result<Option<String>, AllocError> {
+    let answer = match call {
+        "entries" => entries::entries(alloc, library),
+        "types" => entries::types(alloc, library),
+        "chunks" => entries::chunks(alloc, library),
+        "number" => entries::number(alloc, library),
+        "parents" => reports::parents(alloc, library),
+        "editors" => reports::editors(alloc, library),
+        "report" => reports::report(alloc, library),
+        "biblatex" => written::biblatex(alloc, library),
+        "bibtex" => written::bibtex(alloc, library),
+        "settled" => written::settled(alloc, library),
+        "again" => written::again(alloc, library),
         _ => return Ok(None),
-    }))
+    };
+    Ok(Some(answer?))
 }
 
 // What a call of a text or of the bibliography of a file answers.
@@ -76,7 +70,7 @@ fn answer(alloc: Global, call: &str, text: &str) -> Result<Option<String>, Parse
         return Ok(Some(answer));
     }
     let library = parsed(alloc, text)?;
-    answer_of_library(alloc, call, &library)
+    Ok(answer_of_library(alloc, call, &library)?)
 }
 
 // The calls of bibliographies.

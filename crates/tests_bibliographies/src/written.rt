@@ -1,7 +1,7 @@
 //! What is written of bibliographies and entries, whether they are settled, and what is read of it again.
 
 use crate::reread::reread;
-use crate::{text_or_error, truth};
+use crate::truth;
 use biblatex::{Bibliography, Entry, ParseError};
 use std::alloc::{AllocError, Global};
 
@@ -56,7 +56,7 @@ fn compared(
 pub(crate) fn again(alloc: Global, library: &Bibliography) -> Result<String, AllocError> {
     match read_again(alloc, library) {
         Some(Ok(again)) => compared(alloc, library, &again),
-        Some(Err(error)) => text_or_error(alloc, Err(error)),
+        Some(Err(error)) => error.to_string(alloc),
         None => String::from_str(alloc, "not settled"),
     }
 }

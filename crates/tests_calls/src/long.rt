@@ -190,9 +190,15 @@ fn parsed(alloc: Global, name: &str, field: &Field<'_>) -> Result<Chunks, ParseE
     parse_field(alloc, name, field, &names)
 }
 
-// The same by a reader.
-fn read_by_a_reader(alloc: Global, name: &str, field: &Field<'_>) -> Result<Chunks, ParseError> {
-    FieldReader::new(alloc, BTreeMap::new(alloc)).read(name, field)
+// What one reader reads of a field with one name, and with another.
+fn read_twice(
+    alloc: Global,
+    field: &Field<'_>,
+    names: (&str, &str),
+) -> Result<(Chunks, Chunks), ParseError> {
+    let mut reader = FieldReader::new(alloc, BTreeMap::new(alloc));
+    let first = reader.read(names.0, field)?;
+    Ok((first, reader.read(names.1, field)?))
 }
 
 // Whether a definition is one long text.
@@ -219,20 +225,14 @@ fn reads_a_field(alloc: Global) -> Reading {
     Ok(is_long(chunks.as_slice(), LENGTH))
 }
 
-// Whether a reader reads a field as one long chunk.
-fn is_read_as_long(alloc: Global, name: &str, field: &Field<'_>) -> Reading {
-    let chunks = read_by_a_reader(alloc, name, field)?;
-    Ok(is_long(chunks.as_slice(), LENGTH))
-}
-
 fn reads_a_field_by_a_reader(alloc: Global) -> Reading {
     let file = file(alloc)?;
     let raw = read(alloc, file.as_str())?;
     let Some(definition) = raw.abbreviations.first() else {
         return Ok(false);
     };
-    let is_read = is_read_as_long(alloc, "title", &definition.value.v)?;
-    Ok(is_read && is_read_as_long(alloc, "url", &definition.value.v)?)
+    let (other, verbatim) = read_twice(alloc, &definition.value.v, ("title", "url"))?;
+    Ok(is_long(other.as_slice(), LENGTH) && is_long(verbatim.as_slice(), LENGTH))
 }
 
 #[test]
