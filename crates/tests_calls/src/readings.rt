@@ -142,11 +142,20 @@ fn clones_tokens(_alloc: Global) -> Reading {
     Ok(Token::Equals.clone()? == Token::Equals)
 }
 
+// The first field of an entry.
+fn field_of<'a>(entry: &'a RawEntry<'static>) -> Option<&'a Pair<'static>> {
+    entry.fields.first()
+}
+
 // The field of the file, and the definition that it names.
 fn parts<'a>(raw: &'a RawBibliography<'static>) -> Option<(&'a Pair<'static>, &'a Pair<'static>)> {
-    let entry = raw.entries.first()?;
-    let field = entry.v.fields.first()?;
-    Some((field, raw.abbreviations.first()?))
+    let ([entry], [definition]) = (raw.entries.as_slice(), raw.abbreviations.as_slice()) else {
+        return None;
+    };
+    match field_of(&entry.v) {
+        Some(field) => Some((field, definition)),
+        None => None,
+    }
 }
 
 // What a field says that names this definition.
