@@ -144,24 +144,77 @@ fn says(
 #[test]
 fn goes_along_a_chain(rt: HostRuntime) -> Result<(), AllocError> {
     let a = rt.alloc();
-    says(&rt, a, chain(a, 30_000), "x0", "30001 from x0, x0: publisher=+P")?;
-    says(&rt, a, chain_and_cycle(a, 30_000), "x", "circular reference \"end\"")
+    says(
+        &rt,
+        a,
+        chain(a, 30_000),
+        "x0",
+        "30001 from x0, x0: publisher=+P",
+    )
+}
+
+#[test]
+fn goes_along_a_chain_into_a_cycle(rt: HostRuntime) -> Result<(), AllocError> {
+    let a = rt.alloc();
+    says(
+        &rt,
+        a,
+        chain_and_cycle(a, 30_000),
+        "x",
+        "circular reference \"end\"",
+    )
 }
 
 #[test]
 fn reads_long_lists(rt: HostRuntime) -> Result<(), AllocError> {
     let a = rt.alloc();
-    says(&rt, a, ladder(a, 20), "x20", "21 from x0, x20: publisher=+P")?;
-    says(&rt, a, named_often(a, 50_000), "b", "2 from x, b: publisher=+P")?;
-    says(&rt, a, falling(a, 300), "n000", "300 from n299, n000: title=+t0")?;
-    says(&rt, a, falling(a, 300), "n299", "300 from n299, n299: title=+t299")
+    says(
+        &rt,
+        a,
+        ladder(a, 20),
+        "x20",
+        "21 from x0, x20: publisher=+P",
+    )?;
+    says(
+        &rt,
+        a,
+        named_often(a, 50_000),
+        "b",
+        "2 from x, b: publisher=+P",
+    )?;
+    says(
+        &rt,
+        a,
+        falling(a, 300),
+        "n000",
+        "300 from n299, n000: title=+t0",
+    )?;
+    says(
+        &rt,
+        a,
+        falling(a, 300),
+        "n299",
+        "300 from n299, n299: title=+t299",
+    )
 }
 
 #[test]
 fn reads_long_values(rt: HostRuntime) -> Result<(), AllocError> {
     let a = rt.alloc();
-    says(&rt, a, long_values(a), "k", "1 from k, k: note=+2097152 title=+1048576")?;
-    says(&rt, a, many_elements(a, 70_000), "k", "1 from k, k: note=+140001")
+    says(
+        &rt,
+        a,
+        long_values(a),
+        "k",
+        "1 from k, k: note=+2097152 title=+1048576",
+    )?;
+    says(
+        &rt,
+        a,
+        many_elements(a, 70_000),
+        "k",
+        "1 from k, k: note=+140001",
+    )
 }
 
 // How many turns the entries of a file took over what they inherit in.
