@@ -3,13 +3,14 @@
 
 The crate that the longest chain of others waits for has two processors, or more where nothing else can be done, others one.
 
-Without a crate it is `bib`, the program. What was built before and hasn't changed is taken as it is, so a run that was
+Without a crate it is `bib`, the program. Tests are run, and what a program prints is compared with its file stdout. What was built before and hasn't changed is taken as it is, so a run that was
 stopped goes on where it was. `--times` prints for each crate its wall time, processor seconds and jobs. RT_JOBS=N uses N
 processors.
 
 `rt` locks a crate and all below it while it works, so each crate is proved in a folder of its own below .git, with hard
 links to what it reads; its out/ is moved there and back.
 """
+import itertools
 import os
 import pathlib
 import shutil
@@ -47,6 +48,13 @@ def lines_of(name):
     return sum(it.read_bytes().count(b"\n") for it in files)
 
 
+def kind_of(name):
+    if (CRATES / name / "src" / "main.rt").is_file():
+        return "program"
+    has_tests = any("#[test]" in it.read_text() for it in (CRATES / name / "src").rglob("*.rt"))
+    return "tests" if has_tests else "library"
+
+
 def lanes():
     """How many checks run at a time: one for each processor, where there is memory for them."""
     given = os.environ.get("RT_JOBS", "")
@@ -82,24 +90,27 @@ class Crate:
         self.folder, self.out = self.room / "crates" / name, CRATES / name / "out"
         if self.out.is_dir():
             self.out.rename(self.folder / "out")
-        is_program = (self.folder / "src" / "main.rt").is_file()
-        stdin, args = CRATES / name / "stdin", CRATES / name / "args"
+        stdin, args, self.wanted = (CRATES / name / it for it in ("stdin", "args", "stdout"))
         words = ["--", *args.read_text().split()] if args.is_file() else []
-        verb = ["run", "--jobs", str(jobs), *words] if is_program else ["lib", "--jobs", str(jobs)]
-        self.log = (self.room / "log").open("w+", errors="replace")
+        verb = {"program": ["run", *words], "tests": ["test"], "library": ["lib"]}[kind_of(name)]
+        verb[1:1] = ["--jobs", str(jobs)]
+        self.log, self.printed = (self.room / "log").open("w+", errors="replace"), (self.room / "printed").open("w+", errors="replace")
         with open(stdin if stdin.is_file() else os.devnull) as given:
-            self.run = subprocess.Popen(["rt", *verb], cwd=self.folder, stdin=given, stdout=self.log, stderr=subprocess.STDOUT)
+            self.run = subprocess.Popen(["rt", *verb], cwd=self.folder, stdin=given, stdout=self.printed, stderr=self.log)
 
     def end(self):
-        """Moves what was made back, and returns what was printed."""
+        """Moves what was made back, and returns what was said, and the first line of a program that isn't the wanted one."""
         if (self.folder / "out").is_dir():
             shutil.rmtree(self.out, ignore_errors=True)
             (self.folder / "out").rename(self.out)
         self.log.seek(0)
-        said = self.log.read()
-        self.log.close()
+        self.printed.seek(0)
+        printed, said = self.printed.read(), self.log.read()
         shutil.rmtree(self.room)
-        return said
+        if kind_of(self.name) != "program" or not self.wanted.is_file():
+            return printed + said, None
+        pairs = itertools.zip_longest(printed.split("\n"), self.wanted.read_text().split("\n"))
+        return said, next((f"found:  {found}\nwanted: {want}" for found, want in pairs if found != want), None)
 
 
 def take_back(room):
@@ -149,13 +160,13 @@ def prove(wanted, has_times):
             if ended not in running:
                 continue
             crate = running.pop(ended)
-            said = crate.end()
+            said, wrong = crate.end()
             times.append((crate.name, time.time() - crate.start, usage.ru_utime + usage.ru_stime, crate.jobs, usage.ru_maxrss >> 10))
             if has_times:
                 print("{:20} {:6.0f} s wall {:6.0f} s processor {} jobs {:6} MiB".format(*times[-1]), flush=True)
-            if os.waitstatus_to_exitcode(status):
-                say(f"{crate.name} is not proved:", True)
-                print(said[-6000:], file=sys.stderr)
+            if os.waitstatus_to_exitcode(status) or wrong:
+                say(f"{crate.name} {'prints something else' if wrong else 'is not proved'}:", True)
+                print(wrong or said[-6000:], file=sys.stderr)
                 return 1
             done.add(crate.name)
     finally:

@@ -3,7 +3,7 @@
 
     bench/fronts.py PROGRAM
 
-The examples are those of crates/conformance_library/src/fronts.rt. `keys` and `biblatex` must read each front, with status 0, or
+The examples are the rows `cuts` of crates/tests_bibliographies/stdin. `keys` and `biblatex` must read each front, with status 0, or
 refuse it with one line that begins with `error: `, and status 1; the place that a syntax fault tells lies in the front. The
 status of this script is 1 where one of them didn't.
 """
@@ -14,16 +14,16 @@ import sys
 
 TOP = os.path.dirname(os.path.dirname(os.path.abspath(__file__)))
 SYNTAX = re.compile(r"error: (?:unexpected|expected) [\w ]+: (\d+)-(\d+)\n")
-ESCAPES = {"n": "\n", '"': '"', "\\": "\\"}
+ROWS = os.path.join(TOP, "crates", "tests_bibliographies", "stdin")
 
 
 def examples():
-    """The texts between quotes in the table of the test."""
-    with open(os.path.join(TOP, "crates/conformance_library/src/fronts.rt"), encoding="utf-8") as file:
-        table = re.search(r"static FILES.*?= \[\n(.*?)\n\];", file.read(), re.S)[1]
-    for literal in re.findall(r'"((?:[^"\\]|\\.)*)"', table, re.S):
-        text = re.sub(r"\\\n\s*", "", literal)
-        yield re.sub(r"\\(.)", lambda found: ESCAPES[found[1]], text)
+    """The files of the rows, with characters in place of their numbers."""
+    with open(ROWS, encoding="utf-8") as rows:
+        for row in rows:
+            call, _, text = row.rstrip("\n").partition("|")
+            if call == "cuts":
+                yield re.sub("⟨([0-9A-F]+)⟩", lambda found: chr(int(found[1], 16)), text)
 
 
 def fault(program, word, front):

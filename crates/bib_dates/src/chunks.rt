@@ -12,9 +12,9 @@ use crate::faults::{Fault, Why};
 use crate::fields::{day_behind, day_field, day_place, month_field, year_field};
 use crate::read::marked;
 use crate::write;
+use bib_chunks::chunk::making::normal;
 use bib_chunks::chunk::{Chunks, ChunksRef, Span, format_verbatim, whole_span};
 use bib_enums::type_error::TypeError;
-use bib_chunks::chunk::making::normal;
 use std::alloc::{AllocError, Global};
 
 // What was read of the text of chunks, or their refusal.

@@ -7,9 +7,9 @@ ghost use Rattle.bib_entry.specs.Editors.{contents, editors_in, editors_of, role
 
 use crate::entry::Entry;
 use bib_enums::type_error::TypeError;
+use bib_enums::types::EditorType;
 use bib_people::person::Person;
 use bib_typed::typed::Type;
-use bib_enums::types::EditorType;
 use std::alloc::Global;
 
 impl Entry {

@@ -6,8 +6,8 @@ ghost use Rattle.std.specs.Option.{option_copied};
 ghost use Rattle.std.specs.FinMap as by_name;
 
 use bib_chunks::chunk::{Chunks, ChunksRef};
-use bib_maps::text_map::TextMap;
 use bib_entry_types::mechanics::EntryType;
+use bib_maps::text_map::TextMap;
 use bib_text::text::Text;
 use std::alloc::{AllocError, Global};
 use std::error::Error;

@@ -12,10 +12,10 @@ ghost use Rattle.bib_entry.specs.WrittenEntries.{biblatex_entry, biblatex_name, 
 
 use crate::entry::Entry;
 use bib_chunks::chunk::{ChunksRef, write_value};
-use bib_entry_types::fields::is_verbatim_field;
 use bib_dates::date::{Date, Datetime};
-use bib_enums::type_error::TypeErrorKind;
+use bib_entry_types::fields::is_verbatim_field;
 use bib_entry_types::mechanics::EntryType;
+use bib_enums::type_error::TypeErrorKind;
 use bib_typed::typed::Type;
 use std::alloc::{AllocError, Global};
 

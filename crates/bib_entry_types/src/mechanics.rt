@@ -7,8 +7,8 @@ ghost use Rattle.bib_entry_types.specs.EntryType.{entry_type_name, entry_type_na
 
 mod requirements;
 
-use bib_text::text::Text;
 use bib_enums::types::NameError;
+use bib_text::text::Text;
 pub use requirements::{AuthorMode, PagesChapterMode, Requirements, Row};
 use std::alloc::{AllocError, Global};
 use std::fmt;

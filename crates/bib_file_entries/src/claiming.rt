@@ -3,8 +3,8 @@
 ghost use Rattle.std.specs.Prelude.{◌≡◌, IfOk};
 ghost use Rattle.bib_file_entries.specs.Library.{claims};
 
-use bib_styled::lists::comma_texts;
 use bib_entry::entry::Entry;
+use bib_styled::lists::comma_texts;
 use bib_text::text::Text;
 use std::alloc::{AllocError, Global};
 

@@ -11,8 +11,8 @@ ghost use Rattle.bib_inheritance.specs.Sources.{fields_of, first_named, first_so
 
 use crate::offers::{Reference, offer};
 use bib_chunks::chunk::Chunks;
-use bib_maps::text_map::TextMap;
 use bib_entry_types::mechanics::EntryType;
+use bib_maps::text_map::TextMap;
 use bib_text::text::Text;
 use std::alloc::{AllocError, Global};
 use std::collections::BTreeMap;

@@ -9,8 +9,8 @@ ghost use Rattle.bib_inheritance.specs.Inherited.{is_periodical, journal_titles,
 ghost use Rattle.bib_inheritance.specs.Sources.{fields_of, source_at};
 
 use bib_chunks::chunk::Chunks;
-use bib_maps::text_map::TextMap;
 use bib_entry_types::mechanics::EntryType;
+use bib_maps::text_map::TextMap;
 
 /// An entry that another refers to.
 #[derive(Clone, Copy)]

@@ -6,10 +6,10 @@ ghost use Rattle.std.specs.FinMap as by_name;
 ghost use Rattle.bib_inheritance.specs.References.{referred, references};
 ghost use Rattle.bib_inheritance.specs.Sources.{fields_of};
 
-use bib_styled::lists::comma_texts;
 use bib_chunks::chunk::{Chunks, format_styled};
 use bib_maps::names::Names;
 use bib_maps::text_map::TextMap;
+use bib_styled::lists::comma_texts;
 use bib_text::text::Text;
 use std::alloc::{AllocError, Global};
 

@@ -6,9 +6,9 @@ ghost use Rattle.std.specs.List.{list_all, list_any};
 ghost use Rattle.bib_roundtrip.specs.Settled.{IsIdentifier, IsKey, IsSettledEntry, IsSettledField, IsSettledName, linking};
 
 use bib_chunks::chunk::ChunksRef;
+use bib_entry::entry::Entry;
 use bib_entry_types::fields::is_verbatim_field;
 use bib_styled::settling::is_settled;
-use bib_entry::entry::Entry;
 use bib_syntax::raw::{is_id_continue, is_id_start, is_key};
 use bib_text::scanner::Scanner;
 

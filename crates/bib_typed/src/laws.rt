@@ -15,9 +15,9 @@ ghost use Rattle.bib_values.specs.Ranges.{RangesKept};
 
 use crate::typed::{PermissiveType, Type};
 use bib_dates::date::Date;
-use bib_people::person::Person;
 use bib_enums::types::lang::Language;
 use bib_enums::types::{EditorType, Gender, Pagination};
+use bib_people::person::Person;
 use std::ops::Range;
 
 /// Each text is kept.

@@ -14,12 +14,12 @@ ghost use Rattle.bib_typed.specs.Typed.{permissive_meaning};
 
 use crate::typed::{PermissiveType, Type};
 use bib_chunks::chunk::cuts::and_list;
+use bib_chunks::chunk::making::copy_of;
 use bib_chunks::chunk::{Chunks, ChunksRef};
 use bib_enums::type_error::TypeError;
 use bib_enums::types::lang::Language;
 use bib_values::enums::read_language;
 use bib_values::lists::{read_strings, write_parts, write_strings};
-use bib_chunks::chunk::making::copy_of;
 use std::alloc::{AllocError, Global};
 
 /// Any chunks are read, as the formatted parts of a comma list. Texts are written as normal chunks with commas between

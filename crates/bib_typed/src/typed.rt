@@ -14,9 +14,9 @@ ghost use Rattle.bib_chunks.proofs.ValueFacts.{string_survives};
 ghost use Rattle.bib_enums.specs.ReadAs.{IsReadAs};
 ghost use Rattle.bib_typed.specs.Typed.{permissive_meaning};
 
+use bib_chunks::chunk::making::{copy_of, verbatim};
 use bib_chunks::chunk::{Chunks, ChunksRef, format_verbatim, whole_span};
 use bib_enums::type_error::{TypeError, TypeErrorKind};
-use bib_chunks::chunk::making::{copy_of, verbatim};
 use std::alloc::{AllocError, Global};
 
 /// A type whose values are read from the chunks of a field, and written as chunks.

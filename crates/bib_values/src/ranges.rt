@@ -9,8 +9,8 @@ ghost use Rattle.bib_values.specs.Ranges.{number, is_dash, behind_dash, up_to, g
 ghost use Rattle.bib_text.specs.Runs.{front, behind};
 
 use crate::lists::write_strings;
-use bib_chunks::chunk::making::normal;
 use bib_chunks::chunk::cuts::comma_list;
+use bib_chunks::chunk::making::normal;
 use bib_chunks::chunk::{Chunks, ChunksRef, format_verbatim};
 use bib_text::scanner::Scanner;
 use std::alloc::{AllocError, Global};

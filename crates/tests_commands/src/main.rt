@@ -4,8 +4,7 @@
 use bib_commands::run::run;
 use bib_commands::streams::{Input, Output};
 use std::alloc::{AllocError, Global};
-use std::io;
-use std::str;
+use std::{io, str};
 use tests_support::rows::{Calls, answered};
 
 // The program with one command.

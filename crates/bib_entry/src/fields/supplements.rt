@@ -7,9 +7,9 @@ ghost use Rattle.bib_entry.specs.Fields.{IsGet, IsGot, IsPut, IsSet};
 use crate::entry::{Entry, SetError};
 use crate::retrieval::RetrievalError;
 use bib_chunks::chunk::{Chunks, ChunksRef};
-use bib_typed::typed::{PermissiveType, Type};
 use bib_enums::types::lang::Language;
 use bib_enums::types::{Gender, Pagination};
+use bib_typed::typed::{PermissiveType, Type};
 use std::alloc::{AllocError, Global};
 
 impl Entry {
