@@ -6,7 +6,7 @@ use bib_entry::entry::{Entry, SetError};
 use bib_entry::retrieval::RetrievalError;
 use std::alloc::Global;
 
-/// Sets a field of two names, or another, by the setter of this name.
+/// Calls the setter of this name, here or in a further module.
 pub fn set(entry: &mut Entry, name: &str, chunks: Chunks) -> Result<Option<Chunks>, SetError> {
     match name {
         "address" => entry.set_address(chunks),
@@ -22,7 +22,7 @@ pub fn set(entry: &mut Entry, name: &str, chunks: Chunks) -> Result<Option<Chunk
     }
 }
 
-/// What the getter of this name finds of a field of two names, or another,.
+/// What the getter of this name answers, here or in a further module.
 pub fn get<'e>(
     entry: &'e Entry,
     alloc: Global,

@@ -1,6 +1,6 @@
 //! Fields whose value is their chunks: set, and got.
 
-use crate::entries::{entry_of, fields_text};
+use crate::fields::{entry_of, fields_text};
 use crate::titles;
 use bib_entry::entry::Entry;
 use std::alloc::{AllocError, Global};

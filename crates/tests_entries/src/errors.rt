@@ -28,7 +28,10 @@ fn error_of(alloc: Global, text: &str) -> Result<Option<RetrievalError>, AllocEr
 }
 
 /// The error as it is printed, and its copy where that differs.
-pub fn answer(alloc: Global, text: &str) -> Result<Option<String>, AllocError> {
+pub fn answer(alloc: Global, call: &str, text: &str) -> Result<Option<String>, AllocError> {
+    if call != "RetrievalError" {
+        return Ok(None);
+    }
     let Some(error) = error_of(alloc, text)? else {
         return Ok(None);
     };

@@ -4,15 +4,15 @@
 mod aliases;
 mod bibtex;
 mod chunk_fields;
-mod entries;
 mod errors;
 mod fielded;
+mod fields;
 mod supplements;
 mod titles;
 mod typed_fields;
 mod types;
 
-use entries::entry_of;
+use fields::entry_of;
 use std::alloc::{AllocError, Global};
 use std::io;
 use tests_support::chunks::chunks_text;
@@ -25,7 +25,7 @@ impl Calls for Entries {
         match call.split_once(' ') {
             Some(("field", name)) => field(alloc, name, argument),
             Some((how, rest)) => of_types(alloc, how, rest, argument),
-            None => errors::answer(alloc, argument),
+            None => errors::answer(alloc, call, argument),
         }
     }
 }

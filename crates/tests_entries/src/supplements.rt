@@ -5,8 +5,8 @@ use bib_entry::entry::{Entry, SetError};
 use bib_entry::retrieval::RetrievalError;
 use std::alloc::Global;
 
-// Sets one of the rest of them by the setter of this name.
-fn set_rest(entry: &mut Entry, name: &str, chunks: Chunks) -> Result<Option<Chunks>, SetError> {
+// Calls the setter of this name, of the further fields from options on.
+fn set_further(entry: &mut Entry, name: &str, chunks: Chunks) -> Result<Option<Chunks>, SetError> {
     match name {
         "label" => entry.set_label(chunks),
         "library" => entry.set_library(chunks),
@@ -23,8 +23,8 @@ fn set_rest(entry: &mut Entry, name: &str, chunks: Chunks) -> Result<Option<Chun
     }
 }
 
-// What the getter of this name finds of one of the rest of them.
-fn get_rest<'e>(
+// What the getter of this name answers, of the further fields from options on.
+fn get_further<'e>(
     entry: &'e Entry,
     alloc: Global,
     name: &str,
@@ -45,7 +45,7 @@ fn get_rest<'e>(
     }
 }
 
-/// Sets a further field by the setter of this name.
+/// Calls the setter of this name.
 pub fn set(entry: &mut Entry, name: &str, chunks: Chunks) -> Result<Option<Chunks>, SetError> {
     match name {
         "abstract_" => entry.set_abstract_(chunks),
@@ -60,11 +60,11 @@ pub fn set(entry: &mut Entry, name: &str, chunks: Chunks) -> Result<Option<Chunk
         "issue" => entry.set_issue(chunks),
         "iswc" => entry.set_iswc(chunks),
         "keywords" => entry.set_keywords(chunks),
-        _ => set_rest(entry, name, chunks),
+        _ => set_further(entry, name, chunks),
     }
 }
 
-/// What the getter of this name finds of a further field.
+/// What the getter of this name answers.
 pub fn get<'e>(
     entry: &'e Entry,
     alloc: Global,
@@ -83,6 +83,6 @@ pub fn get<'e>(
         "issue" => Some(entry.issue(alloc)),
         "iswc" => Some(entry.iswc(alloc)),
         "keywords" => Some(entry.keywords(alloc)),
-        _ => get_rest(entry, alloc, name),
+        _ => get_further(entry, alloc, name),
     }
 }

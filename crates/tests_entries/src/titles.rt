@@ -6,8 +6,8 @@ use bib_entry::entry::{Entry, SetError};
 use bib_entry::retrieval::RetrievalError;
 use std::alloc::Global;
 
-// Sets a title of a journal, a main work or a short one, or another field, by the setter of this name.
-fn set_short(entry: &mut Entry, name: &str, chunks: Chunks) -> Result<Option<Chunks>, SetError> {
+// Calls the setter of this name, of a title from a main one on, or of another field.
+fn set_further(entry: &mut Entry, name: &str, chunks: Chunks) -> Result<Option<Chunks>, SetError> {
     match name {
         "main_subtitle" => entry.set_main_subtitle(chunks),
         "main_title" => entry.set_main_title(chunks),
@@ -22,8 +22,8 @@ fn set_short(entry: &mut Entry, name: &str, chunks: Chunks) -> Result<Option<Chu
     }
 }
 
-// What the getter of this name finds of a title of a journal, a main work or a short one, or another field,.
-fn get_short<'e>(
+// What the getter of this name answers, of a title from a main one on, or of another field.
+fn get_further<'e>(
     entry: &'e Entry,
     alloc: Global,
     name: &str,
@@ -42,7 +42,7 @@ fn get_short<'e>(
     }
 }
 
-/// Sets a title, or another field, by the setter of this name.
+/// Calls the setter of this name, here or in a further module.
 pub fn set(entry: &mut Entry, name: &str, chunks: Chunks) -> Result<Option<Chunks>, SetError> {
     match name {
         "book_subtitle" => entry.set_book_subtitle(chunks),
@@ -55,11 +55,11 @@ pub fn set(entry: &mut Entry, name: &str, chunks: Chunks) -> Result<Option<Chunk
         "issue_title_addon" => entry.set_issue_title_addon(chunks),
         "journal_subtitle" => entry.set_journal_subtitle(chunks),
         "journal_title_addon" => entry.set_journal_title_addon(chunks),
-        _ => set_short(entry, name, chunks),
+        _ => set_further(entry, name, chunks),
     }
 }
 
-/// What the getter of this name finds of a title, or another field,.
+/// What the getter of this name answers, here or in a further module.
 pub fn get<'e>(
     entry: &'e Entry,
     alloc: Global,
@@ -76,6 +76,6 @@ pub fn get<'e>(
         "issue_title_addon" => Some(entry.issue_title_addon(alloc)),
         "journal_subtitle" => Some(entry.journal_subtitle(alloc)),
         "journal_title_addon" => Some(entry.journal_title_addon(alloc)),
-        _ => get_short(entry, alloc, name),
+        _ => get_further(entry, alloc, name),
     }
 }

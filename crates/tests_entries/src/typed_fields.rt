@@ -1,6 +1,6 @@
 //! Fields that are read as a type: set, and got.
 
-use crate::entries::{entry_of, fields_text};
+use crate::fields::{entry_of, fields_text};
 use crate::fielded::Fielded;
 use bib_entry::entry::Entry;
 use bib_typed::typed::Type;
