@@ -7,6 +7,8 @@
 - docs/DEFINITIONS.md names each word that a public contract cites.
 - Each file of specs/ says in its first line whether it is meaning or machinery.
 - Each public call of `biblatex` that may be refused memory is named in a test, which calls it where memory is there.
+- The rows of each program of rows, crates/NAME/stdin, stand in its stdout in the same order, each with an answer.
+- crates.txt names for each crate only libraries that a file of it names.
 """
 import pathlib
 import re
@@ -133,7 +135,7 @@ def calls(file, names):
 
 
 def check_calls():
-    tests = [it for folder in ("conformance*", "guide") for it in CRATES.glob(f"{folder}/src/**/*.rt")]
+    tests = [it for folder in ("tests_*", "guide") for it in CRATES.glob(f"{folder}/src/**/*.rt")]
     text = "\n".join(it.read_text() for it in tests)
     names = exported()
     for file in sorted(CRATES.glob("bib*/src/**/*.rt")):
@@ -143,12 +145,38 @@ def check_calls():
                 fault(file, f"no test calls {within + '::' if within else ''}{name}, which may be refused memory")
 
 
+def check_rows():
+    """A row is a line with a bar; the other lines are headings, and stand as they are."""
+    for stdin in sorted(CRATES.glob("tests_*/stdin")):
+        stdout, number = stdin.with_name("stdout"), 0
+        rows, answers = stdin.read_text().split("\n"), stdout.read_text().split("\n")
+        if len(rows) != len(answers):
+            fault(stdout, f"it has {len(answers)} lines, and stdin {len(rows)}")
+        for number, (row, answer) in enumerate(zip(rows, answers), 1):
+            if not (answer.startswith(f"{row} => ") if "|" in row else answer == row):
+                fault(stdout, f"line {number} doesn't begin with the row of stdin")
+                break
+
+
+def check_crates():
+    """A library that no file of a crate names makes the crate wait for it."""
+    rows = dict(it.partition("#")[0].split(":") for it in (TOP / "crates.txt").read_text().splitlines() if ":" in it.partition("#")[0])
+    for name, below in rows.items():
+        files = [it for part in ("src", "specs", "proofs") for it in (CRATES / name / part).rglob("*") if it.is_file()]
+        text = "\n".join(it.read_text() for it in files)
+        for it in below.split():
+            if it in rows and not re.search(rf"\b{it}(::|\.)", text):
+                fault(TOP / "crates.txt", f"{name} names nothing of {it}")
+
+
 def main():
     names = edits()
     check_promises(names)
     check_definitions()
     check_specs()
     check_calls()
+    check_rows()
+    check_crates()
     for it in faults:
         print(f"check: {it}")
     print(f"check: {len(names['must-fail'])} wrong bodies for the gate and {len(names['wrong'])} others, {len(faults)} faults")

@@ -1,17 +1,10 @@
 //! The program `bib`: it reads a bibliography from standard input, and prints what the command asks for.
 #![tactic(auto)]
 
-mod reports;
-mod run;
-mod start;
-mod streams;
-#[cfg(test)]
-mod tests;
-
-use start::start;
+use bib_commands::start::start;
+use bib_commands::streams::{Input, Output};
 use std::process::ExitCode;
 use std::{env, io};
-use streams::{Input, Output};
 
 fn main(rt: HostRuntime) -> ExitCode {
     let mut input = Input::new(rt.reader());

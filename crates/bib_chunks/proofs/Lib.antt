@@ -1,14 +1,17 @@
 pub mod AndFacts
+pub mod AndListFacts
 pub mod BraceFacts
 pub mod CutFacts
 pub mod FormattedFacts
 pub mod ListFacts
 pub mod PartFacts
+pub mod SeparatedFacts
 pub mod SettledFacts
 pub mod SpanFacts
 pub mod StandFacts
 pub mod StyledFacts
 pub mod TrimFacts
+pub mod ValueFacts
 pub mod WholeFacts
 pub mod WordFacts
 pub mod WrittenFacts

@@ -5,8 +5,10 @@ pub mod Joining
 pub mod Lending
 pub mod Lists
 pub mod Parted
+pub mod Separated
 pub mod Settled
 pub mod Settling
 pub mod Styled
+pub mod Values
 pub mod Writing
 pub mod Written

@@ -9,6 +9,7 @@ ghost use Rattle.bib_chunks.specs.Written.{written_chunk};
 pub mod cuts;
 mod formatting;
 pub mod lists;
+pub mod making;
 mod settling;
 mod writing;
 

@@ -26,15 +26,6 @@ use Rattle.bib_syntax.specs.Views.{piece_of}
 abbrev pub Definitions : Type 0
 Definitions = List ℕ → Option (List Piece)
 
--- the fields whose contents are read as they are but for dashes, white space and braces, as BibLaTeX lists them
-abbrev pub verbatim_fields : List (List ℕ)
-verbatim_fields =
-    codes "file" ∷ codes "doi" ∷ codes "uri" ∷ codes "eprint" ∷ codes "verba" ∷ codes "verbb" ∷ codes "verbc" ∷ codes "pdf" ∷ codes "url"
-    ∷ codes "urlraw" ∷ []
-
-abbrev pub is_verbatim_field : List ℕ → Bool
-is_verbatim_field key = list_any (bytes_eq key) verbatim_fields
-
 -- the English name of the month with these first three letters, in any ASCII case
 unfoldable pub month : List ℕ → Option (List ℕ)
 month name =

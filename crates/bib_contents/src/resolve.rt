@@ -2,7 +2,6 @@
 
 ghost use Rattle.std.specs.Prelude.{◌≡◌, ◌+◌, ◌⊎◌, [], ◌∷◌, map, length, OnOk, IfOk, IfErr};
 ghost use Rattle.bib_chunks.specs.Styled.{styled};
-ghost use Rattle.bib_contents.specs.Abbreviations as abbreviation;
 ghost use Rattle.bib_contents.specs.Abbreviations.{Evaluates, IsFirstFault, IsReadable, defined_in};
 ghost use Rattle.bib_contents.specs.Contents as contents;
 ghost use Rattle.bib_syntax.specs.Faults.{out_of_memory};
@@ -10,6 +9,7 @@ ghost use Rattle.bib_contents.specs.Joined.{AreJoined, ArePlaced};
 ghost use Rattle.bib_syntax.specs.Reading.{Part};
 ghost use Rattle.bib_syntax.specs.Reading.Piece.{literal};
 ghost use Rattle.bib_syntax.specs.Views.{piece_of};
+ghost use Rattle.bib_entry_types.specs.VerbatimFields as names;
 
 mod abbreviations;
 mod arguments;
@@ -28,6 +28,7 @@ mod writing;
 
 use abbreviations::field_contents;
 use bib_chunks::chunk::Chunks;
+pub use bib_entry_types::fields::is_verbatim_field;
 use bib_syntax::raw::{Field, ParseError};
 pub use reader::FieldReader;
 use std::alloc::Global;
@@ -48,29 +49,19 @@ pub fn parse_field(
     abbreviations: &HashMap<&str, &Field<'_>>,
 ) -> Result<Chunks, ParseError>
     ensures read { IfOk result (λ chunks. Evaluates (defined_in abbreviations.now)
-        (abbreviation.is_verbatim_field key.now) (map piece_of field.now.items) (styled chunks)) }
+        (names.is_verbatim_field key.now) (map piece_of field.now.items) (styled chunks)) }
     ensures readable { OnOk result (IsReadable (defined_in abbreviations.now)
-        (abbreviation.is_verbatim_field key.now) (map piece_of field.now.items)) }
+        (names.is_verbatim_field key.now) (map piece_of field.now.items)) }
     ensures refused { IfErr result (λ e. (e ≡ out_of_memory) ⊎
-        (IsFirstFault (defined_in abbreviations.now) (abbreviation.is_verbatim_field key.now) []
+        (IsFirstFault (defined_in abbreviations.now) (names.is_verbatim_field key.now) []
         (map piece_of field.now.items) e ×
-        (IsReadable (defined_in abbreviations.now) (abbreviation.is_verbatim_field key.now)
+        (IsReadable (defined_in abbreviations.now) (names.is_verbatim_field key.now)
         (map piece_of field.now.items) → ⊥))) }
     ensures joined { IfOk result AreJoined }
     ensures placed { (p : Part) → map piece_of field.now.items ≡ literal p ∷ [] →
         p.end ≡ p.start + length p.text → IfOk result (ArePlaced p.start p.end) }
 {
     field_contents(alloc, is_verbatim_field(key), field, abbreviations)
-}
-
-/// Whether the contents of a field with this name are verbatim: commands and math mean nothing in them.
-pub fn is_verbatim_field(key: &str) -> bool
-    ensures { result ≡ abbreviation.is_verbatim_field key.now }
-{
-    matches!(
-        key,
-        "file" | "doi" | "uri" | "eprint" | "verba" | "verbb" | "verbc" | "pdf" | "url" | "urlraw"
-    )
 }
 
 /// Whether a backslash takes a character its meaning, in a verbatim field or another, where a text is read or where it

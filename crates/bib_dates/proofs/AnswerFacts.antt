@@ -2,8 +2,8 @@
 use Rattle.std.proofs.Common.{◌≡◌, ℕ, List, Result, Ok, Err, Option, Some, inl, inr, refl, sym, ap, subst, ◌∙◌}
 use Rattle.std.specs.Borrow.{Bor}
 use Rattle.std.specs.Prelude.{ℤ}
-use Rattle.bib_faults.specs.declared.type_error.TypeError.{TypeError}
-use Rattle.bib_typed.specs.Typed.{IsRefusal}
+use Rattle.bib_enums.specs.declared.type_error.TypeError.{TypeError}
+use Rattle.bib_enums.specs.ReadAs.{IsRefusal}
 use Rattle.bib_dates.specs.declared.faults.Fault.{Fault}
 use Rattle.bib_dates.specs.declared.faults.Fault.TheVariants.{Told, Untold}
 use Rattle.bib_dates.specs.Readings.{Reading, ◌>>=◌, value_of, MayRefuse}

@@ -2,7 +2,7 @@
 use Rattle.std.proofs.Common.{◌≡◌, refl, Some, None, true, false, pos, neg_ℤ}
 use Rattle.std.specs.Prelude.{codes}
 use Rattle.std.specs.Str.{trim_start, trim_end, chars}
-use Rattle.bib_faults.specs.declared.type_error.TypeErrorKind.TheVariants.{UndefinedRange, DayOutOfRange, MonthOutOfRange, WrongNumberOfDigits}
+use Rattle.bib_enums.specs.declared.type_error.TypeErrorKind.TheVariants.{UndefinedRange, DayOutOfRange, MonthOutOfRange, WrongNumberOfDigits}
 use Rattle.bib_dates.specs.declared.date.DateValue.TheVariants.{At, After, Before, Between}
 use Rattle.bib_dates.specs.Readings.Reading.{says, fault}
 use Rattle.bib_dates.specs.Parts.{number, small_number, behind_hyphens, sign, year}

@@ -2,11 +2,11 @@
 -- Dates as values of fields.
 use Rattle.std.specs.Prelude.{Option, Result}
 use Rattle.std.specs.Option.{option_map}
-use Rattle.bib_faults.specs.declared.type_error.TypeError.{TypeError}
-use Rattle.bib_faults.specs.declared.type_error.TypeErrorKind.{TypeErrorKind}
+use Rattle.bib_enums.specs.declared.type_error.TypeError.{TypeError}
+use Rattle.bib_enums.specs.declared.type_error.TypeErrorKind.{TypeErrorKind}
 use Rattle.bib_chunks.specs.declared.chunk.Chunk.TheVariants.{Normal}
-use Rattle.bib_values.specs.Values.{Value, text, alone}
-use Rattle.bib_typed.specs.Typed.{IsReadAs}
+use Rattle.bib_chunks.specs.Values.{Value, text, alone}
+use Rattle.bib_enums.specs.ReadAs.{IsReadAs}
 use Rattle.bib_dates.specs.declared.date.Date.{Date}
 use Rattle.bib_dates.specs.Readings.{Reading, value_of, MayRefuse}
 use Rattle.bib_dates.specs.Dates.{date_of}

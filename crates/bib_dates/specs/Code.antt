@@ -2,8 +2,8 @@
 -- What private functions read: a reason that is told is the fault that is promised.
 use Rattle.std.specs.Prelude.{ℕ, List, Result, Ok, Err}
 use Rattle.std.specs.Borrow.{Bor}
-use Rattle.bib_faults.specs.declared.type_error.TypeErrorKind.{TypeErrorKind}
-use Rattle.bib_faults.specs.declared.type_error.TypeErrorKind.TheVariants as Kind
+use Rattle.bib_enums.specs.declared.type_error.TypeErrorKind.{TypeErrorKind}
+use Rattle.bib_enums.specs.declared.type_error.TypeErrorKind.TheVariants as Kind
 use Rattle.bib_dates.specs.declared.faults.Why.{Why}
 use Rattle.bib_dates.specs.declared.faults.Why.TheVariants.{UndefinedRange, DayOutOfRange, MonthOutOfRange, InvalidNumber, MissingNumber, WrongNumberOfDigits, InvalidFormat, YearZeroCE}
 use Rattle.bib_dates.specs.declared.faults.Fault.{Fault}

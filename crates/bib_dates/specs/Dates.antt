@@ -7,7 +7,7 @@ use Rattle.std.specs.Char.{is_ascii_digit}
 use Rattle.std.specs.Str.{trim, trim_start, trim_end, str_to_ascii_uppercase}
 use Rattle.std.specs.Str.Parse.{digits_value}
 use Rattle.jiff_core.specs.Calendar.{days_in_month}
-use Rattle.bib_faults.specs.declared.type_error.TypeErrorKind.TheVariants.{UndefinedRange, DayOutOfRange, MonthOutOfRange, WrongNumberOfDigits}
+use Rattle.bib_enums.specs.declared.type_error.TypeErrorKind.TheVariants.{UndefinedRange, DayOutOfRange, MonthOutOfRange, WrongNumberOfDigits}
 use Rattle.bib_dates.specs.declared.date.Date.{Date}
 use Rattle.bib_dates.specs.declared.date.DateValue.{DateValue}
 use Rattle.bib_dates.specs.declared.date.DateValue.TheVariants.{At, After, Before, Between}

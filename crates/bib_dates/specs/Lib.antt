@@ -2,13 +2,10 @@ pub mod Anew
 pub mod Chunks
 pub mod Code
 pub mod Dates
-pub mod DatesReread
 pub mod Kept
 pub mod OrderLaws
 pub mod Orders
 pub mod Parts
-pub mod PartsReread
-pub mod PlainTexts
 pub mod Readings
 pub mod Separators
 pub mod ThreeFields

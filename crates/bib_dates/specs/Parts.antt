@@ -7,7 +7,7 @@ use Rattle.std.specs.Char.{is_ascii_digit}
 use Rattle.std.specs.Str.{trim_start}
 use Rattle.std.specs.Str.Parse.{digits_value}
 use Rattle.std.specs.Ordering.{int_cmp, is_lt}
-use Rattle.bib_faults.specs.declared.type_error.TypeErrorKind.{TypeErrorKind}
+use Rattle.bib_enums.specs.declared.type_error.TypeErrorKind.{TypeErrorKind}
 use Rattle.bib_dates.specs.Readings.{Reading, ◌>>=◌, Part}
 use Rattle.bib_dates.specs.Readings.Reading.{says, fault, unread}
 

@@ -2,7 +2,7 @@
 -- What a text is read as where some kinds of faults are promised and others aren't, as for the dates of the Rust crate
 -- `biblatex`.
 use Rattle.std.specs.Prelude.{◌≡◌, ℕ, List, Option, Some, None}
-use Rattle.bib_faults.specs.declared.type_error.TypeErrorKind.{TypeErrorKind}
+use Rattle.bib_enums.specs.declared.type_error.TypeErrorKind.{TypeErrorKind}
 
 -- a value, a fault of this kind, or a fault of a kind that isn't promised
 pub data Reading (A : Type 0) : Type 0 where

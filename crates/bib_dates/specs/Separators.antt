@@ -2,8 +2,8 @@
 -- Hyphens and colons between the parts of a date, with white space before them.
 use Rattle.std.specs.Prelude.{ℕ, ◌==◌}
 use Rattle.std.specs.Char.{is_whitespace}
-use Rattle.bib_faults.specs.declared.type_error.TypeError.{TypeError}
-use Rattle.bib_faults.specs.declared.type_error.TypeErrorKind.TheVariants.{InvalidFormat}
+use Rattle.bib_enums.specs.declared.type_error.TypeError.{TypeError}
+use Rattle.bib_enums.specs.declared.type_error.TypeErrorKind.TheVariants.{InvalidFormat}
 use Rattle.bib_text.specs.Places.{Place, CharAt, Longest}
 
 -- from u to v stand white space and hyphens, each the longest run, and of hyphens at least one

@@ -11,8 +11,8 @@ use Rattle.std.specs.Str.{chars, trim, trim_start, str_eq_ignore_ascii_case}
 use Rattle.std.specs.Str.Parse.{digits_value}
 use Rattle.bib_dates.specs.declared.date.Date.{Date}
 use Rattle.bib_dates.specs.declared.date.DateValue.TheVariants.{At}
-use Rattle.bib_values.specs.Ranges.{behind}
-use Rattle.bib_faults.specs.declared.type_error.TypeErrorKind.TheVariants.{DayOutOfRange, MonthOutOfRange, InvalidFormat, YearZeroCE}
+use Rattle.bib_text.specs.Runs.{behind}
+use Rattle.bib_enums.specs.declared.type_error.TypeErrorKind.TheVariants.{DayOutOfRange, MonthOutOfRange, InvalidFormat, YearZeroCE}
 use Rattle.bib_dates.specs.Readings.{Reading, ◌>>=◌, Part}
 use Rattle.bib_dates.specs.Readings.Reading.{says, fault, unread}
 use Rattle.bib_dates.specs.Parts.{run, behind_run, lies, begins, sign, signed}

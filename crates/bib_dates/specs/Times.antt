@@ -2,7 +2,7 @@
 -- The time behind a day, as level 0 of the Extended Date/Time Format has it, and as the Rust crate `biblatex` reads it.
 use Rattle.std.specs.Prelude.{ℕ, Bool, true, false, ◌==◌, if◌then◌else◌, List, [], length, drop, Option, Some, None}
 use Rattle.std.specs.Str.{trim_start}
-use Rattle.bib_faults.specs.declared.type_error.TypeErrorKind.TheVariants.{InvalidNumber}
+use Rattle.bib_enums.specs.declared.type_error.TypeErrorKind.TheVariants.{InvalidNumber}
 use Rattle.bib_dates.specs.declared.date.Time.{Time}
 use Rattle.bib_dates.specs.declared.date.TimeOffset.{TimeOffset}
 use Rattle.bib_dates.specs.declared.date.TimeOffset.TheVariants.{Utc, Offset}

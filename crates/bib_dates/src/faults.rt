@@ -1,10 +1,10 @@
 //! Why a text is no date.
 
 ghost use Rattle.std.specs.Prelude.{◌≡◌, ◌≢◌};
-ghost use Rattle.bib_faults.specs.declared.type_error.TypeErrorKind.TheVariants.{OutOfMemory};
+ghost use Rattle.bib_enums.specs.declared.type_error.TypeErrorKind.TheVariants.{OutOfMemory};
 ghost use Rattle.bib_dates.specs.Code.{kind_of};
 
-use bib_faults::type_error::TypeErrorKind;
+use bib_enums::type_error::TypeErrorKind;
 
 // What is wrong with a text. Want of memory is no fault of a text.
 #[derive(Debug, Clone, Copy, PartialEq, Eq)]

@@ -12,15 +12,11 @@ ghost use Rattle.bib_dates.specs.declared.date.Date.{Date as ADate};
 ghost use Rattle.bib_dates.specs.declared.date.Datetime.{Datetime as ADatetime};
 ghost use Rattle.bib_dates.specs.declared.date.Time.{Time as ATime};
 
-use crate::date::Date;
-use bib_typed::typed::Type;
-
 /// Each date that is kept is read back from its text, and its text is written anew as it stands. The dates of years from
 /// -9999 to 9999 are kept whose months and days exist, where no day lacks its month, and that have no time.
 pub fn dates_survive()
     ensures read { (d : ADate) → IsKept d → date_of (date_text d) ≡ says d }
     ensures written { (d : ADate) → IsKept d → date_anew (date_text d) ≡ Some (date_text d) }
-    ensures kept { (d : ADate) → IsKept d → ⟦<Date as Type>⟧.kept d }
 {}
 
 /// Of two times that both have an offset or both lack it, the one is earlier whose seconds are fewer; where one alone has

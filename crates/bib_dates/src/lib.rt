@@ -2,6 +2,7 @@
 //! compare.
 #![tactic(auto)]
 
+pub mod chunks;
 pub mod date;
 mod faults;
 mod fields;
@@ -10,5 +11,4 @@ mod parts;
 mod read;
 pub mod separators;
 mod times;
-mod typed;
 mod write;

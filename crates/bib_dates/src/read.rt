@@ -3,7 +3,7 @@
 ghost use Rattle.std.specs.Prelude.{◌≡◌, ◌+◌, ◌^◌, ◌<◌, ◌≤◌, None, pos, ◌↔◌, ◌==◌, IsTrue, IfOk, IfSome, is_some};
 ghost use Rattle.std.specs.List.{before_first, after_first};
 ghost use Rattle.jiff_core.specs.Calendar.{IsDate, IsYear, days_in_month};
-ghost use Rattle.bib_faults.specs.declared.type_error.TypeErrorKind.TheVariants.{DayOutOfRange};
+ghost use Rattle.bib_enums.specs.declared.type_error.TypeErrorKind.TheVariants.{DayOutOfRange};
 ghost use Rattle.bib_dates.specs.Code.{reading, part};
 ghost use Rattle.bib_dates.specs.Parts;
 ghost use Rattle.bib_dates.specs.Dates as Spec;

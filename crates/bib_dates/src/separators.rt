@@ -3,7 +3,7 @@
 ghost use Rattle.std.specs.Prelude.{◌≡◌, MatchResult};
 ghost use Rattle.bib_dates.specs.Separators.{IsHyphens, IsColon, IsWithout, no_sign};
 
-use bib_faults::type_error::{TypeError, TypeErrorKind};
+use bib_enums::type_error::{TypeError, TypeErrorKind};
 use bib_text::scanner::Scanner;
 
 // The fault that no such sign stands behind the white space that was eaten from here on.

@@ -3,20 +3,21 @@ use Rattle.std.proofs.Common.{rules, ◌≡◌, refl, ℕ, Bool, true, false, co
 use Rattle.std.specs.List.{filter, AllZip}
 use Rattle.std.proofs.lemmas.List.{append_assoc, append-nil}
 use Rattle.std.proofs.lemmas.List.Elements.{filter-append}
-use Rattle.bib_faults.specs.declared.type_error.TypeError.{TypeError}
-use Rattle.bib_faults.specs.declared.type_error.TypeErrorKind.{TypeErrorKind}
-use Rattle.bib_tables.specs.Requirements.{Names}
+use Rattle.bib_enums.specs.declared.type_error.TypeError.{TypeError}
+use Rattle.bib_enums.specs.declared.type_error.TypeErrorKind.{TypeErrorKind}
+use Rattle.bib_entry_types.specs.Requirements.{Names}
 use Rattle.bib_typed.specs.declared.typed.Type.{Ghosts}
-use Rattle.bib_typed.specs.Typed.{IsReadAs, number_fault}
+use Rattle.bib_enums.specs.ReadAs.{IsReadAs}
+use Rattle.bib_typed.specs.Typed.{number_fault}
 use Rattle.bib_typed.specs.contracts.enums.PaginationType.TheImpl as pagination
 use Rattle.bib_typed.specs.contracts.enums.GenderType.TheImpl as gender
 use Rattle.bib_typed.specs.contracts.ranges.VecRangeU32Type.TheImpl as ranges
 use Rattle.bib_typed.specs.contracts.numbers.I64Type.TheImpl as number
-use Rattle.bib_faults.specs.declared.type_error.TypeErrorKind.TheVariants.{InvalidNumber, UnknownGender, UnknownPagination}
+use Rattle.bib_enums.specs.declared.type_error.TypeErrorKind.TheVariants.{InvalidNumber, UnknownGender, UnknownPagination}
 use Rattle.bib_values.specs.Enumerations.{pagination_read, gender_read}
 use Rattle.bib_values.specs.Numbers.{number_read}
 use Rattle.bib_values.specs.Ranges.{ranges_read}
-use Rattle.bib_values.specs.Values.{Value}
+use Rattle.bib_chunks.specs.Values.{Value}
 use Rattle.bib_dates.specs.declared.date.Date.{Date}
 use Rattle.bib_dates.specs.Chunks.{IsAnswer}
 use Rattle.bib_dates.specs.Readings.{Reading}

@@ -4,14 +4,14 @@
 use Rattle.std.specs.Prelude.{◌≡◌, ◌≢◌, ℕ, List, ◌++◌, codes, Option, Some, None, Result, Ok, Err, OnOk, OnErr, ⊤}
 use Rattle.std.specs.declared.alloc.AllocError.{AllocError}
 use Rattle.std.specs.FinMap as by_name
-use Rattle.bib_faults.specs.declared.type_error.TypeErrorKind.TheVariants as kind
+use Rattle.bib_enums.specs.declared.type_error.TypeErrorKind.TheVariants as kind
 use Rattle.bib_dates.specs.Chunks.{three_fields_reading}
 use Rattle.bib_dates.specs.Readings.{Reading, value_of, MayRefuse}
 use Rattle.bib_dates.specs.declared.date.Date.{Date}
 use Rattle.bib_typed.specs.declared.typed.PermissiveType.{PermissiveType}
 use Rattle.bib_typed.specs.declared.typed.PermissiveType.TheVariants.{Typed, Chunks}
 use Rattle.bib_typed.specs.declared.typed.Type.{Ghosts}
-use Rattle.bib_values.specs.Values.{Value}
+use Rattle.bib_chunks.specs.Values.{Value}
 use Rattle.bib_entry.specs.Fields.{IsRetrieved, field_as, with_field}
 use Rattle.bib_entry.specs.declared.entry.Entry.{Entry}
 use Rattle.bib_entry.specs.declared.retrieval.RetrievalError.{RetrievalError}

@@ -5,10 +5,10 @@ use Rattle.std.specs.Global.{Vec}
 use Rattle.std.specs.FinMap as by_name
 use Rattle.bib_people.specs.declared.person.Person.{Person}
 use Rattle.bib_people.specs.People.{people_of}
-use Rattle.bib_types.specs.declared.types.EditorType.{EditorType}
-use Rattle.bib_types.specs.declared.types.EditorType.TheVariants.{Editor}
+use Rattle.bib_enums.specs.declared.types.EditorType.{EditorType}
+use Rattle.bib_enums.specs.declared.types.EditorType.TheVariants.{Editor}
 use Rattle.bib_values.specs.Enumerations.{editor_type_read}
-use Rattle.bib_values.specs.Values.{Value}
+use Rattle.bib_chunks.specs.Values.{Value}
 use Rattle.bib_entry.specs.declared.entry.Entry.{Entry}
 
 -- people, and the role that they had

@@ -5,12 +5,12 @@ use Rattle.std.specs.Borrow.{Bor}
 use Rattle.std.specs.declared.alloc.AllocError.{AllocError}
 use Rattle.std.specs.Option.{option_or}
 use Rattle.std.specs.FinMap as by_name
-use Rattle.bib_faults.specs.TypeError.{type_error_text}
-use Rattle.bib_faults.specs.declared.type_error.TypeErrorKind.{TypeErrorKind}
-use Rattle.bib_faults.specs.declared.type_error.TypeErrorKind.TheVariants as kind
-use Rattle.bib_faults.specs.declared.type_error.TypeError.{TypeError as ATypeError}
+use Rattle.bib_enums.specs.TypeError.{type_error_text}
+use Rattle.bib_enums.specs.declared.type_error.TypeErrorKind.{TypeErrorKind}
+use Rattle.bib_enums.specs.declared.type_error.TypeErrorKind.TheVariants as kind
+use Rattle.bib_enums.specs.declared.type_error.TypeError.{TypeError as ATypeError}
 use Rattle.bib_typed.specs.declared.typed.Type.{Ghosts}
-use Rattle.bib_values.specs.Values.{Value}
+use Rattle.bib_chunks.specs.Values.{Value}
 use Rattle.bib_entry.specs.declared.entry.Entry.{Entry}
 use Rattle.bib_entry.specs.declared.entry.SetError.{SetError}
 use Rattle.bib_entry.specs.declared.retrieval.RetrievalError.{RetrievalError}

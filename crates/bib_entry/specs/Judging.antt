@@ -2,11 +2,11 @@
 -- The faults of fields, as they are told one after the other.
 use Rattle.std.specs.Prelude.{◌≡◌, ◌≢◌, ℕ, List, [], ◌∷◌, ◌++◌, Option, Some, None, Result, Ok, Err}
 use Rattle.std.specs.List.{filter, AllZip}
-use Rattle.bib_faults.specs.declared.type_error.TypeError.{TypeError}
-use Rattle.bib_faults.specs.declared.type_error.TypeErrorKind.TheVariants.{OutOfMemory}
+use Rattle.bib_enums.specs.declared.type_error.TypeError.{TypeError}
+use Rattle.bib_enums.specs.declared.type_error.TypeErrorKind.TheVariants.{OutOfMemory}
 use Rattle.bib_typed.specs.declared.typed.Type.{Ghosts}
-use Rattle.bib_typed.specs.Typed.{IsReadAs}
-use Rattle.bib_values.specs.Values.{Value}
+use Rattle.bib_enums.specs.ReadAs.{IsReadAs}
+use Rattle.bib_chunks.specs.Values.{Value}
 use Rattle.bib_entry.specs.Reports.{Verdict, is_fault, IsFault}
 
 -- the faults of fields that are told

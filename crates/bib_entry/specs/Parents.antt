@@ -5,7 +5,7 @@ use Rattle.std.specs.Option.{option_map_or}
 use Rattle.std.specs.FinMap as by_name
 use Rattle.bib_entry.specs.declared.entry.Entry.{Entry}
 use Rattle.bib_values.specs.Lists.{strings_read}
-use Rattle.bib_values.specs.Values.{text}
+use Rattle.bib_chunks.specs.Values.{text}
 
 -- the text of `crossref`, and then the parts of the comma list `xref`
 abbrev pub parents_of : Entry → List (List ℕ)

@@ -4,20 +4,20 @@
 use Rattle.std.specs.Prelude.{◌≡◌, ◌≢◌, ℕ, Bool, true, false, not, ◌&&◌, ◌||◌, List, [], ◌∷◌, ◌++◌, codes, Option, Some, None, is_some}
 use Rattle.std.specs.List.{filter, AllZip}
 use Rattle.std.specs.FinMap as by_name
-use Rattle.bib_faults.specs.declared.type_error.TypeError.{TypeError}
-use Rattle.bib_faults.specs.declared.type_error.TypeErrorKind.{TypeErrorKind}
-use Rattle.bib_faults.specs.declared.type_error.TypeErrorKind.TheVariants.{InvalidNumber, UnknownGender, UnknownPagination, OutOfMemory}
-use Rattle.bib_tables.specs.Requirements.{Names, rules_of, forbidden_of}
-use Rattle.bib_tables.specs.declared.mechanics.requirements.AuthorMode.{AuthorMode}
-use Rattle.bib_tables.specs.declared.mechanics.requirements.AuthorMode.TheVariants as author
-use Rattle.bib_tables.specs.declared.mechanics.requirements.PagesChapterMode.{PagesChapterMode}
-use Rattle.bib_tables.specs.declared.mechanics.requirements.PagesChapterMode.TheVariants as pages
+use Rattle.bib_enums.specs.declared.type_error.TypeError.{TypeError}
+use Rattle.bib_enums.specs.declared.type_error.TypeErrorKind.{TypeErrorKind}
+use Rattle.bib_enums.specs.declared.type_error.TypeErrorKind.TheVariants.{InvalidNumber, UnknownGender, UnknownPagination, OutOfMemory}
+use Rattle.bib_entry_types.specs.Requirements.{Names, rules_of, forbidden_of}
+use Rattle.bib_entry_types.specs.declared.mechanics.requirements.AuthorMode.{AuthorMode}
+use Rattle.bib_entry_types.specs.declared.mechanics.requirements.AuthorMode.TheVariants as author
+use Rattle.bib_entry_types.specs.declared.mechanics.requirements.PagesChapterMode.{PagesChapterMode}
+use Rattle.bib_entry_types.specs.declared.mechanics.requirements.PagesChapterMode.TheVariants as pages
 use Rattle.bib_text.specs.Enums.{named}
 use Rattle.bib_typed.specs.Typed.{number_fault}
 use Rattle.bib_values.specs.Enumerations.{pagination_read, gender_read}
 use Rattle.bib_values.specs.Numbers.{number_read}
 use Rattle.bib_values.specs.Ranges.{ranges_read}
-use Rattle.bib_values.specs.Values.{Value}
+use Rattle.bib_chunks.specs.Values.{Value}
 use Rattle.bib_dates.specs.Chunks.{three_fields_reading}
 use Rattle.bib_dates.specs.Readings.{Reading}
 use Rattle.bib_dates.specs.Readings.Reading.{says, fault, unread as not_read}

@@ -8,10 +8,10 @@ use Rattle.bib_text.specs.Enums.{named}
 use Rattle.bib_text.specs.declared.spanned.Spanned.{Spanned}
 use Rattle.bib_chunks.specs.declared.chunk.Chunk.{Chunk}
 use Rattle.bib_chunks.specs.Written.{written_value}
-use Rattle.bib_contents.specs.Abbreviations.{is_verbatim_field}
-use Rattle.bib_tables.specs.EntryType.{entry_type_name, biblatex_type, bibtex_type}
-use Rattle.bib_tables.specs.declared.mechanics.EntryType.{EntryType}
-use Rattle.bib_tables.specs.declared.mechanics.EntryType.TheVariants.{Thesis, MastersThesis, PhdThesis}
+use Rattle.bib_entry_types.specs.VerbatimFields.{is_verbatim_field}
+use Rattle.bib_entry_types.specs.EntryType.{entry_type_name, biblatex_type, bibtex_type}
+use Rattle.bib_entry_types.specs.declared.mechanics.EntryType.{EntryType}
+use Rattle.bib_entry_types.specs.declared.mechanics.EntryType.TheVariants.{Thesis, MastersThesis, PhdThesis}
 use Rattle.bib_dates.specs.Chunks.{date_read}
 use Rattle.bib_dates.specs.Written.{first_side, second_side, year_text, month_text, day_text}
 use Rattle.bib_dates.specs.declared.date.Date.{Date}

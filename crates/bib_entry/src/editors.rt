@@ -1,15 +1,15 @@
 //! The editors of an entry.
 
 ghost use Rattle.std.specs.Prelude.{◌≡◌, ◌++◌, IfOk, IfErr, OnOk};
-ghost use Rattle.bib_faults.specs.TypeError.{no_memory};
+ghost use Rattle.bib_enums.specs.TypeError.{no_memory};
 ghost use Rattle.std.specs.FinMap as by_name;
 ghost use Rattle.bib_entry.specs.Editors.{contents, editors_in, editors_of, role_of};
 
 use crate::entry::Entry;
-use bib_faults::type_error::TypeError;
+use bib_enums::type_error::TypeError;
 use bib_people::person::Person;
 use bib_typed::typed::Type;
-use bib_types::types::EditorType;
+use bib_enums::types::EditorType;
 use std::alloc::Global;
 
 impl Entry {

@@ -7,7 +7,7 @@ ghost use Rattle.std.specs.FinMap as by_name;
 
 use bib_chunks::chunk::{Chunks, ChunksRef};
 use bib_maps::text_map::TextMap;
-use bib_tables::mechanics::EntryType;
+use bib_entry_types::mechanics::EntryType;
 use bib_text::text::Text;
 use std::alloc::{AllocError, Global};
 use std::error::Error;

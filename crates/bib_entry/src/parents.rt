@@ -2,11 +2,11 @@
 
 ghost use Rattle.std.specs.Prelude.{◌≡◌, IfOk, IfErr, map, string_bytes};
 ghost use Rattle.bib_entry.specs.Parents.{parents_of};
-ghost use Rattle.bib_faults.specs.TypeError.{no_memory};
+ghost use Rattle.bib_enums.specs.TypeError.{no_memory};
 
 use crate::entry::Entry;
 use bib_chunks::chunk::format_verbatim;
-use bib_faults::type_error::TypeError;
+use bib_enums::type_error::TypeError;
 use bib_values::lists::read_strings;
 use std::alloc::{AllocError, Global};
 

@@ -1,14 +1,14 @@
 //! Reports on entries: what they lack, what they must not have, and what is not read.
 
 ghost use Rattle.std.specs.Prelude.{◌≡◌, ◌==◌, ◌&&◌, IfOk, length};
-ghost use Rattle.bib_tables.specs.Requirements.{texts};
+ghost use Rattle.bib_entry_types.specs.Requirements.{texts};
 ghost use Rattle.bib_entry.specs.Reports.{missing_of, superfluous_of, AreMalformed};
 
 mod faults;
 mod fields;
 
 use crate::entry::Entry;
-use bib_faults::type_error::TypeError;
+use bib_enums::type_error::TypeError;
 use bib_text::text::Text;
 use std::alloc::{AllocError, Global};
 

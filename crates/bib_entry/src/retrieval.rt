@@ -3,7 +3,7 @@
 ghost use Rattle.std.specs.Prelude.{◌≡◌, Some};
 ghost use Rattle.bib_entry.specs.Fields.{retrieval_text, retrieval_fault};
 
-use bib_faults::type_error::{TypeError, TypeErrorKind};
+use bib_enums::type_error::{TypeError, TypeErrorKind};
 use bib_text::text::Text;
 use std::alloc::{AllocError, AllocFailed};
 use std::error::Error;

@@ -3,7 +3,7 @@
 ghost use Rattle.std.specs.Prelude.{◌≡◌, ◌++◌, OnOk, IfOk, codes, string_bytes, unwrap_or};
 ghost use Rattle.std.specs.FinMap.{entries};
 ghost use Rattle.std.specs.List.{flat_map};
-ghost use Rattle.bib_tables.specs.EntryType.{entry_type_name};
+ghost use Rattle.bib_entry_types.specs.EntryType.{entry_type_name};
 ghost use Rattle.bib_text.specs.Enums.{named};
 ghost use Rattle.bib_entry.specs.Format.{entry_in, field_in, kind_in};
 ghost use Rattle.std.specs.Option.{option_map};
@@ -12,10 +12,10 @@ ghost use Rattle.bib_entry.specs.WrittenEntries.{biblatex_entry, biblatex_name, 
 
 use crate::entry::Entry;
 use bib_chunks::chunk::{ChunksRef, write_value};
-use bib_contents::resolve::is_verbatim_field;
+use bib_entry_types::fields::is_verbatim_field;
 use bib_dates::date::{Date, Datetime};
-use bib_faults::type_error::TypeErrorKind;
-use bib_tables::mechanics::EntryType;
+use bib_enums::type_error::TypeErrorKind;
+use bib_entry_types::mechanics::EntryType;
 use bib_typed::typed::Type;
 use std::alloc::{AllocError, Global};
 

@@ -7,8 +7,8 @@ use Rattle.std.proofs.lemmas.List.{reverse-reverse}
 use Rattle.std.proofs.lemmas.Map.Text.{is_eq-slice_cmp}
 use Rattle.bib_chunks.specs.Styled.{Atom, styled}
 use Rattle.bib_maps.specs.Sorted.{ByText, by_bytes}
-use Rattle.bib_tables.specs.Requirements.{is_one_of}
-use Rattle.bib_tables.specs.declared.mechanics.EntryType.{EntryType}
+use Rattle.bib_entry_types.specs.Requirements.{is_one_of}
+use Rattle.bib_entry_types.specs.declared.mechanics.EntryType.{EntryType}
 use Rattle.bib_inheritance.specs.Dating.{date_for}
 use Rattle.bib_inheritance.specs.Inherited.{date_parts, field_by, inherited, plain_field, taken}
 use Rattle.bib_inheritance.specs.Sources.{Fields, Source, fields_of, first_named, first_some, source_of}

@@ -20,8 +20,8 @@ use Rattle.bib_chunks.specs.declared.chunk.Chunk.{Chunk}
 use Rattle.bib_chunks.specs.Styled.{Atom, styled}
 use Rattle.bib_text.specs.declared.spanned.Spanned.{Spanned}
 use Rattle.bib_maps.specs.Sorted.{ByText, by_bytes}
-use Rattle.bib_tables.specs.Requirements.{Names, texts, rules_of, author_names, page_names, inheritable, is_container, is_one_of, never_inherited}
-use Rattle.bib_tables.specs.declared.mechanics.EntryType.{EntryType}
+use Rattle.bib_entry_types.specs.Requirements.{Names, texts, rules_of, author_names, page_names, inheritable, is_container, is_one_of, never_inherited}
+use Rattle.bib_entry_types.specs.declared.mechanics.EntryType.{EntryType}
 use Rattle.bib_inheritance.specs.Inherited.{offer, given, taken}
 use Rattle.bib_inheritance.specs.Lent.{lent, lent_in, offered_among}
 use Rattle.bib_inheritance.specs.Sources.{Source, fields_of, first_named, first_some, has, source_at, sources}

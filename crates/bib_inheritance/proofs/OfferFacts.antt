@@ -2,7 +2,7 @@
 use Rattle.std.proofs.Common.{◌≡◌, ℕ, ◌+◌, ◌<◌, ◌≤◌, List, length, get_or, drop, None}
 use Rattle.std.proofs.lemmas.List.{at_drop_more, at_drop_all}
 use denote.Ref.{Bor}
-use Rattle.bib_tables.specs.Requirements.{texts}
+use Rattle.bib_entry_types.specs.Requirements.{texts}
 use Rattle.bib_inheritance.specs.Inherited.{first_of}
 use Rattle.bib_inheritance.specs.Sources.{Fields, first_some}
 

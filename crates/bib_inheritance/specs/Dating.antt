@@ -3,8 +3,8 @@
 use Rattle.std.specs.Prelude.{◌≡◌, ℕ, Bool, true, false, not, ◌&&◌, ◌||◌, List, [], ◌∷◌, map, codes, option_map, Option, Some, None, IsSomeAnd, if◌then◌else◌}
 use Rattle.std.specs.Str.{chars}
 use Rattle.bib_chunks.specs.Styled.{Atom, styled}
-use Rattle.bib_faults.specs.declared.type_error.TypeErrorKind.{TypeErrorKind}
-use Rattle.bib_tables.specs.Requirements.{rules_of}
+use Rattle.bib_enums.specs.declared.type_error.TypeErrorKind.{TypeErrorKind}
+use Rattle.bib_entry_types.specs.Requirements.{rules_of}
 use Rattle.bib_dates.specs.Anew.{date_anew}
 use Rattle.bib_dates.specs.Readings.{MayRefuse, Reading, value_of}
 use Rattle.bib_dates.specs.ThreeFields.{three_fields_of}

@@ -4,10 +4,10 @@
 use Rattle.std.specs.Prelude.{ℕ, Bool, not, ◌&&◌, ◌||◌, List, [], ◌∷◌, codes, bytes_eq, unwrap_or, Option, Some, None, if◌then◌else◌, true, false}
 use Rattle.bib_text.specs.Enums.{named}
 use Rattle.bib_chunks.specs.Styled.{Atom}
-use Rattle.bib_tables.specs.EntryType.{is_collection, is_multi_volume}
-use Rattle.bib_tables.specs.Requirements.{Names, fields, inherits, is_container, is_one_of}
-use Rattle.bib_tables.specs.declared.mechanics.EntryType.{EntryType}
-use Rattle.bib_tables.specs.declared.mechanics.EntryType.TheVariants.{Periodical}
+use Rattle.bib_entry_types.specs.EntryType.{is_collection, is_multi_volume}
+use Rattle.bib_entry_types.specs.Requirements.{Names, fields, inherits, is_container, is_one_of}
+use Rattle.bib_entry_types.specs.declared.mechanics.EntryType.{EntryType}
+use Rattle.bib_entry_types.specs.declared.mechanics.EntryType.TheVariants.{Periodical}
 use Rattle.bib_inheritance.specs.Dating.{date_for}
 use Rattle.bib_inheritance.specs.Sources.{Fields, Source, first_some, has}
 

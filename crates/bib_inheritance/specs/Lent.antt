@@ -10,7 +10,7 @@ use denote.Ref.{Bor}
 use Rattle.bib_text.specs.declared.spanned.Spanned.{Spanned}
 use Rattle.bib_chunks.specs.declared.chunk.Chunk.{Chunk}
 use Rattle.bib_chunks.specs.Styled.{Atom, styled}
-use Rattle.bib_tables.specs.Requirements.{Names, is_one_of, never_inherited}
+use Rattle.bib_entry_types.specs.Requirements.{Names, is_one_of, never_inherited}
 use Rattle.bib_inheritance.specs.Inherited.{offer}
 use Rattle.bib_inheritance.specs.Sources.{Source}
 

@@ -7,8 +7,8 @@ use Rattle.bib_text.specs.declared.spanned.Spanned.{Spanned}
 use Rattle.bib_chunks.specs.declared.chunk.Chunk.{Chunk}
 use Rattle.bib_chunks.specs.Styled.{Atom, styled}
 use Rattle.bib_maps.specs.Sorted.{ByText, by_bytes}
-use Rattle.bib_tables.specs.declared.mechanics.EntryType.{EntryType}
-use Rattle.bib_tables.specs.declared.mechanics.EntryType.TheVariants.{Misc}
+use Rattle.bib_entry_types.specs.declared.mechanics.EntryType.{EntryType}
+use Rattle.bib_entry_types.specs.declared.mechanics.EntryType.TheVariants.{Misc}
 use Rattle.bib_inheritance.specs.declared.offers.Reference.{Reference}
 
 -- the styled text of each field, by its name

@@ -11,16 +11,16 @@ ghost use Rattle.bib_dates.specs.declared.date.Date.{Date as ADate};
 ghost use Rattle.bib_inheritance.specs.Dating.{IsDating, dated_text, looks_for_date, of_one_field, three_fields, written};
 ghost use Rattle.bib_inheritance.specs.References.{plain};
 ghost use Rattle.bib_inheritance.specs.Sources.{fields_of, source_of};
-ghost use Rattle.bib_values.specs.Values.{text};
+ghost use Rattle.bib_chunks.specs.Values.{text};
 
 use bib_chunks::chunk::{Chunk, Chunks, ChunksRef, Spanned, format_styled, whole_span};
+use bib_dates::chunks::date_chunks;
 use bib_dates::date::Date;
-use bib_faults::type_error::{TypeError, TypeErrorKind};
+use bib_enums::type_error::{TypeError, TypeErrorKind};
 use bib_maps::text_map::TextMap;
-use bib_tables::mechanics::EntryType;
+use bib_entry_types::mechanics::EntryType;
 use bib_text::items::Items;
 use bib_text::text::Text;
-use bib_typed::typed::Type;
 use std::alloc::{AllocError, Global};
 
 // The styled text as one verbatim chunk in its place, which is read as its plain text.
@@ -76,7 +76,7 @@ fn anew(alloc: Global, read: Result<Date, TypeError>) -> Result<Option<Chunks>, 
         option_map styled date ≡ option_map (λ d. written (date_text d)) (value_of reading)) }
 {
     match read {
-        Ok(date) => Ok(Some(date.to_chunks(alloc)?)),
+        Ok(date) => Ok(Some(date_chunks(alloc, &date)?)),
         Err(e) => {
             if matches!(e.kind, TypeErrorKind::OutOfMemory) {
                 return Err(AllocError);
@@ -122,7 +122,7 @@ impl Dating {
             return Ok(Dating::Undated);
         };
         match three_fields(alloc, year, fields) {
-            Ok(date) => Ok(Dating::Dated(date.to_chunks(alloc)?)),
+            Ok(date) => Ok(Dating::Dated(date_chunks(alloc, &date)?)),
             Err(e) => {
                 if matches!(e.kind, TypeErrorKind::OutOfMemory) {
                     return Err(AllocError);

@@ -4,7 +4,7 @@ ghost use Rattle.std.specs.Prelude.{◌≡◌, ℕ, List, OnOk, IfOk, map, if◌
 ghost use Rattle.std.specs.FinMap as by_name;
 ghost use Rattle.std.specs.List.{flat_map};
 ghost use Rattle.bib_chunks.specs.Styled.{styled};
-ghost use Rattle.bib_tables.specs.Requirements.{texts, inheritable, is_container, is_one_of, never_inherited};
+ghost use Rattle.bib_entry_types.specs.Requirements.{texts, inheritable, is_container, is_one_of, never_inherited};
 ghost use Rattle.bib_inheritance.specs.Inherited.{given, taken};
 ghost use Rattle.bib_inheritance.specs.Lent.{lent, offered_among};
 ghost use Rattle.bib_inheritance.specs.Sources.{fields_of, first_named, first_some, source_at, sources};
@@ -12,7 +12,7 @@ ghost use Rattle.bib_inheritance.specs.Sources.{fields_of, first_named, first_so
 use crate::offers::{Reference, offer};
 use bib_chunks::chunk::Chunks;
 use bib_maps::text_map::TextMap;
-use bib_tables::mechanics::EntryType;
+use bib_entry_types::mechanics::EntryType;
 use bib_text::text::Text;
 use std::alloc::{AllocError, Global};
 use std::collections::BTreeMap;

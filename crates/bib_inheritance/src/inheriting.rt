@@ -2,7 +2,7 @@
 
 ghost use Rattle.std.specs.Prelude.{◌≡◌, ℕ, List, OnOk, IfOk, Some, None, codes, bytes_eq, if◌then◌else◌};
 ghost use Rattle.std.specs.FinMap as by_name;
-ghost use Rattle.bib_tables.specs.Requirements.{is_one_of};
+ghost use Rattle.bib_entry_types.specs.Requirements.{is_one_of};
 ghost use Rattle.bib_inheritance.specs.Inherited.{date_parts, field_by, plain_field};
 ghost use Rattle.bib_inheritance.specs.Sources.{first_named};
 

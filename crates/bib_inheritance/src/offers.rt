@@ -4,13 +4,13 @@ ghost use Rattle.std.specs.Prelude.{◌≡◌, Some, option_map};
 ghost use Rattle.std.specs.Option.{option_copied};
 ghost use Rattle.bib_text.specs.Enums.{named};
 ghost use Rattle.bib_chunks.specs.Styled.{styled};
-ghost use Rattle.bib_tables.specs.Requirements.{texts};
+ghost use Rattle.bib_entry_types.specs.Requirements.{texts};
 ghost use Rattle.bib_inheritance.specs.Inherited.{is_periodical, journal_titles, book_titles, main_titles, title_for, other_names, first_of, offer};
 ghost use Rattle.bib_inheritance.specs.Sources.{fields_of, source_at};
 
 use bib_chunks::chunk::Chunks;
 use bib_maps::text_map::TextMap;
-use bib_tables::mechanics::EntryType;
+use bib_entry_types::mechanics::EntryType;
 
 /// An entry that another refers to.
 #[derive(Clone, Copy)]

@@ -9,9 +9,9 @@ use Rattle.bib_chunks.specs.declared.chunk.Chunk.TheVariants.{Normal}
 use Rattle.bib_text.specs.declared.spanned.Spanned.{Spanned}
 use Rattle.bib_chunks.specs.Cuts.{placed, piece, part_of, pieces, pieces_between, onto, joined, list_parts, between_ands, trimmed, trimmed_from, trimmed_ends, and_list}
 use Rattle.bib_chunks.specs.Formatted.{formatted_behind}
-use Rattle.bib_values.specs.Values.{Value, nowhere, alone}
-use Rattle.bib_values.proofs.SeparatedFacts.{no_place}
-use Rattle.bib_values.proofs.AndListFacts.{and_separates}
+use Rattle.bib_chunks.specs.Values.{Value, nowhere, alone}
+use Rattle.bib_chunks.proofs.SeparatedFacts.{no_place}
+use Rattle.bib_chunks.proofs.AndListFacts.{and_separates}
 
 abbrev pub normal : List ℕ → Spanned Chunk
 normal text = nowhere (Normal text)

@@ -25,7 +25,7 @@ use Rattle.bib_people.proofs.ByteFacts.{name_plain, line_open, is_line_byte, all
 use Rattle.bib_people.proofs.SpacedFacts.{spaced_ends, spaced_begins, spaced_all, words_at, spaced_words_of, letters_spaced, gap_of}
 use Rattle.bib_people.proofs.LineFacts.{comma, comma_items, suffix_line, more_some, is_line_item, AllWords, all_any, all_line, items_solid, items_ascii, items_bytes, items_part, line_items, line_all, line_spelt, plain_line}
 use Rattle.std.specs.declared.ops.Range.{Range}
-use Rattle.bib_values.proofs.SeparatedFacts.{no_place}
+use Rattle.bib_chunks.proofs.SeparatedFacts.{no_place}
 use Rattle.bib_people.proofs.AndLists.{formatted_empties, empties, before_and, behind_and, normal, padded, padded_parts, written_behind, IsPart, AllParts, and_list_written}
 use Rattle.bib_people.proofs.CommaFacts.{is_comma, stands, AreHalves, halves_at, cut_first_comma, cut_no_comma}
 

@@ -5,7 +5,7 @@ use Rattle.std.specs.Str.{chars}
 use Rattle.unicode.specs.Binary.{is_uppercase}
 use Rattle.bib_chunks.specs.declared.chunk.Chunk.TheVariants.{Normal, Verbatim}
 use Rattle.bib_chunks.specs.Cuts.{and_list}
-use Rattle.bib_values.specs.Values.{Value, nowhere}
+use Rattle.bib_chunks.specs.Values.{Value, nowhere}
 use Rattle.bib_people.specs.declared.person.Person.{Person}
 use Rattle.bib_people.specs.Names.{person_of}
 

@@ -1,13 +1,13 @@
 //! Lists of people.
 
-ghost use Rattle.std.specs.Prelude.{◌≡◌, [], ◌∷◌, ◌++◌, OnOk, IfOk, codes};
+ghost use Rattle.std.specs.Prelude.{◌≡◌, ◌++◌, OnOk, IfOk, codes};
 ghost use Rattle.std.specs.Str.{chars};
-ghost use Rattle.bib_values.specs.Values.{nowhere};
 ghost use Rattle.bib_people.specs.People.{people_of, suffix_text, behind_prefix, begins_capital, plain_chunks, keyed, keyed_some, keyed_flag, four_keys, more_keys, has_more, person_chunks, joined_person, people_chunks};
 
 use crate::person::Person;
 use bib_chunks::chunk::cuts::and_list;
-use bib_chunks::chunk::{Chunk, Chunks, ChunksRef, Spanned};
+use bib_chunks::chunk::making::{push_normal, push_verbatim};
+use bib_chunks::chunk::{Chunks, ChunksRef};
 use bib_text::items::Items;
 use bib_text::text::Text;
 use std::alloc::{AllocError, Global};
@@ -23,22 +23,6 @@ pub fn read_people(alloc: Global, chunks: ChunksRef<'_>) -> Result<Vec<Person>, 
         people.push(Person::parse(alloc, chunks.as_slice())?)?;
     }
     Ok(people)
-}
-
-// Appends a normal chunk.
-fn push_normal(all: &mut Chunks, text: Text) -> Result<(), AllocError>
-    ensures { OnOk result (all.new ≡ all.old ++ nowhere (Chunk.Normal text) ∷ []) }
-{
-    all.push(Spanned::detached(Chunk::Normal(text)))?;
-    Ok(())
-}
-
-// Appends a verbatim chunk.
-fn push_verbatim(all: &mut Chunks, text: Text) -> Result<(), AllocError>
-    ensures { OnOk result (all.new ≡ all.old ++ nowhere (Chunk.Verbatim text) ∷ []) }
-{
-    all.push(Spanned::detached(Chunk::Verbatim(text)))?;
-    Ok(())
 }
 
 // Writes a suffix and the comma behind it, if there is one.

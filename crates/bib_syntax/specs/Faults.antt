@@ -2,7 +2,7 @@
 -- Faults of a text, and how they are printed, as the Rust crate `biblatex` prints them.
 use Rattle.std.specs.Prelude.{◌≡◌, ℕ, ◌≤◌, Bool, true, false, List, [], ◌∷◌, ◌++◌, Option, Some, length, codes, IsTrue, ◌⊎◌}
 use Rattle.std.specs.Fmt.{◌++?◌, decimal, debug_str}
-use Rattle.bib_faults.specs.TypeError.{type_kind_text}
+use Rattle.bib_enums.specs.TypeError.{type_kind_text}
 use Rattle.bib_syntax.specs.declared.raw.Token.{Token}
 use Rattle.bib_syntax.specs.declared.raw.Token.TheVariants as token
 use Rattle.bib_syntax.specs.declared.raw.ParseErrorKind.{ParseErrorKind}

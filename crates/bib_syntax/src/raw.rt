@@ -10,7 +10,7 @@ mod fields;
 mod file;
 mod words;
 
-use bib_faults::type_error::TypeErrorKind;
+use bib_enums::type_error::TypeErrorKind;
 use bib_text::scanner::Scanner;
 use bib_text::spanned::{Span, Spanned};
 use bib_text::text::Text;

@@ -1,3 +1,4 @@
 pub mod EnumFacts
 pub mod PlaceFacts
+pub mod ScannedFacts
 pub mod TextFacts

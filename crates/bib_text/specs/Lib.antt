@@ -2,3 +2,4 @@ pub mod Braces
 pub mod Enums
 pub mod Lending
 pub mod Places
+pub mod Runs

@@ -6,13 +6,13 @@ ghost use Rattle.bib_text.specs.declared.spanned.Spanned.{Spanned as APlaced};
 ghost use Rattle.bib_chunks.specs.Formatted.{formatted, sentence};
 ghost use Rattle.bib_chunks.specs.Styled.{whole_span};
 ghost use Rattle.bib_chunks.specs.Written.{written_value};
-ghost use Rattle.bib_typed.specs.Typed.{IsReadAs};
+ghost use Rattle.bib_enums.specs.ReadAs.{IsReadAs};
 
 use crate::typed::Type;
 use bib_chunks::chunk::{
     ChunksRef, Span, format_sentence, format_verbatim, value_text, whole_span,
 };
-use bib_faults::type_error::TypeError;
+use bib_enums::type_error::TypeError;
 use std::alloc::{AllocError, Global};
 
 /// Calls on lists of chunks.

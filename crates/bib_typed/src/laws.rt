@@ -3,18 +3,21 @@
 
 ghost use Rattle.std.specs.Prelude.{ℕ, List};
 ghost use Rattle.std.specs.declared.ops.Range.{Range as ARange};
+ghost use Rattle.bib_dates.specs.Kept.{IsKept};
+ghost use Rattle.bib_dates.specs.declared.date.Date.{Date as ADate};
 ghost use Rattle.bib_people.specs.Kept.{ArePeople};
 ghost use Rattle.bib_people.specs.declared.person.Person.{Person as APerson};
-ghost use Rattle.bib_types.specs.declared.types.lang.Language.{Language as ALanguage};
+ghost use Rattle.bib_enums.specs.declared.types.lang.Language.{Language as ALanguage};
 ghost use Rattle.bib_values.specs.Enumerations.{IsNamed};
 ghost use Rattle.bib_values.specs.Lists.{StringsKept};
 ghost use Rattle.bib_values.specs.Permissive.{Permissive, LanguagesKept};
 ghost use Rattle.bib_values.specs.Ranges.{RangesKept};
 
 use crate::typed::{PermissiveType, Type};
+use bib_dates::date::Date;
 use bib_people::person::Person;
-use bib_types::types::lang::Language;
-use bib_types::types::{EditorType, Gender, Pagination};
+use bib_enums::types::lang::Language;
+use bib_enums::types::{EditorType, Gender, Pagination};
 use std::ops::Range;
 
 /// Each text is kept.
@@ -68,4 +71,10 @@ pub fn lists_of_languages_are_kept()
 /// no one lacks a name or a given name, and no one has another part.
 pub fn lists_of_people_are_kept()
     ensures { (people : List APerson) → ArePeople people → ⟦<Vec<Person> as Type>⟧.kept people }
+{}
+
+/// Each date of a year from -9999 to 9999 is kept whose months and days exist, where no day lacks its month, and that has
+/// no time.
+pub fn dates_are_kept()
+    ensures { (date : ADate) → IsKept date → ⟦<Date as Type>⟧.kept date }
 {}

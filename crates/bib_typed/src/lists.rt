@@ -2,11 +2,12 @@
 
 ghost use Rattle.std.specs.Prelude.{◌≡◌, ℕ, List, Some, IfOk, map, string_bytes};
 ghost use Rattle.bib_chunks.specs.Cuts.{and_list};
-ghost use Rattle.bib_types.specs.declared.types.lang.Language.{Language as ALanguage};
+ghost use Rattle.bib_enums.specs.declared.types.lang.Language.{Language as ALanguage};
 ghost use Rattle.bib_values.specs.Enumerations.{language_read};
-ghost use Rattle.bib_values.specs.Lists.{strings_read, strings_written, StringsKept, parts_written};
+ghost use Rattle.bib_values.specs.Lists.{strings_read, strings_written, StringsKept};
+ghost use Rattle.bib_chunks.specs.Separated.{parts_written};
 ghost use Rattle.bib_values.specs.Permissive.{Permissive, permissive, languages_read, languages_written, LanguagesKept};
-ghost use Rattle.bib_values.specs.Values.{Value};
+ghost use Rattle.bib_chunks.specs.Values.{Value};
 ghost use Rattle.bib_values.proofs.CommaFacts.{strings_survive};
 ghost use Rattle.bib_values.proofs.PermissiveFacts.{languages_survive};
 ghost use Rattle.bib_typed.specs.Typed.{permissive_meaning};
@@ -14,11 +15,11 @@ ghost use Rattle.bib_typed.specs.Typed.{permissive_meaning};
 use crate::typed::{PermissiveType, Type};
 use bib_chunks::chunk::cuts::and_list;
 use bib_chunks::chunk::{Chunks, ChunksRef};
-use bib_faults::type_error::TypeError;
-use bib_types::types::lang::Language;
+use bib_enums::type_error::TypeError;
+use bib_enums::types::lang::Language;
 use bib_values::enums::read_language;
 use bib_values::lists::{read_strings, write_parts, write_strings};
-use bib_values::text::copy_of;
+use bib_chunks::chunk::making::copy_of;
 use std::alloc::{AllocError, Global};
 
 /// Any chunks are read, as the formatted parts of a comma list. Texts are written as normal chunks with commas between

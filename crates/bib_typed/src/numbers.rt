@@ -8,7 +8,7 @@ ghost use Rattle.bib_typed.specs.Typed.{number_fault};
 
 use crate::typed::{Type, found};
 use bib_chunks::chunk::{Chunks, ChunksRef, whole_span};
-use bib_faults::type_error::{TypeError, TypeErrorKind};
+use bib_enums::type_error::{TypeError, TypeErrorKind};
 use bib_values::numbers::{read_number, write_number};
 use std::alloc::{AllocError, Global};
 

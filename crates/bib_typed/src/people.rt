@@ -8,7 +8,7 @@ ghost use Rattle.bib_people.proofs.SurviveFacts.{people_survive_read};
 
 use crate::typed::Type;
 use bib_chunks::chunk::{Chunks, ChunksRef};
-use bib_faults::type_error::TypeError;
+use bib_enums::type_error::TypeError;
 use bib_people::people::{people_chunks, read_people};
 use bib_people::person::Person;
 use std::alloc::{AllocError, Global};

@@ -2,13 +2,13 @@
 
 ghost use Rattle.std.specs.Prelude.{◌≡◌, ℕ, List};
 ghost use Rattle.std.specs.declared.ops.Range.{Range as ARange};
-ghost use Rattle.bib_faults.specs.declared.type_error.TypeErrorKind.TheVariants.{InvalidNumber};
+ghost use Rattle.bib_enums.specs.declared.type_error.TypeErrorKind.TheVariants.{InvalidNumber};
 ghost use Rattle.bib_values.specs.Ranges.{range_read, range_written, RangeKept, ranges_read, ranges_written, RangesKept};
 ghost use Rattle.bib_values.proofs.RangeLaws.{range_survives, ranges_survive};
 
 use crate::typed::{Type, found};
 use bib_chunks::chunk::{Chunks, ChunksRef};
-use bib_faults::type_error::{TypeError, TypeErrorKind};
+use bib_enums::type_error::{TypeError, TypeErrorKind};
 use bib_values::ranges::{read_range, read_ranges, write_range, write_ranges};
 use std::alloc::{AllocError, Global};
 use std::ops::Range;

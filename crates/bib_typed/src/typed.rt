@@ -4,18 +4,19 @@ ghost use Rattle.std.specs.Prelude.{◌≡◌, ◌≢◌, List, ℕ, Option, Som
 ghost use Rattle.std.specs.Str.{IsUtf8};
 ghost use Rattle.bib_chunks.specs.declared.chunk.Chunk.{Chunk as AChunk};
 ghost use Rattle.bib_chunks.specs.declared.chunk.Chunk.TheVariants.{Verbatim};
-ghost use Rattle.bib_faults.specs.declared.type_error.TypeErrorKind.{TypeErrorKind as AKind};
-ghost use Rattle.bib_faults.specs.declared.type_error.TypeErrorKind.TheVariants.{OutOfMemory};
+ghost use Rattle.bib_enums.specs.declared.type_error.TypeErrorKind.{TypeErrorKind as AKind};
+ghost use Rattle.bib_enums.specs.declared.type_error.TypeErrorKind.TheVariants.{OutOfMemory};
 ghost use Rattle.bib_text.specs.declared.spanned.Spanned.{Spanned as APlaced};
 ghost use Rattle.bib_values.specs.Permissive.{Permissive, permissive, permissive_written, PermissiveKept};
-ghost use Rattle.bib_values.specs.Values.{text, alone};
+ghost use Rattle.bib_chunks.specs.Values.{text, alone};
 ghost use Rattle.bib_values.proofs.PermissiveFacts.{permissive_survives};
-ghost use Rattle.bib_values.proofs.TextFacts.{string_survives};
-ghost use Rattle.bib_typed.specs.Typed.{IsReadAs, permissive_meaning};
+ghost use Rattle.bib_chunks.proofs.ValueFacts.{string_survives};
+ghost use Rattle.bib_enums.specs.ReadAs.{IsReadAs};
+ghost use Rattle.bib_typed.specs.Typed.{permissive_meaning};
 
 use bib_chunks::chunk::{Chunks, ChunksRef, format_verbatim, whole_span};
-use bib_faults::type_error::{TypeError, TypeErrorKind};
-use bib_values::text::{copy_of, verbatim};
+use bib_enums::type_error::{TypeError, TypeErrorKind};
+use bib_chunks::chunk::making::{copy_of, verbatim};
 use std::alloc::{AllocError, Global};
 
 /// A type whose values are read from the chunks of a field, and written as chunks.

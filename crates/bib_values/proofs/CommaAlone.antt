@@ -15,8 +15,9 @@ use Rattle.bib_chunks.specs.Parted.{AreTexts, IsList, HoldsNoComma, is_normal_co
 use Rattle.bib_chunks.specs.Parted.IsList.{last, next}
 use Rattle.bib_chunks.proofs.PartFacts.{comma_list_no_comma}
 use Rattle.bib_chunks.proofs.WholeFacts.{comma_list_whole}
-use Rattle.bib_values.specs.Values.{Value, text, alone}
-use Rattle.bib_values.specs.Lists.{behind_separator, strings_read, strings_written, is_plain, IsPlain, StringsKept}
+use Rattle.bib_chunks.specs.Values.{Value, text, alone}
+use Rattle.bib_values.specs.Lists.{strings_read, strings_written, is_plain, IsPlain, StringsKept}
+use Rattle.bib_chunks.specs.Separated.{behind_separator}
 
 -- a test that all elements of two lists pass
 all-append : {A : Type 0} (test : A → Bool) (xs ys : List A) → list_all test xs ≡ true → list_all test ys ≡ true → list_all test (xs ++ ys) ≡ true

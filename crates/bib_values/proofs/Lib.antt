@@ -1,4 +1,3 @@
-pub mod AndListFacts
 pub mod CommaAlone
 pub mod CommaFacts
 pub mod EnumFacts
@@ -11,6 +10,3 @@ pub mod RangeGrammar
 pub mod RangeLaws
 pub mod RomanFacts
 pub mod RomanSteps
-pub mod ScannedFacts
-pub mod SeparatedFacts
-pub mod TextFacts

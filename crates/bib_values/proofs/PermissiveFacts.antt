@@ -6,15 +6,15 @@ use Rattle.std.specs.Str.{chars}
 use Rattle.std.proofs.lemmas.Str.{encodes-chars}
 use Rattle.bib_chunks.specs.declared.chunk.Chunk.TheVariants.{Verbatim}
 use Rattle.bib_chunks.specs.Formatted.{formatted}
-use Rattle.bib_types.specs.declared.types.lang.Language.{Language}
-use Rattle.bib_types.specs.Language.{language_row, language_named}
-use Rattle.bib_types.proofs.LanguageFacts.{language_named-name}
-use Rattle.bib_values.specs.Values.{Value, text, alone}
+use Rattle.bib_enums.specs.declared.types.lang.Language.{Language}
+use Rattle.bib_enums.specs.Language.{language_row, language_named}
+use Rattle.bib_enums.proofs.LanguageFacts.{language_named-name}
+use Rattle.bib_chunks.specs.Values.{Value, text, alone}
 use Rattle.bib_values.specs.Enumerations.{language_read, language_written}
-use Rattle.bib_values.specs.Lists.{parts_written}
+use Rattle.bib_chunks.specs.Separated.{parts_written}
 use Rattle.bib_values.specs.Permissive.{Permissive, permissive, permissive_written, PermissiveKept, IsLanguage, LanguagesKept, languages_read, languages_written}
 use Rattle.bib_values.specs.Permissive.Permissive.{typed, as_chunks}
-use Rattle.bib_values.proofs.AndListFacts.{parts_format}
+use Rattle.bib_chunks.proofs.AndListFacts.{parts_format}
 use Rattle.bib_values.proofs.EnumFacts.{name_utf8}
 
 -- where the type's kept values are read back, so are permissive ones

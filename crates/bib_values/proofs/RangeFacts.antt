@@ -8,13 +8,14 @@ use Rattle.std.proofs.lemmas.Bool.{cond-true, cond-false, and_from, false_from_n
 use Rattle.std.proofs.lemmas.Bool.Decides.{nat_tests}
 use Rattle.std.specs.Option.{option_map}
 use Rattle.bib_chunks.specs.Formatted.{formatted}
-use Rattle.bib_values.specs.Values.{Value}
+use Rattle.bib_chunks.specs.Values.{Value}
 use Rattle.std.proofs.lemmas.List.{map_more, drop_more, take-append-drop, take_all, map-append}
 use Rattle.std.proofs.lemmas.Str.{chars-nil, chars_from_encodes}
 use Rattle.std.proofs.lemmas.Str.Parse.{parse_digits}
 use Rattle.bib_chunks.proofs.StyledFacts.{no_characters}
 use Rattle.bib_values.proofs.NumberFacts.{digits_model}
-use Rattle.bib_values.specs.Ranges.{front, behind, is_small, number, is_dash, behind_dash, ends_at, up_to, goes_on_with, with_first, all_of}
+use Rattle.bib_values.specs.Ranges.{is_small, number, is_dash, behind_dash, ends_at, up_to, goes_on_with, with_first, all_of}
+use Rattle.bib_text.specs.Runs.{front, behind}
 
 front_digits : (cs : List ℕ) → all_ascii_digits (front is_ascii_digit cs) ≡ true
 front_digits [] = refl

@@ -7,8 +7,9 @@ use Rattle.std.specs.Str.Parse.{digits_value}
 use Rattle.std.specs.declared.ops.Range.{Range}
 use Rattle.std.proofs.lemmas.Bool.{and_parts, and_from, cond-true, cond-false}
 use Rattle.std.proofs.lemmas.Bool.Decides.{nat_tests}
-use Rattle.bib_values.specs.Ranges.{front, behind, is_small, number, is_dash, behind_dash, ends_at, up_to, goes_on_with, starts_with, range_of, IsNumber, EndsRange, IsRange}
-use Rattle.bib_values.proofs.ScannedFacts.{split_front, split_behind}
+use Rattle.bib_values.specs.Ranges.{is_small, number, is_dash, behind_dash, ends_at, up_to, goes_on_with, starts_with, range_of, IsNumber, EndsRange, IsRange}
+use Rattle.bib_text.specs.Runs.{front, behind}
+use Rattle.bib_text.proofs.ScannedFacts.{split_front, split_behind}
 use Rattle.bib_values.proofs.OptionFacts.{given}
 use Rattle.bib_values.proofs.RangeFacts.{small_yes}
 

@@ -15,12 +15,13 @@ use Rattle.std.proofs.lemmas.Str.{chars-IsAscii, IsUtf8-from_ascii}
 use Rattle.std.proofs.lemmas.Str.Parse.{digit_from_value}
 use Rattle.bib_chunks.specs.Formatted.{formatted}
 use Rattle.bib_chunks.specs.Cuts.{comma_list}
-use Rattle.bib_values.specs.Values.{Value}
+use Rattle.bib_chunks.specs.Values.{Value}
 use Rattle.bib_values.specs.Lists.{is_plain, IsPlain, StringsKept}
-use Rattle.bib_values.proofs.TextFacts.{is_simple, simple_ascii}
+use Rattle.bib_chunks.proofs.ValueFacts.{is_simple, simple_ascii}
 use Rattle.bib_values.proofs.CommaFacts.{parts_format}
-use Rattle.bib_values.specs.Ranges.{front, behind, is_small, number, behind_dash, ends_at, up_to, starts_with, range_of, all_of, with_first, first_of, ranges_read, range_read, range_text, ranges_written, range_written, RangeKept, RangesKept}
-use Rattle.bib_values.proofs.ScannedFacts.{split_front, split_behind}
+use Rattle.bib_values.specs.Ranges.{is_small, number, behind_dash, ends_at, up_to, starts_with, range_of, all_of, with_first, first_of, ranges_read, range_read, range_text, ranges_written, range_written, RangeKept, RangesKept}
+use Rattle.bib_text.specs.Runs.{front, behind}
+use Rattle.bib_text.proofs.ScannedFacts.{split_front, split_behind}
 use Rattle.bib_values.proofs.RangeFacts.{small_yes}
 
 -- the bytes of a range

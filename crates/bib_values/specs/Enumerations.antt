@@ -4,16 +4,16 @@
 use Rattle.std.specs.Prelude.{ℕ, ⊤, List, [], ◌∷◌, Option, codes}
 use Rattle.bib_chunks.specs.declared.chunk.Chunk.TheVariants.{Normal, Verbatim}
 use Rattle.bib_text.specs.Enums.{named, by_name}
-use Rattle.bib_types.specs.declared.types.Pagination.{Pagination}
-use Rattle.bib_types.specs.declared.types.Gender.{Gender}
-use Rattle.bib_types.specs.declared.types.Gender.TheVariants.{SingularFemale, SingularMale, SingularNeuter, PluralFemale, PluralMale, PluralNeuter}
-use Rattle.bib_types.specs.declared.types.EditorType.{EditorType}
-use Rattle.bib_types.specs.declared.types.EditorType.TheVariants.{Unknown}
-use Rattle.bib_types.specs.declared.types.lang.Language.{Language}
-use Rattle.bib_types.specs.Pagination.{pagination_name, pagination_named}
-use Rattle.bib_types.specs.EditorType.{editor_type_name, editor_type_of}
-use Rattle.bib_types.specs.Language.{language_row, language_named}
-use Rattle.bib_values.specs.Values.{Value, text, lowered, alone}
+use Rattle.bib_enums.specs.declared.types.Pagination.{Pagination}
+use Rattle.bib_enums.specs.declared.types.Gender.{Gender}
+use Rattle.bib_enums.specs.declared.types.Gender.TheVariants.{SingularFemale, SingularMale, SingularNeuter, PluralFemale, PluralMale, PluralNeuter}
+use Rattle.bib_enums.specs.declared.types.EditorType.{EditorType}
+use Rattle.bib_enums.specs.declared.types.EditorType.TheVariants.{Unknown}
+use Rattle.bib_enums.specs.declared.types.lang.Language.{Language}
+use Rattle.bib_enums.specs.Pagination.{pagination_name, pagination_named}
+use Rattle.bib_enums.specs.EditorType.{editor_type_name, editor_type_of}
+use Rattle.bib_enums.specs.Language.{language_row, language_named}
+use Rattle.bib_chunks.specs.Values.{Value, text, lowered, alone}
 
 -- the scheme that chunks name, in capitals or small letters
 unfoldable pub pagination_read : Value → Option Pagination

@@ -2,7 +2,7 @@
 -- Lists that are written part by part.
 use Rattle.std.specs.Prelude.{ℕ, Bool, true, false, List, [], ◌∷◌}
 use Rattle.bib_chunks.specs.declared.chunk.Chunk.TheVariants.{Normal}
-use Rattle.bib_values.specs.Values.{Value, nowhere}
+use Rattle.bib_chunks.specs.Values.{Value, nowhere}
 
 -- the separator that stands before a part, unless it is the first
 abbrev pub unless_first : Bool → List ℕ → Value

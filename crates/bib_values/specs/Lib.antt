@@ -6,4 +6,3 @@ pub mod Permissive
 pub mod Ranges
 pub mod Roman
 pub mod RomanLetters
-pub mod Values

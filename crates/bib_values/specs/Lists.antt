@@ -1,22 +1,14 @@
 -- Meaning: words of public contracts.
--- Lists of texts with commas between them, as `keywords` has them, and lists with the word `and`, as names and places
--- have them. What is written of a list is all normal text, so that it is cut where it is read again.
-use Rattle.std.specs.Prelude.{◌≡◌, ◌<◌, ℕ, length, Bool, true, not, ◌==◌, ◌&&◌, map, List, [], ◌∷◌, ◌++◌, codes}
-use Rattle.std.specs.List.{flat_map, list_all, AllByRecursion}
+-- Lists of texts with commas between them, as `keywords` has them. What is written of a list is all normal text, so that
+-- it is cut where it is read again.
+use Rattle.std.specs.Prelude.{◌≡◌, ◌<◌, ℕ, length, Bool, true, not, ◌==◌, ◌&&◌, map, List, codes}
+use Rattle.std.specs.List.{list_all, AllByRecursion}
 use Rattle.std.specs.Str.{IsUtf8, chars}
 use Rattle.bib_chunks.specs.declared.chunk.Chunk.TheVariants.{Normal}
 use Rattle.bib_chunks.specs.Formatted.{is_break}
 use Rattle.bib_chunks.specs.Cuts.{comma_list}
-use Rattle.bib_values.specs.Values.{Value, text, nowhere, alone}
-
--- a part of a list behind a separator, which is a normal chunk
-abbrev pub behind_separator : List ℕ → Value → Value
-behind_separator separator part = nowhere (Normal separator) ∷ part
-
--- the parts of a list with a separator between each two
-abbrev pub joined_by : List ℕ → List Value → Value
-joined_by separator [] = []
-joined_by separator (part ∷ rest) = part ++ flat_map (behind_separator separator) rest
+use Rattle.bib_chunks.specs.Values.{Value, text, alone}
+use Rattle.bib_chunks.specs.Separated.{joined_by}
 
 -- the texts that are read from chunks: those of the parts of a comma list
 unfoldable pub strings_read : Value → List (List ℕ)
@@ -25,10 +17,6 @@ strings_read chunks = map text (comma_list chunks)
 -- how texts are written: each as one normal chunk, with `,` between each two
 abbrev pub strings_written : List (List ℕ) → Value
 strings_written texts = joined_by (codes ",") (map (λ t. alone (Normal t)) texts)
-
--- how values are written as an `and` list: their chunks, with ` and ` between each two
-abbrev pub parts_written : List Value → Value
-parts_written = joined_by (codes " and ")
 
 -- whether a character stays as it is in a comma list: it is no comma, and breaks no line
 abbrev pub is_plain : ℕ → Bool

@@ -8,7 +8,7 @@ use Rattle.std.specs.Str.Parse.{without_leading_sign, signed_digits_value}
 use Rattle.std.specs.Fmt.{signed_decimal}
 use lib.Signed.{mag}
 use Rattle.bib_chunks.specs.declared.chunk.Chunk.TheVariants.{Normal}
-use Rattle.bib_values.specs.Values.{Value, text, alone}
+use Rattle.bib_chunks.specs.Values.{Value, text, alone}
 use Rattle.bib_values.specs.Roman.{roman_of}
 
 -- whether a text is decimal digits, with a sign or without, of a number that fits in 64 bits

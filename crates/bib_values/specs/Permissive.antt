@@ -2,11 +2,11 @@
 -- Values that are kept as chunks where a type does not read them.
 use Rattle.std.specs.Prelude.{◌≡◌, ◌<◌, map, List, length, Option, Some, None}
 use Rattle.std.specs.List.{AllByRecursion}
-use Rattle.bib_types.specs.declared.types.lang.Language.{Language}
+use Rattle.bib_enums.specs.declared.types.lang.Language.{Language}
 use Rattle.bib_chunks.specs.Cuts.{and_list}
-use Rattle.bib_values.specs.Values.{Value}
+use Rattle.bib_chunks.specs.Values.{Value}
 use Rattle.bib_values.specs.Enumerations.{language_read, language_written}
-use Rattle.bib_values.specs.Lists.{parts_written}
+use Rattle.bib_chunks.specs.Separated.{parts_written}
 
 -- a value of a type, or the chunks that the type does not read
 pub data Permissive (M : Type 0) : Type 0 where

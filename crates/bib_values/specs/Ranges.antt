@@ -10,7 +10,8 @@ use Rattle.std.specs.declared.ops.Range.{Range}
 use Rattle.bib_chunks.specs.declared.chunk.Chunk.TheVariants.{Normal}
 use Rattle.bib_chunks.specs.Formatted.{formatted}
 use Rattle.bib_chunks.specs.Cuts.{comma_list}
-use Rattle.bib_values.specs.Values.{Value, alone}
+use Rattle.bib_text.specs.Runs.{front, behind}
+use Rattle.bib_chunks.specs.Values.{Value, alone}
 use Rattle.bib_values.specs.Lists.{strings_written}
 
 -- the characters that part two numbers: `-`, the en dash U+2013, the em dash U+2014
@@ -41,15 +42,6 @@ pub record IsRange (text : List ℕ) (range : Range ℕ) : Type 0 where
   pub start : IsNumber digits range.start
   pub gap : list_all is_whitespace between ≡ true
   pub end : EndsRange range.start rest range.end
-
--- the characters at the start of a text that pass a test, and the characters behind those
-abbrev pub front : (ℕ → Bool) → List ℕ → List ℕ
-front test [] = []
-front test (c ∷ cs) = if test c then c ∷ front test cs else []
-
-abbrev pub behind : (ℕ → Bool) → List ℕ → List ℕ
-behind test [] = []
-behind test (c ∷ cs) = if test c then behind test cs else c ∷ cs
 
 -- whether digits spell a number that fits in 32 bits
 abbrev pub is_small : List ℕ → Bool

@@ -7,4 +7,4 @@ pub mod lists;
 pub mod numbers;
 pub mod ranges;
 mod roman;
-pub mod text;
+mod text;

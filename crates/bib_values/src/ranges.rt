@@ -5,10 +5,11 @@ ghost use Rattle.std.specs.Char.{is_ascii_digit, is_whitespace};
 ghost use Rattle.std.specs.Option.{option_map};
 ghost use Rattle.std.specs.Str.{chars};
 ghost use Rattle.std.specs.Fmt.{decimal};
-ghost use Rattle.bib_values.specs.Ranges.{front, behind, number, is_dash, behind_dash, up_to, goes_on_with, starts_with, range_of, ranges_read, range_read, range_text, range_written, ranges_written};
+ghost use Rattle.bib_values.specs.Ranges.{number, is_dash, behind_dash, up_to, goes_on_with, starts_with, range_of, ranges_read, range_read, range_text, range_written, ranges_written};
+ghost use Rattle.bib_text.specs.Runs.{front, behind};
 
 use crate::lists::write_strings;
-use crate::text::normal;
+use bib_chunks::chunk::making::normal;
 use bib_chunks::chunk::cuts::comma_list;
 use bib_chunks::chunk::{Chunks, ChunksRef, format_verbatim};
 use bib_text::scanner::Scanner;

@@ -13,7 +13,7 @@ use Rattle.bib_inheritance.specs.Dating.{date_for, last_date, looks_for_date}
 use Rattle.bib_inheritance.specs.Inherited.{inherited, plain_field, field_by}
 use Rattle.bib_inheritance.specs.References.{references}
 use Rattle.bib_inheritance.specs.Sources.{Source, fields_of, first_some, nowhere}
-use Rattle.bib_resolving.specs.Resolving.{graph_by, source_of_entry, sources_of, at_place, Inherits, AreDatesRead}
+use Rattle.bib_references.specs.Resolving.{graph_by, source_of_entry, sources_of, at_place, Inherits, AreDatesRead}
 use Rattle.biblatex.specs.Resolved.{names_of, graph_of}
 
 -- an entry that refers to nothing

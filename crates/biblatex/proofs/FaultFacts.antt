@@ -6,7 +6,7 @@ use Rattle.bib_syntax.specs.Reading.{EntryReading, FileReading}
 use Rattle.bib_syntax.specs.declared.raw.ParseError.{ParseError}
 use Rattle.bib_syntax.specs.declared.raw.ParseErrorKind.TheVariants.{ReferenceCycle}
 use Rattle.biblatex.specs.Resolved.{AreOneFaultOf, IsCircleFault, IsFaultOf, graph_of}
-use Rattle.bib_loading.proofs.LoadedFacts.{no_entries}
+use Rattle.bib_file_entries.proofs.LoadedFacts.{no_entries}
 use Rattle.biblatex.proofs.PlaceLaws.{entries_fault_same}
 use Rattle.biblatex.proofs.ResolvedFacts.{graph_same}
 

@@ -14,7 +14,7 @@ use Rattle.bib_contents.specs.Contents.{LiesBetween}
 use Rattle.bib_syntax.specs.Reading.{Part, Piece, FieldReading, EntryReading, FileReading}
 use Rattle.bib_syntax.specs.Standing.{StandsIn, PieceStandsIn, FieldStandsIn, EntryStandsIn, ReadingStandsIn}
 use Rattle.bib_syntax.specs.declared.raw.ParseError.{ParseError}
-use Rattle.bib_loading.specs.Loaded.{IsFaultOfEntries, IsFaultOfFields, definition_in}
+use Rattle.bib_file_entries.specs.Loaded.{IsFaultOfEntries, IsFaultOfFields, definition_in}
 use Rattle.biblatex.specs.Resolved.{IsFaultOf, IsOfDate}
 
 -- what each of some holds, the one that is found holds

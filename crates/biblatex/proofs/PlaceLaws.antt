@@ -15,10 +15,10 @@ use Rattle.bib_syntax.specs.declared.raw.ParseError.{ParseError}
 use Rattle.bib_maps.specs.Names.{claimed, claims_for}
 use Rattle.bib_maps.specs.Sorted.{ByText, by_bytes}
 use Rattle.bib_entry.specs.declared.entry.Entry.{Entry}
-use Rattle.bib_loading.specs.Library.{Library, claims, appended, nothing, place_of}
-use Rattle.bib_loading.specs.Loaded.{AreEntries, IsFaultOfEntries, IsFaultOfFields, is_claimed, loaded_behind}
+use Rattle.bib_file_entries.specs.Library.{Library, claims, appended, nothing, place_of}
+use Rattle.bib_file_entries.specs.Loaded.{AreEntries, IsFaultOfEntries, IsFaultOfFields, is_claimed, loaded_behind}
 use Rattle.biblatex.specs.Places.{ClaimsAt, IsLastClaim, PointsToLastClaims, HasFreshKeys}
-use Rattle.bib_loading.proofs.LoadedFacts.{claims_same, fields_unread}
+use Rattle.bib_file_entries.proofs.LoadedFacts.{claims_same, fields_unread}
 
 -- ---- the element at a place of a longer list
 

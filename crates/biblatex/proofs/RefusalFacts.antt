@@ -14,9 +14,9 @@ use Rattle.bib_syntax.specs.declared.raw.ParseError.{ParseError}
 use Rattle.bib_syntax.specs.declared.raw.ParseErrorKind.TheVariants.{ReferenceCycle}
 use Rattle.bib_syntax.specs.declared.raw.RawEntry.{RawEntry}
 use Rattle.bib_text.specs.declared.spanned.Spanned.{Spanned}
-use Rattle.bib_loading.specs.Library.{Library}
-use Rattle.bib_loading.specs.Loaded.{AreEntries, definition_in}
-use Rattle.bib_resolving.specs.Resolving.{AreDatesRead, AreResolved, Inherits, IsCircleAt, IsDateFault, IsResolvingFault, graph_by, has_bad_date, sources_of}
+use Rattle.bib_file_entries.specs.Library.{Library}
+use Rattle.bib_file_entries.specs.Loaded.{AreEntries, definition_in}
+use Rattle.bib_references.specs.Resolving.{AreDatesRead, AreResolved, Inherits, IsCircleAt, IsDateFault, IsResolvingFault, graph_by, has_bad_date, sources_of}
 use Rattle.biblatex.specs.Resolved.{AreOwn, IsAccepted, IsFaultOf, IsLoaded, graph_of, names_of}
 use Rattle.biblatex.proofs.ResolvedFacts.{accepted_faultless}
 

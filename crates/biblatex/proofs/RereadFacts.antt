@@ -27,28 +27,29 @@ use Rattle.bib_chunks.specs.Written.{written_chunks}
 use Rattle.bib_chunks.specs.declared.chunk.Chunk.{Chunk}
 use Rattle.bib_syntax.specs.Reading.{Part, part, Piece, FieldReading, EntryReading, FileReading}
 use Rattle.bib_syntax.specs.Reading.Piece.{literal}
-use Rattle.bib_contents.specs.Abbreviations.{Definitions, Evaluates, IsReadable, Reaches, is_verbatim_field}
+use Rattle.bib_contents.specs.Abbreviations.{Definitions, Evaluates, IsReadable, Reaches}
+use Rattle.bib_entry_types.specs.VerbatimFields.{is_verbatim_field}
 use Rattle.bib_contents.specs.Contents.{IsContent}
 use Rattle.bib_contents.specs.Joined.{ArePlaced}
-use Rattle.bib_tables.specs.EntryType.{entry_type_of, biblatex_type}
+use Rattle.bib_entry_types.specs.EntryType.{entry_type_of, biblatex_type}
 use Rattle.bib_maps.specs.Sorted.{by_bytes}
 use Rattle.bib_entry.specs.WrittenEntries.{biblatex_name, biblatex_entry, entries_text}
 use Rattle.bib_entry.specs.declared.entry.Entry.{Entry}
-use Rattle.bib_reread.specs.Mapped.{IsMapped}
-use Rattle.bib_reread.specs.Settled.{linking, IsSettledField, IsSettledEntry, AreSettled}
-use Rattle.bib_reread.proofs.JoinedAgain.{Again, joined_again, written_texts}
-use Rattle.bib_reread.proofs.RereadFacts.{reread}
-use Rattle.bib_reread.proofs.StandsFacts.{stands_between}
-use Rattle.bib_reread.proofs.EntryReread.{SaysLine, SayLines, SaysEntry, SayEntries, FileAgain}
-use Rattle.bib_reread.proofs.WrittenReread.{kind, by_written_name, same_rule, line_of, written_of, entries_again}
-use Rattle.bib_loading.specs.Library.{Library, claims}
-use Rattle.bib_resolving.specs.Resolving.{Inherits, sources_of}
+use Rattle.bib_roundtrip.specs.Mapped.{IsMapped}
+use Rattle.bib_roundtrip.specs.Settled.{linking, IsSettledField, IsSettledEntry, AreSettled}
+use Rattle.bib_roundtrip.proofs.JoinedAgain.{Again, joined_again, written_texts}
+use Rattle.bib_roundtrip.proofs.RereadFacts.{reread}
+use Rattle.bib_roundtrip.proofs.StandsFacts.{stands_between}
+use Rattle.bib_roundtrip.proofs.EntryReread.{SaysLine, SayLines, SaysEntry, SayEntries, FileAgain}
+use Rattle.bib_roundtrip.proofs.WrittenReread.{kind, by_written_name, same_rule, line_of, written_of, entries_again}
+use Rattle.bib_file_entries.specs.Library.{Library, claims}
+use Rattle.bib_references.specs.Resolving.{Inherits, sources_of}
 use Rattle.biblatex.specs.Resolved.{AreOwn, IsLoaded, graph_of}
-use Rattle.bib_loading.specs.Loaded.{definition_in, name_of, field_in, Says, CanBeRead, AllCanBeRead, IsEntry, AreEntries, is_claimed}
+use Rattle.bib_file_entries.specs.Loaded.{definition_in, name_of, field_in, Says, CanBeRead, AllCanBeRead, IsEntry, AreEntries, is_claimed}
 use Rattle.biblatex.specs.Reread.{IsReread}
 use Rattle.biblatex.proofs.AloneFacts.{RefersToNothing, IsAsWritten, no_circle, no_dates, entries_as_written}
 use Rattle.biblatex.proofs.ResolvedFacts.{graph_same, keys_same, sources_same}
-use Rattle.bib_loading.proofs.LoadingFacts.{AllZip-reverse}
+use Rattle.bib_file_entries.proofs.LoadingFacts.{AllZip-reverse}
 
 abbrev Value' : Type 0
 Value' = List (Spanned Chunk)

@@ -19,15 +19,15 @@ use Rattle.bib_maps.specs.Names.{ArePlacesBelow, claimed, claims_for}
 use Rattle.bib_maps.specs.Sorted.{ByText}
 use Rattle.bib_syntax.specs.Reading.{EntryReading, FieldReading, FileReading}
 use Rattle.bib_syntax.specs.declared.raw.ParseError.{ParseError}
-use Rattle.bib_tables.specs.declared.mechanics.EntryType.{EntryType}
+use Rattle.bib_entry_types.specs.declared.mechanics.EntryType.{EntryType}
 use Rattle.bib_text.specs.declared.spanned.Spanned.{Spanned}
-use Rattle.bib_loading.specs.Library.{Library, appended, claims, nothing}
-use Rattle.bib_loading.specs.Loaded.{AreEntries, IsEntry, Says, field_in, loaded_behind}
-use Rattle.bib_resolving.specs.Resolving.{AreDatesRead, Inherits, at_place, graph_by, is_bad_date, rule_by, source_of_entry, sources_of}
+use Rattle.bib_file_entries.specs.Library.{Library, appended, claims, nothing}
+use Rattle.bib_file_entries.specs.Loaded.{AreEntries, IsEntry, Says, field_in, loaded_behind}
+use Rattle.bib_references.specs.Resolving.{AreDatesRead, Inherits, at_place, graph_by, is_bad_date, rule_by, source_of_entry, sources_of}
 use Rattle.biblatex.specs.Resolved.{AreOwn, IsAccepted, IsFaultOf, IsLoaded, graph_of, names_of}
-use Rattle.bib_resolving.proofs.RangeFacts.{graph_in_range}
-use Rattle.bib_loading.proofs.LibraryFacts.{below_claimed, below_empty, below_more}
-use Rattle.bib_loading.proofs.LoadedFacts.{claims_same, no_entries}
+use Rattle.bib_references.proofs.RangeFacts.{graph_in_range}
+use Rattle.bib_file_entries.proofs.LibraryFacts.{below_claimed, below_empty, below_more}
+use Rattle.bib_file_entries.proofs.LoadedFacts.{claims_same, no_entries}
 
 -- ---- two lists of entries that one file says
 

@@ -5,7 +5,7 @@ use Rattle.std.specs.Borrow.{LendsIf, MutBor, Fml, Array, follows}
 use Rattle.std.specs.declared.slice.IterMut.{IterMut}
 use Rattle.std.specs.Slice.Iter.{iter_mut_name}
 use Rattle.bib_entry.specs.declared.entry.Entry.{Entry}
-use Rattle.bib_loading.specs.Library.{Library, place_of, exchanged}
+use Rattle.bib_file_entries.specs.Library.{Library, place_of, exchanged}
 use Rattle.bib_entry.specs.contracts.entry.Entry.{the_row as entry_row}
 use Rattle.biblatex.specs.contracts.bibliography.Bibliography.{the_row as library_row}
 

@@ -2,8 +2,8 @@
 -- What a library claims, said by the places of its entries.
 use Rattle.std.specs.Prelude.{◌≡◌, ℕ, ◌≤◌, ◌<◌, true, List, slice_get, Some, MatchOption}
 use Rattle.bib_entry.specs.declared.entry.Entry.{Entry}
-use Rattle.bib_loading.specs.Library.{Library, claims, place_of}
-use Rattle.bib_loading.specs.Loaded.{is_claimed}
+use Rattle.bib_file_entries.specs.Library.{Library, claims, place_of}
+use Rattle.bib_file_entries.specs.Loaded.{is_claimed}
 
 -- the entry at this place claims the name
 pub record ClaimsAt (entries : List Entry) (place : ℕ) (name : List ℕ) : Type 0 where

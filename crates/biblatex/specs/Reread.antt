@@ -4,9 +4,9 @@ use Rattle.std.specs.Prelude.{ℕ, List}
 use Rattle.std.specs.List.{AllZip}
 use Rattle.bib_syntax.specs.Grammar.{IsRawReading}
 use Rattle.bib_syntax.specs.Reading.{FileReading}
-use Rattle.bib_reread.specs.Mapped.{IsMapped}
+use Rattle.bib_roundtrip.specs.Mapped.{IsMapped}
 use Rattle.bib_entry.specs.declared.entry.Entry.{Entry}
-use Rattle.bib_loading.specs.Library.{Library}
+use Rattle.bib_file_entries.specs.Library.{Library}
 use Rattle.biblatex.specs.Resolved.{IsAccepted, IsLoaded}
 
 -- a text is read again as these entries: it has a raw reading, what that says can be a bibliography, and any such

@@ -3,17 +3,17 @@
 use Rattle.std.specs.Prelude.{◌≡◌, ℕ, ◌<◌, ◌⊎◌, true, false, List, [], map, slice_get, Some}
 use Rattle.bib_contents.specs.Abbreviations.{AreOneFault}
 use Rattle.bib_entry.specs.declared.entry.Entry.{Entry}
-use Rattle.bib_faults.specs.declared.type_error.TypeErrorKind.{TypeErrorKind}
+use Rattle.bib_enums.specs.declared.type_error.TypeErrorKind.{TypeErrorKind}
 use Rattle.bib_graph.specs.Graph.{Graph, HasNoCircle, IsFirstOnCircle}
 use Rattle.bib_inheritance.specs.Dating.{looks_for_date}
 use Rattle.bib_inheritance.specs.Sources.{Source}
 use Rattle.bib_maps.specs.Sorted.{ByText}
-use Rattle.bib_resolving.specs.Resolving.{AreDatesRead, Inherits, IsDateFault, KeepsChunks, at_place, graph_by, has_bad_date, sources_of}
+use Rattle.bib_references.specs.Resolving.{AreDatesRead, Inherits, IsDateFault, KeepsChunks, at_place, graph_by, has_bad_date, sources_of}
 use Rattle.bib_syntax.specs.Reading.{EntryReading, FileReading}
 use Rattle.bib_syntax.specs.declared.raw.ParseError.{ParseError}
 use Rattle.bib_syntax.specs.declared.raw.ParseErrorKind.TheVariants.{ReferenceCycle, ResolutionError}
-use Rattle.bib_loading.specs.Library.{Library, nothing}
-use Rattle.bib_loading.specs.Loaded.{AreEntries, IsFaultOfEntries, definition_in, loaded_behind}
+use Rattle.bib_file_entries.specs.Library.{Library, nothing}
+use Rattle.bib_file_entries.specs.Loaded.{AreEntries, IsFaultOfEntries, definition_in, loaded_behind}
 
 -- the entries of a file as they are written, each with its own fields
 abbrev pub AreOwn : FileReading → List Entry → Type 0

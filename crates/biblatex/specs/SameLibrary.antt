@@ -6,7 +6,7 @@ use Rattle.std.specs.Cmp.Lexicographic.{pointwise, lists_per, lists_equiv}
 use Rattle.bib_entry.specs.contracts.entry.EntryPartialEq.TheImpl as entry
 use Rattle.bib_entry.specs.contracts.entry.EntryPartialEq.TheImpl.Laws as entry_per
 use Rattle.bib_entry.specs.contracts.entry.EntryEq.TheImpl.Laws as entry_equiv
-use Rattle.bib_loading.specs.Library.{Library}
+use Rattle.bib_file_entries.specs.Library.{Library}
 use Rattle.bib_maps.specs.TextMap.{same_pairs, same_pairs_per, same_pairs_equiv}
 
 -- whether two libraries have the same entries in the same order, and the same names at the same places

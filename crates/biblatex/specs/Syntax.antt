@@ -11,9 +11,9 @@ pub use Rattle.bib_syntax.specs.declared.raw.ParseErrorKind.TheVariants.{OutOfMe
 pub use Rattle.bib_entry.specs.Reports.{AreMalformed, missing_of, superfluous_of}
 pub use Rattle.bib_entry.specs.WrittenEntries.{biblatex_entry, bibtex_entry, entries_text}
 pub use Rattle.bib_entry.specs.declared.entry.Entry.{Entry}
-pub use Rattle.bib_loading.specs.Library.{Library}
-pub use Rattle.bib_reread.specs.Mapped.{IsMapped}
-pub use Rattle.bib_reread.specs.Settled.{AreSettled}
-pub use Rattle.bib_faults.specs.TypeError.{type_kind_text}
-pub use Rattle.bib_faults.specs.declared.type_error.TypeError.{TypeError}
-pub use Rattle.bib_tables.specs.Requirements.{Names, texts}
+pub use Rattle.bib_file_entries.specs.Library.{Library}
+pub use Rattle.bib_roundtrip.specs.Mapped.{IsMapped}
+pub use Rattle.bib_roundtrip.specs.Settled.{AreSettled}
+pub use Rattle.bib_enums.specs.TypeError.{type_kind_text}
+pub use Rattle.bib_enums.specs.declared.type_error.TypeError.{TypeError}
+pub use Rattle.bib_entry_types.specs.Requirements.{Names, texts}

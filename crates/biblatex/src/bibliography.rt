@@ -17,14 +17,14 @@ ghost use Rattle.biblatex.specs.Keys.{keys_left};
 ghost use Rattle.biblatex.specs.Resolved.{AreOwn, IsAccepted, IsFaultOf, IsLoaded, IsOfDate, graph_of};
 ghost use Rattle.biblatex.specs.Lending.{LendsEntry, LendsEntries};
 ghost use Rattle.bib_maps.specs.Names.{ArePlacesBelow, claimed, claims_for};
-ghost use Rattle.bib_loading.specs.Library.{aliased, aliases, claims, entry_of, inserted, nothing, place_of, removed};
+ghost use Rattle.bib_file_entries.specs.Library.{aliased, aliases, claims, entry_of, inserted, nothing, place_of, removed};
 ghost use Rattle.biblatex.specs.SameLibrary.{same_library, same_library_per, same_library_equiv};
 
 use bib_entry::entry::Entry;
-use bib_loading::claiming::claims;
-use bib_loading::reading::{load, spans};
+use bib_file_entries::claiming::claims;
+use bib_file_entries::reading::{load, spans};
 use bib_maps::names::Names;
-use bib_resolving::resolving::resolve;
+use bib_references::resolving::resolve;
 use bib_syntax::raw::{ParseError, RawBibliography};
 use bib_text::text::Text;
 use std::alloc::{AllocError, Global};
@@ -42,7 +42,7 @@ pub struct Bibliography {
 }
 
 impl Model for Bibliography {
-    ghost use Rattle.bib_loading.specs.Library.{Library, library_code};
+    ghost use Rattle.bib_file_entries.specs.Library.{Library, library_code};
     ghost use Rattle.bib_maps.specs.Names.{ArePlacesBelow};
     ghost use Rattle.std.specs.Prelude.{length};
 

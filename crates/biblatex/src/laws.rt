@@ -6,9 +6,9 @@ ghost use Rattle.bib_graph.specs.Graph.{Graph, HasNoCircle, HasOneSolution, IsIn
 ghost use Rattle.bib_inheritance.specs.Sources.{Source, nowhere};
 ghost use Rattle.bib_syntax.specs.Reading.{FileReading};
 ghost use Rattle.bib_syntax.specs.declared.raw.ParseError.{ParseError};
-ghost use Rattle.bib_loading.specs.Library.{Library};
+ghost use Rattle.bib_file_entries.specs.Library.{Library};
 ghost use Rattle.biblatex.specs.Places.{HasFreshKeys, PointsToLastClaims};
-ghost use Rattle.bib_resolving.specs.Resolving.{rule_by, sources_of};
+ghost use Rattle.bib_references.specs.Resolving.{rule_by, sources_of};
 ghost use Rattle.biblatex.specs.Resolved.{AreOneFaultOf, AreOwn, IsAccepted, IsFaultOf, IsLoaded};
 
 /// Where no entry refers to itself, by others or at once, the equation of inheritance has exactly one solution.

@@ -14,21 +14,21 @@ pub use bib_dates::separators::{parse_colon, parse_hyphen};
 pub use bib_entry::entry::{Entry, SetError};
 pub use bib_entry::report::Report;
 pub use bib_entry::retrieval::RetrievalError;
-pub use bib_faults::type_error::{TypeError, TypeErrorKind};
+pub use bib_enums::type_error::{TypeError, TypeErrorKind};
 pub use bib_maps::text_map::TextMap;
 pub use bib_people::person::Person;
 pub use bib_syntax::raw::{
     BiblatexParser, Field, Pair, ParseError, ParseErrorKind, RawBibliography, RawChunk, RawEntry,
     Token, is_id_continue, is_id_start, is_key,
 };
-pub use bib_tables::mechanics::{AuthorMode, EntryType, PagesChapterMode, Requirements};
+pub use bib_entry_types::mechanics::{AuthorMode, EntryType, PagesChapterMode, Requirements};
 pub use bib_text::items::Items;
 pub use bib_text::scanner::Scanner;
 pub use bib_text::text::Text;
 pub use bib_typed::ext::ChunksExt;
 pub use bib_typed::typed::{PermissiveType, Type};
-pub use bib_types::types::lang::Language;
-pub use bib_types::types::{EditorType, Gender, NameError, Pagination};
+pub use bib_enums::types::lang::Language;
+pub use bib_enums::types::{EditorType, Gender, NameError, Pagination};
 pub use bibliography::{Bibliography, InsertError, Keys};
 pub use sink::Sink;
 pub use write::WriteError;

@@ -3,13 +3,13 @@
 ghost use Rattle.std.specs.Prelude.{◌≡◌, ◌↔◌, ◌<◌, IsTrue, Some, bytes_eq, length, map};
 ghost use Rattle.std.specs.FinMap as by_name;
 ghost use Rattle.std.specs.List.{AllByRecursion, IsDistinct, list_any};
-ghost use Rattle.bib_reread.specs.Settled.{AreSettled, IsSettledEntry};
+ghost use Rattle.bib_roundtrip.specs.Settled.{AreSettled, IsSettledEntry};
 ghost use Rattle.biblatex.specs.Distinct.{stands_elsewhere};
 
 use crate::bibliography::Bibliography;
 use bib_entry::entry::Entry;
 use bib_maps::names::Names;
-use bib_reread::settled::is_settled_entry;
+use bib_roundtrip::settled::is_settled_entry;
 
 // Whether an entry has this key.
 fn is_key_among(entries: &[Entry], key: &str) -> bool

@@ -4,7 +4,7 @@ ghost use Rattle.std.specs.Prelude.{◌≡◌, ◌≢◌, ◌++◌, ℕ, ◌-◌
 ghost use Rattle.std.specs.Io.KnownBytes.{Appends};
 ghost use Rattle.bib_entry.specs.Format.{entry_in};
 ghost use Rattle.bib_entry.specs.WrittenEntries.{biblatex_entry, bibtex_entry, entries_text};
-ghost use Rattle.bib_reread.specs.Settled.{AreSettled};
+ghost use Rattle.bib_roundtrip.specs.Settled.{AreSettled};
 ghost use Rattle.biblatex.specs.Reread.{IsReread};
 ghost use Rattle.biblatex.specs.Writing.{parting};
 

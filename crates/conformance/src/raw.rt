@@ -2,7 +2,7 @@
 
 use crate::checks::{agrees, parsed};
 use bib_chunks::chunk::{Span, Spanned};
-use bib_faults::type_error::TypeErrorKind;
+use bib_enums::type_error::TypeErrorKind;
 use bib_syntax::raw::{
     BiblatexParser, ParseError, ParseErrorKind, RawChunk, RawEntry, is_id_continue, is_id_start,
     is_key,

@@ -1,7 +1,7 @@
 //! What entries of each type ask for and take over: every row of its table, and examples.
 
 use crate::checks::agrees;
-use bib_tables::mechanics::{AuthorMode, EntryType, PagesChapterMode, Requirements};
+use bib_entry_types::mechanics::{AuthorMode, EntryType, PagesChapterMode, Requirements};
 use std::alloc::{AllocError, Global};
 use std::process::Abort;
 use std::test::Fail;

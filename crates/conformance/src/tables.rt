@@ -1,10 +1,10 @@
 //! Entry types, languages and the small enumerations: every row of their tables.
 
 use crate::checks::agrees;
-use bib_tables::mechanics::EntryType;
+use bib_entry_types::mechanics::EntryType;
 use bib_text::text::Text;
-use bib_types::types::lang::Language;
-use bib_types::types::{EditorType, Gender, NameError, Pagination};
+use bib_enums::types::lang::Language;
+use bib_enums::types::{EditorType, Gender, NameError, Pagination};
 use std::alloc::Global;
 use std::process::Abort;
 use std::str::FromStr;

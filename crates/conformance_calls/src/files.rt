@@ -2,7 +2,7 @@
 
 use crate::checks::{Reading, are_chunks, are_read};
 use bib_contents::resolve::{FieldReader, parse_field};
-use bib_faults::type_error::TypeErrorKind;
+use bib_enums::type_error::TypeErrorKind;
 use bib_syntax::raw::{
     BiblatexParser, Pair, ParseError, ParseErrorKind, RawBibliography, RawChunk, RawEntry, Token,
 };

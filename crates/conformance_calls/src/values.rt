@@ -1,10 +1,10 @@
 //! Entry types, what they ask for, and the small enumerations.
 
 use crate::checks::{Answer, are_right};
-use bib_tables::mechanics::{AuthorMode, EntryType, PagesChapterMode, Requirements};
+use bib_entry_types::mechanics::{AuthorMode, EntryType, PagesChapterMode, Requirements};
 use bib_text::text::Text;
-use bib_types::types::lang::Language;
-use bib_types::types::{EditorType, Gender, NameError, Pagination};
+use bib_enums::types::lang::Language;
+use bib_enums::types::{EditorType, Gender, NameError, Pagination};
 use std::alloc::Global;
 
 fn reads_a_named_role(alloc: Global) -> Answer {

@@ -2,7 +2,7 @@
 //! days count from 0, and a dash for a part that isn't there.
 
 use bib_dates::date::{Date, DateValue, Datetime, Time, TimeOffset};
-use bib_faults::type_error::TypeError;
+use bib_enums::type_error::TypeError;
 use std::alloc::{AllocError, Global};
 
 fn shown_number(alloc: Global, number: Option<u8>) -> Result<String, AllocError> {

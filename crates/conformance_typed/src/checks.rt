@@ -4,7 +4,7 @@ use crate::shown::{Shown, shown_chunks, told};
 use bib_chunks::chunk::{Chunk, Chunks, ChunksRef, Spanned};
 use bib_entry::entry::Entry;
 use bib_entry::retrieval::RetrievalError;
-use bib_tables::mechanics::EntryType;
+use bib_entry_types::mechanics::EntryType;
 use bib_text::items::Items;
 use bib_text::text::Text;
 use bib_typed::ext::ChunksExt;

@@ -3,7 +3,7 @@
 
 ghost use Rattle.std.specs.Borrow.{Bor, MutBor};
 ghost use Rattle.bib_entry.specs.declared.entry.Entry.{Entry as AnEntry};
-ghost use Rattle.bib_values.specs.Values.{Value};
+ghost use Rattle.bib_chunks.specs.Values.{Value};
 
 use crate::checks::{has_fields, is_got, misc, named, with};
 use bib_chunks::chunk::{Chunks, ChunksRef};

@@ -2,8 +2,8 @@
 
 use crate::checks::{has_chunks, has_value, misc, normal};
 use bib_typed::typed::PermissiveType;
-use bib_types::types::Pagination;
-use bib_types::types::lang::Language;
+use bib_enums::types::Pagination;
+use bib_enums::types::lang::Language;
 use std::ops::Range;
 use std::test::Fail;
 

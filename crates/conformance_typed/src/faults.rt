@@ -3,7 +3,7 @@
 use crate::checks::{agrees, normal};
 use crate::shown::Shown;
 use bib_entry::retrieval::RetrievalError;
-use bib_faults::type_error::{TypeError, TypeErrorKind};
+use bib_enums::type_error::{TypeError, TypeErrorKind};
 use bib_text::text::Text;
 use bib_typed::typed::PermissiveType;
 use std::alloc::{AllocError, Global};

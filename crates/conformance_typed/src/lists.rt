@@ -3,7 +3,7 @@
 use crate::checks::{reads, reads_parts};
 use bib_chunks::chunk::Chunks;
 use bib_typed::typed::PermissiveType;
-use bib_types::types::lang::Language;
+use bib_enums::types::lang::Language;
 use std::ops::Range;
 use std::test::Fail;
 

@@ -1,8 +1,8 @@
 //! Values that are read by their names: ways of counting, genders, what an editor did, languages.
 
 use crate::checks::{reads, reads_parts};
-use bib_types::types::lang::Language;
-use bib_types::types::{EditorType, Gender, Pagination};
+use bib_enums::types::lang::Language;
+use bib_enums::types::{EditorType, Gender, Pagination};
 use std::test::Fail;
 
 #[test]

@@ -3,12 +3,12 @@
 use bib_chunks::chunk::{Chunk, Chunks, ChunksRef, Spanned};
 use bib_dates::date::{Date, DateValue};
 use bib_entry::retrieval::RetrievalError;
-use bib_faults::type_error::TypeError;
+use bib_enums::type_error::TypeError;
 use bib_people::person::Person;
 use bib_text::text::Text;
 use bib_typed::typed::PermissiveType;
-use bib_types::types::lang::Language;
-use bib_types::types::{EditorType, Gender, Pagination};
+use bib_enums::types::lang::Language;
+use bib_enums::types::{EditorType, Gender, Pagination};
 use std::alloc::{AllocError, Global};
 use std::ops::Range;
 

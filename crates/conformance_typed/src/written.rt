@@ -4,8 +4,8 @@ use crate::checks::{chunks, is_written, normal, survives};
 use bib_chunks::chunk::Chunks;
 use bib_text::text::Text;
 use bib_typed::typed::PermissiveType;
-use bib_types::types::lang::Language;
-use bib_types::types::{EditorType, Gender, Pagination};
+use bib_enums::types::lang::Language;
+use bib_enums::types::{EditorType, Gender, Pagination};
 use std::ops::Range;
 use std::test::Fail;
 

@@ -1,7 +1,7 @@
 //! Why a field was not read, as it is printed.
 
 use bib_entry::retrieval::RetrievalError;
-use bib_faults::type_error::{TypeError, TypeErrorKind};
+use bib_enums::type_error::{TypeError, TypeErrorKind};
 use bib_text::text::Text;
 use std::alloc::{AllocError, Global};
 use tests_values_support::shown::agreed;

@@ -1,6 +1,6 @@
 //! Errors as they are printed.
 
-use bib_faults::type_error::{TypeError, TypeErrorKind};
+use bib_enums::type_error::{TypeError, TypeErrorKind};
 use std::alloc::{AllocError, Global};
 use tests_values_support::shown::agreed;
 

@@ -5,8 +5,8 @@ use bib_chunks::chunk::Chunks;
 use bib_dates::date::Date;
 use bib_people::person::Person;
 use bib_typed::typed::PermissiveType;
-use bib_types::types::lang::Language;
-use bib_types::types::{EditorType, Gender, Pagination};
+use bib_enums::types::lang::Language;
+use bib_enums::types::{EditorType, Gender, Pagination};
 use std::alloc::{AllocError, Global};
 use std::ops::Range;
 

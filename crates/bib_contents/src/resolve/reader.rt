@@ -2,18 +2,18 @@
 
 ghost use Rattle.std.specs.Prelude.{◌≡◌, ◌+◌, ◌⊎◌, [], ◌∷◌, map, length, OnOk, IfOk, IfErr};
 ghost use Rattle.bib_chunks.specs.Styled.{styled};
-ghost use Rattle.bib_contents.specs.Abbreviations as abbreviation;
 ghost use Rattle.bib_contents.specs.Abbreviations.{Evaluates, IsFirstFault, IsReadable, given_by, pairs_in};
 ghost use Rattle.bib_syntax.specs.Faults.{out_of_memory};
 ghost use Rattle.bib_contents.specs.Joined.{AreJoined, ArePlaced};
 ghost use Rattle.bib_syntax.specs.Reading.{Part};
 ghost use Rattle.bib_syntax.specs.Reading.Piece.{literal};
 ghost use Rattle.bib_syntax.specs.Views.{piece_of};
+ghost use Rattle.bib_entry_types.specs.VerbatimFields as names;
 
 use crate::resolve::abbreviations::{Memo, Source};
 use crate::resolve::definitions::LookUp;
-use crate::resolve::is_verbatim_field;
 use bib_chunks::chunk::Chunks;
+use bib_entry_types::fields::is_verbatim_field;
 use bib_syntax::raw::{Field, ParseError};
 use std::alloc::Global;
 use std::collections::BTreeMap;
@@ -60,14 +60,14 @@ impl<'f, 's> FieldReader<'f, 's> {
     pub fn read(&mut self, key: &str, field: &Field<'s>) -> Result<Chunks, ParseError>
         ensures same { self.new ≡ self.old }
         ensures read { IfOk result (λ chunks. Evaluates (given_by self.old)
-            (abbreviation.is_verbatim_field key.now) (map piece_of field.now.items)
+            (names.is_verbatim_field key.now) (map piece_of field.now.items)
             (styled chunks)) }
         ensures readable { OnOk result (IsReadable (given_by self.old)
-            (abbreviation.is_verbatim_field key.now) (map piece_of field.now.items)) }
+            (names.is_verbatim_field key.now) (map piece_of field.now.items)) }
         ensures refused { IfErr result (λ e. (e ≡ out_of_memory) ⊎
-            (IsFirstFault (given_by self.old) (abbreviation.is_verbatim_field key.now) []
+            (IsFirstFault (given_by self.old) (names.is_verbatim_field key.now) []
             (map piece_of field.now.items) e ×
-            (IsReadable (given_by self.old) (abbreviation.is_verbatim_field key.now)
+            (IsReadable (given_by self.old) (names.is_verbatim_field key.now)
             (map piece_of field.now.items) → ⊥))) }
         ensures joined { IfOk result AreJoined }
         ensures placed { (p : Part) → map piece_of field.now.items ≡ literal p ∷ [] →

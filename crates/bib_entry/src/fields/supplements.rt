@@ -8,8 +8,8 @@ use crate::entry::{Entry, SetError};
 use crate::retrieval::RetrievalError;
 use bib_chunks::chunk::{Chunks, ChunksRef};
 use bib_typed::typed::{PermissiveType, Type};
-use bib_types::types::lang::Language;
-use bib_types::types::{Gender, Pagination};
+use bib_enums::types::lang::Language;
+use bib_enums::types::{Gender, Pagination};
 use std::alloc::{AllocError, Global};
 
 impl Entry {

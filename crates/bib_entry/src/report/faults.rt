@@ -7,10 +7,10 @@ ghost use Rattle.bib_entry.specs.Judging.{Adds, Tells, TellsField};
 
 use crate::entry::Entry;
 use bib_dates::date::Date;
-use bib_faults::type_error::{TypeError, TypeErrorKind};
+use bib_enums::type_error::{TypeError, TypeErrorKind};
 use bib_text::text::Text;
 use bib_typed::typed::Type;
-use bib_types::types::{Gender, Pagination};
+use bib_enums::types::{Gender, Pagination};
 use std::alloc::{AllocError, Global};
 use std::ops::Range;
 

@@ -3,12 +3,12 @@
 ghost use Rattle.std.specs.Prelude.{◌≡◌, ◌++◌, IfOk, OnOk, codes};
 ghost use Rattle.std.specs.List.{filter};
 ghost use Rattle.std.specs.Option.{option_copied};
-ghost use Rattle.bib_tables.specs.Requirements.{texts};
+ghost use Rattle.bib_entry_types.specs.Requirements.{texts};
 ghost use Rattle.bib_text.specs.Enums.{named};
 ghost use Rattle.bib_entry.specs.Reports.{lacks, has_chunks, has_field, has_editor, has_other, other_names, only_if, missing_people, missing_pages, missing_date, superfluous_people, superfluous_pages};
 
 use crate::entry::Entry;
-use bib_tables::mechanics::{AuthorMode, PagesChapterMode, Requirements};
+use bib_entry_types::mechanics::{AuthorMode, PagesChapterMode, Requirements};
 use std::alloc::{AllocError, Global};
 
 // Appends a name, where it is told.

@@ -1,6 +1,7 @@
 use Rattle.std.proofs.Common.{map}
 use Rattle.bib_chunks.specs.Styled.{styled}
-use Rattle.bib_contents.specs.Abbreviations.{is_verbatim_field, defined_in}
+use Rattle.bib_contents.specs.Abbreviations.{defined_in}
+use Rattle.bib_entry_types.specs.VerbatimFields.{is_verbatim_field}
 use Rattle.bib_syntax.specs.Views.{piece_of}
 use Rattle.bib_contents.proofs.AbbreviationFacts.{read_is_readable, refused_not_readable}
 use Rattle.bib_contents.proofs.resolve.parse_field.Goals as goal

@@ -3,7 +3,7 @@ use Rattle.std.specs.Str.{chars}
 use Rattle.std.specs.Prelude.{encode_utf8_all}
 use Rattle.std.proofs.lemmas.Str.{encodes-chars}
 use Rattle.bib_text.specs.Places.{Longest}
-use Rattle.bib_values.proofs.ScannedFacts.{eaten_rest, boundary_there}
+use Rattle.bib_text.proofs.ScannedFacts.{eaten_rest, boundary_there}
 use Rattle.bib_dates.specs.ThreeFields.{is_gap}
 use Rattle.bib_dates.proofs.fields.behind_gap.Goals as goal
 

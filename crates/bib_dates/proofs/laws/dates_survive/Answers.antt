@@ -2,7 +2,7 @@ use Rattle.std.proofs.Common.{ap}
 use Rattle.std.specs.Option.{option_map}
 use Rattle.bib_dates.specs.Readings.{value_of}
 use Rattle.bib_dates.specs.Written.{date_text}
-use Rattle.bib_dates.specs.DatesReread.{text_survives}
+use Rattle.bib_dates.proofs.DatesReread.{text_survives}
 use Rattle.bib_dates.proofs.laws.dates_survive.Goals as goal
 
 pub returns-clause-read : goal.returns-clause-read

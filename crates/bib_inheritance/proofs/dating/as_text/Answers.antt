@@ -2,8 +2,8 @@ use Rattle.std.proofs.Common.{◌++◌, ◌∷◌, [], ◌∙◌, ap}
 use Rattle.std.specs.Prelude.{string_bytes}
 use Rattle.std.proofs.lemmas.Str.{IsUtf8-string_bytes}
 use Rattle.bib_chunks.specs.declared.chunk.Chunk.TheVariants.{Verbatim}
-use Rattle.bib_values.specs.Values.{text}
-use Rattle.bib_values.proofs.TextFacts.{verbatim_text}
+use Rattle.bib_chunks.specs.Values.{text}
+use Rattle.bib_chunks.proofs.ValueFacts.{verbatim_text}
 use Rattle.bib_chunks.specs.Styled.{styled}
 use Rattle.bib_inheritance.specs.References.{plain}
 use Rattle.bib_inheritance.proofs.dating.as_text.Goals as goal

@@ -1,5 +1,5 @@
 use Rattle.std.proofs.Common.{◌∙◌, ap, sym}
-use Rattle.bib_tables.specs.Requirements.{texts}
+use Rattle.bib_entry_types.specs.Requirements.{texts}
 use Rattle.bib_inheritance.specs.Lent.{lent}
 use Rattle.bib_inheritance.specs.Sources.{first_some, source_at}
 use Rattle.bib_inheritance.proofs.LentFacts.{given_container, given_other}

@@ -1,6 +1,6 @@
 use Rattle.std.proofs.Common.{◌≡◌, List, ℕ, take}
 use Rattle.std.specs.List.{flat_map}
-use Rattle.bib_tables.specs.Requirements.{texts}
+use Rattle.bib_entry_types.specs.Requirements.{texts}
 use Rattle.bib_inheritance.specs.Lent.{lent, offered_among}
 use Rattle.bib_inheritance.specs.Sources.{first_some, source_at}
 use Rattle.bib_inheritance.proofs.gathering.lend_groups.Given as goal

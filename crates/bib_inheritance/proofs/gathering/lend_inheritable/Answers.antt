@@ -1,6 +1,6 @@
 use Rattle.std.proofs.Common.{◌∙◌, ap}
-use Rattle.bib_tables.specs.Requirements.{texts, author_names, page_names}
-use Rattle.bib_tables.specs.Row.{optional_of_row}
+use Rattle.bib_entry_types.specs.Requirements.{texts, author_names, page_names}
+use Rattle.bib_entry_types.specs.Row.{optional_of_row}
 use Rattle.bib_inheritance.specs.Lent.{lent, offered_among}
 use Rattle.bib_inheritance.specs.Sources.{first_some, source_at}
 use Rattle.bib_inheritance.proofs.LentFacts.{inheritable_lent}

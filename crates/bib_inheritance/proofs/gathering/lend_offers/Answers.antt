@@ -3,7 +3,7 @@ use Rattle.std.specs.Option.{option_copied}
 use Rattle.std.proofs.lemmas.List.{get_or-map, length-map}
 use denote.Ref.{Bor}
 use Rattle.bib_chunks.specs.Styled.{styled}
-use Rattle.bib_tables.specs.Requirements.{texts}
+use Rattle.bib_entry_types.specs.Requirements.{texts}
 use Rattle.bib_inheritance.specs.Sources.{source_at}
 use Rattle.bib_inheritance.proofs.LentFacts.{IsLent, lent_none, lent_skip, lent_more}
 use Rattle.bib_inheritance.proofs.gathering.lend_offers.Goals as goal

@@ -1,4 +1,4 @@
-use Rattle.bib_tables.specs.Requirements.{texts}
+use Rattle.bib_entry_types.specs.Requirements.{texts}
 use Rattle.bib_inheritance.specs.Sources.{source_at}
 use Rattle.bib_inheritance.proofs.LentFacts.{IsLent}
 use Rattle.bib_inheritance.proofs.gathering.lend_offers.Given as goal

@@ -1,5 +1,5 @@
 use Rattle.std.proofs.Common.{◌≡◌, drop}
-use Rattle.bib_tables.specs.Requirements.{texts}
+use Rattle.bib_entry_types.specs.Requirements.{texts}
 use Rattle.bib_inheritance.specs.Inherited.{first_of}
 use Rattle.bib_inheritance.specs.Sources.{fields_of}
 use Rattle.bib_inheritance.proofs.offers.first_of.Given as goal

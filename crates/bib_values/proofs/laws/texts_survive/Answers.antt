@@ -1,4 +1,4 @@
-use Rattle.bib_values.proofs.TextFacts.{verbatim_text}
+use Rattle.bib_chunks.proofs.ValueFacts.{verbatim_text}
 use Rattle.bib_values.proofs.laws.texts_survive.Goals as goal
 
 pub returns : goal.returns

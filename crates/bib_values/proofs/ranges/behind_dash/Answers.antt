@@ -1,8 +1,8 @@
 use Rattle.std.proofs.Common.{◌∙◌, sym, ap}
 use Rattle.std.specs.Prelude.{◌==◌}
 use Rattle.std.specs.Str.{chars}
-use Rattle.bib_values.specs.Ranges.{behind}
-use Rattle.bib_values.proofs.ScannedFacts.{eaten_char, none_eaten, boundary_char}
+use Rattle.bib_text.specs.Runs.{behind}
+use Rattle.bib_text.proofs.ScannedFacts.{eaten_char, none_eaten, boundary_char}
 use Rattle.bib_values.proofs.RangeFacts.{dashed, undashed, undashed_end}
 use Rattle.bib_values.proofs.ranges.behind_dash.Goals as goal
 

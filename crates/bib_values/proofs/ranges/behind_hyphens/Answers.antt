@@ -2,7 +2,7 @@ use Rattle.std.proofs.Common.{◌∙◌, ap, rules}
 use Rattle.std.specs.Prelude.{◌==◌}
 use Rattle.std.specs.Str.{chars}
 use Rattle.bib_text.specs.Places.{Longest}
-use Rattle.bib_values.proofs.ScannedFacts.{eaten_rest, boundary_there}
+use Rattle.bib_text.proofs.ScannedFacts.{eaten_rest, boundary_there}
 use Rattle.bib_values.proofs.ranges.behind_hyphens.Goals as goal
 
 pub range_from-requires : goal.range_from-requires

@@ -1,4 +1,4 @@
-use Rattle.bib_values.proofs.ScannedFacts.{trimmed_chars}
+use Rattle.bib_text.proofs.ScannedFacts.{trimmed_chars}
 use Rattle.bib_values.proofs.ranges.behind_white.Goals as goal
 
 pub returns : goal.returns

@@ -1,6 +1,6 @@
 use Rattle.bib_graph.proofs.Walks as walks
 use Rattle.bib_inheritance.specs.Sources.{nowhere}
-use Rattle.bib_resolving.specs.Resolving.{rule_by}
+use Rattle.bib_references.specs.Resolving.{rule_by}
 use Rattle.biblatex.proofs.laws.inherits_in_one_way.Goals as goal
 
 pub returns : goal.returns

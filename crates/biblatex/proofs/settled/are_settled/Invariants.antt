@@ -1,7 +1,7 @@
 use Rattle.std.proofs.Common.{drop}
 use Rattle.std.specs.Prelude.{◌↔◌}
 use Rattle.std.specs.List.{AllByRecursion}
-use Rattle.bib_reread.specs.Settled.{IsSettledEntry}
+use Rattle.bib_roundtrip.specs.Settled.{IsSettledEntry}
 use Rattle.biblatex.proofs.settled.are_settled.Given as goal
 
 -- the entries are settled where those that are still to come are

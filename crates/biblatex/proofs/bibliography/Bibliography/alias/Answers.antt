@@ -1,5 +1,5 @@
 use Rattle.std.proofs.Common.{sym}
-use Rattle.bib_loading.proofs.LibraryFacts.{below_insert}
+use Rattle.bib_file_entries.proofs.LibraryFacts.{below_insert}
 use Rattle.biblatex.proofs.bibliography.Bibliography.alias.Goals as goal
 
 pub invariant_of-self : goal.invariant_of-self

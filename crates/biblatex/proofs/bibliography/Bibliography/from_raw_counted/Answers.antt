@@ -3,7 +3,7 @@ use Rattle.std.proofs.lemmas.List.{length-map}
 use Rattle.std.proofs.lemmas.Result.{err_from_is_err_and}
 use Rattle.bib_maps.specs.Names.{ArePlacesBelow}
 use Rattle.bib_syntax.specs.Views.{entry_of, file_of}
-use Rattle.bib_resolving.specs.Resolving.{AreResolved, IsResolvingFault, graph_by}
+use Rattle.bib_references.specs.Resolving.{AreResolved, IsResolvingFault, graph_by}
 use Rattle.biblatex.specs.Resolved.{IsFaultOf, IsLoaded}
 use Rattle.biblatex.proofs.RefusalFacts.{all_taken, entries_count, loaded, resolving_told}
 use Rattle.biblatex.proofs.ResolvedFacts.{accepted_faultless, with_names}

@@ -1,7 +1,7 @@
 use Rattle.std.proofs.Common.{◌++◌, ◌∷◌, [], ◌+◌, ap, arith, length, length-append, ◌∙◌}
 use Rattle.bib_maps.specs.Names.{ArePlacesBelow}
-use Rattle.bib_loading.specs.Library.{claims}
-use Rattle.bib_loading.proofs.LibraryFacts.{below_claimed, below_more}
+use Rattle.bib_file_entries.specs.Library.{claims}
+use Rattle.bib_file_entries.proofs.LibraryFacts.{below_claimed, below_more}
 use Rattle.biblatex.proofs.bibliography.Bibliography.insert.Goals as goal
 
 pub invariant_of-self-2 : goal.invariant_of-self-2

@@ -1,7 +1,7 @@
 use Rattle.std.proofs.Common.{◌≡◌, ◌<◌, ◌-◌, arith, Some, length, sym, subst}
 use Rattle.bib_maps.specs.Names.{ArePlacesBelow}
-use Rattle.bib_loading.specs.Library.{entry_of}
-use Rattle.bib_loading.proofs.LibraryFacts.{below_more, below_without_place, found_at}
+use Rattle.bib_file_entries.specs.Library.{entry_of}
+use Rattle.bib_file_entries.proofs.LibraryFacts.{below_more, below_without_place, found_at}
 use Rattle.biblatex.proofs.bibliography.Bibliography.remove.Goals as goal
 
 pub invariant_of-self : goal.invariant_of-self

@@ -1,6 +1,7 @@
 use Rattle.std.proofs.Common.{ap, map, ◌∙◌}
 use Rattle.bib_chunks.specs.Styled.{styled}
-use Rattle.bib_contents.specs.Abbreviations.{is_verbatim_field, given_by, sorted_in}
+use Rattle.bib_contents.specs.Abbreviations.{given_by, sorted_in}
+use Rattle.bib_entry_types.specs.VerbatimFields.{is_verbatim_field}
 use Rattle.bib_syntax.specs.Views.{piece_of}
 use Rattle.bib_contents.proofs.AbbreviationFacts.{read_is_readable, read_same_rule, refused_not_readable, refused_same_rule, sorted_given}
 use Rattle.bib_contents.proofs.resolve.reader.FieldReader.read.Goals as goal

@@ -1,0 +1,70 @@
+-- How what the program prints follows from what its parts found.
+use Rattle.std.specs.Str.{bytes_eq}
+use Rattle.std.proofs.lemmas.Slice.Eq.{bytes_eq-Decides}
+use Rattle.biblatex.specs.Syntax.{Refuses, IsFile, ParseError, OutOfMemory}
+use Rattle.std.specs.Str.{IsUtf8}
+use Rattle.biblatex.specs.Resolved.{IsAccepted, IsFaultOf}
+use Rattle.biblatex.specs.Syntax.{IsRawReading, FileReading, Library}
+use Rattle.bib_commands.specs.Answering.{IsLibraryOf}
+use Rattle.bib_commands.specs.Output.{IsCommandAnswer, IsKeysAnswer, IsLibraryAnswer, TellsFault, TellsNoBibliography, not_utf8}
+use Rattle.bib_commands.specs.declared.run.Command.{Command}
+use Rattle.bib_commands.specs.declared.run.Command.TheVariants.{Keys, Biblatex, Bibtex, Check, Settled}
+use Rattle.bib_commands.specs.Output.IsKeysAnswer.{no_file}
+use Rattle.bib_commands.specs.declared.run.Answer.{Answer}
+use Rattle.std.specs.Prelude.{◌⊎◌, IfOk, string_bytes, ◌≢◌}
+use Rattle.std.proofs.Common.{Result, Ok, Err, inl, inr, ◌≡◌, ◌<◌, ◌≤◌, ℕ, Bool, true, List, [], ◌∷◌, length, get_or, map, sym, ap, ◌∙◌, subst, arith}
+
+-- a list of one item
+pub one_item : {X Y : Type 0} (f : X → Y) (xs : List X) (x : X) → 1 ≤ length xs → length xs < 2 → x ≡ get_or xs 0 x → map f xs ≡ f x ∷ []
+one_item f [] x least most is = absurd (omega arith)
+one_item f (y ∷ []) x least most is = ap (λ z. f z ∷ []) (sym is)
+one_item f (y ∷ z ∷ zs) x least most is = absurd (omega arith)
+
+-- whether the one word of a list is this one
+pub decides_one : (b : Bool) (word text : List ℕ) (words : List (List ℕ)) (named : List ℕ) → b ≡ bytes_eq text named → words ≡ word ∷ [] → text ≡ word
+    → (b ≡ true → words ≡ named ∷ []) × (words ≡ named ∷ [] → b ≡ true)
+decides_one b word text words named tests one same =
+    let decides = bytes_eq-Decides text named in
+    (λ yes. one ∙ ap (λ w. w ∷ []) (sym same ∙ decides.0 (sym tests ∙ yes)), λ is. tests ∙ decides.1 (same ∙ head_same (sym one ∙ is))) where
+      head_same : {x y : List ℕ} → x ∷ [] ≡ y ∷ [] → x ≡ y
+      head_same e = cc
+
+-- a fault of the text, where memory was there
+pub fault_told : {bytes text : List ℕ} {e : ParseError} → Refuses bytes e (IsFile bytes → ⊥) → (e.kind ≡ OutOfMemory → ⊥) → TellsFault e text → IsKeysAnswer bytes text 1
+fault_told (inl memory) other told = absurd (other (ap (λ x. x.kind) memory))
+fault_told (inr fault) other told = no_file fault.0 fault.1 told
+
+-- the answer for a fault
+pub fault_answered : {E : Type 0} {bytes : List ℕ} (e : ParseError) (r : Result Answer E)
+    → IfOk r (λ answer. (e.kind ≢ OutOfMemory) × TellsFault e (string_bytes answer.text) × (answer.status ≡ 1))
+    → Refuses bytes e (IsFile bytes → ⊥) → IfOk r (λ answer. IsKeysAnswer bytes (string_bytes answer.text) answer.status)
+fault_answered e (Ok answer) told refused = rw told.2 (fault_told refused told.0 told.1)
+fault_answered e (Err x) told refused = tt
+
+-- a text that is no bibliography, where memory was there
+pub no_library : {bytes text : List ℕ} {e : ParseError} → Refuses bytes e (IsFile bytes → ⊥) ⊎ ((says : FileReading) × IsRawReading bytes says × IsFaultOf says e × (IsAccepted says → ⊥)) → (e.kind ≡ OutOfMemory → ⊥) → TellsFault e text
+    → TellsNoBibliography bytes text
+no_library (inl (inl memory)) other told = absurd (other (ap (λ x. x.kind) memory))
+no_library (inl (inr fault)) other told = TellsNoBibliography.no_file fault.0 fault.1 told
+no_library (inr fault) other told = TellsNoBibliography.refused fault.1 fault.2 fault.3 told
+
+-- the answer that a text is no bibliography
+pub no_library_shown : {shows : Library → List ℕ → ℕ → Type 0} {bytes : List ℕ} (found : Result Library Answer) (answer : Answer) → IsLibraryOf bytes found → found ≡ Err answer → IsLibraryAnswer shows bytes (string_bytes answer.text) answer.status
+no_library_shown {shows} {bytes} found answer is same =
+    let told : IsLibraryOf bytes (Err answer) = subst (IsLibraryOf bytes) same is in
+    subst (λ status. IsLibraryAnswer shows bytes (string_bytes answer.text) status) (sym told.1) (IsLibraryAnswer.no_library told.0)
+
+-- the answer of a bibliography
+pub library_shown : {shows : Library → List ℕ → ℕ → Type 0} {bytes text : List ℕ} {status : ℕ} (found : Result Library Answer) (library : Library) → IsUtf8 bytes → IsLibraryOf bytes found → found ≡ Ok library → shows library text status
+    → IsLibraryAnswer shows bytes text status
+library_shown {shows} {bytes} found library utf8 is same shown =
+    let read : IsLibraryOf bytes (Ok library) = subst (IsLibraryOf bytes) same is in
+    IsLibraryAnswer.shown utf8 read.1 read.2 shown
+
+-- the answer of any command for bytes that are no text
+pub no_text_shown : (command : Command) (bytes : List ℕ) → (IsUtf8 bytes → ⊥) → IsCommandAnswer command bytes not_utf8 1
+no_text_shown Keys bytes none = IsKeysAnswer.no_text none
+no_text_shown Biblatex bytes none = IsLibraryAnswer.no_text none
+no_text_shown Bibtex bytes none = IsLibraryAnswer.no_text none
+no_text_shown Check bytes none = IsLibraryAnswer.no_text none
+no_text_shown Settled bytes none = IsLibraryAnswer.no_text none

@@ -1,0 +1,12 @@
+use Rattle.bib_commands.specs.Arguments.{IsStartAnswer as answer}
+use Rattle.bib_commands.proofs.start.start.Goals as goal
+
+pub returns-in-Ok-clause-printed : goal.returns-in-Ok-clause-printed
+returns-in-Ok-clause-printed g c limit same =
+    let p = c.run.ensures.printed limit same in
+    (p.0, p.1, answer.answered c.in-Ok.ensures.known (rw (c.deref.ensures.value, c.in-Ok.ensures.words) at p.2))
+
+pub returns-in-Err-clause-printed : goal.returns-in-Err-clause-printed
+returns-in-Err-clause-printed g c limit same =
+    let p = c.print.ensures.printed limit same in
+    (_, p.0, rw p.1 (answer.no_memory c.in-Err.ensures.lacking))

@@ -1,0 +1,4 @@
+pub mod EntryType
+pub mod Requirements
+pub mod Row
+pub mod VerbatimFields

@@ -1,0 +1,51 @@
+-- Meaning: words of public contracts.
+-- Gender and number, after the BibLaTeX manual's values for `gender`.
+use Rattle.std.specs.Prelude.{ℕ, Bool, true, false, List, [], ◌∷◌, Option, None, Some, codes, if◌then◌else◌}
+use Rattle.std.specs.List.{list_all}
+use Rattle.bib_enums.specs.declared.types.Gender.{Gender}
+use Rattle.bib_enums.specs.declared.types.Gender.TheVariants.{SingularFemale, SingularMale, SingularNeuter, PluralFemale, PluralMale, PluralNeuter}
+
+-- the name by which a gender is written
+abbrev pub gender_name : Gender → List ℕ
+gender_name SingularFemale = codes "SingularFemale"
+gender_name SingularMale = codes "SingularMale"
+gender_name SingularNeuter = codes "SingularNeuter"
+gender_name PluralFemale = codes "PluralFemale"
+gender_name PluralMale = codes "PluralMale"
+gender_name PluralNeuter = codes "PluralNeuter"
+
+abbrev pub plural_of : Gender → Gender
+plural_of SingularFemale = PluralFemale
+plural_of SingularMale = PluralMale
+plural_of SingularNeuter = PluralNeuter
+plural_of PluralFemale = PluralFemale
+plural_of PluralMale = PluralMale
+plural_of PluralNeuter = PluralNeuter
+
+abbrev pub singular_of : Gender → Gender
+singular_of SingularFemale = SingularFemale
+singular_of SingularMale = SingularMale
+singular_of SingularNeuter = SingularNeuter
+singular_of PluralFemale = SingularFemale
+singular_of PluralMale = SingularMale
+singular_of PluralNeuter = SingularNeuter
+
+abbrev pub is_female : Gender → Bool
+is_female SingularFemale = true
+is_female PluralFemale = true
+is_female _ = false
+
+abbrev pub is_male : Gender → Bool
+is_male SingularMale = true
+is_male PluralMale = true
+is_male _ = false
+
+-- the plural for a group: neuter unless all are female or all are male
+abbrev pub group_gender : List Gender → Gender
+group_gender genders = if list_all is_female genders then PluralFemale else if list_all is_male genders then PluralMale else PluralNeuter
+
+-- the gender that sums up a list: that of one alone, and of more their plural
+abbrev pub coalesced : List Gender → Option Gender
+coalesced [] = None
+coalesced (gender ∷ []) = Some gender
+coalesced genders = Some (group_gender genders)

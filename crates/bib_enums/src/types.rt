@@ -1,0 +1,294 @@
+//! Small enumerations of BibLaTeX: how pages are counted, what an editor did, the gender of a name.
+
+ghost use Rattle.std.specs.Prelude.{◌≡◌, ◌↔◌, Some, IsOk, IsSome, IsTrue, IfOk, IsOkUnless};
+ghost use Rattle.std.specs.List.{list_all};
+ghost use Rattle.std.specs.Option.{ok_or};
+ghost use Rattle.bib_enums.specs.Pagination.{pagination_name, pagination_named};
+ghost use Rattle.bib_enums.specs.EditorType.{editor_type_name, named_editor_type, editor_type_of};
+ghost use Rattle.bib_enums.specs.Gender.{gender_name, plural_of, singular_of, coalesced, group_gender, is_female, is_male};
+
+pub mod lang;
+
+use bib_text::text::Text;
+use std::alloc::Global;
+use std::fmt;
+use std::str::FromStr;
+use thiserror::Error;
+
+/// Why a name could not be read.
+#[derive(Debug, Clone, Copy, PartialEq, Eq, Error)]
+pub enum NameError {
+    /// Nothing has this name.
+    #[error("unknown name")]
+    Unknown,
+    /// The memory for a copy of the name was refused.
+    #[error("out of memory")]
+    OutOfMemory,
+}
+
+/// What the numbers of `pages` count.
+#[derive(Debug, Clone, Copy, PartialEq, Eq)]
+pub enum Pagination {
+    /// Pages.
+    Page,
+    /// Columns.
+    Column,
+    /// Lines.
+    Line,
+    /// Verses.
+    Verse,
+    /// Sections.
+    Section,
+    /// Paragraphs.
+    Paragraph,
+}
+
+impl Pagination {
+    /// The name by which the scheme is written and read: the variant's in small letters.
+    pub fn as_ref(&self) -> &'static str
+        ensures { result.now ≡ pagination_name self.now }
+    {
+        match self {
+            Self::Page => "page",
+            Self::Column => "column",
+            Self::Line => "line",
+            Self::Verse => "verse",
+            Self::Section => "section",
+            Self::Paragraph => "paragraph",
+        }
+    }
+
+    fn named(text: &str) -> Option<Self>
+        ensures { result ≡ pagination_named text.now }
+    {
+        match text {
+            "page" => Some(Self::Page),
+            "column" => Some(Self::Column),
+            "line" => Some(Self::Line),
+            "verse" => Some(Self::Verse),
+            "section" => Some(Self::Section),
+            "paragraph" => Some(Self::Paragraph),
+            _ => None,
+        }
+    }
+}
+
+/// Writes the name of the scheme.
+impl fmt::Display for Pagination {
+    ghost output = { λ scheme. Some (pagination_name scheme) };
+
+    fn fmt<W: fmt::Write>(&self, f: &mut fmt::Formatter<W>) -> fmt::Result {
+        f.write_str(self.as_ref())
+    }
+}
+
+/// Reads the name of a scheme, exactly as it is written.
+impl FromStr for Pagination {
+    ghost use Rattle.bib_enums.specs.declared.types.NameError.{NameError};
+
+    type Err = NameError;
+
+    ghost from_str_gives = { λ text result. result ≡ ok_or (pagination_named text) NameError.Unknown };
+
+    fn from_str(text: &str) -> Result<Self, NameError> {
+        Self::named(text).ok_or(NameError::Unknown)
+    }
+}
+
+/// What an editor did.
+#[derive(Debug, Clone, PartialEq, Eq, Drop)]
+pub enum EditorType {
+    /// Edited the work.
+    Editor,
+    /// Compiled it.
+    Compiler,
+    /// Founded it.
+    Founder,
+    /// Went on with it.
+    Continuator,
+    /// Redacted it.
+    Redactor,
+    /// Revised it.
+    Reviser,
+    /// Took part in it.
+    Collaborator,
+    /// Organized it.
+    Organizer,
+    /// Directed it.
+    Director,
+    /// Anything else, by its text.
+    Unknown(Text),
+}
+
+impl EditorType {
+    /// The named type whose name this text is, exactly as it is written, and any other text as it stands. The only
+    /// fault is want of memory for that text.
+    pub fn from_str(alloc: Global, text: &str) -> Result<Self, NameError>
+        ensures ok { IfOk result (λ role. role ≡ editor_type_of text.now) }
+        ensures refused { IsOkUnless result NameError.OutOfMemory }
+        ensures no_memory_needed { IsSome (named_editor_type text.now) → IsOk result }
+    {
+        match Self::named(text) {
+            Some(role) => Ok(role),
+            None => {
+                let text = Text::from_str(alloc, text).map_err(|_| NameError::OutOfMemory)?;
+                Ok(Self::Unknown(text))
+            }
+        }
+    }
+
+    /// The name by which the type is written: the variant's in small letters, and the text of an unknown one.
+    pub fn as_ref(&self) -> &str
+        ensures { result.now ≡ editor_type_name self.now }
+    {
+        match self {
+            Self::Editor => "editor",
+            Self::Compiler => "compiler",
+            Self::Founder => "founder",
+            Self::Continuator => "continuator",
+            Self::Redactor => "redactor",
+            Self::Reviser => "reviser",
+            Self::Collaborator => "collaborator",
+            Self::Organizer => "organizer",
+            Self::Director => "director",
+            Self::Unknown(text) => text.as_str(),
+        }
+    }
+
+    fn named(text: &str) -> Option<Self>
+        ensures { result ≡ named_editor_type text.now }
+    {
+        match text {
+            "editor" => Some(Self::Editor),
+            "compiler" => Some(Self::Compiler),
+            "founder" => Some(Self::Founder),
+            "continuator" => Some(Self::Continuator),
+            "redactor" => Some(Self::Redactor),
+            "reviser" => Some(Self::Reviser),
+            "collaborator" => Some(Self::Collaborator),
+            "organizer" => Some(Self::Organizer),
+            "director" => Some(Self::Director),
+            _ => None,
+        }
+    }
+}
+
+/// Writes the name of the type.
+impl fmt::Display for EditorType {
+    ghost output = { λ role. Some (editor_type_name role) };
+
+    fn fmt<W: fmt::Write>(&self, f: &mut fmt::Formatter<W>) -> fmt::Result {
+        f.write_str(self.as_ref())
+    }
+}
+
+/// Gender and number of the author, or of the editor where there is no author.
+#[derive(Debug, Clone, Copy, PartialEq, Eq)]
+pub enum Gender {
+    /// One woman.
+    SingularFemale,
+    /// One man.
+    SingularMale,
+    /// One, neither.
+    SingularNeuter,
+    /// Women.
+    PluralFemale,
+    /// Men.
+    PluralMale,
+    /// A mixed group, or neither.
+    PluralNeuter,
+}
+
+impl Gender {
+    /// The same gender of several.
+    pub fn plural(self) -> Self
+        ensures { result ≡ plural_of self }
+    {
+        match self {
+            Self::SingularFemale | Self::PluralFemale => Self::PluralFemale,
+            Self::SingularMale | Self::PluralMale => Self::PluralMale,
+            Self::SingularNeuter | Self::PluralNeuter => Self::PluralNeuter,
+        }
+    }
+
+    /// The same gender of one.
+    pub fn singular(self) -> Self
+        ensures { result ≡ singular_of self }
+    {
+        match self {
+            Self::SingularFemale | Self::PluralFemale => Self::SingularFemale,
+            Self::SingularMale | Self::PluralMale => Self::SingularMale,
+            Self::SingularNeuter | Self::PluralNeuter => Self::SingularNeuter,
+        }
+    }
+
+    /// The gender of a group: that of one alone, else a plural, neuter unless all are female or all are male.
+    pub fn coalesce(list: &[Self]) -> Option<Self>
+        ensures { result ≡ coalesced list.now }
+    {
+        match list {
+            [] => None,
+            [gender] => Some(*gender),
+            _ => Some(Self::group(list)),
+        }
+    }
+
+    /// The variant's name.
+    pub fn as_ref(&self) -> &'static str
+        ensures { result.now ≡ gender_name self.now }
+    {
+        match self {
+            Self::SingularFemale => "SingularFemale",
+            Self::SingularMale => "SingularMale",
+            Self::SingularNeuter => "SingularNeuter",
+            Self::PluralFemale => "PluralFemale",
+            Self::PluralMale => "PluralMale",
+            Self::PluralNeuter => "PluralNeuter",
+        }
+    }
+
+    fn group(list: &[Self]) -> Self
+        ensures { result ≡ group_gender list.now }
+    {
+        if Self::all_female(list) {
+            Self::PluralFemale
+        } else if Self::all_male(list) {
+            Self::PluralMale
+        } else {
+            Self::PluralNeuter
+        }
+    }
+
+    fn all_female(list: &[Self]) -> bool
+        ensures { result ≡ list_all is_female list.now }
+    {
+        list.iter().all(|gender| gender.is_female())
+    }
+
+    fn all_male(list: &[Self]) -> bool
+        ensures { result ≡ list_all is_male list.now }
+    {
+        list.iter().all(|gender| gender.is_male())
+    }
+
+    fn is_female(self) -> bool
+        ensures { result ≡ is_female self }
+    {
+        matches!(self, Self::SingularFemale | Self::PluralFemale)
+    }
+
+    fn is_male(self) -> bool
+        ensures { result ≡ is_male self }
+    {
+        matches!(self, Self::SingularMale | Self::PluralMale)
+    }
+}
+
+/// Writes the variant's name.
+impl fmt::Display for Gender {
+    ghost output = { λ gender. Some (gender_name gender) };
+
+    fn fmt<W: fmt::Write>(&self, f: &mut fmt::Formatter<W>) -> fmt::Result {
+        f.write_str(self.as_ref())
+    }
+}

@@ -1,4 +1,0 @@
-//! The faults of typed values.
-#![tactic(auto)]
-
-pub mod type_error;

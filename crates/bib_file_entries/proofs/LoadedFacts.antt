@@ -1,0 +1,131 @@
+-- Facts on what a file says as a bibliography.
+use Rattle.std.proofs.Common.{◌≡◌, ℕ, ◌+◌, Bool, true, false, List, [], ◌∷◌, ◌++◌, length, length-append, refl, sym, ap, ◌∙◌, subst, arith, append_assoc, Option, None, Some, MatchOption, cond, ◌||◌, is_some}
+use Rattle.std.specs.Prelude.{bytes_eq, codes}
+use Rattle.std.specs.FinMap as by_name
+use Rattle.std.specs.FinMap.{get-empty, get-insert}
+use Rattle.std.proofs.lemmas.Bool.{both_ways}
+use Rattle.std.proofs.lemmas.Cmp.{nat_list_cmp_total}
+use Rattle.std.proofs.lemmas.List.{append-nil}
+use Rattle.std.proofs.lemmas.List.Folds.{list_any-append}
+use Rattle.std.proofs.lemmas.Map.Text.{is_eq-slice_cmp}
+use Rattle.bib_syntax.specs.declared.raw.ParseErrorKind.TheVariants.{DuplicateKey}
+use Rattle.std.specs.Option.{option_map_or}
+use Rattle.bib_syntax.specs.declared.raw.ParseError.{ParseError}
+use Rattle.bib_chunks.specs.Styled.{styled}
+use Rattle.bib_chunks.specs.declared.chunk.Chunk.{Chunk}
+use Rattle.bib_text.specs.declared.spanned.Spanned.{Spanned}
+use Rattle.bib_contents.specs.Abbreviations.{Definitions}
+use Rattle.bib_syntax.specs.Reading.{FieldReading, EntryReading}
+use Rattle.bib_contents.proofs.LawFacts.{evaluates_same}
+use Rattle.bib_entry.specs.declared.entry.Entry.{Entry}
+use Rattle.bib_file_entries.specs.Library.{Library, claims, aliases, appended, nothing}
+use Rattle.bib_chunks.specs.Lists.{comma_texts}
+use Rattle.bib_file_entries.specs.Loaded.{AllCanBeRead, IsEntry, AreEntries, IsFaultOfFields, IsFaultOfEntries, Says, field_in, is_claimed, loaded_behind}
+use Rattle.bib_maps.specs.Names.{ArePlacesBelow, claimed, claims_for}
+use Rattle.bib_maps.specs.Sorted.{ByText, by_bytes}
+use Rattle.bib_file_entries.proofs.LibraryFacts.{below_empty, below_claimed, below_more}
+
+-- what a field `ids` of two entries claims
+aliases_found : (definitions : Definitions) (found : Option FieldReading) (one two : Option (List (Spanned Chunk)))
+    → MatchOption found (one ≡ None) (λ f. (chunks : List (Spanned Chunk)) × (one ≡ Some chunks) × Says definitions f chunks)
+    → MatchOption found (two ≡ None) (λ f. (chunks : List (Spanned Chunk)) × (two ≡ Some chunks) × Says definitions f chunks)
+    → option_map_or (λ chunks. comma_texts (styled chunks)) one [] ≡ option_map_or (λ chunks. comma_texts (styled chunks)) two []
+aliases_found definitions None one two first second = rw (first, second) refl
+aliases_found definitions (Some f) one two first second = rw (first.1, second.1) (ap comma_texts (evaluates_same first.2.says second.2.says))
+
+-- what an entry claims is what the file says of it
+pub claims_same : {definitions : Definitions} {said : EntryReading} (one two : Entry) → IsEntry definitions said one → IsEntry definitions said two → claims one ≡ claims two
+claims_same {definitions} {said} one two first second =
+    ap (λ key. key ∷ aliases one) (first.key ∙ sym second.key)
+    ∙ ap (λ names. two.key ∷ names) (aliases_found definitions (field_in said.fields (codes "ids")) (by_name.get one.fields (codes "ids")) (by_name.get two.fields (codes "ids")) (first.fields (codes "ids")) (second.fields (codes "ids")))
+
+-- where there is a fault, not all fields can be read
+pub fields_unread : {definitions : Definitions} {fields : List FieldReading} {e : ParseError} → IsFaultOfFields definitions fields e → AllCanBeRead definitions fields → ⊥
+fields_unread (IsFaultOfFields.here fault unread) all = unread all.0
+fields_unread (IsFaultOfFields.behind read fault) all = fields_unread fault all.1
+
+-- where there is a fault, there are no such entries
+pub no_entries : {definitions : Definitions} {claimed : List (List ℕ)} {said : List EntryReading} {e : ParseError} {found : List Entry} → IsFaultOfEntries definitions claimed said e → AreEntries definitions claimed said found → ⊥
+no_entries (IsFaultOfEntries.duplicate was is) (AreEntries.next fresh read rest) = both_ways _ fresh was
+no_entries (IsFaultOfEntries.unreadable fresh fault) (AreEntries.next fresh' read rest) = fields_unread fault read.readable
+no_entries {definitions} {claimed} (IsFaultOfEntries.behind {rest = more} {entry = one} fresh read fault) (AreEntries.next {entry = two} {entries = others} fresh' read' rest) =
+    no_entries fault (subst (λ names. AreEntries definitions (claimed ++ names) more others) (claims_same two one read' read) rest)
+
+-- entries behind others
+pub loaded_more : (library : Library) (first second : List Entry) → loaded_behind library (first ++ second) ≡ loaded_behind (loaded_behind library first) second
+loaded_more library [] second = refl
+loaded_more library (entry ∷ first) second = loaded_more (appended library entry) first second
+
+or_false : (b : Bool) → (b || false) ≡ b
+or_false true = refl
+or_false false = refl
+
+one_more : (test : Bool) (place : ℕ) (had : Option ℕ) (later : Bool) → (is_some (cond test (Some place) had) || later) ≡ (is_some had || (test || later))
+one_more true place None later = refl
+one_more true place (Some p) later = refl
+one_more false place had later = refl
+
+-- a name is there once names were claimed for a place if it was there, or is one of them
+pub names_claimed : (place : ℕ) (more : List (List ℕ)) (names : ByText ℕ) (name : List ℕ)
+    → is_some (by_name.get (claimed names (claims_for more place)) name) ≡ (is_some (by_name.get names name) || is_claimed more name)
+names_claimed place [] names name = sym (or_false (is_some (by_name.get names name)))
+names_claimed place (one ∷ more) names name =
+    names_claimed place more (by_name.insert names one place) name
+    ∙ ap (λ o. is_some o || is_claimed more name) (get-insert nat_list_cmp_total names one place name ∙ ap (λ b. cond b (Some place) (by_name.get names name)) (is_eq-slice_cmp name one))
+    ∙ one_more (bytes_eq name one) place (by_name.get names name) (is_claimed more name)
+
+-- entries were read so far, which claimed these names: what is read of the rest is read of the whole behind them, and a
+-- fault of the rest is one of the whole
+pub record LoadedSoFar (definitions : Definitions) (said rest : List EntryReading) (found : List Entry) (names : ByText ℕ) : Type 0 where
+  pub earlier : List (List ℕ)
+  pub same : (name : List ℕ) → is_some (by_name.get names name) ≡ is_claimed earlier name
+  pub onward : (more : List Entry) → AreEntries definitions earlier rest more → AreEntries definitions [] said (found ++ more)
+  pub faulty : (e : ParseError) → IsFaultOfEntries definitions earlier rest e → IsFaultOfEntries definitions [] said e
+  pub library : loaded_behind nothing found ≡ record { entries = found; names = names }
+  pub below : ArePlacesBelow (length found) names
+
+pub loaded_none : (definitions : Definitions) (said : List EntryReading) → LoadedSoFar definitions said said [] by_name.empty
+loaded_none definitions said = record {
+  earlier = [];
+  same = λ name. ap is_some (get-empty by_bytes name);
+  onward = λ more read. read;
+  faulty = λ e fault. fault;
+  library = refl;
+  below = below_empty 0;
+}
+
+pub loaded_next : {definitions : Definitions} {said : List EntryReading} {one : EntryReading} {rest : List EntryReading} {found : List Entry} {names : ByText ℕ} (entry : Entry)
+    → LoadedSoFar definitions said (one ∷ rest) found names → is_some (by_name.get names one.key.text) ≡ false → IsEntry definitions one entry
+    → LoadedSoFar definitions said rest (found ++ entry ∷ []) (claimed names (claims_for (claims entry) (length found)))
+loaded_next {definitions} {said} {one} {rest} {found} {names} entry loaded absent read =
+    let fresh : is_claimed loaded.earlier one.key.text ≡ false = sym (loaded.same one.key.text) ∙ absent in
+    let count : length (found ++ entry ∷ []) ≡ length found + 1 = length-append found (entry ∷ []) in
+    record {
+      earlier = loaded.earlier ++ claims entry;
+      same = λ name.
+          names_claimed (length found) (claims entry) names name
+          ∙ ap (λ b. b || is_claimed (claims entry) name) (loaded.same name)
+          ∙ sym (list_any-append (bytes_eq name) loaded.earlier (claims entry));
+      onward = λ others behind. subst (AreEntries definitions [] said) (sym (append_assoc found (entry ∷ []) others)) (loaded.onward (entry ∷ others) (AreEntries.next fresh read behind));
+      faulty = λ e fault. loaded.faulty e (IsFaultOfEntries.behind fresh read fault);
+      library = loaded_more nothing found (entry ∷ []) ∙ ap (λ library. appended library entry) loaded.library;
+      below =
+          below_claimed (length (found ++ entry ∷ [])) (claims entry) names (length found)
+          (below_more (length found) (length (found ++ entry ∷ [])) names loaded.below (omega (arith, count))) (omega (arith, count));
+    }
+
+-- all were read
+pub loaded_all : {definitions : Definitions} {said : List EntryReading} {found : List Entry} {names : ByText ℕ} → LoadedSoFar definitions said [] found names → AreEntries definitions [] said found
+loaded_all {definitions} {said} {found} loaded = subst (AreEntries definitions [] said) (append-nil found) (loaded.onward [] AreEntries.none)
+
+-- a key that was claimed is the first fault
+pub fault_duplicate : {definitions : Definitions} {said : List EntryReading} {one : EntryReading} {rest : List EntryReading} {found : List Entry} {names : ByText ℕ} (e : ParseError)
+    → LoadedSoFar definitions said (one ∷ rest) found names → is_some (by_name.get names one.key.text) ≡ true
+    → e ≡ record { span = record { start = one.start; end = one.end }; kind = DuplicateKey one.key.text } → IsFaultOfEntries definitions [] said e
+fault_duplicate {one = one} e loaded had is = loaded.faulty e (IsFaultOfEntries.duplicate (sym (loaded.same one.key.text) ∙ had) is)
+
+-- and else a field that can't be read
+pub fault_unreadable : {definitions : Definitions} {said : List EntryReading} {one : EntryReading} {rest : List EntryReading} {found : List Entry} {names : ByText ℕ} (e : ParseError)
+    → LoadedSoFar definitions said (one ∷ rest) found names → is_some (by_name.get names one.key.text) ≡ false → IsFaultOfFields definitions one.fields e
+    → IsFaultOfEntries definitions [] said e
+fault_unreadable {one = one} e loaded absent fault = loaded.faulty e (IsFaultOfEntries.unreadable (sym (loaded.same one.key.text) ∙ absent) fault)

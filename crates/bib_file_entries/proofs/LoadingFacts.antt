@@ -1,0 +1,130 @@
+-- Facts on reading a file's entries.
+use Rattle.std.proofs.Common.{◌≡◌, ℕ, ◌<◌, Bool, true, false, cond, List, [], ◌∷◌, ◌++◌, length, reverse, take, drop, get_or, Option, Some, None, refl, inl, inr, ◌⊎◌, ◌+◌, sym, ap, subst, ◌∙◌, suc}
+use Rattle.std.proofs.Math.Seq.{drop-cons}
+use mathlib.Core.List.{reverse_aux}
+use Rattle.std.specs.Prelude.{find, bytes_eq, option_map, MatchOption}
+use Rattle.std.specs.List.{AllZip}
+use Rattle.std.specs.Ordering.{is_eq}
+use Rattle.std.specs.Cmp.Lexicographic.{nat_list_eq_equiv}
+use Rattle.std.specs.FinMap as by_name
+use Rattle.std.specs.FinMap.{get-from_entries}
+use Rattle.std.proofs.lemmas.Cmp.{nat_list_cmp_total}
+use Rattle.std.proofs.lemmas.List.{reverse-append, take_more, take-append-drop}
+use Rattle.std.proofs.lemmas.Map.Text.{is_eq-slice_cmp}
+use Rattle.bib_chunks.specs.declared.chunk.Chunk.{Chunk}
+use Rattle.bib_text.specs.declared.spanned.Spanned.{Spanned}
+use Rattle.bib_contents.specs.Abbreviations.{Definitions}
+use Rattle.bib_syntax.specs.Faults.{out_of_memory}
+use Rattle.bib_syntax.specs.Reading.{Piece}
+use Rattle.bib_syntax.specs.declared.raw.Pair.{Pair}
+use Rattle.bib_syntax.specs.declared.raw.ParseError.{ParseError}
+use Rattle.bib_file_entries.specs.Loading.{AreReadable, IsFieldOf, IsFieldReadable, IsFieldsFault, field_name, last_definition, last_field, pieces_of}
+use Rattle.bib_file_entries.specs.Reading.{IsFieldFault}
+use Rattle.bib_maps.specs.Sorted.{by_bytes}
+
+-- of definitions with one more behind them, that one stands for its name
+pub last_definition-push : (pairs : List Pair) (p : Pair) (name : List ℕ)
+    → last_definition (pairs ++ p ∷ []) name ≡ cond (bytes_eq name p.key.v.now) (Some (pieces_of p)) (last_definition pairs name)
+last_definition-push pairs p name =
+    ap (λ l. option_map pieces_of (find (λ q. bytes_eq name q.key.v.now) l)) (reverse-append pairs (p ∷ []))
+    ∙ elim (bytes_eq name p.key.v.now) as (λ b. option_map pieces_of (cond b (Some p) (find (λ q. bytes_eq name q.key.v.now) (reverse pairs))) ≡ cond b (Some (pieces_of p)) (last_definition pairs name)) [ true ↦ refl | false ↦ refl ]
+
+chosen : {A B : Type 0} (f : A → B) (b : Bool) (a : A) (o : Option A) → option_map f (cond b (Some a) o) ≡ cond b (Some (f a)) (option_map f o)
+chosen f true a o = refl
+chosen f false a o = refl
+
+-- a map that holds the definitions so far, and one that has one more
+pub defined_more : {F : Type 0} (f : F → List Piece) (pairs : List Pair) (i : ℕ) (p : Pair) (field : F) (name : List ℕ) (before after : Option F)
+    → i < length pairs → p ≡ get_or pairs i p → f field ≡ pieces_of p → option_map f before ≡ last_definition (take i pairs) name
+    → after ≡ cond (bytes_eq p.key.v.now name) (Some field) before → option_map f after ≡ last_definition (take (i + 1) pairs) name
+defined_more f pairs i p field name before after within here same so_far updated =
+    ap (option_map f) updated
+    ∙ chosen f (bytes_eq p.key.v.now name) field before
+    ∙ ap (λ b. cond b (Some (f field)) (option_map f before)) (nat_list_eq_equiv.symm p.key.v.now name)
+    ∙ ap (λ a. cond (bytes_eq name p.key.v.now) (Some a) (option_map f before)) same
+    ∙ ap (cond (bytes_eq name p.key.v.now) (Some (pieces_of p))) so_far
+    ∙ sym (last_definition-push (take i pairs) p name)
+    ∙ ap (λ l. last_definition l name) (ap (λ q. take i pairs ++ q ∷ []) here ∙ sym (take_more pairs i p within))
+
+-- a name and chunks are a field, which can be read
+pub record IsRead (definitions : Definitions) (p : Pair) (pair : List ℕ × List (Spanned Chunk)) : Type 0 where
+  pub name : pair.0 ≡ field_name p
+  pub value : IsFieldOf definitions p pair.1
+  pub readable : IsFieldReadable definitions p
+
+module _ {A B : Type 0} (R : A → B → Type 0) where
+  -- one more at the ends
+  pub AllZip-push : (xs : List A) (ys : List B) (x : A) (y : B) → AllZip R xs ys → R x y → AllZip R (xs ++ x ∷ []) (ys ++ y ∷ [])
+  AllZip-push [] [] x y all last = (last, tt)
+  AllZip-push [] (b ∷ ys) x y all last = absurd all
+  AllZip-push (a ∷ xs) [] x y all last = absurd all
+  AllZip-push (a ∷ xs) (b ∷ ys) x y all last = (all.0, AllZip-push xs ys x y all.1 last)
+
+  turned_onto : (xs xs₂ : List A) (ys ys₂ : List B) → AllZip R xs ys → AllZip R xs₂ ys₂ → AllZip R (reverse_aux xs xs₂) (reverse_aux ys ys₂)
+  turned_onto [] xs₂ [] ys₂ all onto = onto
+  turned_onto [] xs₂ (b ∷ ys) ys₂ all onto = absurd all
+  turned_onto (a ∷ xs) xs₂ [] ys₂ all onto = absurd all
+  turned_onto (a ∷ xs) xs₂ (b ∷ ys) ys₂ all onto = turned_onto xs (a ∷ xs₂) ys (b ∷ ys₂) all.1 (all.0, onto)
+
+  -- both from the end
+  pub AllZip-reverse : (xs : List A) (ys : List B) → AllZip R xs ys → AllZip R (reverse xs) (reverse ys)
+  AllZip-reverse xs ys all = turned_onto xs [] ys [] all tt
+
+module _ (definitions : Definitions) where
+  -- fields that are read can be read
+  pub are_readable : (ps : List Pair) (pairs : List (List ℕ × List (Spanned Chunk))) → AllZip (IsRead definitions) ps pairs → AreReadable definitions ps
+  are_readable [] [] all = tt
+  are_readable [] (pair ∷ pairs) all = absurd all
+  are_readable (p ∷ ps) [] all = absurd all
+  are_readable (p ∷ ps) (pair ∷ pairs) all = (all.0.readable, are_readable ps pairs all.1)
+
+  -- a fault behind fields that are read is the first
+  pub fault_behind : (ps : List Pair) (pairs : List (List ℕ × List (Spanned Chunk))) (rest : List Pair) (e : ParseError)
+      → AllZip (IsRead definitions) ps pairs → IsFieldsFault definitions rest e → IsFieldsFault definitions (ps ++ rest) e
+  fault_behind [] [] rest e all fault = fault
+  fault_behind [] (pair ∷ pairs) rest e all fault = absurd all
+  fault_behind (p ∷ ps) [] rest e all fault = absurd all
+  fault_behind (p ∷ ps) (pair ∷ pairs) rest e all fault = IsFieldsFault.behind all.0.readable (fault_behind ps pairs rest e all.1 fault)
+
+  -- the fault of a field behind fields that are read is the first
+  pub fault_at_field : (fields : List Pair) (i : ℕ) (d : Pair) (pairs : List (List ℕ × List (Spanned Chunk))) (e : ParseError) → i < length fields
+      → AllZip (IsRead definitions) (take i fields) pairs → IsFieldFault definitions (get_or fields i d) e → IsFieldsFault definitions fields e
+  fault_at_field fields i d pairs e within all fault =
+      subst (λ l. IsFieldsFault definitions l e) (ap (λ l. take i fields ++ l) (sym (drop-cons fields i d within)) ∙ take-append-drop i fields)
+      (fault_behind (take i fields) pairs (get_or fields i d ∷ drop (suc i) fields) e all (IsFieldsFault.here fault.0 fault.1))
+
+  -- the refusal of a field behind fields that are read
+  pub refused_at : (fields : List Pair) (i : ℕ) (p : Pair) (pairs : List (List ℕ × List (Spanned Chunk))) (e : ParseError) → i < length fields → p ≡ get_or fields i p
+      → AllZip (IsRead definitions) (take i fields) pairs → (e ≡ out_of_memory) ⊎ IsFieldFault definitions p e → (e ≡ out_of_memory) ⊎ IsFieldsFault definitions fields e
+  refused_at fields i p pairs e within here all (inl memory) = inl memory
+  refused_at fields i p pairs e within here all (inr fault) = inr (fault_at_field fields i p pairs e within all (subst (λ q. IsFieldFault definitions q e) here fault))
+
+  -- one more field that is read
+  pub read_more : (fields : List Pair) (i : ℕ) (p : Pair) (pairs more : List (List ℕ × List (Spanned Chunk))) (pair : List ℕ × List (Spanned Chunk)) → i < length fields → p ≡ get_or fields i p
+      → AllZip (IsRead definitions) (take i fields) pairs → IsRead definitions p pair → more ≡ pairs ++ pair ∷ [] → AllZip (IsRead definitions) (take (i + 1) fields) more
+  read_more fields i p pairs more pair within here all read pushed =
+      subst (λ l. AllZip (IsRead definitions) l more) (ap (λ q. take i fields ++ q ∷ []) here ∙ sym (take_more fields i p within))
+      (subst (AllZip (IsRead definitions) (take i fields ++ p ∷ [])) (sym pushed) (AllZip-push (IsRead definitions) (take i fields) pairs p pair all read))
+
+  -- what a name has among names and chunks
+  abbrev pub IsFound : List ℕ → Option Pair → Option (List (Spanned Chunk)) → Type 0
+  IsFound name field value = MatchOption field (value ≡ None) (λ p. (chunks : List (Spanned Chunk)) × (value ≡ Some chunks) × IsFieldOf definitions p chunks)
+
+  found_first : (name : List ℕ) (ps : List Pair) (pairs : List (List ℕ × List (Spanned Chunk))) → AllZip (IsRead definitions) ps pairs
+      → IsFound name (find (λ p. bytes_eq name (field_name p)) ps) (by_name.find by_bytes name pairs)
+  found_first name [] [] all = refl
+  found_first name [] (pair ∷ pairs) all = absurd all
+  found_first name (p ∷ ps) [] all = absurd all
+  found_first name (p ∷ ps) (pair ∷ pairs) all =
+      let same : bytes_eq name (field_name p) ≡ is_eq (by_bytes name pair.0) = sym (is_eq-slice_cmp name (field_name p)) ∙ ap (λ n. is_eq (by_bytes name n)) (sym all.0.name) in
+      elim (is_eq (by_bytes name pair.0)) as (λ b. bytes_eq name (field_name p) ≡ b → IsFound name (cond (bytes_eq name (field_name p)) (Some p) (find (λ q. bytes_eq name (field_name q)) ps)) (cond b (Some pair.1) (by_name.find by_bytes name pairs))) [
+        | true ↦ λ e. subst (λ b. IsFound name (cond b (Some p) (find (λ q. bytes_eq name (field_name q)) ps)) (Some pair.1)) (sym e) (pair.1, refl, all.0.value)
+        | false ↦ λ e. subst (λ b. IsFound name (cond b (Some p) (find (λ q. bytes_eq name (field_name q)) ps)) (by_name.find by_bytes name pairs)) (sym e) (found_first name ps pairs all.1)
+      ] same
+
+  -- each name has the last field with it
+  pub found_last : (name : List ℕ) (fields : List Pair) (pairs : List (List ℕ × List (Spanned Chunk))) → AllZip (IsRead definitions) fields pairs
+      → IsFound name (last_field fields name) (by_name.get (by_name.from_entries {R = by_bytes} (reverse pairs)) name)
+  found_last name fields pairs all =
+      subst (IsFound name (last_field fields name)) (sym (get-from_entries nat_list_cmp_total (reverse pairs) name))
+      (found_first name (reverse fields) (reverse pairs) (AllZip-reverse (IsRead definitions) fields pairs all))

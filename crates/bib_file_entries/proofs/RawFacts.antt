@@ -1,0 +1,77 @@
+-- What is read of raw entries is what the file says of them.
+use Rattle.std.proofs.Common.{◌≡◌, ℕ, Bool, List, [], ◌∷◌, map, refl, sym, ap, ◌∙◌, subst, Option, None, Some, MatchOption, inl, inr}
+use Rattle.std.specs.Prelude.{reverse, find, bytes_eq, option_map}
+use mathlib.Core.List.{reverse_aux}
+use Rattle.std.specs.FinMap as by_name
+use Rattle.std.proofs.lemmas.Bool.{cases_Bool}
+use Rattle.bib_chunks.specs.declared.chunk.Chunk.{Chunk}
+use Rattle.bib_text.specs.declared.spanned.Spanned.{Spanned}
+use Rattle.bib_contents.specs.Abbreviations.{Definitions}
+use Rattle.bib_syntax.specs.Reading.{FieldReading}
+use Rattle.bib_syntax.specs.Views.{field_of, entry_of}
+use Rattle.bib_syntax.specs.declared.raw.Pair.{Pair}
+use Rattle.bib_syntax.specs.declared.raw.RawEntry.{RawEntry}
+use Rattle.bib_syntax.specs.declared.raw.ParseError.{ParseError}
+use Rattle.bib_entry.specs.declared.entry.Entry.{Entry}
+use Rattle.bib_file_entries.specs.Loading.{IsEntryOf, IsFieldsFault, AreReadable, IsFieldOf, last_definition, last_field}
+use Rattle.bib_file_entries.specs.Loaded.{IsEntry, IsFaultOfFields, AllCanBeRead, Says, definition_in, field_in, name_of}
+
+-- finding goes through what each element is taken for
+find_map : {A B : Type 0} (test : B → Bool) (f : A → B) (xs : List A) → find test (map f xs) ≡ option_map f (find (λ x. test (f x)) xs)
+find_map test f [] = refl
+find_map test f (x ∷ xs) =
+    elim (cases_Bool (test (f x))) [
+      | inl found ↦ rw found refl
+      | inr other ↦ rw other (find_map test f xs)
+    ]
+
+turned_map : {A B : Type 0} (f : A → B) (xs ys : List A) → reverse_aux (map f xs) (map f ys) ≡ map f (reverse_aux xs ys)
+turned_map f [] ys = refl
+turned_map f (x ∷ xs) ys = turned_map f xs (x ∷ ys)
+
+reverse_map : {A B : Type 0} (f : A → B) (xs : List A) → reverse (map f xs) ≡ map f (reverse xs)
+reverse_map f xs = turned_map f xs []
+
+found_map : {A B C : Type 0} (g : B → C) (f : A → B) (o : Option A) → option_map g (option_map f o) ≡ option_map (λ x. g (f x)) o
+found_map g f None = refl
+found_map g f (Some x) = refl
+
+-- the definition of a name
+pub definition_same : (pairs : List Pair) (name : List ℕ) → last_definition pairs name ≡ definition_in (map field_of pairs) name
+definition_same pairs name =
+    sym (
+    ap (λ fs. option_map (λ (f : FieldReading). f.value.pieces) (find (λ f. bytes_eq name f.name.text) fs)) (reverse_map field_of pairs)
+    ∙ ap (option_map (λ (f : FieldReading). f.value.pieces)) (find_map (λ f. bytes_eq name f.name.text) field_of (reverse pairs))
+    ∙ found_map (λ (f : FieldReading). f.value.pieces) field_of (find (λ p. bytes_eq name p.key.v.now) (reverse pairs))
+    )
+
+-- two definitions that agree on each name are one
+pub definitions_same : {one two : Definitions} → ((name : List ℕ) → one name ≡ two name) → one ≡ two
+definitions_same same = λ i. λ name. same name i
+
+readable_same : (definitions : Definitions) (pairs : List Pair) → AreReadable definitions pairs → AllCanBeRead definitions (map field_of pairs)
+readable_same definitions [] all = tt
+readable_same definitions (p ∷ rest) all = (all.0, readable_same definitions rest all.1)
+
+pub fault_same : {definitions : Definitions} {pairs : List Pair} {e : ParseError} → IsFieldsFault definitions pairs e → IsFaultOfFields definitions (map field_of pairs) e
+fault_same (IsFieldsFault.here fault unread) = IsFaultOfFields.here fault unread
+fault_same (IsFieldsFault.behind read fault) = IsFaultOfFields.behind read (fault_same fault)
+
+field_same : (definitions : Definitions) (o : Option Pair) (at : Option (List (Spanned Chunk)))
+    → MatchOption o (at ≡ None) (λ p. (chunks : List (Spanned Chunk)) × (at ≡ Some chunks) × IsFieldOf definitions p chunks)
+    → MatchOption (option_map field_of o) (at ≡ None) (λ f. (chunks : List (Spanned Chunk)) × (at ≡ Some chunks) × Says definitions f chunks)
+field_same definitions None at found = found
+field_same definitions (Some p) at found = found
+
+-- an entry
+pub entry_same : {definitions : Definitions} {raw : Spanned RawEntry} {entry : Entry} → IsEntryOf definitions raw.v entry → IsEntry definitions (entry_of raw) entry
+entry_same {definitions} {raw} {entry} read = record {
+  key = read.key;
+  kind = read.kind;
+  fields = λ name.
+      let found : field_in (map field_of raw.v.fields.items) name ≡ option_map field_of (last_field raw.v.fields.items name) =
+      ap (find (λ f. bytes_eq name (name_of f))) (reverse_map field_of raw.v.fields.items) ∙ find_map (λ f. bytes_eq name (name_of f)) field_of (reverse raw.v.fields.items) in
+      subst (λ o. MatchOption o (by_name.get entry.fields name ≡ None) (λ f. (chunks : List (Spanned Chunk)) × (by_name.get entry.fields name ≡ Some chunks) × Says definitions f chunks)) (sym found)
+      (field_same definitions (last_field raw.v.fields.items name) (by_name.get entry.fields name) (read.fields name));
+  readable = readable_same definitions raw.v.fields.items read.readable;
+}

@@ -1,0 +1,61 @@
+-- Machinery: words of private contracts.
+-- What a file's entries are as entries of a bibliography, and the first fault if they can't be.
+use Rattle.std.specs.Prelude.{◌≡◌, ℕ, List, [], ◌∷◌, map, reverse, find, bytes_eq, option_map, Option, Some, None, MatchOption}
+use Rattle.std.specs.Char.{to_ascii_lowercase}
+use Rattle.std.specs.FinMap as by_name
+use Rattle.bib_chunks.specs.declared.chunk.Chunk.{Chunk}
+use Rattle.bib_text.specs.declared.spanned.Spanned.{Spanned}
+use Rattle.bib_contents.specs.Abbreviations.{Definitions, IsFirstFault, IsReadable}
+use Rattle.bib_entry_types.specs.VerbatimFields.{is_verbatim_field}
+use Rattle.bib_syntax.specs.Reading.{Piece}
+use Rattle.bib_syntax.specs.Views.{piece_of}
+use Rattle.bib_syntax.specs.declared.raw.Pair.{Pair}
+use Rattle.bib_syntax.specs.declared.raw.ParseError.{ParseError}
+use Rattle.bib_syntax.specs.declared.raw.RawEntry.{RawEntry}
+use Rattle.bib_entry_types.specs.EntryType.{entry_type_of}
+use Rattle.bib_entry.specs.declared.entry.Entry.{Entry}
+use Rattle.bib_file_entries.specs.Loaded.{AreContents}
+
+-- the elements of a value
+abbrev pub pieces_of : Pair → List Piece
+pieces_of p = map piece_of p.value.v.items
+
+-- the definition of an abbreviation is its last one in the file, wherever it stands
+abbrev pub last_definition : List Pair → Definitions
+last_definition pairs name = option_map pieces_of (find (λ p. bytes_eq name p.key.v.now) (reverse pairs))
+
+-- the name of a field, in small letters
+abbrev pub field_name : Pair → List ℕ
+field_name p = map to_ascii_lowercase p.key.v.now
+
+-- the field that stands for a name: of two with one name the last
+abbrev pub last_field : List Pair → List ℕ → Option Pair
+last_field fields name = find (λ p. bytes_eq name (field_name p)) (reverse fields)
+
+-- these chunks are what a field says
+abbrev pub IsFieldOf : Definitions → Pair → List (Spanned Chunk) → Type 0
+IsFieldOf definitions p chunks = AreContents definitions (is_verbatim_field (field_name p)) (pieces_of p) chunks
+
+-- a field can be read
+abbrev pub IsFieldReadable : Definitions → Pair → Type 0
+IsFieldReadable definitions p = IsReadable definitions (is_verbatim_field (field_name p)) (pieces_of p)
+
+-- each field can be read
+abbrev pub AreReadable : Definitions → List Pair → Type 0
+AreReadable definitions [] = Unit {0}
+AreReadable definitions (p ∷ rest) = IsFieldReadable definitions p × AreReadable definitions rest
+
+-- an entry is read from its raw form: the same key, the type of that kind, and for each name the last field with it
+pub record IsEntryOf (definitions : Definitions) (raw : RawEntry) (entry : Entry) : Type 0 where
+  pub key : entry.key ≡ raw.key.v.now
+  pub kind : entry.entry_type ≡ entry_type_of raw.kind.v.now
+  pub fields : (name : List ℕ)
+      → MatchOption (last_field raw.fields.items name) (by_name.get entry.fields name ≡ None) (λ p. (chunks : List (Spanned Chunk)) × (by_name.get entry.fields name ≡ Some chunks) × IsFieldOf definitions p chunks)
+  pub readable : AreReadable definitions raw.fields.items
+
+-- the first fault of fields in order
+pub data IsFieldsFault (definitions : Definitions) : List Pair → ParseError → Type 0 where
+  here : {p : Pair} {rest : List Pair} {e : ParseError} → IsFirstFault definitions (is_verbatim_field (field_name p)) [] (pieces_of p) e
+      → (IsFieldReadable definitions p → ⊥) → IsFieldsFault definitions (p ∷ rest) e
+  behind : {p : Pair} {rest : List Pair} {e : ParseError} → IsFieldReadable definitions p → IsFieldsFault definitions rest e
+      → IsFieldsFault definitions (p ∷ rest) e

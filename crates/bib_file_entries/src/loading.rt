@@ -1,0 +1,85 @@
+//! A file's entries as entries of a bibliography.
+
+ghost use Rattle.std.specs.Prelude.{◌≡◌, ◌⊎◌, OnOk, IfOk, IfErr, List, ℕ};
+ghost use Rattle.bib_contents.specs.Abbreviations.{given_by, sorted_in};
+ghost use Rattle.bib_syntax.specs.Faults.{out_of_memory};
+ghost use Rattle.bib_file_entries.specs.Loading.{IsEntryOf, IsFieldOf, IsFieldReadable, IsFieldsFault, field_name, last_definition};
+ghost use Rattle.bib_file_entries.specs.Reading.{IsFieldFault};
+
+use bib_chunks::chunk::Chunks;
+use bib_contents::resolve::FieldReader;
+use bib_entry::entry::Entry;
+use bib_maps::text_map::TextMap;
+use bib_syntax::raw::{Field, Pair, ParseError, RawEntry};
+use bib_entry_types::mechanics::EntryType;
+use bib_text::items::Items;
+use bib_text::text::Text;
+use std::alloc::{AllocError, Global};
+use std::collections::BTreeMap;
+
+// The definitions of abbreviations: of two for one name the last stands.
+pub(crate) fn definitions<'f, 's>(
+    alloc: Global,
+    pairs: &'f [Pair<'s>],
+) -> Result<BTreeMap<&'s str, &'f Field<'s>>, AllocError>
+    ensures { IfOk result (λ definitions. (name : List ℕ) →
+        sorted_in definitions name ≡ last_definition pairs.now name) }
+{
+    let mut definitions = BTreeMap::new(alloc);
+    'definitions: for pair in pairs {
+        definitions.insert(pair.key.v, &pair.value.v)?;
+    }
+    Ok(definitions)
+}
+
+// Reads an entry: its fields in order, with names in small letters; of two with one name the last stands.
+pub(crate) fn read_entry<'f, 's>(
+    alloc: Global,
+    raw: &RawEntry<'s>,
+    reader: &mut FieldReader<'f, 's>,
+) -> Result<Entry, ParseError>
+    ensures same { reader.new ≡ reader.old }
+    ensures read { IfOk result (λ entry. IsEntryOf (given_by reader.old) raw.now entry) }
+    ensures refused { IfErr result (λ e. (e ≡ out_of_memory) ⊎
+        IsFieldsFault (given_by reader.old) raw.now.fields.items e) }
+{
+    let mut pairs = Vec::with_capacity(alloc, raw.fields.len())?;
+    'fields: for field in &raw.fields {
+        pairs.push(read_field(alloc, field, reader)?)?;
+    }
+    let key = Text::from_str(alloc, raw.key.v)?;
+    let entry_type = EntryType::new(alloc, raw.kind.v)?;
+    let fields = TextMap::from_pairs(pairs)?;
+    Ok(Entry {
+        key,
+        entry_type,
+        fields,
+    })
+}
+
+// Reads a field: its name in small letters, and what its value says.
+fn read_field<'f, 's>(
+    alloc: Global,
+    field: &Pair<'s>,
+    reader: &mut FieldReader<'f, 's>,
+) -> Result<(Text, Chunks), ParseError>
+    ensures same { reader.new ≡ reader.old }
+    ensures name { IfOk result (λ read. read.0 ≡ field_name field.now) }
+    ensures value { IfOk result (λ read. IsFieldOf (given_by reader.old) field.now read.1) }
+    ensures readable { OnOk result (IsFieldReadable (given_by reader.old) field.now) }
+    ensures refused { IfErr result (λ e. (e ≡ out_of_memory) ⊎
+        IsFieldFault (given_by reader.old) field.now e) }
+{
+    let name = field.key.v.to_ascii_lowercase(alloc)?;
+    let chunks = reader.read(name.as_str(), &field.value.v)?;
+    Ok((Text::from_string(name), fitted(chunks)))
+}
+
+// The same chunks, without room for more: most fields are one chunk, and a list that grew has room for four.
+fn fitted(chunks: Chunks) -> Chunks
+    ensures { result ≡ chunks }
+{
+    let mut list = chunks.into_vec();
+    list.shrink_to_fit();
+    Items::from_vec(list)
+}

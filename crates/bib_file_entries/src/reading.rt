@@ -1,0 +1,92 @@
+//! A file's entries with the names that they claim.
+
+ghost use Rattle.std.specs.Prelude.{◌≡◌, ◌⊎◌, [], map, length, IfOk, IfErr};
+ghost use Rattle.bib_contents.specs.Abbreviations.{sorted_in};
+ghost use Rattle.bib_syntax.specs.Faults.{out_of_memory};
+ghost use Rattle.bib_syntax.specs.Views.{entry_of, file_of};
+ghost use Rattle.bib_syntax.specs.declared.raw.ParseErrorKind.TheVariants.{DuplicateKey};
+ghost use Rattle.bib_file_entries.specs.Claiming.{IsLoadedSoFar};
+ghost use Rattle.bib_file_entries.specs.Loaded.{IsFaultOfEntries, definition_in};
+ghost use Rattle.bib_maps.specs.Names.{ArePlacesBelow};
+
+use crate::claiming::claims;
+use crate::loading::{definitions, read_entry};
+use bib_chunks::chunk::{Span, Spanned};
+use bib_contents::resolve::FieldReader;
+use bib_entry::entry::Entry;
+use bib_maps::claims::Claims;
+use bib_maps::names::Names;
+use bib_syntax::raw::{Field, ParseError, ParseErrorKind, RawBibliography, RawEntry};
+use bib_text::text::Text;
+use std::alloc::{AllocError, Global};
+use std::collections::BTreeMap;
+
+// The fault of a key that an earlier entry claimed.
+fn duplicate(alloc: Global, raw: &Spanned<RawEntry<'_>>) -> Result<ParseError, AllocError>
+    ensures { IfOk result (λ e. e ≡
+        record { span = raw.now.span; kind = DuplicateKey raw.now.v.key.v.now }) }
+{
+    let key = Text::from_str(alloc, raw.v.key.v)?;
+    Ok(ParseError {
+        span: raw.span.start..raw.span.end,
+        kind: ParseErrorKind::DuplicateKey(key),
+    })
+}
+
+// What a file's entries are with these definitions of abbreviations, and the names that they claim. The memory of each
+// raw entry is free once it is read.
+fn load_entries<'f, 's>(
+    alloc: Global,
+    raw: Vec<Spanned<RawEntry<'s>>>,
+    definitions: BTreeMap<&'s str, &'f Field<'s>>,
+) -> Result<(Vec<Entry>, Names), ParseError>
+    ensures loaded { IfOk result (λ all. IsLoadedSoFar (sorted_in definitions.entry)
+        (map entry_of raw.entry.items) all.0.items all.1) }
+    ensures below { IfOk result (λ all. ArePlacesBelow (length all.0.items) all.1) }
+    ensures refused { IfErr result (λ e. (e ≡ out_of_memory) ⊎
+        IsFaultOfEntries (sorted_in definitions.entry) [] (map entry_of raw.entry.items) e) }
+{
+    let mut reader = FieldReader::new(alloc, definitions);
+    let mut entries = Vec::with_capacity(alloc, raw.len())?;
+    let mut names = Claims::new(alloc);
+    'entries: for said in raw {
+        if names.get(said.v.key.v).is_some() {
+            return Err(duplicate(alloc, &said)?);
+        }
+        let entry = read_entry(alloc, &said.v, &mut reader)?;
+        names.claim_all(claims(alloc, &entry)?, entries.len())?;
+        entries.push(entry)?;
+    }
+    Ok((entries, names.into_names(alloc)?))
+}
+
+/// Where each entry stands in the file. Refused only for want of memory.
+pub fn spans(alloc: Global, raw: &[Spanned<RawEntry<'_>>]) -> Result<Vec<Span>, AllocError>
+    ensures { IfOk result (λ spans. spans.items ≡ map (λ said. said.span) raw.now) }
+{
+    raw.iter()
+        .map(|said| said.span.start..said.span.end)
+        .collect(alloc)
+}
+
+/// The entries of a file that was read already, each with its own fields, and the names that they claim. Each name points
+/// to the last entry that claims it.
+///
+/// Refused, in the order of the file, for the first entry whose key an earlier one claimed (`DuplicateKey`, at the entry)
+/// or which has a field that can't be read.
+pub fn load(alloc: Global, raw: RawBibliography<'_>) -> Result<(Vec<Entry>, Names), ParseError>
+    ensures loaded { IfOk result (λ all. IsLoadedSoFar
+        (definition_in (file_of raw.entry).abbreviations)
+        (file_of raw.entry).entries all.0.items all.1) }
+    ensures below { IfOk result (λ all. ArePlacesBelow (length all.0.items) all.1) }
+    ensures refused { IfErr result (λ e. (e ≡ out_of_memory) ⊎ IsFaultOfEntries
+        (definition_in (file_of raw.entry).abbreviations) [] (file_of raw.entry).entries e) }
+{
+    let RawBibliography {
+        preamble: _,
+        entries,
+        abbreviations,
+    } = raw;
+    let definitions = definitions(alloc, abbreviations.as_slice())?;
+    load_entries(alloc, entries, definitions)
+}

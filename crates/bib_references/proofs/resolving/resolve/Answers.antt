@@ -1,0 +1,62 @@
+use Rattle.std.proofs.Common.{◌≡◌, ◌∙◌, ℕ, false, ap, sym, subst, inl, inr}
+use Rattle.std.specs.Prelude.{MatchOption}
+use Rattle.std.proofs.lemmas.Result.{err_from_is_err_and}
+use Rattle.bib_graph.specs.Graph.{HasNoCircle, IsFirstOnCircle, IsInRange}
+use Rattle.bib_graph.specs.Rows.{rows}
+use Rattle.bib_references.specs.Resolving.{Inherits, IsResolvingFault, graph_by, sources_of}
+use Rattle.bib_references.specs.Turning.{IsFirstUnread, is_unread_at}
+use Rattle.bib_references.proofs.DatesRead.{date_unread, dates_read}
+use Rattle.bib_references.proofs.RangeFacts.{graph_in_range}
+use Rattle.bib_references.proofs.resolving.resolve.Goals as goal
+
+pub order-requires-clause-in_range : goal.order-requires-clause-in_range
+order-requires-clause-in_range c =
+    subst (λ l. IsInRange (rows l)) (sym c.deref.ensures.value) (subst IsInRange (sym c.in_ok-refs.ensures) (graph_in_range c.args.names.now c.args.entries.now c.requires.below))
+
+pub take_turns-requires-clause-in_range : goal.take_turns-requires-clause-in_range
+take_turns-requires-clause-in_range c =
+    subst (λ l. IsInRange (rows l)) (sym c.deref-3.ensures.value) (subst IsInRange (sym c.in_ok-refs.ensures) (graph_in_range c.args.names.now c.args.entries.now c.requires.below))
+
+pub unread_date-requires-clause-in_range : goal.unread_date-requires-clause-in_range
+unread_date-requires-clause-in_range c =
+    subst (λ l. IsInRange (rows l)) (sym c.deref-4.ensures.value) (subst IsInRange (sym c.in_ok-refs.ensures) (graph_in_range c.args.names.now c.args.entries.now c.requires.below))
+
+pub returns-in_err-order-clause-refused : goal.returns-in_err-order-clause-refused
+returns-in_err-order-clause-refused c =
+    let p = err_from_is_err_and c.from_residual-in_err-order.result c.from_residual-in_err-order.ensures.1 in
+    let graph : rows c.deref.result.now ≡ graph_by c.args.names.now c.args.entries.now = ap rows c.deref.ensures.value ∙ c.in_ok-refs.ensures in
+    rw (p.1, p.2) (elim c.in_err-order.ensures.refused [
+      | inl memory ↦ inl memory
+      | inr fault ↦ inr (IsResolvingFault.circle (subst (λ g. IsFirstOnCircle g fault.0) graph fault.1) fault.2)
+    ])
+
+pub returns-in-Some-clause-refused : goal.returns-in-Some-clause-refused
+returns-in-Some-clause-refused c =
+    let own = c.args.entries.now in
+    let names = c.args.names.now in
+    let values = sources_of c.take_turns.new.entries in
+    let one : rows c.deref.result.now ≡ graph_by names own = ap rows c.deref.ensures.value ∙ c.in_ok-refs.ensures in
+    let three : rows c.deref-3.result.now ≡ graph_by names own = ap rows c.deref-3.ensures.value ∙ c.in_ok-refs.ensures in
+    let four : rows c.deref-4.result.now ≡ graph_by names own = ap rows c.deref-4.ensures.value ∙ c.in_ok-refs.ensures in
+    let first = subst (λ o. MatchOption o ((place : ℕ) → is_unread_at c.deref-5.result.now (rows c.deref-4.result.now) values place ≡ false) (IsFirstUnread c.deref-5.result.now (rows c.deref-4.result.now) values)) c.in-Some.is c.in_ok-fault.ensures in
+    inr (date_unread c.args.spans.now own c.deref-5.result.now (graph_by names own) values c.in-Some.fault c.unread.result (c.deref-5.ensures.value ∙ c.in_ok-looks.ensures)
+    (subst HasNoCircle one c.in_ok-order.ensures.no_circle) (subst (λ g. Inherits (sources_of own) g values) three c.in_ok-turns.ensures.inherits)
+    (subst (λ g. IsFirstUnread c.deref-5.result.now g values c.in-Some.fault) four first) c.unread.ensures)
+
+pub returns-clause-resolved : goal.returns-clause-resolved
+returns-clause-resolved c =
+    let own = c.args.entries.now in
+    let names = c.args.names.now in
+    let values = sources_of c.take_turns.new.entries in
+    let one : rows c.deref.result.now ≡ graph_by names own = ap rows c.deref.ensures.value ∙ c.in_ok-refs.ensures in
+    let three : rows c.deref-3.result.now ≡ graph_by names own = ap rows c.deref-3.ensures.value ∙ c.in_ok-refs.ensures in
+    let four : rows c.deref-4.result.now ≡ graph_by names own = ap rows c.deref-4.ensures.value ∙ c.in_ok-refs.ensures in
+    let read = subst (λ o. MatchOption o ((place : ℕ) → is_unread_at c.deref-5.result.now (rows c.deref-4.result.now) values place ≡ false) (IsFirstUnread c.deref-5.result.now (rows c.deref-4.result.now) values)) c.in-None.is c.in_ok-fault.ensures in
+    record {
+      no_circle = subst HasNoCircle one c.in_ok-order.ensures.no_circle;
+      keys = c.in_ok-turns.ensures.keys;
+      inherits = subst (λ g. Inherits (sources_of own) g values) three c.in_ok-turns.ensures.inherits;
+      dates = dates_read own c.deref-5.result.now (graph_by names own) values (c.deref-5.ensures.value ∙ c.in_ok-looks.ensures)
+          (subst (λ g. (place : ℕ) → is_unread_at c.deref-5.result.now g values place ≡ false) four read);
+      chunks = c.in_ok-turns.ensures.chunks;
+    }

@@ -1,0 +1,68 @@
+-- Machinery: words of private contracts.
+-- The turn of an entry, dates that were read, and the first that can't be.
+use Rattle.std.specs.Prelude.{◌≡◌, ℕ, ◌<◌, ◌⊎◌, Bool, true, false, ◌&&◌, List, slice_index_or, find, Option, IsSome, Some, None}
+use Rattle.std.specs.List.{Contains, list_any}
+use Rattle.bib_chunks.specs.declared.chunk.Chunk.{Chunk}
+use Rattle.bib_entry.specs.declared.entry.Entry.{Entry}
+use Rattle.bib_enums.specs.declared.type_error.TypeError.{TypeError}
+use Rattle.bib_graph.specs.Graph.{Graph, refs_of}
+use Rattle.bib_inheritance.specs.Dating.{DateMayFail, IsDating}
+use Rattle.bib_inheritance.specs.Inherited.{inherited}
+use Rattle.bib_inheritance.specs.Sources.{Source}
+use Rattle.bib_inheritance.specs.declared.dating.Dating.{Dating as Kept}
+use Rattle.bib_inheritance.specs.declared.dating.Dating.TheVariants.{Undated, Unreadable, Dated}
+use Rattle.bib_text.specs.declared.spanned.Spanned.{Spanned}
+use Rattle.bib_references.specs.Resolving.{KeepsChunks, at_place, is_bad_date, source_of_entry}
+
+-- an entry with what it takes over from those that it refers to
+pub record IsTurned (old : Entry) (references : List Source) (new : Entry) : Type 0 where
+  pub key : new.key ≡ old.key
+  pub inherits : source_of_entry new ≡ inherited (source_of_entry old) references
+  pub chunks : KeepsChunks old new
+
+-- dates of entries, each where it was read
+abbrev pub Dates : Type 0
+Dates = List (Option Kept)
+
+-- whether the date of the entry at a place was read, and what it is
+abbrev pub date_at : Dates → ℕ → Option Kept
+date_at dates place = slice_index_or dates place None
+
+-- the date that was read, if it is one
+abbrev pub dated_in : Option Kept → Option (List (Spanned Chunk))
+dated_in (Some (Dated chunks)) = Some chunks
+dated_in (Some Undated) = None
+dated_in (Some (Unreadable fault)) = None
+dated_in None = None
+
+-- the fault of a date that was read, if it can't be
+abbrev pub fault_in : Option Kept → Option TypeError
+fault_in (Some (Unreadable fault)) = Some fault
+fault_in (Some Undated) = None
+fault_in (Some (Dated chunks)) = None
+fault_in None = None
+
+-- dates that were read are those of the entries at their places
+abbrev pub AreDates : List Source → Dates → Type 0
+AreDates values dates = (place : ℕ) (dating : Kept) → date_at dates place ≡ Some dating → IsDating (at_place values place).fields dating
+
+-- no date was read but at some places
+abbrev pub AddsAmong : List ℕ → Dates → Dates → Type 0
+AddsAmong places old new = (place : ℕ) → IsSome (date_at new place) → IsSome (date_at old place) ⊎ Contains places place
+
+-- the fault of the first of some entries whose date can't be read
+pub record IsUnread (values : List Source) (places : List ℕ) (fault : TypeError) : Type 0 where
+  pub reference : ℕ
+  pub first : find (is_bad_date values) places ≡ Some reference
+  pub may : DateMayFail (at_place values reference).fields fault.kind
+
+-- whether an entry is marked and refers to one whose date can't be read
+abbrev pub is_unread_at : List Bool → Graph → List Source → ℕ → Bool
+is_unread_at looks graph values place = slice_index_or looks place false && list_any (is_bad_date values) (refs_of graph place)
+
+-- the fault of the first entry that is marked and refers to one whose date can't be read
+pub record IsFirstUnread (looks : List Bool) (graph : Graph) (values : List Source) (fault : TypeError) : Type 0 where
+  pub place : ℕ
+  pub marked : slice_index_or looks place false ≡ true
+  pub earlier : (other : ℕ) → other < place → is_unread_at looks graph values other ≡ false
+  pub unread : IsUnread values (refs_of graph place) fault

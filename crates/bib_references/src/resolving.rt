@@ -1,0 +1,103 @@
+//! The entries of a bibliography with what they inherit.
+
+ghost use Rattle.std.specs.Prelude.{◌≡◌, ◌⊎◌, ◌<◌, ℕ, IfOk, IfErr, OnOk, length};
+ghost use Rattle.bib_graph.specs.Graph.{AreTurns, HasNoCircle, IsFirstOnCircle, IsInRange};
+ghost use Rattle.bib_graph.specs.Rows.{rows};
+ghost use Rattle.bib_maps.specs.Names.{ArePlacesBelow};
+ghost use Rattle.bib_syntax.specs.Faults.{out_of_memory};
+ghost use Rattle.bib_syntax.specs.declared.raw.ParseErrorKind.TheVariants.{ResolutionError as ADate};
+ghost use Rattle.bib_references.specs.Resolving.{AreResolved, IsCircleAt, IsResolvingFault, graph_by};
+
+use crate::dates::unread_dates;
+use crate::references::{graph, looks};
+use crate::turning::take_turns;
+use crate::unread::unread_date;
+use bib_chunks::chunk::Span;
+use bib_entry::entry::Entry;
+use bib_enums::type_error::TypeError;
+use bib_graph::worklist::{TurnsError, turns};
+use bib_maps::names::Names;
+use bib_syntax::raw::{ParseError, ParseErrorKind};
+use std::alloc::{AllocError, Global};
+
+// The fault of the entry at a place, which leads to itself.
+fn circle(
+    alloc: Global,
+    spans: &[Span],
+    entries: &[Entry],
+    place: usize,
+) -> Result<ParseError, AllocError>
+    requires place { place < length entries.now }
+    requires as_long { length spans.now ≡ length entries.now }
+    ensures { IfOk result (IsCircleAt spans.now entries.now place) }
+{
+    let span = &spans[place];
+    let entry = &entries[place];
+    let key = entry.key.clone()?;
+    Ok(ParseError {
+        span: span.start..span.end,
+        kind: ParseErrorKind::ReferenceCycle(key),
+    })
+}
+
+// The order in which entries have their turns.
+fn order(
+    alloc: Global,
+    refs: &[Vec<usize>],
+    spans: &[Span],
+    entries: &[Entry],
+) -> Result<Vec<usize>, ParseError>
+    requires in_range { IsInRange (rows refs.now) }
+    requires rows { length refs.now ≡ length entries.now }
+    requires as_long { length spans.now ≡ length entries.now }
+    ensures turns { IfOk result (λ order. AreTurns (rows refs.now) order.items) }
+    ensures no_circle { OnOk result (HasNoCircle (rows refs.now)) }
+    ensures refused { IfErr result (λ e. (e ≡ out_of_memory) ⊎ ((place : ℕ) ×
+        IsFirstOnCircle (rows refs.now) place × IsCircleAt spans.now entries.now place e)) }
+{
+    match turns(alloc, refs) {
+        Ok(order) => Ok(order),
+        Err(TurnsError::Circle(place)) => Err(circle(alloc, spans, entries, place)?),
+        Err(TurnsError::OutOfMemory) => Err(ParseError::from(AllocError)),
+    }
+}
+
+// The fault of a date that can't be read.
+fn unread(fault: TypeError) -> ParseError
+    ensures { result ≡ record { span = fault.span; kind = ADate fault.kind } }
+{
+    ParseError {
+        span: fault.span,
+        kind: ParseErrorKind::ResolutionError(fault.kind),
+    }
+}
+
+/// Gives each entry what it inherits, by these names, and answers the turns in which it did. Each entry stands in its
+/// span of a file.
+///
+/// Refused for the first entry that leads to itself (`ReferenceCycle`, at the entry), else for the first that looks for a
+/// date and refers to an entry whose date can't be read (`ResolutionError`). A refusal may leave some entries resolved.
+pub fn resolve(
+    alloc: Global,
+    spans: &[Span],
+    names: &Names,
+    entries: &mut [Entry],
+) -> Result<Vec<usize>, ParseError>
+    requires below { ArePlacesBelow (length entries.old) names.now }
+    requires as_long { length spans.now ≡ length entries.old }
+    ensures length { length entries.new ≡ length entries.old }
+    ensures turns { IfOk result (λ turns. AreTurns (graph_by names.now entries.old) turns.items) }
+    ensures resolved { OnOk result (AreResolved entries.old (graph_by names.now entries.old) entries.new) }
+    ensures refused { IfErr result (λ e. (e ≡ out_of_memory) ⊎
+        IsResolvingFault spans.now entries.old (graph_by names.now entries.old) e) }
+{
+    let refs = graph(alloc, entries, names)?;
+    let looks = looks(alloc, entries)?;
+    let order = order(alloc, &refs, spans, entries)?;
+    let mut dates = unread_dates(alloc, entries.len())?;
+    let turns = take_turns(alloc, &order, &refs, entries, &mut dates)?;
+    match unread_date(alloc, &refs, &looks, entries, &mut dates)? {
+        Some(fault) => Err(unread(fault)),
+        None => Ok(turns),
+    }
+}

@@ -1,5 +1,0 @@
-pub mod EditorType
-pub mod Gender
-pub mod Language
-pub mod Pagination
-pub mod LanguageRows

@@ -1,4 +1,0 @@
-//! The small enumerations of BibLaTeX, and its languages.
-#![tactic(auto)]
-
-pub mod types;
