@@ -8,7 +8,6 @@
 - Each file of specs/ says in its first line whether it is meaning or machinery.
 - Each public call of `biblatex` that may be refused memory is named in a test, which calls it where memory is there.
 - The rows of each program of rows, crates/NAME/stdin, stand in its stdout in the same order, each with an answer.
-- crates.txt names for each crate only libraries that a file of it names.
 """
 import pathlib
 import re
@@ -158,17 +157,6 @@ def check_rows():
                 break
 
 
-def check_crates():
-    """A library that no file of a crate names makes the crate wait for it."""
-    rows = dict(it.partition("#")[0].split(":") for it in (TOP / "crates.txt").read_text().splitlines() if ":" in it.partition("#")[0])
-    for name, below in rows.items():
-        files = [it for part in ("src", "specs", "proofs") for it in (CRATES / name / part).rglob("*") if it.is_file()]
-        text = "\n".join(it.read_text() for it in files)
-        for it in below.split():
-            if it in rows and not re.search(rf"\b{it}(::|\.)", text):
-                fault(TOP / "crates.txt", f"{name} names nothing of {it}")
-
-
 def main():
     names = edits()
     check_promises(names)
@@ -176,7 +164,6 @@ def main():
     check_specs()
     check_calls()
     check_rows()
-    check_crates()
     for it in faults:
         print(f"check: {it}")
     print(f"check: {len(names['must-fail'])} wrong bodies for the gate and {len(names['wrong'])} others, {len(faults)} faults")

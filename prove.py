@@ -57,7 +57,7 @@ def lanes():
 def scratch():
     """The folder of the folders in which crates are proved."""
     found = subprocess.run(["git", "rev-parse", "--absolute-git-dir"], cwd=TOP, capture_output=True, text=True)
-    return (pathlib.Path(found.stdout.strip()) if found.returncode == 0 else TOP.parent) / "prove"
+    return pathlib.Path(found.stdout.strip()) / "prove" if found.returncode == 0 else TOP.parent / f".prove-{TOP.name}"
 
 
 def link(source, target):

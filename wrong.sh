@@ -15,11 +15,7 @@ for folder in crates/*/wrong; do
     rm -rf "${folder%wrong}must-fail"
     mv "$folder" "${folder%wrong}must-fail"
 done
-for crate in "$@"; do
-    for below in $(sed -n "s/^$crate:\(.*\)/\1/p" crates.txt); do
-        [ ! -d "crates/$below" ] || (cd "crates/$below" && rt lib) >>build.log 2>&1 || { tail build.log; exit 1; }
-    done
-done
+./prove.py "$@"
 printf '%s\n' "$@" | xargs -P "$(nproc)" -I{} sh -c 'rt must-fail {} >{}.log 2>&1 || true'
 for crate in "$@"; do
     grep '^rt: must-fail' "$crate.log" | grep -v ': refused' || true
