@@ -1,7 +1,7 @@
 //! Fields that are read as a type: set, and got.
 
-use crate::fields::{entry_of, fields_text};
 use crate::fielded::Fielded;
+use crate::fields::{entry_of, fields_text};
 use bib_entry::entry::Entry;
 use bib_typed::typed::Type;
 use std::alloc::{AllocError, Global};

@@ -4,10 +4,10 @@ use crate::chunk_fields;
 use crate::typed_fields::{by_name, by_type};
 use bib_chunks::chunk::Chunks;
 use bib_dates::date::Date;
-use bib_people::person::Person;
-use bib_typed::typed::PermissiveType;
 use bib_enums::types::lang::Language;
 use bib_enums::types::{Gender, Pagination};
+use bib_people::person::Person;
+use bib_typed::typed::PermissiveType;
 use std::alloc::{AllocError, Global};
 use std::ops::Range;
 

@@ -43,7 +43,10 @@ fn parse_three_fields(alloc: Global, text: &str) -> Result<String, AllocError> {
     let day = field_at(alloc, day, 90)?;
     let month = month.as_ref().map(|chunks| chunks.as_slice());
     let day = day.as_ref().map(|chunks| chunks.as_slice());
-    answer_of(alloc, Date::parse_three_fields(alloc, year.as_slice(), month, day))
+    answer_of(
+        alloc,
+        Date::parse_three_fields(alloc, year.as_slice(), month, day),
+    )
 }
 
 // A text or a dash.

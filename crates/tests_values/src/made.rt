@@ -3,8 +3,8 @@
 use crate::notation::date_of;
 use crate::typed::written;
 use bib_chunks::chunk::Chunks;
-use bib_text::text::Text;
 use bib_enums::types::EditorType;
+use bib_text::text::Text;
 use std::alloc::{AllocError, Global};
 use std::ops::Range;
 use tests_support::chunks::chunks_of;

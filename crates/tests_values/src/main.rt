@@ -28,11 +28,7 @@ impl Calls for Values {
 }
 
 // What a function answers.
-fn of_functions(
-    alloc: Global,
-    call: &str,
-    argument: &str,
-) -> Result<Option<String>, AllocError> {
+fn of_functions(alloc: Global, call: &str, argument: &str) -> Result<Option<String>, AllocError> {
     if let Some(answer) = dates::answer(alloc, call, argument)? {
         return Ok(Some(answer));
     }

@@ -3,10 +3,10 @@
 use crate::typed;
 use bib_chunks::chunk::Chunks;
 use bib_dates::date::Date;
-use bib_people::person::Person;
-use bib_typed::typed::PermissiveType;
 use bib_enums::types::lang::Language;
 use bib_enums::types::{EditorType, Gender, Pagination};
+use bib_people::person::Person;
+use bib_typed::typed::PermissiveType;
 use std::alloc::{AllocError, Global};
 use std::ops::Range;
 

@@ -3,11 +3,11 @@
 use crate::dates::date_text;
 use bib_chunks::chunk::Chunks;
 use bib_dates::date::Date;
+use bib_enums::types::lang::Language;
+use bib_enums::types::{EditorType, Gender, Pagination};
 use bib_people::person::Person;
 use bib_text::text::Text;
 use bib_typed::typed::PermissiveType;
-use bib_enums::types::lang::Language;
-use bib_enums::types::{EditorType, Gender, Pagination};
 use std::alloc::{AllocError, Global};
 use std::fmt::Display;
 use std::ops::Range;
