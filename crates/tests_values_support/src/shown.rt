@@ -1,19 +1,21 @@
-//! Values, chunks and faults as texts, which the tests compare.
+//! Values as texts.
 
-use bib_chunks::chunk::{Chunk, Chunks, ChunksRef, Spanned};
-use bib_dates::date::{Date, DateValue};
-use bib_entry::retrieval::RetrievalError;
-use bib_enums::type_error::TypeError;
+use crate::dates::date_text;
+use bib_chunks::chunk::Chunks;
+use bib_dates::date::Date;
+use bib_enums::types::lang::Language;
+use bib_enums::types::{EditorType, Gender, Pagination};
 use bib_people::person::Person;
 use bib_text::text::Text;
 use bib_typed::typed::PermissiveType;
-use bib_enums::types::lang::Language;
-use bib_enums::types::{EditorType, Gender, Pagination};
 use std::alloc::{AllocError, Global};
+use std::fmt::Display;
 use std::ops::Range;
+use tests_support::chunks::chunks_text;
 
-// A value as a text.
-pub(crate) trait Shown {
+/// A value as a text.
+pub trait Shown {
+    /// The text.
     fn shown(&self, alloc: Global) -> Result<String, AllocError>;
 }
 
@@ -25,7 +27,7 @@ impl Shown for i64 {
 
 impl Shown for String {
     fn shown(&self, alloc: Global) -> Result<String, AllocError> {
-        String::from_str(alloc, self.as_str())
+        self.clone()
     }
 }
 
@@ -53,6 +55,7 @@ impl Shown for Language {
     }
 }
 
+/// The name of a type, and the text of an unknown one in parentheses.
 impl Shown for EditorType {
     fn shown(&self, alloc: Global) -> Result<String, AllocError> {
         match self {
@@ -62,35 +65,15 @@ impl Shown for EditorType {
     }
 }
 
-// The letter of the chunk's kind, its text, and in brackets its bytes, or nothing where it stands nowhere.
-impl Shown for Spanned<Chunk> {
-    fn shown(&self, alloc: Global) -> Result<String, AllocError> {
-        let kind = match self.v {
-            Chunk::Normal(_) => "N",
-            Chunk::Verbatim(_) => "V",
-            Chunk::Math(_) => "M",
-        };
-        let text = self.v.get();
-        if self.span == (usize::MAX..usize::MAX) {
-            return format!(in alloc; "{kind}<{text}>[]");
-        }
-        format!(in alloc; "{kind}<{text}>[{}-{}]", self.span.start, self.span.end)
-    }
-}
-
-// The chunks one behind the other.
-pub(crate) fn shown_chunks(alloc: Global, chunks: ChunksRef<'_>) -> Result<String, AllocError> {
-    let mut out = String::new(alloc);
-    for chunk in chunks {
-        let text = chunk.shown(alloc)?;
-        out.push_str(text.as_str())?;
-    }
-    Ok(out)
-}
-
 impl Shown for Chunks {
     fn shown(&self, alloc: Global) -> Result<String, AllocError> {
-        shown_chunks(alloc, self.as_slice())
+        chunks_text(alloc, self.as_slice())
+    }
+}
+
+impl Shown for Date {
+    fn shown(&self, alloc: Global) -> Result<String, AllocError> {
+        date_text(alloc, *self)
     }
 }
 
@@ -99,17 +82,17 @@ impl<T: Shown> Shown for PermissiveType<T> {
         match self {
             PermissiveType::Typed(value) => {
                 let text = value.shown(alloc)?;
-                format!(in alloc; "Typed({})", text.as_str())
+                format!(in alloc; "Typed({text})")
             }
             PermissiveType::Chunks(chunks) => {
-                let text = shown_chunks(alloc, chunks.as_slice())?;
-                format!(in alloc; "Chunks({})", text.as_str())
+                let text = chunks.shown(alloc)?;
+                format!(in alloc; "Chunks({text})")
             }
         }
     }
 }
 
-// The elements, each behind a bar.
+/// The elements, each after a bar.
 impl<T: Shown> Shown for Vec<T> {
     fn shown(&self, alloc: Global) -> Result<String, AllocError> {
         let mut out = String::new(alloc);
@@ -122,7 +105,7 @@ impl<T: Shown> Shown for Vec<T> {
     }
 }
 
-// An optional part of a name behind its key.
+// Adds an optional part of a name after its key.
 fn push_part(out: &mut String, key: &str, part: &Option<Text>) -> Result<(), AllocError> {
     if let Some(text) = part {
         out.push_str(key)?;
@@ -131,7 +114,16 @@ fn push_part(out: &mut String, key: &str, part: &Option<Text>) -> Result<(), All
     Ok(())
 }
 
-// Name, given name, prefix and suffix with slashes between them, and then those of the other parts that are there.
+// Whether the prefix counts, where that is said.
+fn use_of_prefix(person: &Person) -> &'static str {
+    match person.use_prefix {
+        Some(true) => " with",
+        Some(false) => " without",
+        None => "",
+    }
+}
+
+/// Name, given name, prefix and suffix with slashes between them, and then those of the other parts that are there.
 impl Shown for Person {
     fn shown(&self, alloc: Global) -> Result<String, AllocError> {
         let (name, given) = (self.name.as_str(), self.given_name.as_str());
@@ -140,46 +132,26 @@ impl Shown for Person {
         push_part(&mut out, " id=", &self.id)?;
         push_part(&mut out, " prefix-i=", &self.prefix_initials)?;
         push_part(&mut out, " given-i=", &self.given_initials)?;
-        match self.use_prefix {
-            Some(true) => out.push_str(" with")?,
-            Some(false) => out.push_str(" without")?,
-            None => {}
-        }
+        out.push_str(use_of_prefix(self))?;
         Ok(out)
     }
 }
 
-// The sides of a date with two points between them.
-impl Shown for Date {
-    fn shown(&self, alloc: Global) -> Result<String, AllocError> {
-        match &self.value {
-            DateValue::At(at) => format!(in alloc; "{at}"),
-            DateValue::After(from) => format!(in alloc; "{from}.."),
-            DateValue::Before(to) => format!(in alloc; "..{to}"),
-            DateValue::Between(from, to) => format!(in alloc; "{from}..{to}"),
-        }
-    }
-}
-
-impl Shown for TypeError {
-    fn shown(&self, alloc: Global) -> Result<String, AllocError> {
-        format!(in alloc; "{self}")
-    }
-}
-
-impl Shown for RetrievalError {
-    fn shown(&self, alloc: Global) -> Result<String, AllocError> {
-        format!(in alloc; "{self}")
-    }
-}
-
-// What was read, or the text of the fault.
-pub(crate) fn told<T: Shown + Drop, E: Shown + Drop>(
+/// What was read, or the text of the error.
+pub fn answer_of<T: Shown + Drop, E: Display + Drop>(
     alloc: Global,
     read: Result<T, E>,
 ) -> Result<String, AllocError> {
     match read {
         Ok(value) => value.shown(alloc),
-        Err(error) => error.shown(alloc),
+        Err(error) => error.to_string(alloc),
     }
+}
+
+/// A text that two ways gave, or both where they differ.
+pub fn agreed(alloc: Global, one: String, other: String) -> Result<String, AllocError> {
+    if one.as_str() == other.as_str() {
+        return Ok(one);
+    }
+    format!(in alloc; "differ: {one} / {other}")
 }
