@@ -10,10 +10,12 @@ processors.
 `rt` locks a crate and all below it while it works, so each crate is proved in a folder of its own below .git, with hard
 links to what it reads; its out/ is moved there and back.
 """
+import fcntl
 import itertools
 import os
 import pathlib
 import shutil
+import signal
 import subprocess
 import sys
 import time
@@ -96,7 +98,16 @@ class Crate:
         verb[1:1] = ["--jobs", str(jobs)]
         self.log, self.printed = (self.room / "log").open("w+", errors="replace"), (self.room / "printed").open("w+", errors="replace")
         with open(stdin if stdin.is_file() else os.devnull) as given:
-            self.run = subprocess.Popen(["rt", *verb], cwd=self.folder, stdin=given, stdout=self.printed, stderr=self.log)
+            self.run = subprocess.Popen(["rt", *verb], cwd=self.folder, stdin=given, stdout=self.printed, stderr=self.log, start_new_session=True)
+
+    def stop(self):
+        """Ends the check, and keeps what it has done."""
+        try:
+            os.killpg(self.run.pid, signal.SIGTERM)
+        except ProcessLookupError:
+            pass
+        self.run.wait()
+        self.end()
 
     def end(self):
         """Moves what was made back, and returns what was said, and the first line of a program that isn't the wanted one."""
@@ -133,6 +144,8 @@ def say(text, is_last):
 
 def prove(wanted, has_times):
     rows, room, start = listed(), scratch(), time.time()
+    alone = open(f"{room}.lock", "w")
+    fcntl.flock(alone, fcntl.LOCK_EX)
     take_back(room)
     needed = list(dict.fromkeys(it for name in wanted for it in [*below(name, rows), name]))
     above = {it: [up for up in needed if it in below(up, rows)] for it in needed}
@@ -171,9 +184,7 @@ def prove(wanted, has_times):
             done.add(crate.name)
     finally:
         for crate in running.values():
-            crate.run.terminate()
-            crate.run.wait()
-            crate.end()
+            crate.stop()
     say(f"proved {len(needed)} crates in {(time.time() - start) / 60:.1f} minutes", True)
     if has_times:
         print(f"in all {time.time() - start:.0f} s wall, {sum(it[2] for it in times):.0f} s processor")
@@ -190,5 +201,13 @@ def main(words):
     return prove(wanted, has_times)
 
 
+def interrupt(*_):
+    raise KeyboardInterrupt
+
+
 if __name__ == "__main__":
-    sys.exit(main(sys.argv[1:]))
+    signal.signal(signal.SIGTERM, interrupt)
+    try:
+        sys.exit(main(sys.argv[1:]))
+    except KeyboardInterrupt:
+        sys.exit(130)
