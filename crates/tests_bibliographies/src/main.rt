@@ -1,7 +1,8 @@
-//! Rows of bibliographies: what a file is read as, what is written of it, and what changes leave.
+//! Rows of bibliographies: what a file is read as, what is written of it, what changes leave, and what the program prints.
 #![tactic(auto)]
 
 mod changes;
+mod commands;
 mod cuts;
 mod entries;
 mod inherited;
@@ -68,6 +69,9 @@ fn answer_of_library(
 
 // What a call of a text or of the bibliography of a file answers.
 fn answer(alloc: Global, call: &str, text: &str) -> Result<Option<String>, ParseError> {
+    if let Some(words) = call.strip_prefix("bib ") {
+        return Ok(Some(commands::printed(alloc, words, text)?));
+    }
     if let Some(answer) = answer_of_text(alloc, call, text)? {
         return Ok(Some(answer));
     }

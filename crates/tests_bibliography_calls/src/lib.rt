@@ -1,5 +1,5 @@
-//! Calls of bibliographies that no row says: a long run of changes against a plain list, long and generated files, sinks that
-//! refuse, and copies of values.
+//! Calls of bibliographies and of the program that no row says: a long run of changes against a plain list, long and generated
+//! files, sinks that refuse, copies of values; inputs that fail, outputs that refuse, and arguments that can't be had.
 #![tactic(auto)]
 
 #[cfg(test)]
@@ -12,3 +12,5 @@ mod long;
 mod plain;
 #[cfg(test)]
 mod sinks;
+#[cfg(test)]
+mod streams;
