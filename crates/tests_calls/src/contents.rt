@@ -1,4 +1,4 @@
-//! Contents of deep and long fields.
+//! Contents of fields whose definitions are long chains.
 
 use crate::checks::agrees;
 use bib_chunks::chunk::{Chunk, Chunks};
@@ -43,34 +43,6 @@ fn only(chunks: &Chunks) -> &str {
         Chunk::Normal(text) => text.as_str(),
         _ => "not a normal chunk",
     }
-}
-
-// A command so many times in its own argument, around a text.
-fn in_itself(alloc: Global, command: &str, text: &str, times: usize) -> Result<String, AllocError> {
-    let open = format!(in alloc; "{command}{{")?.repeat(alloc, times)?;
-    let close = "}".repeat(alloc, times)?;
-    Ok(format!(in alloc; "{}{text}{}", open.as_str(), close.as_str())?)
-}
-
-// The contents of a title in braces.
-fn title(alloc: Global, text: &str) -> Result<Chunks, Fail> {
-    let file = format!(in alloc; "@misc{{k, title={{{text}}}}}")?;
-    said(alloc, file.as_str())
-}
-
-#[test]
-fn reads_commands_deep_in_one_another(rt: HostRuntime) -> Result<(), Fail> {
-    let alloc = rt.alloc();
-    for times in [200, 20_000] {
-        let text = in_itself(alloc, "\\emph", "x", times)?;
-        agrees(&rt, only(&title(alloc, text.as_str())?), text.as_str());
-    }
-    let symbols = in_itself(alloc, "\\ss", "x", 20_000)?;
-    agrees(&rt, only(&title(alloc, symbols.as_str())?), "\u{DF}");
-    let accents = in_itself(alloc, "\\'", "e", 20_000)?;
-    let found = title(alloc, accents.as_str())?;
-    assert!(rt; only(&found).len() == 40_000);
-    Ok(())
 }
 
 // The first definition, and after it others, each of which names the one before it once or twice; the last is a field's

@@ -1,15 +1,12 @@
-//! The raw reading of a file, its parts and errors, and the contents of fields.
+//! Copies of the raw reading of a file, of its parts and of errors.
 
-use crate::checks::{Reading, are_chunks, are_read};
-use bib_chunks::chunk::Chunks;
-use bib_contents::resolve::{FieldReader, parse_field};
+use crate::checks::{Reading, are_read};
 use bib_enums::type_error::TypeErrorKind;
 use bib_syntax::raw::{
-    BiblatexParser, Pair, ParseError, ParseErrorKind, RawBibliography, RawChunk, RawEntry, Token,
+    Pair, ParseError, ParseErrorKind, RawBibliography, RawChunk, RawEntry, Token,
 };
 use bib_text::text::Text;
 use std::alloc::{AllocError, Global};
-use std::collections::{BTreeMap, HashMap};
 
 // A file with a preamble, an abbreviation, and an entry with a field of two elements.
 static FILE: &str = "@preamble{\"p\"} @string{s = {x}} @book{k, t = s # {y}}";
@@ -59,14 +56,6 @@ fn is_file(raw: &RawBibliography<'_>) -> bool {
 // The raw reading of the file. (It has no contract, so that who calls it proves nothing of the grammar again.)
 fn read(alloc: Global) -> Result<RawBibliography<'static>, ParseError> {
     RawBibliography::parse(alloc, FILE)
-}
-
-fn reads_a_file(alloc: Global) -> Reading {
-    Ok(is_file(&read(alloc)?))
-}
-
-fn reads_a_file_by_a_parser(alloc: Global) -> Reading {
-    Ok(is_file(&BiblatexParser::new(FILE).parse(alloc)?))
 }
 
 fn clones_a_raw_reading(alloc: Global) -> Reading {
@@ -142,64 +131,10 @@ fn clones_tokens(_alloc: Global) -> Reading {
     Ok(Token::Equals.clone()? == Token::Equals)
 }
 
-// The first field of an entry.
-fn field_of<'a>(entry: &'a RawEntry<'static>) -> Option<&'a Pair<'static>> {
-    entry.fields.first()
-}
-
-// The field of the file, and the definition that it names.
-fn parts<'a>(raw: &'a RawBibliography<'static>) -> Option<(&'a Pair<'static>, &'a Pair<'static>)> {
-    let ([entry], [definition]) = (raw.entries.as_slice(), raw.abbreviations.as_slice()) else {
-        return None;
-    };
-    match field_of(&entry.v) {
-        Some(field) => Some((field, definition)),
-        None => None,
-    }
-}
-
-// What a field says that names this definition.
-fn parsed(alloc: Global, field: &Pair<'_>, definition: &Pair<'_>) -> Result<Chunks, ParseError> {
-    let mut names = HashMap::new(alloc);
-    names.insert(definition.key.v, &definition.value.v)?;
-    parse_field(alloc, field.key.v, &field.value.v, &names)
-}
-
-fn reads_a_field(alloc: Global) -> Reading {
-    let raw = read(alloc)?;
-    let Some((field, definition)) = parts(&raw) else {
-        return Ok(false);
-    };
-    let chunks = parsed(alloc, field, definition)?;
-    Ok(are_chunks(chunks.as_slice(), &[('n', "xy")]))
-}
-
-// The same by a reader.
-fn read_by_a_reader<'a>(
-    alloc: Global,
-    field: &'a Pair<'a>,
-    definition: &'a Pair<'a>,
-) -> Result<Chunks, ParseError> {
-    let mut names = BTreeMap::new(alloc);
-    names.insert(definition.key.v, &definition.value.v)?;
-    FieldReader::new(alloc, names).read(field.key.v, &field.value.v)
-}
-
-fn reads_a_field_by_a_reader(alloc: Global) -> Reading {
-    let raw = read(alloc)?;
-    let Some((field, definition)) = parts(&raw) else {
-        return Ok(false);
-    };
-    let chunks = read_by_a_reader(alloc, field, definition)?;
-    Ok(are_chunks(chunks.as_slice(), &[('n', "xy")]))
-}
-
 #[test]
 fn files_and_fields(rt: HostRuntime) {
     let alloc = rt.alloc();
     let calls = [
-        ("RawBibliography::parse", reads_a_file(alloc)),
-        ("BiblatexParser::parse", reads_a_file_by_a_parser(alloc)),
         ("RawBibliography::clone", clones_a_raw_reading(alloc)),
         ("RawEntry::clone", clones_raw_entries(alloc)),
         ("Pair::clone", clones_pairs(alloc)),
@@ -207,8 +142,6 @@ fn files_and_fields(rt: HostRuntime) {
         ("ParseError::clone", clones_errors(alloc)),
         ("ParseErrorKind::clone", clones_kinds_of_errors(alloc)),
         ("Token::clone", clones_tokens(alloc)),
-        ("parse_field", reads_a_field(alloc)),
-        ("FieldReader::read", reads_a_field_by_a_reader(alloc)),
     ];
     are_read(&rt, &calls);
 }

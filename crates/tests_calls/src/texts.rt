@@ -28,6 +28,13 @@ fn clones_a_text(alloc: Global) -> Answer {
     Ok(copy.as_str() == "aé")
 }
 
+fn copies_a_long_text(alloc: Global) -> Answer {
+    let text = "aé bc d".repeat(alloc, 131_072)?;
+    let mut copy = Text::from_str(alloc, text.as_str())?.clone()?;
+    copy.push_str(text.as_str())?;
+    Ok(copy.len() == 2_097_152)
+}
+
 fn appends_an_element(alloc: Global) -> Answer {
     let mut items = Items::new(alloc);
     items.push(7u8)?;
@@ -60,6 +67,7 @@ fn texts_and_lists(rt: HostRuntime) {
         ("Text::push", appends_a_character(alloc)),
         ("Text::push_str", appends_a_text(alloc)),
         ("Text::clone", clones_a_text(alloc)),
+        ("Text of 2 MiB", copies_a_long_text(alloc)),
         ("Items::push", appends_an_element(alloc)),
         ("Items::clone", clones_a_list(alloc)),
         ("Spanned::clone", clones_a_placed_value(alloc)),

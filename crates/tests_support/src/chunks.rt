@@ -6,11 +6,7 @@ use bib_text::text::Text;
 use std::alloc::{AllocError, Global};
 
 // A chunk as a text.
-fn push_chunk(
-    out: &mut String,
-    alloc: Global,
-    chunk: &Spanned<Chunk>,
-) -> Result<(), AllocError> {
+fn push_chunk(out: &mut String, alloc: Global, chunk: &Spanned<Chunk>) -> Result<(), AllocError> {
     out.push_str(match chunk.v {
         Chunk::Normal(_) => "N<",
         Chunk::Verbatim(_) => "V<",
@@ -26,7 +22,11 @@ fn push_chunk(
 }
 
 /// Adds chunks as texts, one after another.
-pub fn push_chunks(out: &mut String, alloc: Global, chunks: ChunksRef<'_>) -> Result<(), AllocError> {
+pub fn push_chunks(
+    out: &mut String,
+    alloc: Global,
+    chunks: ChunksRef<'_>,
+) -> Result<(), AllocError> {
     for chunk in chunks {
         push_chunk(out, alloc, chunk)?;
     }

@@ -1,12 +1,29 @@
-//! Characters that a line can't hold or doesn't show stand as their numbers: `⟨A⟩` is a line feed, `⟨A0⟩` a no-break space.
+//! Characters that a line can't hold or doesn't show stand as their numbers: `⟨A⟩` is a line feed, `⟨A0⟩` a no-break space. A long
+//! text stands as `⟨1000×ab⟩`, and of a long answer its first and last characters and its length are shown.
 
 use std::alloc::{AllocError, Global};
 
-// Adds what stands between the brackets as a character, or as it is where it is no number of one.
+// Adds a text so many times.
+fn push_times(out: &mut String, count: u32, text: &str) -> Result<(), AllocError> {
+    for _ in 0..count {
+        out.push_str(text)?;
+    }
+    Ok(())
+}
+
+// Adds the character of a number, or what stands there where it is no number of one.
 fn push_character(out: &mut String, number: &str) -> Result<(), AllocError> {
     match u32::from_str_radix(number, 16) {
         Ok(number) => Ok(out.push(char::from_u32(number).unwrap_or('\u{fffd}'))?),
         Err(_) => Ok(out.push_str(number)?),
+    }
+}
+
+// Adds what stands between brackets: a character, or a text so many times.
+fn push_bracketed(out: &mut String, inside: &str) -> Result<(), AllocError> {
+    match inside.split_once('×') {
+        Some((count, text)) => push_times(out, count.parse().unwrap_or(0), text),
+        None => push_character(out, inside),
     }
 }
 
@@ -16,7 +33,7 @@ pub fn unescaped(alloc: Global, text: &str) -> Result<String, AllocError> {
     for piece in text.split('⟨') {
         match piece.split_once('⟩') {
             Some((number, rest)) => {
-                push_character(&mut out, number)?;
+                push_bracketed(&mut out, number)?;
                 out.push_str(rest)?;
             }
             None => out.push_str(piece)?,
@@ -46,4 +63,18 @@ pub fn push_escaped(out: &mut String, alloc: Global, text: &str) -> Result<(), A
         }
     }
     Ok(())
+}
+
+// How many bytes are long.
+const LONG: usize = 5_000;
+
+/// Adds an answer, with numbers as in `push_escaped`: of a long one its first and last 12 bytes, and how many bytes it has.
+pub fn push_shortened(out: &mut String, alloc: Global, text: &str) -> Result<(), AllocError> {
+    if text.len() < LONG {
+        return push_escaped(out, alloc, text);
+    }
+    let first = text.get(..12).unwrap_or("");
+    let last = text.get(text.len() - 12..).unwrap_or("");
+    let line = format!(in alloc; "{first}..{last} ({} bytes)", text.len())?;
+    push_escaped(out, alloc, line.as_str())
 }

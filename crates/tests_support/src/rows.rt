@@ -1,6 +1,6 @@
 //! Rows: a line is a call and its argument with a bar between them, and is printed with what the call answers after it.
 
-use crate::escapes::{push_escaped, unescaped};
+use crate::escapes::{push_shortened, unescaped};
 use std::alloc::{AllocError, Global};
 
 /// The calls of a layer.
@@ -19,7 +19,7 @@ fn push_answer<C: Calls>(
     let argument = unescaped(alloc, argument)?;
     out.push_str(" => ")?;
     match C::answer(alloc, call, argument.as_str())? {
-        Some(answer) => push_escaped(out, alloc, answer.as_str()),
+        Some(answer) => push_shortened(out, alloc, answer.as_str()),
         None => Ok(out.push_str("there is no such call")?),
     }
 }
