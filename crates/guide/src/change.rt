@@ -1,12 +1,13 @@
 //! Changing and writing: names, fields, entries, files.
 
+use crate::read::parsed;
 use biblatex::{Bibliography, Entry, EntryType, PermissiveType, Text};
 use std::test::Fail;
 
 #[test]
 fn another_name(rt: HostRuntime) -> Result<(), Fail> {
     let alloc = rt.alloc();
-    let mut library = Bibliography::parse(alloc, "@book{tolkien1937, title={The Hobbit}}")?;
+    let mut library = parsed(alloc, "@book{tolkien1937, title={The Hobbit}}")?;
     library.alias("tolkien1937", "hobbit")?;
     assert!(rt; library.get("hobbit").is_some());
     Ok(())
@@ -15,7 +16,7 @@ fn another_name(rt: HostRuntime) -> Result<(), Fail> {
 #[test]
 fn set_a_field_and_write(rt: HostRuntime) -> Result<(), Fail> {
     let alloc = rt.alloc();
-    let mut library = Bibliography::parse(alloc, "@book{k, title={A}}")?;
+    let mut library = parsed(alloc, "@book{k, title={A}}")?;
     if let Some(book) = library.get_mut("k") {
         book.set_edition(&PermissiveType::Typed(2))?;
     }
@@ -39,7 +40,7 @@ fn insert_an_entry(rt: HostRuntime) -> Result<(), Fail> {
 #[test]
 fn write_a_file(rt: HostRuntime) -> Result<(), Fail> {
     let alloc = rt.alloc();
-    let library = Bibliography::parse(alloc, "@thesis{t, institution={TU}, date={2019-10}}")?;
+    let library = parsed(alloc, "@thesis{t, institution={TU}, date={2019-10}}")?;
     let text = library.to_bibtex_string(alloc)?;
     let want = "@phdthesis{t,\nyear = {2019},\nmonth = {10},\nschool = {TU},\n}\n";
     assert!(rt; text.as_str() == want);

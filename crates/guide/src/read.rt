@@ -1,12 +1,17 @@
 //! Reading: files, faults, people, dates, pages.
 
-use biblatex::{Bibliography, ChunksExt, DateValue, Entry, PermissiveType};
+use biblatex::{Bibliography, ChunksExt, DateValue, Entry, ParseError, PermissiveType};
 use std::alloc::Global;
 use std::test::Fail;
 
+// The bibliography of a file. (It has no contract, so that an example that calls it proves nothing of the reading again.)
+pub(crate) fn parsed(alloc: Global, src: &str) -> Result<Bibliography, ParseError> {
+    Bibliography::parse(alloc, src)
+}
+
 // The one entry of a file.
 fn only_entry(alloc: Global, src: &str) -> Result<Entry, Fail> {
-    let library = Bibliography::parse(alloc, src)?;
+    let library = parsed(alloc, src)?;
     let mut entries = library.into_vec();
     let Some(entry) = entries.pop() else {
         return Err(Fail::from("no entry"));
@@ -18,7 +23,7 @@ fn only_entry(alloc: Global, src: &str) -> Result<Entry, Fail> {
 fn parse_a_file(rt: HostRuntime) -> Result<(), Fail> {
     let alloc = rt.alloc();
     let src = "@book{tolkien1937, title = {The {Hobbit}}}";
-    let library = Bibliography::parse(alloc, src)?;
+    let library = parsed(alloc, src)?;
     let Some(book) = library.get("tolkien1937") else {
         return Err(Fail::from("no such entry"));
     };
@@ -49,7 +54,7 @@ fn line_and_column(src: &str, at: usize) -> (usize, usize) {
 fn tell_a_fault(rt: HostRuntime) -> Result<(), Fail> {
     let alloc = rt.alloc();
     let src = "@misc{a, title={A}}\n@misc{b, title={B}";
-    let Err(fault) = Bibliography::parse(alloc, src) else {
+    let Err(fault) = parsed(alloc, src) else {
         return Err(Fail::from("this file has a fault"));
     };
     assert!(rt; line_and_column(src, fault.span.start) == (2, 19));
