@@ -177,9 +177,10 @@ def prove(wanted, has_times):
             times.append((crate.name, time.time() - crate.start, usage.ru_utime + usage.ru_stime, crate.jobs, usage.ru_maxrss >> 10))
             if has_times:
                 print("{:20} {:6.0f} s wall {:6.0f} s processor {} jobs {:6} MiB".format(*times[-1]), flush=True)
-            if os.waitstatus_to_exitcode(status) or wrong:
-                say(f"{crate.name} {'prints something else' if wrong else 'is not proved'}:", True)
-                print(wrong or said[-6000:], file=sys.stderr)
+            failed = os.waitstatus_to_exitcode(status)
+            if failed or wrong:
+                say(f"{crate.name} {'is not proved' if failed else 'prints something else'}:", True)
+                print(said[-6000:] if failed else wrong, file=sys.stderr)
                 return 1
             done.add(crate.name)
     finally:

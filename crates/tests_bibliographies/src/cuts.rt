@@ -29,11 +29,14 @@ fn may_be_reported(error: &ParseError, text: &str) -> bool {
 
 // What becomes of a text.
 fn outcome_of(alloc: Global, text: &str) -> Outcome {
-    match parsed(alloc, text) {
-        Ok(_) => Outcome::Read,
-        Err(error) if may_be_reported(&error, text) => Outcome::Refused,
-        Err(_) => Outcome::Wrong,
+    let error = match parsed(alloc, text) {
+        Ok(_library) => return Outcome::Read,
+        Err(error) => error,
+    };
+    if may_be_reported(&error, text) {
+        return Outcome::Refused;
     }
+    Outcome::Wrong
 }
 
 /// `Ok` where each beginning of a file is read or refused with an error that may be reported of it, and some are read and
