@@ -5,13 +5,15 @@ use crate::parsed;
 use biblatex::{Bibliography, ParseError};
 use std::alloc::{AllocError, Global};
 
-// An entry of a type, and another one with fields of these names, to which it refers.
+// An entry of a type, and another one with fields of these names, each of which says its name, to which it refers.
 fn file(alloc: Global, kind: &str, names: &str) -> Result<String, AllocError> {
     let mut text = format!(in alloc; "@{kind}{{a, xdata={{p}}}} @misc{{p")?;
     for name in names.split(' ') {
         text.push_str(", ")?;
         text.push_str(name)?;
-        text.push_str("={x}")?;
+        text.push_str("={")?;
+        text.push_str(name)?;
+        text.push('}')?;
     }
     text.push('}')?;
     Ok(text)
