@@ -1,5 +1,5 @@
 -- Meaning: words of public contracts.
--- Verbatim fields, as the manual of BibLaTeX has them (2.2.1 and 2.3.1: `file`, `pdf`, `verba` to `verbc`, fields of URIs).
+-- Verbatim fields: those that BibLaTeX reads as verbatim or as a URI.
 use Rattle.std.specs.Prelude.{ℕ, Bool, List, [], ◌∷◌, codes, bytes_eq}
 use Rattle.std.specs.List.{list_any}
 
