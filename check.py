@@ -7,7 +7,7 @@
 - docs/DEFINITIONS.md names each word that a public contract cites.
 - Each file of specs/ says in its first line whether it is meaning or machinery.
 - Each public call of `biblatex` that may be refused memory is named in a test, which calls it where memory is there.
-- The rows of each program of rows, crates/NAME/stdin, stand in its stdout in the same order, each with an answer.
+- The rows of each layer, tests/rows/NAME, stand in NAME.stdout in the same order, each with an answer.
 """
 import pathlib
 import re
@@ -134,7 +134,7 @@ def calls(file, names):
 
 
 def check_calls():
-    tests = [it for folder in ("tests_*", "guide") for it in CRATES.glob(f"{folder}/src/**/*.rt")]
+    tests = [it for folder in ("tests", "crates/guide") for it in TOP.glob(f"{folder}/src/**/*.rt")]
     text = "\n".join(it.read_text() for it in tests)
     names = exported()
     for file in sorted(CRATES.glob("bib*/src/**/*.rt")):
@@ -146,14 +146,14 @@ def check_calls():
 
 def check_rows():
     """A row is a line with a bar; the other lines are headings, and stand as they are."""
-    for stdin in sorted(CRATES.glob("tests_*/stdin")):
-        stdout, number = stdin.with_name("stdout"), 0
+    for stdout in sorted(TOP.glob("tests/rows/*.stdout")):
+        stdin = stdout.with_suffix("")
         rows, answers = stdin.read_text().split("\n"), stdout.read_text().split("\n")
         if len(rows) != len(answers):
-            fault(stdout, f"it has {len(answers)} lines, and stdin {len(rows)}")
+            fault(stdout, f"it has {len(answers)} lines, and {stdin.name} {len(rows)}")
         for number, (row, answer) in enumerate(zip(rows, answers), 1):
             if not (answer.startswith(f"{row} => ") if "|" in row else answer == row):
-                fault(stdout, f"line {number} doesn't begin with the row of stdin")
+                fault(stdout, f"line {number} doesn't begin with the row of {stdin.name}")
                 break
 
 

@@ -3,7 +3,7 @@
 
     bench/fronts.py PROGRAM
 
-The examples are the rows `cuts` of crates/tests_bibliographies/stdin. `keys` and `biblatex` must read each front, with status 0, or
+The examples are the rows `cuts` of tests/rows/bibliographies. `keys` and `biblatex` must read each front, with status 0, or
 refuse it with one line that begins with `error: `, and status 1; the place that a syntax fault tells lies in the front. The
 status of this script is 1 where one of them didn't.
 """
@@ -14,7 +14,7 @@ import sys
 
 TOP = os.path.dirname(os.path.dirname(os.path.abspath(__file__)))
 SYNTAX = re.compile(r"error: (?:unexpected|expected) [\w ]+: (\d+)-(\d+)\n")
-ROWS = os.path.join(TOP, "crates", "tests_bibliographies", "stdin")
+ROWS = os.path.join(TOP, "tests", "rows", "bibliographies")
 
 
 def examples():

@@ -1,0 +1,22 @@
+#!/usr/bin/env bash
+# Runs the tests in tests/, whose own code is not proved: the rows of each layer, whose answers have to be those of
+# tests/rows/NAME.stdout, and the test functions. `rt try` builds both from the sources of the library, with checks of each access.
+set -eu
+cd "$(dirname "$0")"
+room=$(mktemp -d)
+trap 'rm -rf "$room"' EXIT
+for crate in crates/bib*/ tests/; do
+    mkdir -p "$room/crates/$(basename "$crate")"
+    cp -r "$crate/src" "$room/crates/$(basename "$crate")/"
+done
+cp -r tests/rows HANDLES "$room/"
+libraries=$(ls -d crates/bib*/src/lib.rt | cut -d/ -f2)
+{ grep '^bib' crates.txt; echo "tests:" $libraries; } > "$room/crates.txt"
+cd "$room/crates/tests"
+rt try --seconds 300 --cases "$room/rows" > "$room/answers" 2>&1 & rows=$!
+rt try --seconds 300 --test > "$room/functions" 2>&1 & functions=$!
+status=0
+wait "$rows" || status=1
+wait "$functions" || status=1
+grep -hv '^checked: \|^interpreter: ' "$room/answers" "$room/functions" || true
+exit "$status"

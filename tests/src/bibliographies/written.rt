@@ -1,0 +1,62 @@
+//! What is written of bibliographies and entries, whether they are settled, and what is read of it again.
+
+use crate::bibliographies::reread::reread;
+use crate::bibliographies::truth;
+use biblatex::{Bibliography, Entry, ParseError};
+use std::alloc::{AllocError, Global};
+
+/// A bibliography with BibLaTeX's names.
+pub(crate) fn biblatex(alloc: Global, library: &Bibliography) -> Result<String, AllocError> {
+    library.to_biblatex_string(alloc)
+}
+
+/// A bibliography with BibTeX's names.
+pub(crate) fn bibtex(alloc: Global, library: &Bibliography) -> Result<String, AllocError> {
+    library.to_bibtex_string(alloc)
+}
+
+/// An entry with BibLaTeX's names.
+pub(crate) fn entry_biblatex(alloc: Global, entry: &Entry) -> Result<String, AllocError> {
+    entry.to_biblatex_string(alloc)
+}
+
+/// An entry with BibTeX's names.
+pub(crate) fn entry_bibtex(alloc: Global, entry: &Entry) -> Result<String, AllocError> {
+    entry.to_bibtex_string(alloc)
+}
+
+/// Whether a bibliography is settled.
+pub(crate) fn settled(alloc: Global, library: &Bibliography) -> Result<String, AllocError> {
+    truth(alloc, library.is_settled())
+}
+
+/// What is written and read again of a settled bibliography. (It has no contract, so that who calls it proves nothing
+/// of the reading again.)
+pub(crate) fn read_again(
+    alloc: Global,
+    library: &Bibliography,
+) -> Option<Result<Bibliography, ParseError>> {
+    reread(alloc, library)
+}
+
+// The text of a bibliography, or that the one that was read again has another.
+fn compared(
+    alloc: Global,
+    library: &Bibliography,
+    again: &Bibliography,
+) -> Result<String, AllocError> {
+    let (text, other) = (biblatex(alloc, library)?, biblatex(alloc, again)?);
+    if text == other {
+        return Ok(text);
+    }
+    format!(in alloc; "{}, and not {}", other.as_str(), text.as_str())
+}
+
+/// What is written of a settled bibliography, where it is read again and written as the same.
+pub(crate) fn again(alloc: Global, library: &Bibliography) -> Result<String, AllocError> {
+    match read_again(alloc, library) {
+        Some(Ok(again)) => compared(alloc, library, &again),
+        Some(Err(error)) => error.to_string(alloc),
+        None => String::from_str(alloc, "not settled"),
+    }
+}

@@ -1,0 +1,10 @@
+//! Tests of calls that no row says, where memory is there: of texts, lists, maps and values that are made by hand, and copies.
+
+mod checks;
+mod chunks;
+mod contents;
+mod maps;
+mod readings;
+mod scanner;
+mod texts;
+mod values;

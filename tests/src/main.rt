@@ -1,0 +1,44 @@
+//! The tests: rows, and calls that no row says.
+//!
+//! The program reads rows of the layer that its argument names, a call and its argument in each line, and prints each
+//! with what the call answers.
+#![tactic(auto)]
+
+mod bibliographies;
+#[cfg(test)]
+mod bibliography_calls;
+#[cfg(test)]
+mod calls;
+mod contents;
+mod entries;
+mod support;
+mod syntax;
+mod tables;
+mod values;
+
+use std::alloc::{AllocError, Global};
+use std::{env, io};
+use support::rows::answered;
+
+// The rows of a layer with their answers.
+fn rows(alloc: Global, layer: &str, input: &str) -> Result<String, AllocError> {
+    match layer {
+        "syntax" => answered::<syntax::Syntax>(alloc, input),
+        "contents" => answered::<contents::Contents>(alloc, input),
+        "tables" => answered::<tables::Tables>(alloc, input),
+        "values" => answered::<values::Values>(alloc, input),
+        "entries" => answered::<entries::Entries>(alloc, input),
+        "bibliographies" => answered::<bibliographies::Library>(alloc, input),
+        _ => String::from_str(alloc, "there is no such layer"),
+    }
+}
+
+fn main(rt: HostRuntime) -> io::Result<()> {
+    let alloc = rt.alloc();
+    let mut arguments = env::args(&rt)?;
+    let _program = arguments.next();
+    let layer = arguments.next().unwrap_or(String::new(alloc));
+    let input = io::read_to_string(alloc, &mut rt.reader())?;
+    let output = rows(alloc, layer.as_str(), input.as_str())?;
+    print!(rt; "{}", output.as_str())
+}
