@@ -1,13 +1,15 @@
 -- Why a file is refused.
 use Rattle.std.proofs.Common.{◌≡◌, ℕ, zero, suc, ◌<◌, List, [], ◌∷◌, ◌++◌, false, length, drop, take, map, refl, sym, ap, ◌∙◌, subst, inl, inr, ◌⊎◌, Some, Result, Ok, Err}
-use Rattle.std.specs.Prelude.{IfErr, slice_get}
+use Rattle.std.specs.Prelude.{IfErr, IfOk, OnOk, slice_get}
 use Rattle.std.specs.declared.ops.Range.{Range}
 use Rattle.bib_entry.specs.declared.entry.Entry.{Entry}
 use Rattle.bib_contents.specs.Abbreviations.{Definitions}
 use Rattle.bib_graph.specs.Graph.{HasNoCircle, IsFirstOnCircle}
 use Rattle.bib_maps.specs.Sorted.{ByText}
 use Rattle.bib_syntax.specs.Faults.{Refuses, out_of_memory}
-use Rattle.bib_syntax.specs.Grammar.{IsRawReading}
+use Rattle.bib_syntax.specs.Grammar.{IsFile, IsRawReading}
+use Rattle.bib_syntax.proofs.FileFacts.{file_same}
+use Rattle.bib_syntax.proofs.ModeFacts.{file_any}
 use Rattle.bib_syntax.specs.Reading.{EntryReading, FileReading}
 use Rattle.bib_syntax.specs.Views.{entry_of}
 use Rattle.bib_syntax.specs.declared.raw.ParseError.{ParseError}
@@ -17,8 +19,9 @@ use Rattle.bib_text.specs.declared.spanned.Spanned.{Spanned}
 use Rattle.bib_file_entries.specs.Library.{Library}
 use Rattle.bib_file_entries.specs.Loaded.{AreEntries, definition_in}
 use Rattle.bib_references.specs.Resolving.{AreDatesRead, AreResolved, Inherits, IsCircleAt, IsDateFault, IsResolvingFault, graph_by, has_bad_date, sources_of}
+use Rattle.biblatex.specs.Headline.{IsAcceptedText, IsBibliographyOf, IsErrorOf}
 use Rattle.biblatex.specs.Resolved.{AreOwn, IsAccepted, IsFaultOf, IsLoaded, graph_of, names_of}
-use Rattle.biblatex.proofs.ResolvedFacts.{accepted_faultless}
+use Rattle.biblatex.proofs.ResolvedFacts.{dates_of_each, accepted_faultless}
 
 some_same : {A : Type 0} {x y : A} → Some x ≡ Some y → x ≡ y
 some_same e = cc
@@ -66,11 +69,20 @@ pub refused : {says : FileReading} {T : Type 0} (r : Result T ParseError) (e : P
 refused {says} r e is (inl memory) = subst (λ r. IfErr r (λ e. (e ≡ out_of_memory) ⊎ (IsFaultOf says e × (IsAccepted says → ⊥)))) (sym is) (inl memory)
 refused {says} r e is (inr fault) = subst (λ r. IfErr r (λ e. (e ≡ out_of_memory) ⊎ (IsFaultOf says e × (IsAccepted says → ⊥)))) (sym is) (inr (fault, λ accepted. accepted_faultless accepted fault))
 
-pub refused_text : {T : Type 0} (X : Type 0) {says : FileReading} (text : List ℕ) (r : Result T ParseError) → IsRawReading text says → IfErr r (λ e. (e ≡ out_of_memory) ⊎ (IsFaultOf says e × (IsAccepted says → ⊥)))
-    → IfErr r (λ e. Refuses text e X ⊎ ((x : FileReading) × IsRawReading text x × IsFaultOf x e × (IsAccepted x → ⊥)))
-refused_text X text (Ok x) reads h = tt
-refused_text X text (Err e) reads (inl memory) = inl (inl memory)
-refused_text X {says} text (Err e) reads (inr fault) = inr (says, reads, fault.0, fault.1)
+-- what a text says as a whole is accepted where one reading of it is: it has no other
+not_accepted : {says : FileReading} (text : List ℕ) → IsRawReading text says → (IsAccepted says → ⊥) → IsAcceptedText text → ⊥
+not_accepted text reads none accepted = none (subst IsAccepted (file_same accepted.reading reads) accepted.accepted)
+
+pub refused_text : {T : Type 0} {says : FileReading} (text : List ℕ) (r : Result T ParseError) → IsRawReading text says → IfErr r (λ e. (e ≡ out_of_memory) ⊎ (IsFaultOf says e × (IsAccepted says → ⊥)))
+    → IfErr r (λ e. (e ≡ out_of_memory) ⊎ (IsErrorOf text e × (IsAcceptedText text → ⊥)))
+refused_text text (Ok x) reads h = tt
+refused_text text (Err e) reads (inl memory) = inl memory
+refused_text text (Err e) reads (inr fault) = inr (IsErrorOf.first reads fault.0, not_accepted text reads fault.1)
+
+-- a text that the file grammar doesn't read
+pub refused_syntax : {text : List ℕ} {e : ParseError} → Refuses text e (IsFile text → ⊥) → (e ≡ out_of_memory) ⊎ (IsErrorOf text e × (IsAcceptedText text → ⊥))
+refused_syntax (inl memory) = inl memory
+refused_syntax (inr fault) = inr (IsErrorOf.syntax fault.0 fault.1, λ accepted. fault.1 (accepted.says, file_any accepted.reading))
 
 -- ---- a slice of all that a vector has
 
@@ -90,13 +102,27 @@ entries_count (one ∷ said) (first ∷ own) (AreEntries.next fresh is rest) = a
 pub loaded : {says : FileReading} (own entries : List Entry) (names : ByText ℕ) → AreOwn says own → names_of own ≡ names → AreResolved own (graph_by names own) entries → IsLoaded says (let l : Library = record { entries = entries; names = names } in l)
 loaded own entries names are named resolved =
     let graph : graph_by names own ≡ graph_of own = ap (λ n. graph_by n own) (sym named) in
+    let none : HasNoCircle (graph_of own) = subst HasNoCircle graph resolved.no_circle in
+    let inherits : Inherits (sources_of own) (graph_of own) (sources_of entries) = subst (λ g. Inherits (sources_of own) g (sources_of entries)) graph resolved.inherits in
     record {
-      own = own;
-      entries = are;
-      no_circle = subst HasNoCircle graph resolved.no_circle;
+      accepted = record {
+        own = own;
+        entries = are;
+        no_circle = none;
+        dates = dates_of_each own (sources_of entries) none inherits (subst (λ g. AreDatesRead (sources_of own) g (sources_of entries)) graph resolved.dates);
+      };
       keys = resolved.keys;
-      inherits = subst (λ g. Inherits (sources_of own) g (sources_of entries)) graph resolved.inherits;
-      dates = subst (λ g. AreDatesRead (sources_of own) g (sources_of entries)) graph resolved.dates;
+      inherits = inherits;
       chunks = resolved.chunks;
       names = sym named;
     }
+
+-- ---- what a text is loaded as
+
+pub library_of : {E : Type 0} {says : FileReading} (text : List ℕ) (r : Result Library E) → IsRawReading text says → IfOk r (IsLoaded says) → IfOk r (IsBibliographyOf text)
+library_of {says = says} text (Ok library) reads is = record { says = says; reading = reads; loaded = is }
+library_of text (Err e) reads is = tt
+
+pub accepted_text : {E : Type 0} {says : FileReading} (text : List ℕ) (r : Result Library E) → IsRawReading text says → IfOk r (IsLoaded says) → OnOk r (IsAcceptedText text)
+accepted_text {says = says} text (Ok library) reads is = record { says = says; reading = reads; accepted = is.accepted }
+accepted_text text (Err e) reads is = tt

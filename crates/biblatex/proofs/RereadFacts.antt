@@ -25,6 +25,7 @@ use Rattle.bib_styled.specs.Lists.{comma_texts}
 use Rattle.bib_chunks.specs.Styled.{Atom, styled}
 use Rattle.bib_chunks.specs.Written.{written_chunks}
 use Rattle.bib_chunks.specs.declared.chunk.Chunk.{Chunk}
+use Rattle.bib_syntax.proofs.FileFacts.{file_same}
 use Rattle.bib_syntax.specs.Reading.{Part, part, Piece, FieldReading, EntryReading, FileReading}
 use Rattle.bib_syntax.specs.Reading.Piece.{literal}
 use Rattle.bib_contents.specs.Abbreviations.{Definitions, Evaluates, IsReadable, Reaches}
@@ -46,7 +47,7 @@ use Rattle.bib_file_entries.specs.Library.{Library, claims}
 use Rattle.bib_references.specs.Resolving.{Inherits, sources_of}
 use Rattle.biblatex.specs.Resolved.{AreOwn, IsLoaded, graph_of}
 use Rattle.bib_file_entries.specs.Loaded.{definition_in, name_of, field_in, Says, CanBeRead, AllCanBeRead, IsEntry, AreEntries, is_claimed}
-use Rattle.biblatex.specs.Reread.{IsReread}
+use Rattle.biblatex.specs.Headline.{IsReadAgain, IsBibliographyOf}
 use Rattle.biblatex.proofs.AloneFacts.{RefersToNothing, IsAsWritten, no_circle, no_dates, entries_as_written}
 use Rattle.biblatex.proofs.ResolvedFacts.{graph_same, keys_same, sources_same}
 use Rattle.bib_file_entries.proofs.LoadingFacts.{AllZip-reverse}
@@ -304,31 +305,34 @@ loaded_mapped (e ∷ es) (o ∷ os) (x ∷ xs) all plain keys = (
 -- what is mapped by the entries of a file as they are written is mapped by those of each bibliography that it says
 loaded_reread : (says : FileReading) (es own : List Entry) → AreOwn says own → AllByRecursion RefersToNothing own → AllZip IsMapped es own → (read : Library) → IsLoaded says read → AllZip IsMapped es read.entries
 loaded_reread says es own are alone mapped read loaded =
-    let sources : sources_of loaded.own ≡ sources_of own = sources_same says loaded.entries are in
-    let graph : graph_of loaded.own ≡ graph_of own = graph_same says loaded.entries are in
+    let sources : sources_of loaded.accepted.own ≡ sources_of own = sources_same says loaded.accepted.entries are in
+    let graph : graph_of loaded.accepted.own ≡ graph_of own = graph_same says loaded.accepted.entries are in
     let inherits : Inherits (sources_of own) (graph_of own) (sources_of read.entries) =
-    subst (λ g. Inherits (sources_of own) g (sources_of read.entries)) graph (subst (λ s. Inherits s (graph_of loaded.own) (sources_of read.entries)) sources loaded.inherits) in
-    loaded_mapped es own read.entries mapped (entries_as_written own read.entries alone inherits) (loaded.keys ∙ keys_same says loaded.entries are)
+    subst (λ g. Inherits (sources_of own) g (sources_of read.entries)) graph (subst (λ s. Inherits s (graph_of loaded.accepted.own) (sources_of read.entries)) sources loaded.inherits) in
+    loaded_mapped es own read.entries mapped (entries_as_written own read.entries alone inherits) (loaded.keys ∙ keys_same says loaded.accepted.entries are)
 
 nothing_claimed : (es : List Entry) → AllByRecursion (λ e. is_claimed [] e.key ≡ false) es
 nothing_claimed [] = tt
 nothing_claimed (e ∷ es) = (refl, nothing_claimed es)
 
 -- what is written of settled entries is read again as these entries in BibLaTeX's names
-pub entries_reread : (es : List Entry) → AreSettled es → IsUtf8 (entries_text biblatex_entry es) → IsReread es (entries_text biblatex_entry es)
+pub entries_reread : (es : List Entry) → AreSettled es → IsUtf8 (entries_text biblatex_entry es) → IsReadAgain es (entries_text biblatex_entry es)
 entries_reread es settled utf8 =
     let again : FileAgain (map written_of es) (place (entries_text biblatex_entry es) 0) = entries_again es settled.each utf8 in
     let all = entries_again_of (definition_in []) [] es again.said settled.each settled.keys (nothing_claimed es) again.says in
+    let says : FileReading = record { preamble = []; entries = again.said; abbreviations = [] } in
     record {
-      says = record { preamble = []; entries = again.said; abbreviations = [] };
-      reading = again.file;
-      accepted = record { own = all.read; entries = all.are; no_circle = no_circle all.read all.alone; dates = λ values inherits. no_dates all.read values all.alone };
-      mapped = loaded_reread (record { preamble = []; entries = again.said; abbreviations = [] }) es all.read all.are all.alone all.mapped;
+      accepted = record {
+        says = says;
+        reading = again.file;
+        accepted = record { own = all.read; entries = all.are; no_circle = no_circle all.read all.alone; dates = λ values inherits. no_dates all.read values all.alone };
+      };
+      mapped = λ read is. loaded_reread says es all.read all.are all.alone all.mapped read (subst (λ s. IsLoaded s read) (file_same is.reading again.file) is.loaded);
     }
 
 -- the same of the text that they were written to
-pub text_reread : {Z E : Type 0} (es given : List Entry) (r : Result (String Z) E) → IfOk r (λ text. string_bytes text ≡ entries_text biblatex_entry given) → given ≡ es → AreSettled es → IfOk r (λ text. IsReread es (string_bytes text))
+pub text_reread : {Z E : Type 0} (es given : List Entry) (r : Result (String Z) E) → IfOk r (λ text. string_bytes text ≡ entries_text biblatex_entry given) → given ≡ es → AreSettled es → IfOk r (λ text. IsReadAgain es (string_bytes text))
 text_reread es given (Ok text) is same settled =
     let whole : string_bytes text ≡ entries_text biblatex_entry es = is ∙ ap (entries_text biblatex_entry) same in
-    subst (IsReread es) (sym whole) (entries_reread es settled (subst IsUtf8 whole (IsUtf8-string_bytes text)))
+    subst (IsReadAgain es) (sym whole) (entries_reread es settled (subst IsUtf8 whole (IsUtf8-string_bytes text)))
 text_reread es given (Err e) is same settled = tt

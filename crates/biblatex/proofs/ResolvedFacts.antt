@@ -119,21 +119,18 @@ solved_once own none = walks.one_solution (graph_of own) (graph_in_range (names_
 pub solutions_same : (own : List Entry) (a b : List Source) → HasNoCircle (graph_of own) → Inherits (sources_of own) (graph_of own) a → Inherits (sources_of own) (graph_of own) b → a ≡ b
 solutions_same own a b none first second = let one = solved_once own none in one.2 a first ∙ sym (one.2 b second)
 
-pub loaded_accepted : {says : FileReading} (library : Library) → IsLoaded says library → IsAccepted says
-loaded_accepted library loaded = record {
-  own = loaded.own;
-  entries = loaded.entries;
-  no_circle = loaded.no_circle;
-  dates = λ values solves. subst (AreDatesRead (sources_of loaded.own) (graph_of loaded.own)) (solutions_same loaded.own (sources_of library.entries) values loaded.no_circle loaded.inherits solves) loaded.dates;
-}
+-- one solution whose dates are read speaks for all
+pub dates_of_each : (own : List Entry) (one : List Source) → HasNoCircle (graph_of own) → Inherits (sources_of own) (graph_of own) one
+    → AreDatesRead (sources_of own) (graph_of own) one → (values : List Source) → Inherits (sources_of own) (graph_of own) values → AreDatesRead (sources_of own) (graph_of own) values
+dates_of_each own one none solves read values other = subst (AreDatesRead (sources_of own) (graph_of own)) (solutions_same own one values none solves other) read
 
 pub fields_once : {says : FileReading} (one other : Library) → IsLoaded says one → IsLoaded says other → sources_of one.entries ≡ sources_of other.entries
 fields_once {says} one other first second =
-    let moved : Inherits (sources_of first.own) (graph_of first.own) (sources_of other.entries) =
-    subst (λ g. Inherits (sources_of first.own) g (sources_of other.entries)) (graph_same says second.entries first.entries)
-    (subst (λ s. Inherits s (graph_of second.own) (sources_of other.entries)) (sources_same says second.entries first.entries) second.inherits)
+    let moved : Inherits (sources_of first.accepted.own) (graph_of first.accepted.own) (sources_of other.entries) =
+    subst (λ g. Inherits (sources_of first.accepted.own) g (sources_of other.entries)) (graph_same says second.accepted.entries first.accepted.entries)
+    (subst (λ s. Inherits s (graph_of second.accepted.own) (sources_of other.entries)) (sources_same says second.accepted.entries first.accepted.entries) second.inherits)
     in
-    solutions_same first.own (sources_of one.entries) (sources_of other.entries) first.no_circle first.inherits moved
+    solutions_same first.accepted.own (sources_of one.entries) (sources_of other.entries) first.accepted.no_circle first.inherits moved
 
 -- ---- what can be a bibliography has no fault
 

@@ -1,8 +1,8 @@
 pub mod Distinct
+pub mod Headline
 pub mod Keys
 pub mod Lending
 pub mod Places
-pub mod Reread
 pub mod Resolved
 pub mod SameLibrary
 pub mod Syntax

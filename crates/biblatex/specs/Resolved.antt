@@ -8,7 +8,7 @@ use Rattle.bib_graph.specs.Graph.{Graph, HasNoCircle, IsFirstOnCircle}
 use Rattle.bib_inheritance.specs.Dating.{looks_for_date}
 use Rattle.bib_inheritance.specs.Sources.{Source}
 use Rattle.bib_maps.specs.Sorted.{ByText}
-use Rattle.bib_references.specs.Resolving.{AreDatesRead, Inherits, IsDateFault, KeepsChunks, at_place, graph_by, has_bad_date, sources_of}
+use Rattle.bib_references.specs.Resolving.{AllKeepChunks, AreDatesRead, Inherits, IsDateFault, at_place, graph_by, has_bad_date, sources_of}
 use Rattle.bib_syntax.specs.Reading.{EntryReading, FileReading}
 use Rattle.bib_syntax.specs.declared.raw.ParseError.{ParseError}
 use Rattle.bib_syntax.specs.declared.raw.ParseErrorKind.TheVariants.{ReferenceCycle, ResolutionError}
@@ -34,17 +34,14 @@ pub record IsAccepted (says : FileReading) : Type 0 where
   pub no_circle : HasNoCircle (graph_of own)
   pub dates : (values : List Source) → Inherits (sources_of own) (graph_of own) values → AreDatesRead (sources_of own) (graph_of own) values
 
--- a bibliography is what a file says: its entries in order, each with its key, the type of its kind, and the fields that
--- it has and inherits; and each name points where it was last claimed
+-- a bibliography is what a file says, which can be one: its entries in order, each with its key, the type of its kind, and
+-- the fields that it has and inherits; and each name points where it was last claimed
 pub record IsLoaded (says : FileReading) (library : Library) : Type 0 where
-  pub own : List Entry
-  pub entries : AreOwn says own
-  pub no_circle : HasNoCircle (graph_of own)
-  pub keys : map (λ e. e.key) library.entries ≡ map (λ e. e.key) own
-  pub inherits : Inherits (sources_of own) (graph_of own) (sources_of library.entries)
-  pub dates : AreDatesRead (sources_of own) (graph_of own) (sources_of library.entries)
-  pub chunks : (place : ℕ) (written entry : Entry) → slice_get own place ≡ Some written → slice_get library.entries place ≡ Some entry → KeepsChunks written entry
-  pub names : library.names ≡ names_of own
+  pub accepted : IsAccepted says
+  pub keys : map (λ e. e.key) library.entries ≡ map (λ e. e.key) accepted.own
+  pub inherits : Inherits (sources_of accepted.own) (graph_of accepted.own) (sources_of library.entries)
+  pub chunks : AllKeepChunks accepted.own library.entries
+  pub names : library.names ≡ names_of accepted.own
 
 -- the fault of a circle that the entry at this place is on: at the entry, with its key
 pub record IsCircleFault (says : FileReading) (place : ℕ) (e : ParseError) : Type 0 where

@@ -9,10 +9,9 @@ ghost use Rattle.std.specs.Iterator.{YieldsFirstRef, item_count};
 ghost use Rattle.bib_contents.specs.Contents.{LiesBetween};
 ghost use Rattle.bib_entry.specs.declared.entry.Entry.{Entry as AnEntry};
 ghost use Rattle.bib_graph.specs.Graph.{AreTurns};
-ghost use Rattle.bib_syntax.specs.Faults.{Refuses, out_of_memory};
-ghost use Rattle.bib_syntax.specs.Grammar.{IsFile, IsRawReading};
-ghost use Rattle.bib_syntax.specs.Reading.{FileReading};
+ghost use Rattle.bib_syntax.specs.Faults.{out_of_memory};
 ghost use Rattle.bib_syntax.specs.Views.{file_of};
+ghost use Rattle.biblatex.specs.Headline.{IsAcceptedText, IsBibliographyOf, IsErrorOf};
 ghost use Rattle.biblatex.specs.Keys.{keys_left};
 ghost use Rattle.biblatex.specs.Resolved.{AreOwn, IsAccepted, IsFaultOf, IsLoaded, IsOfDate, graph_of};
 ghost use Rattle.biblatex.specs.Lending.{LendsEntry, LendsEntries};
@@ -96,19 +95,17 @@ impl Bibliography {
         }
     }
 
-    /// Reads a bibliography file.
+    /// Reads a bibliography file: Ok exactly where the text is accepted.
     ///
     /// Each entry has its own fields but `xdata`, and those that it inherits from the entries that it refers to.
     ///
     /// Refused with a syntax fault where the file grammar doesn't read the text, and otherwise as `from_raw` says. Spans are
     /// in bytes of the text; that of any fault but of a date lies in it.
     pub fn parse(alloc: Global, src: &str) -> Result<Self, ParseError>
-        ensures loaded { IfOk result (λ library. (says : FileReading) × IsRawReading src.now says ×
-            IsLoaded says library) }
-        ensures accepted { OnOk result (IsFile src.now) }
-        ensures refused { IfErr result (λ e. Refuses src.now e (IsFile src.now → ⊥) ⊎
-            ((says : FileReading) × IsRawReading src.now says × IsFaultOf says e ×
-            (IsAccepted says → ⊥))) }
+        ensures loaded { IfOk result (IsBibliographyOf src.now) }
+        ensures accepted { OnOk result (IsAcceptedText src.now) }
+        ensures refused { IfErr result (λ e. (e ≡ out_of_memory) ⊎
+            (IsErrorOf src.now e × (IsAcceptedText src.now → ⊥))) }
         ensures inside { IfErr result (λ e. (e ≡ out_of_memory) ⊎
             IsOfDate e ⊎ LiesBetween 0 (length src.now) e) }
     {

@@ -1,19 +1,30 @@
 //! Laws of what is loaded from a file. These functions do nothing: what they ensure is proved of the definitions alone.
 
 ghost use Rattle.std.specs.Prelude.{◌≡◌, List, map};
+ghost use Rattle.std.specs.Str.{IsUtf8};
 ghost use Rattle.bib_entry.specs.declared.entry.Entry.{Entry};
 ghost use Rattle.bib_graph.specs.Graph.{Graph, HasNoCircle, HasOneSolution, IsInRange};
 ghost use Rattle.bib_inheritance.specs.Sources.{Source, nowhere};
 ghost use Rattle.bib_syntax.specs.Reading.{FileReading};
 ghost use Rattle.bib_syntax.specs.declared.raw.ParseError.{ParseError};
 ghost use Rattle.bib_file_entries.specs.Library.{Library};
+ghost use Rattle.biblatex.specs.Headline.{IsReadAgain, IsSettledBibliography, written};
 ghost use Rattle.biblatex.specs.Places.{HasFreshKeys, PointsToLastClaims};
 ghost use Rattle.bib_references.specs.Resolving.{rule_by, sources_of};
-ghost use Rattle.biblatex.specs.Resolved.{AreOneFaultOf, AreOwn, IsAccepted, IsFaultOf, IsLoaded};
+ghost use Rattle.biblatex.specs.Resolved.{AreOneFaultOf, AreOwn, IsAccepted, IsFaultOf, IsLoaded, graph_of};
 
-/// Where no entry refers to itself, by others or at once, the equation of inheritance has exactly one solution.
+/// What a settled bibliography is written as, in BibLaTeX's types and fields, is accepted, and its bibliography has the same
+/// entries in order, types and names mapped, with equal styled texts.
+pub fn settled_is_read_again()
+    ensures { (library : Library) → IsSettledBibliography library → IsUtf8 (written library) →
+        IsReadAgain library.entries (written library) }
+{}
+
+/// Where no entry refers to itself, by others or at once, the equation of inheritance has exactly one solution: for every
+/// graph that is in range, as that of a file's entries is.
 pub fn inherits_in_one_way()
-    ensures { (own : List Source) (graph : Graph) → IsInRange graph → HasNoCircle graph →
+    ensures in_range { (own : List Entry) → IsInRange (graph_of own) }
+    ensures one { (own : List Source) (graph : Graph) → IsInRange graph → HasNoCircle graph →
         HasOneSolution nowhere (rule_by own) graph }
 {}
 

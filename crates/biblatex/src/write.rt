@@ -5,7 +5,7 @@ ghost use Rattle.std.specs.Io.KnownBytes.{Appends};
 ghost use Rattle.bib_entry.specs.Format.{entry_in};
 ghost use Rattle.bib_entry.specs.WrittenEntries.{biblatex_entry, bibtex_entry, entries_text};
 ghost use Rattle.bib_roundtrip.specs.Settled.{AreSettled};
-ghost use Rattle.biblatex.specs.Reread.{IsReread};
+ghost use Rattle.biblatex.specs.Headline.{IsReadAgain};
 ghost use Rattle.biblatex.specs.Writing.{parting};
 
 use crate::bibliography::Bibliography;
@@ -122,7 +122,7 @@ impl Bibliography {
         ensures text { IfOk result (λ text. string_bytes text ≡
             entries_text biblatex_entry self.now.entries) }
         ensures reread { AreSettled self.now.entries → IfOk result (λ text.
-            IsReread self.now.entries (string_bytes text)) }
+            IsReadAgain self.now.entries (string_bytes text)) }
     {
         text_of(alloc, self.as_slice(), Format::Biblatex)
     }

@@ -6,4 +6,4 @@ use Rattle.biblatex.proofs.laws.last_claims.Goals as goal
 
 pub returns : goal.returns
 returns c says own library are loaded =
-    subst PointsToLastClaims (all_behind own (loaded.names ∙ names_same says loaded.entries are)) (points_loaded own)
+    subst PointsToLastClaims (all_behind own (loaded.names ∙ names_same says loaded.accepted.entries are)) (points_loaded own)

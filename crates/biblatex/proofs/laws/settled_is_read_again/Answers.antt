@@ -1,0 +1,5 @@
+use Rattle.biblatex.proofs.RereadFacts.{entries_reread}
+use Rattle.biblatex.proofs.laws.settled_is_read_again.Goals as goal
+
+pub returns : goal.returns
+returns c library settled utf8 = entries_reread library.entries settled utf8
