@@ -29,7 +29,7 @@ IsKnown texts = IfErr texts (λ fault. fault ≢ OutOfMemory)
 abbrev pub IsMemoryLacking : Result (List (List ℕ)) ErrorKind → Type 0
 IsMemoryLacking texts = IfErr texts (λ fault. fault ≡ OutOfMemory)
 
--- what is printed for arguments with these texts, and the status; `given` and `failed` are those of `IsAnswer`
-pub data IsStartAnswer (texts : Result (List (List ℕ)) ErrorKind) (given : List ℕ → Type 0) (failed : Type 0) : List ℕ → ℕ → Type 0 where
-  no_memory : IsMemoryLacking texts → IsStartAnswer texts given failed (error_line (codes "out of memory")) 3
-  answered : {text : List ℕ} {status : ℕ} → IsKnown texts → IsAnswer (words_of texts) given failed text status → IsStartAnswer texts given failed text status
+-- what is printed for arguments with these texts, and the status; `given`, `failed` and `read` are those of `IsAnswer`
+pub data IsStartAnswer (texts : Result (List (List ℕ)) ErrorKind) (given : List ℕ → Type 0) (failed read : Type 0) : List ℕ → ℕ → Type 0 where
+  no_memory : IsMemoryLacking texts → IsStartAnswer texts given failed read (error_line (codes "out of memory")) 3
+  answered : {text : List ℕ} {status : ℕ} → IsKnown texts → IsAnswer (words_of texts) given failed read text status → IsStartAnswer texts given failed read text status

@@ -1,10 +1,13 @@
 -- Meaning: words of public contracts.
 -- What the program prints, and its status.
-use Rattle.std.specs.Prelude.{◌≡◌, ◌≢◌, ℕ, List, [], ◌∷◌, ◌++◌, codes, map, All, IfSome}
+use Rattle.std.specs.Prelude.{◌≡◌, ◌≢◌, ℕ, List, [], ◌∷◌, ◌++◌, codes, map, All, Option, Some, None, IfSome, MatchOption}
+use Rattle.std.specs.Fmt.{decimal, debug_str}
+use Rattle.std.specs.declared.ops.Range.{Range}
 use Rattle.std.specs.List.{flat_map}
 use Rattle.std.specs.Str.{IsUtf8}
-use Rattle.biblatex.specs.Resolved.{IsAccepted, IsFaultOf, IsLoaded}
-use Rattle.biblatex.specs.Syntax.{IsSyntaxFault, error_text, IsFile, IsRawReading, FileReading, ParseError, Entry, Library, AreSettled, biblatex_entry, bibtex_entry, entries_text, TypeError, type_kind_text, missing_of, superfluous_of, AreMalformed}
+use Rattle.biblatex.specs.Headline.{IsAcceptedText, IsBibliographyOf, IsErrorOf}
+use Rattle.biblatex.specs.Syntax.{IsSyntaxFault, error_text, IsFile, IsRawReading, FileReading, ParseError, ParseErrorKind, Entry, Library, AreSettled, biblatex_entry, bibtex_entry, entries_text, TypeError, type_kind_text, missing_of, superfluous_of, AreMalformed}
+use Rattle.biblatex.specs.Syntax.{UnknownAbbreviation, DuplicateKey, AbbreviationCycle, ReferenceCycle}
 use Rattle.bib_commands.specs.declared.run.Command.{Command}
 use Rattle.bib_commands.specs.declared.run.Command.TheVariants.{Keys, Biblatex, Bibtex, Check, Settled}
 
@@ -21,9 +24,23 @@ error_line text = codes "error: " ++ line text
 abbrev pub not_utf8 : List ℕ
 not_utf8 = error_line (codes "input is not UTF-8")
 
--- a text tells a fault: it is the line for the fault's text, where that is said
+-- what an error's line says before the name that it quotes, and the name, where it quotes one
+abbrev pub quoting : ParseErrorKind → Option (List ℕ × List ℕ)
+quoting (UnknownAbbreviation name) = Some (codes "unknown abbreviation ", name)
+quoting (DuplicateKey key) = Some (codes "duplicate key ", key)
+quoting (AbbreviationCycle name) = Some (codes "circular abbreviation ", name)
+quoting (ReferenceCycle key) = Some (codes "circular reference ", key)
+quoting _ = None
+
+-- the line of an error that quotes a name: what std prints of a name in quotes is said for names of ASCII alone
+pub record IsQuotingLine (said : List ℕ × List ℕ) (span : Range ℕ) (text : List ℕ) : Type 0 where
+  pub quoted : List ℕ
+  pub exact : IfSome (debug_str said.1) (λ told. quoted ≡ told)
+  pub is : text ≡ codes "error: " ++ (said.0 ++ (quoted ++ (codes ": " ++ (decimal span.start ++ (codes "-" ++ line (decimal span.end))))))
+
+-- a text reports an error: it is the line for the error's text
 abbrev pub TellsFault : ParseError → List ℕ → Type 0
-TellsFault e text = IfSome (error_text e) (λ told. text ≡ error_line told)
+TellsFault e text = MatchOption (quoting e.kind) (IfSome (error_text e) (λ told. text ≡ error_line told)) (λ said. IsQuotingLine said e.span text)
 
 -- each entry's key in a line of its own, in the order of the file
 abbrev pub key_lines : FileReading → List ℕ
@@ -32,21 +49,22 @@ key_lines says = flat_map (λ e. line e.key.text) says.entries
 -- what the command `keys` prints for these bytes, and the status
 pub data IsKeysAnswer (bytes : List ℕ) : List ℕ → ℕ → Type 0 where
   no_text : (IsUtf8 bytes → ⊥) → IsKeysAnswer bytes not_utf8 1
-  no_file : {e : ParseError} {text : List ℕ} → IsSyntaxFault bytes e → (IsFile bytes → ⊥) → TellsFault e text → IsKeysAnswer bytes text 1
+  no_file : {e : ParseError} {text : List ℕ} → IsUtf8 bytes → IsSyntaxFault bytes e → (IsFile bytes → ⊥) → TellsFault e text → IsKeysAnswer bytes text 1
   keys : {says : FileReading} → IsUtf8 bytes → IsRawReading bytes says → IsKeysAnswer bytes (key_lines says) 0
 
--- a text tells why these bytes are no bibliography
-pub data TellsNoBibliography (bytes : List ℕ) : List ℕ → Type 0 where
-  no_file : {e : ParseError} {text : List ℕ} → IsSyntaxFault bytes e → (IsFile bytes → ⊥) → TellsFault e text → TellsNoBibliography bytes text
-  refused : {says : FileReading} {e : ParseError} {text : List ℕ} → IsRawReading bytes says → IsFaultOf says e → (IsAccepted says → ⊥) → TellsFault e text
-      → TellsNoBibliography bytes text
+-- a text reports why these bytes are no bibliography: their error
+pub record TellsNoBibliography (bytes text : List ℕ) : Type 0 where
+  pub error : ParseError
+  pub of_text : IsErrorOf bytes error
+  pub refused : IsAcceptedText bytes → ⊥
+  pub told : TellsFault error text
 
 -- what a command on a bibliography prints for these bytes, and the status, given what it prints for a bibliography
 pub data IsLibraryAnswer (shows : Library → List ℕ → ℕ → Type 0) (bytes : List ℕ) : List ℕ → ℕ → Type 0 where
   no_text : (IsUtf8 bytes → ⊥) → IsLibraryAnswer shows bytes not_utf8 1
-  no_library : {text : List ℕ} → TellsNoBibliography bytes text → IsLibraryAnswer shows bytes text 1
-  shown : {says : FileReading} {library : Library} {text : List ℕ} {status : ℕ} → IsUtf8 bytes → IsRawReading bytes says → IsLoaded says library
-      → shows library text status → IsLibraryAnswer shows bytes text status
+  no_library : {text : List ℕ} → IsUtf8 bytes → TellsNoBibliography bytes text → IsLibraryAnswer shows bytes text 1
+  shown : {library : Library} {text : List ℕ} {status : ℕ} → IsUtf8 bytes → IsBibliographyOf bytes library → shows library text status
+      → IsLibraryAnswer shows bytes text status
 
 -- the bibliography in BibLaTeX's types and fields, or in BibTeX's
 pub record ShowsBiblatex (library : Library) (printed : List ℕ) (status : ℕ) : Type 0 where
@@ -122,11 +140,11 @@ Name words command = words ≡ command_name command ∷ []
 abbrev pub IsCommand : List (List ℕ) → Type 0
 IsCommand words = (command : Command) × Name words command
 
--- what is printed for these words, and the status; `given` are the bytes that the input may have given, and
--- `failed` says that reading it failed
-pub data IsAnswer (words : List (List ℕ)) (given : List ℕ → Type 0) (failed : Type 0) : List ℕ → ℕ → Type 0 where
-  usage_told : (IsCommand words → ⊥) → IsAnswer words given failed usage 2
-  no_memory : IsCommand words → IsAnswer words given failed (error_line (codes "out of memory")) 3
-  no_input : IsCommand words → failed → IsAnswer words given failed (error_line (codes "input failed")) 1
-  answered : (command : Command) {bytes text : List ℕ} {status : ℕ} → Name words command → given bytes → IsCommandAnswer command bytes text status
-      → IsAnswer words given failed text status
+-- what is printed for these words, and the status; `given` are the bytes that the input may have given, `failed` says that
+-- reading it failed, and `read` that it didn't
+pub data IsAnswer (words : List (List ℕ)) (given : List ℕ → Type 0) (failed read : Type 0) : List ℕ → ℕ → Type 0 where
+  usage_told : (IsCommand words → ⊥) → IsAnswer words given failed read usage 2
+  no_memory : IsCommand words → read → IsAnswer words given failed read (error_line (codes "out of memory")) 3
+  no_input : IsCommand words → failed → IsAnswer words given failed read (error_line (codes "input failed")) 1
+  answered : (command : Command) {bytes text : List ℕ} {status : ℕ} → Name words command → read → given bytes → IsCommandAnswer command bytes text status
+      → IsAnswer words given failed read text status

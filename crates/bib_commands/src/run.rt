@@ -4,13 +4,13 @@ ghost use Rattle.std.specs.Prelude.{◌≡◌, ◌≢◌, ◌==◌, ℕ, ◌-◌
 ghost use Rattle.std.specs.Io.KnownBytes.{Appends};
 ghost use Rattle.std.specs.Str.{IsUtf8};
 ghost use Rattle.std.specs.String.{string_bytes};
-ghost use Rattle.biblatex.specs.Syntax.{IsFile, IsRawReading, FileReading, file_of};
+ghost use Rattle.biblatex.specs.Syntax.{file_of};
 ghost use Rattle.biblatex.specs.Syntax.{OutOfMemory};
 ghost use Rattle.bib_commands.specs.Answering.{IsLibraryOf};
-ghost use Rattle.bib_commands.specs.Output.{IsAnswer, IsCommand, IsCommandAnswer, IsKeysAnswer, IsLibraryAnswer, Name, ShowsBiblatex, ShowsBibtex, ShowsReports, ShowsSettled, TellsFault, command_name, key_lines};
+ghost use Rattle.bib_commands.specs.Output.{IsAnswer, IsCommand, IsCommandAnswer, IsKeysAnswer, IsLibraryAnswer, IsQuotingLine, Name, ShowsBiblatex, ShowsBibtex, ShowsReports, ShowsSettled, TellsFault, command_name, key_lines};
 
 use crate::reports::reports;
-use biblatex::{Bibliography, ParseError, ParseErrorKind, RawBibliography, Sink};
+use biblatex::{Bibliography, ParseError, ParseErrorKind, RawBibliography, Sink, Span};
 use std::alloc::{AllocError, Global};
 use std::mem;
 
@@ -236,18 +236,37 @@ fn answer_to(alloc: Global, command: Command, bytes: Vec<u8>) -> Result<Answer, 
     }
 }
 
-// The answer for an input with a fault.
+// The answer for an input with an error.
 fn fault(alloc: Global, error: &ParseError) -> Result<Answer, AllocError>
     ensures { IfOk result (λ answer. (error.now.kind ≢ OutOfMemory) ×
         TellsFault error.now (string_bytes answer.text) × (answer.status ≡ 1)) }
 {
-    match &error.kind {
-        ParseErrorKind::OutOfMemory => Err(AllocError),
-        _ => Ok(Answer {
-            text: format!(in alloc; "error: {error}\n")?,
-            status: 1,
-        }),
-    }
+    let text = match &error.kind {
+        ParseErrorKind::OutOfMemory => return Err(AllocError),
+        ParseErrorKind::UnknownAbbreviation(name) => {
+            quoting_line(alloc, "unknown abbreviation ", name.as_str(), &error.span)?
+        }
+        ParseErrorKind::DuplicateKey(key) => {
+            quoting_line(alloc, "duplicate key ", key.as_str(), &error.span)?
+        }
+        ParseErrorKind::AbbreviationCycle(name) => {
+            quoting_line(alloc, "circular abbreviation ", name.as_str(), &error.span)?
+        }
+        ParseErrorKind::ReferenceCycle(key) => {
+            quoting_line(alloc, "circular reference ", key.as_str(), &error.span)?
+        }
+        _ => format!(in alloc; "error: {error}\n")?,
+    };
+    Ok(Answer { text, status: 1 })
+}
+
+// The line of an error that quotes a name.
+fn quoting_line(alloc: Global, words: &str, name: &str, span: &Span) -> Result<String, AllocError>
+    ensures { IfOk result (λ text.
+        IsQuotingLine (words.now, name.now) span.now (string_bytes text)) }
+{
+    let quoted = format!(in alloc; "{name:?}")?;
+    format!(in alloc; "error: {words}{}: {}-{}\n", quoted.as_str(), span.start, span.end)
 }
 
 // Prints a text, and answers the status: 1 if the text was refused.
@@ -270,7 +289,8 @@ pub fn run<S: Source, K: Sink>(alloc: Global, words: &[String], input: &mut S, o
         K.refusals output.new ≡ K.refusals output.old →
         (text : List ℕ) × Appends (K.taken output.old) (K.taken output.new) text ×
         IsAnswer (map string_bytes words.now) (S.gives input.old)
-        (S.failures input.old < 2 ^ 64 - 1 → S.failures input.old < S.failures input.new) text result }
+        (S.failures input.old < 2 ^ 64 - 1 → S.failures input.old < S.failures input.new)
+        (S.failures input.new ≡ S.failures input.old) text result }
     ensures refused { K.refusals output.new ≢ K.refusals output.old → result ≡ 1 }
 {
     let Some(command) = command_of(words) else {

@@ -42,7 +42,7 @@ pub fn start<S: Source, K: Sink>(
         (text : List ℕ) × Appends (K.taken output.old) (K.taken output.new) text ×
         IsStartAnswer (texts_of arguments) (S.gives input.old)
         (S.failures input.old < 2 ^ 64 - 1 → S.failures input.old < S.failures input.new)
-        text result }
+        (S.failures input.new ≡ S.failures input.old) text result }
     ensures refused { K.refusals output.new ≢ K.refusals output.old → result ≡ 1 }
 {
     match words(alloc, arguments) {

@@ -7,7 +7,8 @@ pub use Rattle.bib_syntax.specs.Grammar.{IsFile, IsRawReading}
 pub use Rattle.bib_syntax.specs.Reading.{EntryReading, FileReading, Part}
 pub use Rattle.bib_syntax.specs.Views.{entry_of, file_of}
 pub use Rattle.bib_syntax.specs.declared.raw.ParseError.{ParseError}
-pub use Rattle.bib_syntax.specs.declared.raw.ParseErrorKind.TheVariants.{OutOfMemory}
+pub use Rattle.bib_syntax.specs.declared.raw.ParseErrorKind.{ParseErrorKind}
+pub use Rattle.bib_syntax.specs.declared.raw.ParseErrorKind.TheVariants.{OutOfMemory, UnknownAbbreviation, DuplicateKey, AbbreviationCycle, ReferenceCycle}
 pub use Rattle.bib_entry.specs.Reports.{AreMalformed, missing_of, superfluous_of}
 pub use Rattle.bib_entry.specs.WrittenEntries.{biblatex_entry, bibtex_entry, entries_text}
 pub use Rattle.bib_entry.specs.declared.entry.Entry.{Entry}

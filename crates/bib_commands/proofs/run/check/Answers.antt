@@ -6,7 +6,7 @@ use Rattle.bib_commands.proofs.ReportFacts.{reports_shown}
 use Rattle.bib_commands.proofs.run.check.Goals as goal
 
 pub returns-in-Err : goal.returns-in-Err
-returns-in-Err c = no_library_shown {shows = ShowsReports} c.in_ok-library.field-0 c.in-Err.answer c.in_ok-library.ensures.library c.in-Err.is
+returns-in-Err c = no_library_shown {shows = ShowsReports} c.in_ok-library.field-0 c.in-Err.answer c.in_ok-library.ensures.text c.in_ok-library.ensures.library c.in-Err.is
 
 pub returns : goal.returns
 returns c =
