@@ -4,6 +4,7 @@ mod changes;
 mod commands;
 mod cuts;
 mod entries;
+mod errors;
 mod inherited;
 mod raw;
 mod reports;
@@ -29,6 +30,7 @@ fn truth(alloc: Global, found: bool) -> Result<String, AllocError> {
 fn answer_of_text(alloc: Global, call: &str, text: &str) -> Result<Option<String>, ParseError> {
     let answer = match call {
         "cuts" => Ok(cuts::cuts(alloc, text)?),
+        "error" => Ok(errors::error(alloc, text)?),
         "changes" => changes::changes(alloc, text),
         "from raw" => raw::entries(alloc, text),
         "from raw counted" => raw::counted_entries(alloc, text),

@@ -78,6 +78,7 @@ pub lacking_apart : {A : Type 0} {e : SourceError} → e ≡ source.OutOfMemory 
 lacking_apart is same = apart (sym is ∙ inner same) where
   inner : {A : Type 0} {e f : SourceError} → (let r : Result A SourceError = Err e in r) ≡ Err f → e ≡ f
   inner same = cc
+
   apart : (let e : SourceError = source.OutOfMemory in e) ≡ source.Failed → ⊥
   apart same = cc
 

@@ -266,7 +266,12 @@ fn quoting_line(alloc: Global, words: &str, name: &str, span: &Span) -> Result<S
         IsQuotingLine (words.now, name.now) span.now (string_bytes text)) }
 {
     let quoted = format!(in alloc; "{name:?}")?;
-    format!(in alloc; "error: {words}{}: {}-{}\n", quoted.as_str(), span.start, span.end)
+    format!(in alloc;
+        "error: {words}{}: {}-{}\n",
+        quoted.as_str(),
+        span.start,
+        span.end
+    )
 }
 
 // Prints a text, and answers the status: 1 if the text was refused.
