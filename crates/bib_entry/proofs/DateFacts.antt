@@ -11,7 +11,8 @@ use Rattle.bib_maps.specs.Sorted.{ByText, by_bytes}
 use Rattle.bib_typed.specs.declared.typed.PermissiveType.{PermissiveType}
 use Rattle.bib_typed.specs.declared.typed.Type.{Ghosts}
 use Rattle.bib_entry.specs.DateFields.{without_part, IsSetDate}
-use Rattle.bib_entry.specs.Fields.{field_as, with_field}
+use Rattle.bib_entry.specs.Fields.{with_field}
+use Rattle.bib_fields.specs.Retrieved.{field_as}
 use Rattle.bib_entry.specs.Prefixes.{prefix_text}
 use Rattle.bib_entry.specs.declared.dates.Prefix.{Prefix}
 use Rattle.bib_entry.specs.declared.dates.Prefix.TheVariants.{Plain, Event, Orig, Url}

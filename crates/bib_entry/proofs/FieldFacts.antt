@@ -9,7 +9,8 @@ use Rattle.bib_maps.specs.Sorted.{ByText}
 use Rattle.bib_text.specs.declared.spanned.Spanned.{Spanned}
 use Rattle.bib_typed.specs.declared.typed.Type.{Ghosts}
 use Rattle.bib_entry.specs.declared.entry.Entry.{Entry}
-use Rattle.bib_entry.specs.Fields.{field_as, with_field, IsSet}
+use Rattle.bib_entry.specs.Fields.{with_field, IsSet}
+use Rattle.bib_fields.specs.Retrieved.{field_as}
 
 -- a name that is put into a map has its value there
 pub get_inserted : {V : Type 0} (m : ByText V) (name : List ℕ) (v : V) → by_name.get (by_name.insert m name v) name ≡ Some v

@@ -12,10 +12,11 @@ use Rattle.bib_typed.specs.declared.typed.PermissiveType.{PermissiveType}
 use Rattle.bib_typed.specs.declared.typed.PermissiveType.TheVariants.{Typed, Chunks}
 use Rattle.bib_typed.specs.declared.typed.Type.{Ghosts}
 use Rattle.bib_chunks.specs.Values.{Value}
-use Rattle.bib_entry.specs.Fields.{IsRetrieved, field_as, with_field}
+use Rattle.bib_entry.specs.Fields.{with_field}
+use Rattle.bib_fields.specs.Retrieved.{IsRetrieved, field_as}
 use Rattle.bib_entry.specs.declared.entry.Entry.{Entry}
-use Rattle.bib_entry.specs.declared.retrieval.RetrievalError.{RetrievalError}
-use Rattle.bib_entry.specs.declared.retrieval.RetrievalError.TheVariants.{Missing, TypeError, OutOfMemory}
+use Rattle.bib_fields.specs.declared.retrieval.RetrievalError.{RetrievalError}
+use Rattle.bib_fields.specs.declared.retrieval.RetrievalError.TheVariants.{Missing, TypeError, OutOfMemory}
 
 -- the field of a part of a date, behind a prefix
 abbrev pub date_part : List ℕ → Entry → List ℕ → Option Value

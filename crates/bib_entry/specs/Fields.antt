@@ -1,43 +1,15 @@
 -- Meaning: words of public contracts.
--- Fields of entries read as values of a type, and why they are not, as the Rust crate `biblatex` tells it.
-use Rattle.std.specs.Prelude.{◌≡◌, ◌≢◌, ℕ, List, ◌++◌, codes, Option, Some, None, Result, Ok, Err, OnOk, OnErr, IfOk, IfErr, IsSomeAnd, option_and_then, ⊤}
+-- Fields of entries read as values of a type, and set to them.
+use Rattle.std.specs.Prelude.{◌≡◌, ℕ, List, Option, Some, Result, OnOk, OnErr, IfOk, IfErr}
 use Rattle.std.specs.Borrow.{Bor}
 use Rattle.std.specs.declared.alloc.AllocError.{AllocError}
-use Rattle.std.specs.Option.{option_or}
 use Rattle.std.specs.FinMap as by_name
-use Rattle.bib_enums.specs.TypeError.{type_error_text}
-use Rattle.bib_enums.specs.declared.type_error.TypeErrorKind.{TypeErrorKind}
-use Rattle.bib_enums.specs.declared.type_error.TypeErrorKind.TheVariants as kind
-use Rattle.bib_enums.specs.declared.type_error.TypeError.{TypeError as ATypeError}
 use Rattle.bib_typed.specs.declared.typed.Type.{Ghosts}
 use Rattle.bib_chunks.specs.Values.{Value}
 use Rattle.bib_entry.specs.declared.entry.Entry.{Entry}
-use Rattle.bib_entry.specs.declared.entry.SetError.{SetError}
-use Rattle.bib_entry.specs.declared.retrieval.RetrievalError.{RetrievalError}
-use Rattle.bib_entry.specs.declared.retrieval.RetrievalError.TheVariants.{Missing, TypeError, OutOfMemory}
-
--- what is printed of a fault: the name of the field that isn't there, or what is printed of the chunks' fault
-abbrev pub retrieval_text : RetrievalError → List ℕ
-retrieval_text (Missing name) = codes "field " ++ name ++ codes " is missing"
-retrieval_text (TypeError e) = type_error_text e
-retrieval_text OutOfMemory = codes "out of memory"
-
--- the fault of a field whose chunks have a fault of this kind: want of memory is none of the field
-abbrev pub retrieval_fault : TypeErrorKind → ATypeError → RetrievalError
-retrieval_fault kind.OutOfMemory e = OutOfMemory
-retrieval_fault _ e = TypeError e
-
--- what a field, if it is there, is read as
-abbrev pub field_as : {M : Type 0} → (Value → Option M) → Option Value → Option M
-field_as reads field = option_and_then reads field
-
--- a result is what a field is read as: a value that means it; else there is no field, and the fault has this name, or its
--- chunks are refused with a kind that they may be refused with, or memory was
-abbrev pub IsRetrieved : {V : Type 0} → Ghosts V → Option Value → List ℕ → Result V RetrievalError → Type 0
-IsRetrieved type field name (Ok v) = field_as type.reads field ≡ Some (type.meaning v)
-IsRetrieved type field name (Err (Missing told)) = (field ≡ None) × (told ≡ name)
-IsRetrieved type field name (Err (TypeError e)) = IsSomeAnd field (λ chunks. (e.kind ≢ kind.OutOfMemory) × (type.reads chunks ≡ None) × type.may_refuse chunks e.kind)
-IsRetrieved type field name (Err OutOfMemory) = ⊤
+use Rattle.bib_fields.specs.Retrieved.{AreChunksOf, IsRetrieved, field_as, one_or_other}
+use Rattle.bib_fields.specs.declared.retrieval.RetrievalError.{RetrievalError}
+use Rattle.bib_fields.specs.declared.setting.SetError.{SetError}
 
 -- a result is what the field of this name is read as
 pub record IsGet {V : Type 0} (type : Ghosts V) (entry : Entry) (name : List ℕ) (result : Result V RetrievalError) : Type 0 where
@@ -45,18 +17,11 @@ pub record IsGet {V : Type 0} (type : Ghosts V) (entry : Entry) (name : List ℕ
 
 -- the field of this name, or else of the other
 abbrev pub field_or : Entry → List ℕ → List ℕ → Option Value
-field_or entry name other = option_or (by_name.get entry.fields name) (by_name.get entry.fields other)
+field_or entry name other = one_or_other entry.fields name other
 
 -- a result is what the field of this name is read as, or else that of the other; where neither is there, the fault has the first name
 pub record IsGetOr {V : Type 0} (type : Ghosts V) (entry : Entry) (name other : List ℕ) (result : Result V RetrievalError) : Type 0 where
   pub retrieved : IsRetrieved type (field_or entry name other) name result
-
--- a result is the chunks of a field; else there is none, and the fault has this name, or memory was refused for the name
-abbrev pub AreChunksOf : Option Value → List ℕ → Result (Bor Value) RetrievalError → Type 0
-AreChunksOf field name (Ok chunks) = field ≡ Some chunks.now
-AreChunksOf field name (Err (Missing told)) = (field ≡ None) × (told ≡ name)
-AreChunksOf field name (Err (TypeError e)) = ⊥
-AreChunksOf field name (Err OutOfMemory) = field ≡ None
 
 -- a result is the chunks of the field of this name
 pub record IsGot (entry : Entry) (name : List ℕ) (result : Result (Bor Value) RetrievalError) : Type 0 where

@@ -5,7 +5,7 @@ ghost use Rattle.bib_entry.specs.DateFields.{IsDateRead, IsGetDate, IsSetDate, t
 ghost use Rattle.bib_entry.specs.Prefixes.{prefix_text};
 
 use crate::entry::Entry;
-use crate::retrieval::RetrievalError;
+use bib_fields::retrieval::RetrievalError;
 use bib_chunks::chunk::ChunksRef;
 use bib_dates::date::Date;
 use bib_text::text::Text;

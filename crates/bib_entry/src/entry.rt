@@ -1,17 +1,17 @@
 //! Entries of a bibliography.
 
-ghost use Rattle.std.specs.Prelude.{◌≡◌, map, Some, OnOk, OnErr, IfOk, IfErr, codes};
+ghost use Rattle.std.specs.Prelude.{◌≡◌, map, OnOk, OnErr, IfOk, IfErr};
 ghost use Rattle.std.specs.Char.{to_ascii_lowercase};
 ghost use Rattle.std.specs.Option.{option_copied};
 ghost use Rattle.std.specs.FinMap as by_name;
 
 use bib_chunks::chunk::{Chunks, ChunksRef};
 use bib_entry_types::mechanics::EntryType;
+use bib_fields::setting::SetError;
+use bib_fields::{reading, setting};
 use bib_maps::text_map::TextMap;
 use bib_text::text::Text;
 use std::alloc::{AllocError, Global};
-use std::error::Error;
-use std::fmt;
 
 /// An entry of a bibliography.
 #[derive(Debug, PartialEq, Eq, Drop)]
@@ -23,23 +23,6 @@ pub struct Entry {
     /// The fields by name.
     pub fields: TextMap<Chunks>,
 }
-
-/// A field that was not set for want of memory.
-#[derive(Debug, Drop)]
-pub struct SetError {
-    /// What the field would have held.
-    pub chunks: Chunks,
-}
-
-impl fmt::Display for SetError {
-    ghost output = { λ _. Some (codes "out of memory") };
-
-    fn fmt<W: fmt::Write>(&self, f: &mut fmt::Formatter<W>) -> fmt::Result {
-        f.write_str("out of memory")
-    }
-}
-
-impl Error for SetError {}
 
 impl Entry {
     /// An entry without fields. Takes no memory.
@@ -57,8 +40,7 @@ impl Entry {
     pub fn get(&self, name: &str) -> Option<ChunksRef<'_>>
         ensures { option_copied result ≡ by_name.get self.now.fields name.now }
     {
-        let chunks = self.fields.get(name)?;
-        Some(chunks.as_slice())
+        reading::get(&self.fields, name)
     }
 
     /// Sets the field of the name in lower case, and hands back what it held. A refusal changes nothing, and gives the
@@ -71,15 +53,7 @@ impl Entry {
         ensures refused { OnErr result (self.new ≡ self.old) }
         ensures returned { IfErr result (λ e. e.chunks ≡ chunks) }
     {
-        let Ok(lowered) = name.to_ascii_lowercase(self.fields.allocator()) else {
-            return Err(SetError { chunks });
-        };
-        match self.fields.insert(Text::from_string(lowered), chunks) {
-            Ok(had) => Ok(had),
-            Err(failed) => Err(SetError {
-                chunks: failed.value.1,
-            }),
-        }
+        setting::set(&mut self.fields, name, chunks)
     }
 
     /// Takes the field of this very name out. Takes no memory.

@@ -2,8 +2,7 @@
 
 ghost use Rattle.std.specs.Prelude.{◌≡◌, map};
 ghost use Rattle.std.specs.Char.{to_ascii_lowercase};
-ghost use Rattle.bib_entry.specs.Fields.{IsGet, IsGetOr, IsGot, IsGotOr, IsRetrieved, IsSet, AreChunksOf, field_or};
-ghost use Rattle.std.specs.Option.{option_copied};
+ghost use Rattle.bib_entry.specs.Fields.{IsGet, IsGetOr, IsGot, IsGotOr, IsSet};
 
 mod aliases;
 mod bibtex;
@@ -12,9 +11,9 @@ mod supplements;
 mod titles;
 
 use crate::entry::Entry;
-use crate::retrieval::RetrievalError;
+use bib_fields::retrieval::RetrievalError;
+use bib_fields::{reading, setting};
 use bib_chunks::chunk::ChunksRef;
-use bib_text::text::Text;
 use bib_typed::typed::Type;
 use std::alloc::{AllocError, Global};
 
@@ -24,7 +23,7 @@ impl Entry {
     pub fn get_as<T: Type>(&self, alloc: Global, name: &str) -> Result<T, RetrievalError>
         ensures { IsGet T.Type self.now name.now result }
     {
-        read(alloc, name, self.get(name))
+        reading::get_as(&self.fields, alloc, name)
     }
 
     // What the field of this very name is read as, or else that of the other name.
@@ -36,14 +35,14 @@ impl Entry {
     ) -> Result<T, RetrievalError>
         ensures { IsGetOr T.Type self.now name.now other.now result }
     {
-        read(alloc, name, self.get_or(name, other))
+        reading::get_as_or(&self.fields, alloc, name, other)
     }
 
     // The chunks of the field of this very name.
     pub(crate) fn got(&self, alloc: Global, name: &str) -> Result<ChunksRef<'_>, RetrievalError>
         ensures { IsGot self.now name.now result }
     {
-        found(alloc, name, self.get(name))
+        reading::got(&self.fields, alloc, name)
     }
 
     // The chunks of the field of this very name, or else of the other.
@@ -55,17 +54,7 @@ impl Entry {
     ) -> Result<ChunksRef<'_>, RetrievalError>
         ensures { IsGotOr self.now name.now other.now result }
     {
-        found(alloc, name, self.get_or(name, other))
-    }
-
-    // The field of this very name, or else of the other.
-    fn get_or(&self, name: &str, other: &str) -> Option<ChunksRef<'_>>
-        ensures { option_copied result ≡ field_or self.now name.now other.now }
-    {
-        match self.get(name) {
-            Some(chunks) => Some(chunks),
-            None => self.get(other),
-        }
+        reading::got_or(&self.fields, alloc, name, other)
     }
 
     /// Sets the field of the name in lower case to the chunks that a value is written as. A refusal changes nothing.
@@ -73,39 +62,6 @@ impl Entry {
         ensures { IsSet T.Type (T.meaning value.now) (map to_ascii_lowercase name.now)
             self.old self.new result }
     {
-        let chunks = value.to_chunks(self.fields.allocator())?;
-        self.set(name, chunks).map_err(|_| AllocError)?;
-        Ok(())
-    }
-}
-
-// What a field is read as, if it is there; a missing one is told by this name.
-fn read<T: Type>(
-    alloc: Global,
-    name: &str,
-    field: Option<ChunksRef<'_>>,
-) -> Result<T, RetrievalError>
-    ensures { IsRetrieved T.Type (option_copied field.entry) name.now result }
-{
-    let Some(chunks) = field else {
-        return Err(RetrievalError::Missing(Text::from_str(alloc, name)?));
-    };
-    match T::from_chunks(alloc, chunks) {
-        Ok(value) => Ok(value),
-        Err(e) => Err(RetrievalError::from(e)),
-    }
-}
-
-// The chunks of a field, if it is there; a missing one is told by this name.
-fn found<'a>(
-    alloc: Global,
-    name: &str,
-    field: Option<ChunksRef<'a>>,
-) -> Result<ChunksRef<'a>, RetrievalError>
-    ensures { AreChunksOf (option_copied field.entry) name.now result }
-{
-    match field {
-        Some(chunks) => Ok(chunks),
-        None => Err(RetrievalError::Missing(Text::from_str(alloc, name)?)),
+        setting::set_as(&mut self.fields, name, value)
     }
 }

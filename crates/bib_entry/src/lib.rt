@@ -7,5 +7,4 @@ pub mod entry;
 mod fields;
 mod parents;
 pub mod report;
-pub mod retrieval;
 pub mod write;

@@ -1,6 +1,6 @@
 //! Why a field was not read, as it is printed.
 
-use bib_entry::retrieval::RetrievalError;
+use bib_fields::retrieval::RetrievalError;
 use bib_enums::type_error::{TypeError, TypeErrorKind};
 use bib_text::text::Text;
 use std::alloc::{AllocError, Global};

@@ -3,7 +3,7 @@
 use bib_chunks::chunk::Chunks;
 use bib_dates::date::Date;
 use bib_entry::entry::Entry;
-use bib_entry::retrieval::RetrievalError;
+use bib_fields::retrieval::RetrievalError;
 use bib_enums::types::lang::Language;
 use bib_enums::types::{Gender, Pagination};
 use bib_people::person::Person;

@@ -1,8 +1,9 @@
 //! Setters and getters of the further fields that BibLaTeX has, whose value is their chunks.
 
 use bib_chunks::chunk::{Chunks, ChunksRef};
-use bib_entry::entry::{Entry, SetError};
-use bib_entry::retrieval::RetrievalError;
+use bib_entry::entry::Entry;
+use bib_fields::setting::SetError;
+use bib_fields::retrieval::RetrievalError;
 use std::alloc::Global;
 
 // Calls the setter of this name, of the further fields from options on.

@@ -2,8 +2,9 @@
 
 use crate::entries::bibtex;
 use bib_chunks::chunk::{Chunks, ChunksRef};
-use bib_entry::entry::{Entry, SetError};
-use bib_entry::retrieval::RetrievalError;
+use bib_entry::entry::Entry;
+use bib_fields::setting::SetError;
+use bib_fields::retrieval::RetrievalError;
 use std::alloc::Global;
 
 // Calls the setter of this name, of a title from a main one on, or of another field.

@@ -5,7 +5,7 @@ ghost use Rattle.std.specs.Prelude.{codes};
 ghost use Rattle.bib_entry.specs.Fields.{IsGet, IsSet};
 
 use crate::entry::Entry;
-use crate::retrieval::RetrievalError;
+use bib_fields::retrieval::RetrievalError;
 use bib_people::person::Person;
 use bib_typed::typed::Type;
 use std::alloc::{AllocError, Global};

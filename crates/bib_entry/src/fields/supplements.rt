@@ -4,8 +4,9 @@
 ghost use Rattle.std.specs.Prelude.{codes};
 ghost use Rattle.bib_entry.specs.Fields.{IsGet, IsGot, IsPut, IsSet};
 
-use crate::entry::{Entry, SetError};
-use crate::retrieval::RetrievalError;
+use crate::entry::Entry;
+use bib_fields::setting::SetError;
+use bib_fields::retrieval::RetrievalError;
 use bib_chunks::chunk::{Chunks, ChunksRef};
 use bib_enums::types::lang::Language;
 use bib_enums::types::{Gender, Pagination};

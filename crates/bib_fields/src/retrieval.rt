@@ -1,7 +1,7 @@
 //! Why a field was not read.
 
 ghost use Rattle.std.specs.Prelude.{◌≡◌, Some};
-ghost use Rattle.bib_entry.specs.Fields.{retrieval_text, retrieval_fault};
+ghost use Rattle.bib_fields.specs.Retrieved.{retrieval_text, retrieval_fault};
 
 use bib_enums::type_error::{TypeError, TypeErrorKind};
 use bib_text::text::Text;
@@ -9,7 +9,7 @@ use std::alloc::{AllocError, AllocFailed};
 use std::error::Error;
 use std::fmt;
 
-/// Why the field of an entry was not read as a value.
+/// Why a field was not read as a value.
 #[derive(Debug, Clone, PartialEq, Eq, Drop)]
 pub enum RetrievalError {
     /// There is no field of this name.
@@ -47,7 +47,7 @@ impl From<TypeError> for RetrievalError {
 }
 
 impl From<AllocError> for RetrievalError {
-    ghost use Rattle.bib_entry.specs.declared.retrieval.RetrievalError.TheVariants.{OutOfMemory};
+    ghost use Rattle.bib_fields.specs.declared.retrieval.RetrievalError.TheVariants.{OutOfMemory};
 
     ghost from_gives = { λ _ error. error ≡ OutOfMemory };
 
@@ -57,7 +57,7 @@ impl From<AllocError> for RetrievalError {
 }
 
 impl<T: Drop> From<AllocFailed<T>> for RetrievalError {
-    ghost use Rattle.bib_entry.specs.declared.retrieval.RetrievalError.TheVariants.{OutOfMemory};
+    ghost use Rattle.bib_fields.specs.declared.retrieval.RetrievalError.TheVariants.{OutOfMemory};
 
     ghost from_gives = { λ _ error. error ≡ OutOfMemory };
 
