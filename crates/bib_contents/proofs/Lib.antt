@@ -1,4 +1,3 @@
-pub mod AbbreviationFacts
 pub mod ArgumentFacts
 pub mod ArgumentReading
 pub mod BreakFacts
@@ -7,11 +6,8 @@ pub mod CommandUnitFacts
 pub mod ContentFacts
 pub mod EffectFacts
 pub mod EndFacts
-pub mod ExpansionFacts
 pub mod FrameFacts
-pub mod JoinedFacts
 pub mod LaidFacts
-pub mod LawFacts
 pub mod PassingFacts
 pub mod ReaderFacts
 pub mod ReadingContents
