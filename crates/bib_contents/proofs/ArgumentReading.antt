@@ -19,9 +19,9 @@ use Rattle.bib_contents.proofs.ReaderFacts.{goes_then, goes_unit, goes_run, no_a
 use Rattle.bib_contents.proofs.TakingFacts.{text_unit}
 use Rattle.bib_contents.proofs.UnitFacts.{command_parts}
 use Rattle.bib_contents.specs.UnitViews.{text_unit_of}
-use Rattle.bib_contents.specs.declared.resolve.units.Argument.TheVariants as given_as
-use Rattle.bib_contents.specs.declared.resolve.units.TextUnit.{TextUnit}
-use Rattle.bib_contents.specs.declared.resolve.units.TextUnit.TheVariants as shown
+use Rattle.bib_contents.specs.declared.units.Argument.TheVariants as given_as
+use Rattle.bib_contents.specs.declared.units.TextUnit.{TextUnit}
+use Rattle.bib_contents.specs.declared.units.TextUnit.TheVariants as shown
 
 -- white space takes in the breaks
 break_space : (c : ℕ) → is_break c ≡ true → is_whitespace c ≡ true

@@ -13,7 +13,7 @@ use Rattle.std.proofs.lemmas.Str.{encodes_same, encodes-chars, chars_past_char, 
 use Rattle.bib_text.specs.Enums.{named}
 use Rattle.bib_text.proofs.TextFacts.{chars_past, chars_whole}
 use lib.Utf8.{scalars}
-use Rattle.bib_contents.specs.declared.resolve.commands.TheConstants.{SYMBOLS}
+use Rattle.bib_contents.specs.declared.commands.TheConstants.{SYMBOLS}
 use Rattle.bib_contents.specs.Commands.{accents, symbols, stroke, letter, marked, accented, other, given}
 use Rattle.unicode_normalization.specs.Compose.{primary_composite, compose, compose_after}
 use Rattle.unicode_normalization.specs.Forms.{Nfd, nfd, nfc, is_in_form}

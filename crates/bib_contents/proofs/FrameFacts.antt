@@ -11,16 +11,16 @@ use Rattle.bib_chunks.specs.Formatted.{formatted_atoms}
 use Rattle.bib_chunks.specs.Styled.{Atom}
 use Rattle.bib_contents.specs.Arguments.{AreKnown, Closes, IsInside, IsKept, IsReadTo, IsShorterThan, StandsRight, laid, written}
 use Rattle.bib_contents.specs.Commands.{given}
-use Rattle.bib_contents.specs.Contents.{Argument, ContentUnit, IsNext, Reads, character, unit_spelling}
+use Rattle.bib_contents.specs.Contents.{Argument, ContentUnit, IsNext, Reads, character, unit_spelling, StaysBetween}
 use Rattle.bib_contents.specs.Contents.Reads.{end}
 use Rattle.bib_contents.specs.Effects.{IsFit, is_plain, made, made_before}
 use Rattle.bib_syntax.specs.declared.raw.ParseError.{ParseError}
-use Rattle.bib_contents.specs.Passing.{IsStuck, StaysBetween, left}
-use Rattle.bib_contents.specs.declared.resolve.arguments.Frame.{Frame}
-use Rattle.bib_contents.specs.declared.resolve.commands.Effect.{Effect}
-use Rattle.bib_contents.specs.declared.resolve.arguments.Next.{Next}
-use Rattle.bib_contents.specs.declared.resolve.arguments.Next.TheVariants.{Read, Follows, End}
-use Rattle.bib_contents.specs.declared.resolve.ends.Ends.{Ends}
+use Rattle.bib_contents.specs.Passing.{IsStuck, left}
+use Rattle.bib_contents.specs.declared.arguments.Frame.{Frame}
+use Rattle.bib_contents.specs.declared.commands.Effect.{Effect}
+use Rattle.bib_contents.specs.declared.arguments.Next.{Next}
+use Rattle.bib_contents.specs.declared.arguments.Next.TheVariants.{Read, Follows, End}
+use Rattle.bib_contents.specs.declared.ends.Ends.{Ends}
 use Rattle.bib_contents.proofs.EffectFacts.{wrote_behind}
 use Rattle.bib_contents.proofs.UnitFacts.{command_parts}
 use Rattle.bib_contents.proofs.ArgumentReading.{name_plain, read_more, stuck_argument, written_none}

@@ -1,4 +1,3 @@
-pub mod AbbreviationFacts
 pub mod ArgumentFacts
 pub mod ArgumentReading
 pub mod BreakFacts
@@ -7,14 +6,12 @@ pub mod CommandUnitFacts
 pub mod ContentFacts
 pub mod EffectFacts
 pub mod EndFacts
-pub mod ExpansionFacts
 pub mod FrameFacts
-pub mod JoinedFacts
 pub mod LaidFacts
-pub mod LawFacts
 pub mod PassingFacts
 pub mod ReaderFacts
 pub mod ReadingContents
+pub mod StackFacts
 pub mod TakingFacts
 pub mod UnitFacts
 pub mod WholeFacts

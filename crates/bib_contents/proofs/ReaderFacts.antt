@@ -10,9 +10,9 @@ use Rattle.bib_chunks.specs.declared.chunk.Chunk.{Chunk}
 use Rattle.bib_text.specs.declared.spanned.Spanned.{Spanned}
 use Rattle.bib_contents.specs.Contents.{ContentUnit, Argument, Reads, IsNext, fits, unit_spelling, is_ordinary, character, meaning, is_closable, depth_after, held}
 use Rattle.bib_contents.specs.Contents.Reads.{end, next}
-use Rattle.bib_contents.specs.Joined.{ArePlaced}
+use Rattle.bib_styled.specs.Joined.{ArePlaced}
 use Rattle.bib_contents.specs.Passing.{Goes, IsStuck, IsUntaken, Took, so_far}
-use Rattle.bib_contents.specs.declared.resolve.growing.Open.{Open}
+use Rattle.bib_contents.specs.declared.growing.Open.{Open}
 use Rattle.std.proofs.lemmas.Str.{chars-nil}
 use Rattle.bib_contents.proofs.ContentFacts.{unit_same, rest_same, no_unit_at_end}
 

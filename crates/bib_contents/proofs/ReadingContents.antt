@@ -9,10 +9,10 @@ use Rattle.bib_text.specs.Places.{Place}
 use Rattle.bib_chunks.specs.Styled.{Atom, styled}
 use Rattle.bib_chunks.specs.declared.chunk.Chunk.{Chunk}
 use Rattle.bib_text.specs.declared.spanned.Spanned.{Spanned}
-use Rattle.bib_contents.specs.Contents.{ContentUnit, IsNext, Reads, is_ordinary, character, depth_after, unit_spelling}
-use Rattle.bib_contents.specs.Joined.{AreJoined, ArePlaced}
-use Rattle.bib_contents.specs.Passing.{left, Passes, Took, IsMoved, so_far, saturated}
-use Rattle.bib_contents.specs.declared.resolve.growing.Open.{Open}
+use Rattle.bib_contents.specs.Contents.{ContentUnit, IsNext, Reads, is_ordinary, character, depth_after, unit_spelling, saturated}
+use Rattle.bib_styled.specs.Joined.{AreJoined, ArePlaced}
+use Rattle.bib_contents.specs.Passing.{left, Passes, Took, IsMoved, so_far}
+use Rattle.bib_contents.specs.declared.growing.Open.{Open}
 use Rattle.bib_contents.proofs.ArgumentFacts.{passes_within, passes_ahead}
 use Rattle.bib_contents.proofs.ReaderFacts.{ReadSoFar, read_none, read_run, read_unit, read_all, unit_shorter}
 

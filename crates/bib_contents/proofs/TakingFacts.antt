@@ -11,20 +11,20 @@ use Rattle.bib_chunks.specs.declared.chunk.Chunk.{Chunk}
 use Rattle.bib_text.specs.declared.spanned.Spanned.{Spanned}
 use Rattle.bib_text.proofs.TextFacts.{chars_whole}
 use Rattle.bib_contents.specs.Contents.{Argument, ContentUnit, IsNext, unit_spelling, Reads, character, meaning, is_closable, depth_after, held, unit_text}
-use Rattle.bib_contents.specs.Joined.{ArePlaced}
+use Rattle.bib_styled.specs.Joined.{ArePlaced}
 use Rattle.bib_contents.specs.Passing.{Took, left, so_far}
 use Rattle.bib_contents.proofs.UnitFacts.{command_parts}
 use Rattle.bib_contents.specs.UnitViews.{text_unit_of, argument_of, unit_of}
-use Rattle.bib_contents.specs.declared.resolve.growing.Open.{Open}
+use Rattle.bib_contents.specs.declared.growing.Open.{Open}
 use Rattle.std.specs.Borrow.{Bor}
-use Rattle.bib_contents.specs.declared.resolve.units.Argument as units
+use Rattle.bib_contents.specs.declared.units.Argument as units
 use Rattle.bib_chunks.specs.Formatted.{formatted_atoms}
 use Rattle.bib_contents.specs.Arguments.{IsNamed, StandsIn, unit_written}
 use Rattle.bib_contents.specs.Commands.{given}
-use Rattle.bib_contents.specs.declared.resolve.units.Unit as all_units
-use Rattle.bib_contents.specs.declared.resolve.units.Unit.TheVariants as any_unit
-use Rattle.bib_contents.specs.declared.resolve.units.TextUnit.{TextUnit}
-use Rattle.bib_contents.specs.declared.resolve.units.TextUnit.TheVariants as shown
+use Rattle.bib_contents.specs.declared.units.Unit as all_units
+use Rattle.bib_contents.specs.declared.units.Unit.TheVariants as any_unit
+use Rattle.bib_contents.specs.declared.units.TextUnit.{TextUnit}
+use Rattle.bib_contents.specs.declared.units.TextUnit.TheVariants as shown
 use Rattle.bib_contents.proofs.ReaderFacts.{nothing_grows, no_argument, placed_wider}
 
 -- the characters of a text that grew

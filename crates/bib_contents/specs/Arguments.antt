@@ -7,14 +7,14 @@ use Rattle.bib_chunks.specs.Formatted.{flowing, formatted_atoms, is_break}
 use Rattle.bib_chunks.specs.Styled.{Atom}
 use Rattle.bib_contents.specs.Contents.{Argument, ContentUnit, IsNext, balances, is_name, unit_text}
 use Rattle.bib_contents.specs.Passing.{Goes, left}
-use Rattle.bib_contents.specs.declared.resolve.ends.Ends.{Ends}
-use Rattle.bib_contents.specs.declared.resolve.arguments.Frame.{Frame}
-use Rattle.bib_contents.specs.declared.resolve.arguments.Next.{Next}
-use Rattle.bib_contents.specs.declared.resolve.arguments.Next.TheVariants.{Read, Follows, End}
-use Rattle.bib_contents.specs.declared.resolve.units.Found.{Found}
-use Rattle.bib_contents.specs.declared.resolve.units.Found.TheVariants.{Braced as InBraces}
-use Rattle.bib_contents.specs.declared.resolve.units.Unit as units
-use Rattle.bib_contents.specs.declared.resolve.units.Unit.TheVariants.{Applied}
+use Rattle.bib_contents.specs.declared.ends.Ends.{Ends}
+use Rattle.bib_contents.specs.declared.arguments.Frame.{Frame}
+use Rattle.bib_contents.specs.declared.arguments.Next.{Next}
+use Rattle.bib_contents.specs.declared.arguments.Next.TheVariants.{Read, Follows, End}
+use Rattle.bib_contents.specs.declared.units.Found.{Found}
+use Rattle.bib_contents.specs.declared.units.Found.TheVariants.{Braced as InBraces}
+use Rattle.bib_contents.specs.declared.units.Unit as units
+use Rattle.bib_contents.specs.declared.units.Unit.TheVariants.{Applied}
 
 -- a closing brace stands at `end`, and the braces before it balance from `begin` on
 pub record Closes (text : List ℕ) (begin end : ℕ) : Type 0 where

@@ -1,7 +1,7 @@
 -- Meaning: words of public contracts.
 -- The contents of a field: how the text of a piece is cut into units, and what each unit means. Contents are LaTeX
 -- source, as the Rust crate `biblatex` reads it. A text is given by its characters.
-use Rattle.std.specs.Prelude.{◌≡◌, ◌≤◌, ℕ, zero, suc, ◌-◌, ◌/◌, ◌%◌, Bool, true, false, not, ◌&&◌, ◌||◌, ◌==◌, nat_lt, ◌⊎◌, if◌then◌else◌, List, [], ◌∷◌, ◌++◌, map, replicate, Option, None, Some}
+use Rattle.std.specs.Prelude.{◌≡◌, ◌≤◌, ℕ, zero, suc, ◌-◌, ◌/◌, ◌%◌, ◌^◌, min, Bool, true, false, not, ◌&&◌, ◌||◌, ◌==◌, nat_lt, ◌⊎◌, if◌then◌else◌, List, [], ◌∷◌, ◌++◌, map, replicate, Option, None, Some}
 use Rattle.std.specs.Char.{is_whitespace, is_control}
 use Rattle.std.specs.List.{list_any, list_all}
 use Rattle.bib_chunks.specs.Formatted.{formatted_atoms}
@@ -9,6 +9,7 @@ use Rattle.bib_chunks.specs.Styled.{Atom}
 use Rattle.bib_chunks.specs.Written.{is_grouping, is_reserved}
 use Rattle.bib_syntax.specs.Characters.{is_id_continue}
 use Rattle.bib_contents.specs.Commands.{given}
+use Rattle.bib_syntax.specs.Faults.{out_of_memory}
 use Rattle.bib_syntax.specs.declared.raw.Token.TheVariants.{ClosingBrace}
 use Rattle.bib_syntax.specs.declared.raw.ParseError.{ParseError}
 use Rattle.bib_syntax.specs.declared.raw.ParseErrorKind.{ParseErrorKind}
@@ -227,3 +228,11 @@ IsUnread kind = (kind ≡ UnexpectedEof) ⊎ (kind ≡ Unexpected ClosingBrace)
 -- the bytes at fault lie between two places
 abbrev pub LiesBetween : ℕ → ℕ → ParseError → Type 0
 LiesBetween low high e = (low ≤ e.span.start) × (e.span.start ≤ e.span.end) × (e.span.end ≤ high)
+
+-- want of memory, or a fault between two places
+abbrev pub StaysBetween : ℕ → ℕ → ParseError → Type 0
+StaysBetween low high e = (e ≡ out_of_memory) ⊎ LiesBetween low high e
+
+-- places in a file are at most the greatest number of 64 bits
+abbrev pub saturated : ℕ → ℕ
+saturated n = min n (2 ^ 64 - 1)

@@ -5,8 +5,8 @@ use Rattle.std.specs.Str.{chars, IsUtf8}
 use Rattle.unicode_normalization.specs.Forms.{Nfd, is_in_form}
 use Rattle.bib_chunks.specs.Formatted.{is_break}
 use Rattle.bib_contents.specs.Commands.{marked}
-use Rattle.bib_contents.specs.declared.resolve.commands.Effect.{Effect}
-use Rattle.bib_contents.specs.declared.resolve.commands.Effect.TheVariants.{Mark, Symbol, Copyright, Unknown}
+use Rattle.bib_contents.specs.declared.commands.Effect.{Effect}
+use Rattle.bib_contents.specs.declared.commands.Effect.TheVariants.{Mark, Symbol, Copyright, Unknown}
 
 -- what stands before the argument of a command with this name
 abbrev pub made_before : Effect → List ℕ → List ℕ

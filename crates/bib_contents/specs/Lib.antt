@@ -1,9 +1,6 @@
-pub mod Abbreviations
 pub mod Arguments
 pub mod Commands
 pub mod Contents
 pub mod Effects
-pub mod Expanding
-pub mod Joined
 pub mod Passing
 pub mod UnitViews

@@ -9,8 +9,8 @@ use Rattle.bib_text.specs.declared.spanned.Spanned.{Spanned}
 use Rattle.bib_syntax.specs.Faults.{out_of_memory}
 use Rattle.bib_syntax.specs.declared.raw.ParseError.{ParseError}
 use Rattle.bib_contents.specs.Contents.{LiesBetween, ContentUnit, Reads, character, meaning, is_closable, depth_after, held}
-use Rattle.bib_contents.specs.Joined.{ArePlaced}
-use Rattle.bib_contents.specs.declared.resolve.growing.Open.{Open}
+use Rattle.bib_styled.specs.Joined.{ArePlaced}
+use Rattle.bib_contents.specs.declared.growing.Open.{Open}
 
 -- the characters that are left at a place
 abbrev pub left : Place → List ℕ
@@ -33,10 +33,6 @@ pub record Goes (is_verbatim : Bool) (depth : ℕ) (text : List ℕ) (atoms : Li
 abbrev pub IsStuck : Bool → ℕ → List ℕ → Type 0
 IsStuck is_verbatim depth text = (atoms : List Atom) → Reads is_verbatim depth text atoms → ⊥
 
--- places in a file are at most the greatest number of 64 bits
-abbrev pub saturated : ℕ → ℕ
-saturated n = min n (2 ^ 64 - 1)
-
 -- what was read so far: finished chunks, and the one that still grows
 abbrev pub so_far : List (Spanned Chunk) → Open → List Atom
 so_far out growing = styled out ++ map (character growing.depth) (chars (string_bytes growing.text))
@@ -57,7 +53,3 @@ IsUntaken u depth = (is_closable depth u ≡ false) ⊎ ((text : List ℕ) × (h
 abbrev pub IsMoved : List (Spanned Chunk) → Open → ℕ → List (Spanned Chunk) → Open → ℕ → Type 0
 IsMoved chunks growing end more grown behind =
     (low : ℕ) → ArePlaced low growing.start chunks → growing.start ≤ end → ArePlaced low grown.start more × (grown.start ≤ behind)
-
--- want of memory, or a fault between two places
-abbrev pub StaysBetween : ℕ → ℕ → ParseError → Type 0
-StaysBetween low high e = (e ≡ out_of_memory) ⊎ LiesBetween low high e

@@ -3,14 +3,14 @@
 use Rattle.std.specs.Str.{chars}
 use Rattle.bib_contents.specs.Contents as contents
 use Rattle.bib_contents.specs.Passing.{left}
-use Rattle.bib_contents.specs.declared.resolve.units.Argument.{Argument}
-use Rattle.bib_contents.specs.declared.resolve.units.Argument.TheVariants.{Without, Empty, Single}
-use Rattle.bib_contents.specs.declared.resolve.units.Found.{Found}
-use Rattle.bib_contents.specs.declared.resolve.units.Found.TheVariants.{Plain, Braced as InBraces}
-use Rattle.bib_contents.specs.declared.resolve.units.TextUnit.{TextUnit}
-use Rattle.bib_contents.specs.declared.resolve.units.TextUnit.TheVariants.{Hyphens, Spaces, Escaped, Backslash, Copied, Command, Other}
-use Rattle.bib_contents.specs.declared.resolve.units.Unit.{Unit}
-use Rattle.bib_contents.specs.declared.resolve.units.Unit.TheVariants.{Shown, Applied, Formula, Opening, Closing}
+use Rattle.bib_contents.specs.declared.units.Argument.{Argument}
+use Rattle.bib_contents.specs.declared.units.Argument.TheVariants.{Without, Empty, Single}
+use Rattle.bib_contents.specs.declared.units.Found.{Found}
+use Rattle.bib_contents.specs.declared.units.Found.TheVariants.{Plain, Braced as InBraces}
+use Rattle.bib_contents.specs.declared.units.TextUnit.{TextUnit}
+use Rattle.bib_contents.specs.declared.units.TextUnit.TheVariants.{Hyphens, Spaces, Escaped, Backslash, Copied, Command, Other}
+use Rattle.bib_contents.specs.declared.units.Unit.{Unit}
+use Rattle.bib_contents.specs.declared.units.Unit.TheVariants.{Shown, Applied, Formula, Opening, Closing}
 
 abbrev pub argument_of : Argument → contents.Argument
 argument_of Without = contents.Argument.without

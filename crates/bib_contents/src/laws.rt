@@ -1,32 +1,11 @@
-//! Laws of contents and abbreviations. These functions do nothing: what they ensure is proved of the definitions alone.
+//! Laws of contents. These functions do nothing: what they ensure is proved of the definitions alone.
 
-ghost use Rattle.std.specs.Prelude.{◌≡◌, ℕ, Bool, List, []};
+ghost use Rattle.std.specs.Prelude.{◌≡◌, ℕ, Bool, List};
 ghost use Rattle.bib_chunks.specs.Styled.{Atom};
-ghost use Rattle.bib_contents.specs.Abbreviations.{AreOneFault, Definitions, Evaluates, IsFirstFault};
 ghost use Rattle.bib_contents.specs.Contents.{IsContent};
-ghost use Rattle.bib_syntax.specs.Reading.{Piece};
-ghost use Rattle.bib_syntax.specs.declared.raw.ParseError.{ParseError};
 
 /// A text has at most one reading as the contents of a field.
 pub fn one_content()
     ensures { (is_verbatim : Bool) (text : List ℕ) (first second : List Atom) →
         IsContent is_verbatim text first → IsContent is_verbatim text second → first ≡ second }
-{}
-
-/// Elements say at most one styled text, whatever the abbreviations in them.
-pub fn one_value()
-    ensures { (definitions : Definitions) (is_verbatim : Bool) (pieces : List Piece)
-        (first second : List Atom) → Evaluates definitions is_verbatim pieces first →
-        Evaluates definitions is_verbatim pieces second → first ≡ second }
-{}
-
-/// Elements that say something have no first fault, and others have at most one: its kind, and for a name its place. Of a
-/// text that can't be read the kind, one of two, and the place stay open.
-pub fn one_fault()
-    ensures none { (definitions : Definitions) (is_verbatim : Bool) (pieces : List Piece)
-        (atoms : List Atom) (e : ParseError) → Evaluates definitions is_verbatim pieces atoms →
-        IsFirstFault definitions is_verbatim [] pieces e → ⊥ }
-    ensures one { (definitions : Definitions) (is_verbatim : Bool) (pieces : List Piece)
-        (first second : ParseError) → IsFirstFault definitions is_verbatim [] pieces first →
-        IsFirstFault definitions is_verbatim [] pieces second → AreOneFault first second }
 {}

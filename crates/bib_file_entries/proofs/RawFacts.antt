@@ -6,7 +6,7 @@ use Rattle.std.specs.FinMap as by_name
 use Rattle.std.proofs.lemmas.Bool.{cases_Bool}
 use Rattle.bib_chunks.specs.declared.chunk.Chunk.{Chunk}
 use Rattle.bib_text.specs.declared.spanned.Spanned.{Spanned}
-use Rattle.bib_contents.specs.Abbreviations.{Definitions}
+use Rattle.bib_abbreviations.specs.Abbreviations.{Definitions}
 use Rattle.bib_syntax.specs.Reading.{FieldReading}
 use Rattle.bib_syntax.specs.Views.{field_of, entry_of}
 use Rattle.bib_syntax.specs.declared.raw.Pair.{Pair}

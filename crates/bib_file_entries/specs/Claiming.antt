@@ -1,7 +1,7 @@
 -- Meaning: words of public contracts.
 -- Entries as they are read, with the names that they claim.
 use Rattle.std.specs.Prelude.{◌≡◌, ℕ, List, []}
-use Rattle.bib_contents.specs.Abbreviations.{Definitions}
+use Rattle.bib_abbreviations.specs.Abbreviations.{Definitions}
 use Rattle.bib_syntax.specs.Reading.{EntryReading}
 use Rattle.bib_entry.specs.declared.entry.Entry.{Entry}
 use Rattle.bib_file_entries.specs.Loaded.{AreEntries, loaded_behind}

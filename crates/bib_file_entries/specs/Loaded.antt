@@ -7,9 +7,9 @@ use Rattle.std.specs.List.{list_any}
 use Rattle.bib_chunks.specs.Styled.{styled}
 use Rattle.bib_chunks.specs.declared.chunk.Chunk.{Chunk}
 use Rattle.bib_text.specs.declared.spanned.Spanned.{Spanned}
-use Rattle.bib_contents.specs.Abbreviations.{Definitions, Evaluates, IsFirstFault, IsReadable}
+use Rattle.bib_abbreviations.specs.Abbreviations.{Definitions, Evaluates, IsFirstFault, IsReadable}
 use Rattle.bib_entry_types.specs.VerbatimFields.{is_verbatim_field}
-use Rattle.bib_contents.specs.Joined.{AreJoined, ArePlaced}
+use Rattle.bib_styled.specs.Joined.{AreJoined, ArePlaced}
 use Rattle.bib_syntax.specs.Reading.{Part, Piece, FieldReading, EntryReading}
 use Rattle.bib_syntax.specs.Reading.Piece.{literal}
 use Rattle.bib_syntax.specs.declared.raw.ParseError.{ParseError}

@@ -5,7 +5,7 @@ use Rattle.std.specs.Char.{to_ascii_lowercase}
 use Rattle.std.specs.FinMap as by_name
 use Rattle.bib_chunks.specs.declared.chunk.Chunk.{Chunk}
 use Rattle.bib_text.specs.declared.spanned.Spanned.{Spanned}
-use Rattle.bib_contents.specs.Abbreviations.{Definitions, IsFirstFault, IsReadable}
+use Rattle.bib_abbreviations.specs.Abbreviations.{Definitions, IsFirstFault, IsReadable}
 use Rattle.bib_entry_types.specs.VerbatimFields.{is_verbatim_field}
 use Rattle.bib_syntax.specs.Reading.{Piece}
 use Rattle.bib_syntax.specs.Views.{piece_of}

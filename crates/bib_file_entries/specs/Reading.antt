@@ -1,7 +1,7 @@
 -- Machinery: words of private contracts.
 -- Reading one field.
 use Rattle.std.specs.Prelude.{[]}
-use Rattle.bib_contents.specs.Abbreviations.{Definitions, IsFirstFault}
+use Rattle.bib_abbreviations.specs.Abbreviations.{Definitions, IsFirstFault}
 use Rattle.bib_entry_types.specs.VerbatimFields.{is_verbatim_field}
 use Rattle.bib_syntax.specs.declared.raw.Pair.{Pair}
 use Rattle.bib_syntax.specs.declared.raw.ParseError.{ParseError}

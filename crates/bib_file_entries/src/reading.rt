@@ -1,7 +1,7 @@
 //! A file's entries with the names that they claim.
 
 ghost use Rattle.std.specs.Prelude.{◌≡◌, ◌⊎◌, [], map, length, IfOk, IfErr};
-ghost use Rattle.bib_contents.specs.Abbreviations.{sorted_in};
+ghost use Rattle.bib_abbreviations.specs.Abbreviations.{sorted_in};
 ghost use Rattle.bib_syntax.specs.Faults.{out_of_memory};
 ghost use Rattle.bib_syntax.specs.Views.{entry_of, file_of};
 ghost use Rattle.bib_syntax.specs.declared.raw.ParseErrorKind.TheVariants.{DuplicateKey};
@@ -12,7 +12,7 @@ ghost use Rattle.bib_maps.specs.Names.{ArePlacesBelow};
 use crate::claiming::claims;
 use crate::loading::{definitions, read_entry};
 use bib_chunks::chunk::{Span, Spanned};
-use bib_contents::resolve::FieldReader;
+use bib_abbreviations::resolve::FieldReader;
 use bib_entry::entry::Entry;
 use bib_maps::claims::Claims;
 use bib_maps::names::Names;

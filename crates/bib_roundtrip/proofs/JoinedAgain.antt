@@ -12,7 +12,7 @@ use Rattle.bib_chunks.specs.Written.{is_grouping, is_reserved, spelled, spelling
 use Rattle.bib_chunks.specs.declared.chunk.Chunk.{Chunk}
 use Rattle.bib_chunks.specs.declared.chunk.Chunk.TheVariants.{Normal, Verbatim, Math}
 use Rattle.bib_chunks.proofs.TrimFacts.{scalars_parts}
-use Rattle.bib_contents.specs.Joined.{AreJoined, ArePlaced}
+use Rattle.bib_styled.specs.Joined.{AreJoined, ArePlaced}
 
 -- an atom whose characters can stand in a text
 abbrev pub IsText : Atom → Type 0

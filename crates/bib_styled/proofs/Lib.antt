@@ -1,3 +1,4 @@
 mod BraceFacts
+pub mod JoinedFacts
 pub mod ListFacts
 mod SettledFacts

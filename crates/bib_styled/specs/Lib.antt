@@ -1,3 +1,4 @@
+pub mod Joined
 pub mod Joining
 pub mod Lists
 pub mod Settled

@@ -8,8 +8,8 @@ use Rattle.bib_syntax.specs.Grammar.{IsRawReading}
 use Rattle.bib_syntax.proofs.StandingFacts.{file_stands}
 use mathlib.Core.List.{reverse_aux}
 use Rattle.std.proofs.lemmas.Bool.{cases_Bool}
-use Rattle.bib_contents.specs.Abbreviations.{Definitions, IsFirstFault}
-use Rattle.bib_contents.specs.Abbreviations.{IsFirstFault as first_fault}
+use Rattle.bib_abbreviations.specs.Abbreviations.{Definitions, IsFirstFault}
+use Rattle.bib_abbreviations.specs.Abbreviations.{IsFirstFault as first_fault}
 use Rattle.bib_contents.specs.Contents.{LiesBetween}
 use Rattle.bib_syntax.specs.Reading.{Part, Piece, FieldReading, EntryReading, FileReading}
 use Rattle.bib_syntax.specs.Standing.{StandsIn, PieceStandsIn, FieldStandsIn, EntryStandsIn, ReadingStandsIn}

@@ -8,8 +8,8 @@ use Rattle.std.proofs.lemmas.Cmp.{nat_list_cmp_total}
 use Rattle.std.proofs.lemmas.List.Folds.{list_any-append}
 use Rattle.std.proofs.lemmas.Map.Text.{is_eq-slice_cmp}
 use Rattle.std.proofs.lemmas.Option.{slice_get_within}
-use Rattle.bib_contents.specs.Abbreviations.{Definitions, AreOneFault}
-use Rattle.bib_contents.proofs.LawFacts.{fault_is_one}
+use Rattle.bib_abbreviations.specs.Abbreviations.{Definitions, AreOneFault}
+use Rattle.bib_abbreviations.proofs.LawFacts.{fault_is_one}
 use Rattle.bib_syntax.specs.Reading.{FieldReading, EntryReading}
 use Rattle.bib_syntax.specs.declared.raw.ParseError.{ParseError}
 use Rattle.bib_maps.specs.Names.{claimed, claims_for}

@@ -3,7 +3,7 @@ use Rattle.std.proofs.Common.{◌≡◌, ℕ, zero, suc, ◌<◌, List, [], ◌�
 use Rattle.std.specs.Prelude.{IfErr, IfOk, OnOk, slice_get}
 use Rattle.std.specs.declared.ops.Range.{Range}
 use Rattle.bib_entry.specs.declared.entry.Entry.{Entry}
-use Rattle.bib_contents.specs.Abbreviations.{Definitions}
+use Rattle.bib_abbreviations.specs.Abbreviations.{Definitions}
 use Rattle.bib_graph.specs.Graph.{HasNoCircle, IsFirstOnCircle}
 use Rattle.bib_maps.specs.Sorted.{ByText}
 use Rattle.bib_syntax.specs.Faults.{Refuses, out_of_memory}

@@ -28,10 +28,10 @@ use Rattle.bib_chunks.specs.declared.chunk.Chunk.{Chunk}
 use Rattle.bib_syntax.proofs.FileFacts.{file_same}
 use Rattle.bib_syntax.specs.Reading.{Part, part, Piece, FieldReading, EntryReading, FileReading}
 use Rattle.bib_syntax.specs.Reading.Piece.{literal}
-use Rattle.bib_contents.specs.Abbreviations.{Definitions, Evaluates, IsReadable, Reaches}
+use Rattle.bib_abbreviations.specs.Abbreviations.{Definitions, Evaluates, IsReadable, Reaches}
 use Rattle.bib_entry_types.specs.VerbatimFields.{is_verbatim_field}
 use Rattle.bib_contents.specs.Contents.{IsContent}
-use Rattle.bib_contents.specs.Joined.{ArePlaced}
+use Rattle.bib_styled.specs.Joined.{ArePlaced}
 use Rattle.bib_entry_types.specs.EntryType.{entry_type_of, biblatex_type}
 use Rattle.bib_maps.specs.Sorted.{by_bytes}
 use Rattle.bib_entry.specs.WrittenEntries.{biblatex_name, biblatex_entry, entries_text}

@@ -7,8 +7,8 @@ use Rattle.std.proofs.lemmas.Bool.{false≢true}
 use Rattle.std.proofs.lemmas.List.{append-nil, append_assoc}
 use Rattle.bib_chunks.specs.Styled.{styled}
 use Rattle.bib_chunks.specs.declared.chunk.Chunk.{Chunk}
-use Rattle.bib_contents.specs.Abbreviations.{Definitions}
-use Rattle.bib_contents.proofs.LawFacts.{evaluates_same}
+use Rattle.bib_abbreviations.specs.Abbreviations.{Definitions}
+use Rattle.bib_abbreviations.proofs.LawFacts.{evaluates_same}
 use Rattle.bib_entry.specs.declared.entry.Entry.{Entry}
 use Rattle.bib_graph.specs.Graph.{Graph, HasNoCircle, HasOneSolution, Leads, refs_of}
 use Rattle.bib_graph.proofs.Walks as walks

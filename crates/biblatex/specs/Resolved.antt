@@ -1,7 +1,7 @@
 -- Meaning: words of public contracts.
 -- What a file says as a bibliography, with what its entries inherit.
 use Rattle.std.specs.Prelude.{◌≡◌, ℕ, ◌<◌, ◌⊎◌, true, false, List, [], map, slice_get, Some}
-use Rattle.bib_contents.specs.Abbreviations.{AreOneFault}
+use Rattle.bib_abbreviations.specs.Abbreviations.{AreOneFault}
 use Rattle.bib_entry.specs.declared.entry.Entry.{Entry}
 use Rattle.bib_enums.specs.declared.type_error.TypeErrorKind.{TypeErrorKind}
 use Rattle.bib_graph.specs.Graph.{Graph, HasNoCircle, IsFirstOnCircle}

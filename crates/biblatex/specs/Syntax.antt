@@ -1,6 +1,6 @@
 -- Meaning: words of public contracts.
 -- The words of the layers below that contracts of this crate's users cite.
-pub use Rattle.bib_contents.specs.Abbreviations.{Evaluates, IsFirstFault, IsReadable, defined_in}
+pub use Rattle.bib_abbreviations.specs.Abbreviations.{Evaluates, IsFirstFault, IsReadable, defined_in}
 pub use Rattle.bib_contents.specs.Contents.{IsContent}
 pub use Rattle.bib_syntax.specs.Faults.{IsSyntaxFault, Refuses, error_text, out_of_memory}
 pub use Rattle.bib_syntax.specs.Grammar.{IsFile, IsRawReading}

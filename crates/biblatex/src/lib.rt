@@ -7,8 +7,9 @@ mod settled;
 pub mod sink;
 pub mod write;
 
+pub use bib_abbreviations::resolve::{FieldReader, is_verbatim_field, parse_field};
 pub use bib_chunks::chunk::{Chunk, Chunks, ChunksRef, Span, Spanned};
-pub use bib_contents::resolve::{FieldReader, is_escapable, is_verbatim_field, parse_field};
+pub use bib_contents::classes::is_escapable;
 pub use bib_dates::date::{Date, DateValue, Datetime, Time, TimeOffset};
 pub use bib_dates::separators::{parse_colon, parse_hyphen};
 pub use bib_entry::entry::Entry;

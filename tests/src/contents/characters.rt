@@ -1,6 +1,6 @@
 //! The characters whose meaning a backslash takes.
 
-use bib_contents::resolve::is_escapable;
+use bib_contents::classes::is_escapable;
 use std::alloc::{AllocError, Global};
 
 /// The characters of a text whose meaning a backslash takes, in a verbatim field or another, where a text is read or

@@ -1,5 +1,5 @@
 use Rattle.std.proofs.Common.{◌≡◌, List, ℕ, take}
-use Rattle.bib_contents.specs.Abbreviations.{sorted_in}
+use Rattle.bib_abbreviations.specs.Abbreviations.{sorted_in}
 use Rattle.bib_file_entries.specs.Loading.{last_definition}
 use Rattle.bib_file_entries.proofs.loading.definitions.Given as goal
 

@@ -3,7 +3,7 @@ use Rattle.std.specs.FinMap as by_name
 use Rattle.std.specs.List.{AllZip}
 use Rattle.std.proofs.lemmas.List.{take_all}
 use Rattle.std.proofs.lemmas.Result.{err_from_is_err_and}
-use Rattle.bib_contents.specs.Abbreviations.{given_by}
+use Rattle.bib_abbreviations.specs.Abbreviations.{given_by}
 use Rattle.bib_file_entries.proofs.LoadingFacts.{IsRead, IsFound, are_readable, found_last, read_more, refused_at}
 use Rattle.bib_file_entries.specs.Loading.{last_field}
 use Rattle.bib_file_entries.proofs.loading.read_entry.Goals as goal

@@ -1,6 +1,6 @@
 use Rattle.std.proofs.Common.{◌≡◌, take}
 use Rattle.std.specs.List.{AllZip}
-use Rattle.bib_contents.specs.Abbreviations.{given_by}
+use Rattle.bib_abbreviations.specs.Abbreviations.{given_by}
 use Rattle.bib_file_entries.proofs.LoadingFacts.{IsRead}
 use Rattle.bib_file_entries.proofs.loading.read_entry.Given as goal
 

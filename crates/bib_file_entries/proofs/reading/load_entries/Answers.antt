@@ -3,8 +3,8 @@ use Rattle.std.specs.FinMap.{get}
 use Rattle.std.specs.Vec.Iter.{into_iter_items}
 use Rattle.std.proofs.lemmas.List.{nil_from_length}
 use Rattle.std.proofs.lemmas.Result.{err_from_is_err_and}
-use Rattle.bib_contents.specs.Abbreviations.{given_by, sorted_in}
-use Rattle.bib_contents.proofs.AbbreviationFacts.{sorted_given}
+use Rattle.bib_abbreviations.specs.Abbreviations.{given_by, sorted_in}
+use Rattle.bib_abbreviations.proofs.AbbreviationFacts.{sorted_given}
 use Rattle.bib_file_entries.specs.Library.{claims}
 use Rattle.bib_maps.specs.Names.{claimed, claims_for}
 use Rattle.bib_file_entries.proofs.LoadedFacts.{loaded_none, loaded_next, loaded_all, fault_duplicate, fault_unreadable}

@@ -1,6 +1,6 @@
 use Rattle.std.proofs.Common.{◌≡◌, map}
 use Rattle.std.specs.Vec.Iter.{into_iter_items}
-use Rattle.bib_contents.specs.Abbreviations.{pairs_in, sorted_in}
+use Rattle.bib_abbreviations.specs.Abbreviations.{pairs_in, sorted_in}
 use Rattle.bib_syntax.specs.Views.{entry_of}
 use Rattle.bib_file_entries.proofs.LoadedFacts.{LoadedSoFar}
 use Rattle.bib_file_entries.proofs.reading.load_entries.Given as goal

@@ -1,0 +1,239 @@
+-- What pieces say, their first faults, and whether they can be read.
+use Rattle.std.proofs.Common.{◌≡◌, ℕ, suc, zero, ◌+◌, ◌<◌, ◌≤◌, List, [], ◌∷◌, refl, sym, ap, ◌∙◌, subst, inl, inr, arith, Some, None, Result, Ok, Err}
+use Rattle.std.specs.Prelude.{◌⊎◌, IfOk, IfErr, OnOk}
+use Rattle.std.specs.Prelude.{bytes_eq, if◌then◌else◌, option_map, Bool, true, false, map}
+use Rattle.std.specs.Borrow.{Bor}
+use Rattle.std.specs.BTreeMap.{BTreeMap}
+use Rattle.std.specs.Global.{Vec}
+use Rattle.std.specs.Map.{lookup}
+use Rattle.std.specs.Str.{chars}
+use Rattle.bib_text.specs.declared.spanned.Spanned.{Spanned}
+use Rattle.bib_syntax.specs.declared.raw.RawChunk.{RawChunk}
+use Rattle.bib_syntax.specs.Views.{piece_of}
+use Rattle.bib_chunks.specs.Styled.{Atom}
+use Rattle.bib_syntax.specs.declared.raw.ParseError.{ParseError}
+use Rattle.bib_contents.specs.Contents.{IsContent}
+use Rattle.bib_syntax.specs.Faults.{out_of_memory}
+use Rattle.bib_syntax.specs.Reading.{Part, Piece}
+use Rattle.bib_syntax.specs.Reading.Piece.{literal, abbreviation}
+use Rattle.bib_abbreviations.specs.Abbreviations.{Definitions, month, HoldsName, Reaches, IsKnown, AreRead, IsReadable, Evaluates, IsOnPath, IsFirstFault, definition_among, given_by, pairs_in, sorted_in}
+use Rattle.bib_abbreviations.specs.Abbreviations.{Reaches as reaches, Evaluates as evaluates, IsFirstFault as first_fault}
+
+-- how many steps it takes to say what pieces say
+abbrev pub steps : {definitions : Definitions} {is_verbatim : Bool} {pieces : List Piece} {atoms : List Atom} → Evaluates definitions is_verbatim pieces atoms → ℕ
+steps evaluates.none = 0
+steps (evaluates.text x rest) = suc (steps rest)
+steps (evaluates.defined d x rest) = suc (steps x + steps rest)
+steps (evaluates.month_name d m rest) = suc (steps rest)
+
+-- a definition that says something, in fewer steps than so many
+pub record SaysWithin (definitions : Definitions) (is_verbatim : Bool) (name : List ℕ) (limit : ℕ) : Type 0 where
+  pub definition : List Piece
+  pub atoms : List Atom
+  pub is : definitions name ≡ Some definition
+  pub says : Evaluates definitions is_verbatim definition atoms
+  pub within : steps says < limit
+
+-- a name that is not defined, and is the start of a month
+pub record IsMonth (definitions : Definitions) (name : List ℕ) : Type 0 where
+  pub english : List ℕ
+  pub absent : definitions name ≡ None
+  pub is : month name ≡ Some english
+
+-- a name that stands for something
+abbrev pub StandsWithin : Definitions → Bool → List ℕ → ℕ → Type 0
+StandsWithin definitions is_verbatim name limit = SaysWithin definitions is_verbatim name limit ⊎ IsMonth definitions name
+
+module _ {definitions : Definitions} {is_verbatim : Bool} where
+  more_steps : {name : List ℕ} {few many : ℕ} → few ≤ many → StandsWithin definitions is_verbatim name few → StandsWithin definitions is_verbatim name many
+  more_steps below (inl x) = inl (record { definition = x.definition; atoms = x.atoms; is = x.is; says = x.says; within = omega arith })
+  more_steps below (inr x) = inr x
+
+  -- each name among pieces that say something stands for something, in fewer steps
+  pub name_stands : {pieces : List Piece} {atoms : List Atom} {name : List ℕ} (x : Evaluates definitions is_verbatim pieces atoms) → HoldsName pieces name
+      → StandsWithin definitions is_verbatim name (steps x)
+  name_stands evaluates.none held = absurd held
+  name_stands (evaluates.text x rest) held = more_steps (omega arith) (name_stands rest held)
+  name_stands (evaluates.defined {definition = definition} {first = first} d x rest) (inl same) =
+      inl (record { definition = definition; atoms = first; is = ap definitions (sym same) ∙ d; says = x; within = omega arith })
+  name_stands (evaluates.defined d x rest) (inr held) = more_steps (omega arith) (name_stands rest held)
+  name_stands (evaluates.month_name {english = english} d m rest) (inl same) =
+      inr (record { english = english; absent = ap definitions (sym same) ∙ d; is = ap month (sym same) ∙ m })
+  name_stands (evaluates.month_name d m rest) (inr held) = more_steps (omega arith) (name_stands rest held)
+
+  -- each text among pieces that say something is read
+  pub text_read : {pieces : List Piece} {atoms : List Atom} → Evaluates definitions is_verbatim pieces atoms → AreRead is_verbatim pieces
+  text_read evaluates.none text held = absurd held
+  text_read (evaluates.text {first = first} x rest) text (inl same) = (first, subst (λ t. IsContent is_verbatim (chars t) first) same x)
+  text_read (evaluates.text x rest) text (inr held) = text_read rest text held
+  text_read (evaluates.defined d x rest) text held = text_read rest text held
+  text_read (evaluates.month_name d m rest) text held = text_read rest text held
+
+  stands_behind : {name next : List ℕ} {definition : List Piece} {limit : ℕ} → StandsWithin definitions is_verbatim name limit → definitions name ≡ Some definition
+      → HoldsName definition next → StandsWithin definitions is_verbatim next limit
+  stands_behind {next = next} {definition = definition} (inl x) d held =
+      let same : definition ≡ x.definition = cc (d, x.is) in
+      more_steps (omega (arith, x.within)) (name_stands x.says (subst (λ pieces. HoldsName pieces next) same held))
+  stands_behind (inr x) d held = absurd (cc (d, x.absent))
+
+  -- each name that pieces reach which say something stands for something, in fewer steps
+  pub reached_stands : {pieces : List Piece} {atoms : List Atom} {name : List ℕ} (x : Evaluates definitions is_verbatim pieces atoms) → Reaches definitions pieces name
+      → StandsWithin definitions is_verbatim name (steps x)
+  reached_stands x (reaches.held held) = name_stands x held
+  reached_stands x (reaches.through reached d held) = stands_behind (reached_stands x reached) d held
+
+  circle_step : {name : List ℕ} {definition : List Piece} {bound : ℕ} (limit : ℕ) → definitions name ≡ Some definition → bound ≤ limit
+      → Reaches definitions definition name
+      → ((other : List Piece) (atoms : List Atom) (y : Evaluates definitions is_verbatim other atoms) → definitions name ≡ Some other → steps y < limit
+      → Reaches definitions other name → ⊥)
+      → StandsWithin definitions is_verbatim name bound → ⊥
+  circle_step {name} {definition} limit d below reached next (inl y) =
+      let same : definition ≡ y.definition = cc (d, y.is) in
+      next y.definition y.atoms y.says y.is (omega (arith, y.within)) (subst (λ pieces. Reaches definitions pieces name) same reached)
+  circle_step limit d below reached next (inr y) = absurd (cc (d, y.absent))
+
+  -- a name whose definition says something is not reached from its definition
+  pub no_circle_at : {name : List ℕ} (limit : ℕ) (definition : List Piece) (atoms : List Atom) (x : Evaluates definitions is_verbatim definition atoms)
+      → definitions name ≡ Some definition → steps x < limit → Reaches definitions definition name → ⊥
+  no_circle_at zero definition atoms x d below reached = absurd (omega arith)
+  no_circle_at (suc limit) definition atoms x d below reached =
+      circle_step limit d (omega arith) reached (λ other more y. no_circle_at limit other more y) (reached_stands x reached)
+
+  known_by : {name : List ℕ} {limit : ℕ} → StandsWithin definitions is_verbatim name limit → IsKnown definitions name
+  known_by (inl x) = inl (x.definition, x.is)
+  known_by (inr x) = inr (x.english, x.is)
+
+  circle_by : {name : List ℕ} {definition : List Piece} {limit : ℕ} → definitions name ≡ Some definition → Reaches definitions definition name
+      → StandsWithin definitions is_verbatim name limit → ⊥
+  circle_by {limit = limit} d reached x = circle_step limit d (omega arith) reached (λ other more y. no_circle_at limit other more y) x
+
+  texts_by : {name : List ℕ} {definition : List Piece} {limit : ℕ} → definitions name ≡ Some definition → StandsWithin definitions is_verbatim name limit
+      → AreRead is_verbatim definition
+  texts_by {definition = definition} d (inl x) =
+      let same : x.definition ≡ definition = cc (d, x.is) in
+      subst (λ pieces. AreRead is_verbatim pieces) same (text_read x.says)
+  texts_by d (inr x) = absurd (cc (d, x.absent))
+
+  -- pieces that say something can be read
+  pub readable : {field : List Piece} {atoms : List Atom} → Evaluates definitions is_verbatim field atoms → IsReadable definitions is_verbatim field
+  readable x = record {
+    known = λ name reached. known_by (reached_stands x reached);
+    no_circle = λ name definition reached d again. circle_by d again (reached_stands x reached);
+    texts = text_read x;
+    inner_texts = λ name definition reached d. texts_by d (reached_stands x reached);
+  }
+
+-- a field reaches a name, and its definition reaches what these pieces hold
+pub record Leads (definitions : Definitions) (field : List Piece) (name : List ℕ) (pieces : List Piece) : Type 0 where
+  pub definition : List Piece
+  pub is : definitions name ≡ Some definition
+  pub reached : Reaches definitions field name
+  pub leads : (next : List ℕ) → HoldsName pieces next → Reaches definitions definition next
+
+-- pieces that are met on a path of names, from the pieces of a field that can be read
+pub record IsMet (definitions : Definitions) (is_verbatim : Bool) (field : List Piece) (path : List (List ℕ)) (pieces : List Piece) : Type 0 where
+  pub names : (name : List ℕ) → HoldsName pieces name → Reaches definitions field name
+  pub texts : AreRead is_verbatim pieces
+  pub on_path : (name : List ℕ) → IsOnPath path name → Leads definitions field name pieces
+
+-- a definition of a name that a field reaches leads on to what the definition holds
+leads_inside : {definitions : Definitions} {field rest definition : List Piece} (name met : List ℕ) (path : List (List ℕ)) → definitions met ≡ Some definition
+    → Reaches definitions field met → ((other : List ℕ) → IsOnPath path other → Leads definitions field other rest) → HoldsName rest met
+    → IsOnPath (met ∷ path) name → Leads definitions field name definition
+leads_inside {definitions} {field} {definition = definition} name met path d reached before held (inl same) = record {
+  definition = definition;
+  is = ap definitions (sym same) ∙ d;
+  reached = subst (λ n. Reaches definitions field n) same reached;
+  leads = λ next h. reaches.held h;
+}
+leads_inside name met path d reached before held (inr on) = let l = before name on in record {
+  definition = l.definition;
+  is = l.is;
+  reached = l.reached;
+  leads = λ next h. reaches.through (l.leads _ held) d h;
+}
+
+unknown_clash : (definitions : Definitions) (name : List ℕ) → IsKnown definitions name → definitions name ≡ None → month name ≡ None → ⊥
+unknown_clash definitions name (inl x) d m = cc (d, x.1)
+unknown_clash definitions name (inr x) d m = cc (m, x.1)
+
+module _ {definitions : Definitions} {is_verbatim : Bool} {field : List Piece} where
+  met_inside : {p : Part} {path : List (List ℕ)} {rest definition : List Piece} → IsReadable definitions is_verbatim field
+      → IsMet definitions is_verbatim field path (abbreviation p ∷ rest) → definitions p.text ≡ Some definition
+      → IsMet definitions is_verbatim field (p.text ∷ path) definition
+  met_inside {p} {definition = definition} can met d = let reached = met.names p.text (inl refl) in record {
+    names = λ name held. reaches.through reached d held;
+    texts = can.inner_texts p.text definition reached d;
+    on_path = λ name on. leads_inside name p.text _ d reached met.on_path (inl refl) on;
+  }
+
+  met_behind : {path : List (List ℕ)} {piece : Piece} {rest : List Piece} → IsMet definitions is_verbatim field path (piece ∷ rest)
+      → IsMet definitions is_verbatim field path rest
+  met_behind {piece = literal p} met = record {
+    names = λ name held. met.names name held;
+    texts = λ text held. met.texts text (inr held);
+    on_path = λ name on. let l = met.on_path name on in record { definition = l.definition; is = l.is; reached = l.reached; leads = λ next held. l.leads next held };
+  }
+  met_behind {piece = abbreviation p} met = record {
+    names = λ name held. met.names name (inr held);
+    texts = λ text held. met.texts text held;
+    on_path = λ name on. let l = met.on_path name on in record { definition = l.definition; is = l.is; reached = l.reached; leads = λ next held. l.leads next (inr held) };
+  }
+
+  no_fault_met : {path : List (List ℕ)} {pieces : List Piece} {e : ParseError} → IsReadable definitions is_verbatim field
+      → IsMet definitions is_verbatim field path pieces → IsFirstFault definitions is_verbatim path pieces e → ⊥
+  no_fault_met can met (first_fault.unread {p = p} none kind place) = let x = met.texts p.text (inl refl) in none x.0 x.1
+  no_fault_met can met (first_fault.unknown {p = p} d m is) = unknown_clash definitions p.text (can.known p.text (met.names p.text (inl refl))) d m
+  no_fault_met can met (first_fault.circle {p = p} on is) = let l = met.on_path p.text on in can.no_circle p.text l.definition l.reached l.is (l.leads p.text (inl refl))
+  no_fault_met can met (first_fault.inside off d fault) = no_fault_met can (met_inside can met d) fault
+  no_fault_met can met (first_fault.behind x fault) = no_fault_met can (met_behind met) fault
+
+  -- a field with a first fault can't be read
+  pub not_readable : {e : ParseError} → IsFirstFault definitions is_verbatim [] field e → IsReadable definitions is_verbatim field → ⊥
+  not_readable fault can = no_fault_met can (record { names = λ name held. reaches.held held; texts = can.texts; on_path = λ name on. absurd on }) fault
+
+-- what was read can be read
+pub read_is_readable : {T E : Type 0} (definitions : Definitions) (is_verbatim same_rule : Bool) (field : List Piece) (said : T → List Atom) (r : Result T E) → is_verbatim ≡ same_rule
+    → IfOk r (λ x. Evaluates definitions is_verbatim field (said x)) → OnOk r (IsReadable definitions same_rule field)
+read_is_readable definitions is_verbatim same_rule field said (Ok x) same read = subst (λ v. IsReadable definitions v field) same (readable read)
+read_is_readable definitions is_verbatim same_rule field said (Err e) same read = tt
+
+-- what was refused can't be read
+pub refused_not_readable : {T : Type 0} (definitions : Definitions) (is_verbatim same_rule : Bool) (field : List Piece) (r : Result T ParseError) → is_verbatim ≡ same_rule
+    → IfErr r (λ e. (e ≡ out_of_memory) ⊎ IsFirstFault definitions is_verbatim [] field e)
+    → IfErr r (λ e. (e ≡ out_of_memory) ⊎ (IsFirstFault definitions same_rule [] field e × (IsReadable definitions same_rule field → ⊥)))
+refused_not_readable definitions is_verbatim same_rule field (Ok x) same refused = tt
+refused_not_readable definitions is_verbatim same_rule field (Err e) same (inl memory) = inl memory
+refused_not_readable definitions is_verbatim same_rule field (Err e) same (inr fault) =
+    let moved = subst (λ v. IsFirstFault definitions v [] field e) same fault in inr (moved, not_readable moved)
+
+-- definitions that are the same at each name
+pub definitions_same : {one two : Definitions} → ((name : List ℕ) → one name ≡ two name) → one ≡ two
+definitions_same same = λ i. λ name. same name i
+
+-- the definitions of a sorted map are those of its pairs
+given_among : (es : List (Bor (List ℕ) × Bor (Vec (Spanned RawChunk)))) (name : List ℕ)
+    → definition_among es name ≡ given_by (map (λ e. (e.0.now, map piece_of e.1.now.items)) es) name
+given_among [] name = refl
+given_among (e ∷ es) name =
+    elim (bytes_eq name e.0.now) as (λ b. option_map (λ (f : Bor (Vec (Spanned RawChunk))). map piece_of f.now.items) (if b then Some e.1 else lookup (λ key. bytes_eq name key.now) es)
+    ≡ (if b then Some (map piece_of e.1.now.items) else given_by (map (λ e. (e.0.now, map piece_of e.1.now.items)) es) name)) [
+      | true ↦ refl
+      | false ↦ given_among es name
+    ]
+
+pub sorted_given : (m : BTreeMap (Bor (List ℕ)) (Bor (Vec (Spanned RawChunk)))) → sorted_in m ≡ given_by (pairs_in m)
+sorted_given m = definitions_same (given_among m.entries)
+
+-- what was read with definitions that are the same, by a rule that is the same, and what was refused
+pub read_same_rule : {T E : Type 0} (definitions same_definitions : Definitions) (is_verbatim same_rule : Bool) (field : List Piece) (said : T → List Atom) (r : Result T E)
+    → definitions ≡ same_definitions → is_verbatim ≡ same_rule
+    → IfOk r (λ x. Evaluates definitions is_verbatim field (said x)) → IfOk r (λ x. Evaluates same_definitions same_rule field (said x))
+read_same_rule definitions same_definitions is_verbatim same_rule field said r same rule read =
+    subst (λ v. IfOk r (λ x. Evaluates same_definitions v field (said x))) rule (subst (λ d. IfOk r (λ x. Evaluates d is_verbatim field (said x))) same read)
+
+pub refused_same_rule : {T : Type 0} (definitions same_definitions : Definitions) (is_verbatim : Bool) (field : List Piece) (r : Result T ParseError) → definitions ≡ same_definitions
+    → IfErr r (λ e. (e ≡ out_of_memory) ⊎ IsFirstFault definitions is_verbatim [] field e)
+    → IfErr r (λ e. (e ≡ out_of_memory) ⊎ IsFirstFault same_definitions is_verbatim [] field e)
+refused_same_rule definitions same_definitions is_verbatim field r same refused =
+    subst (λ d. IfErr r (λ e. (e ≡ out_of_memory) ⊎ IsFirstFault d is_verbatim [] field e)) same refused

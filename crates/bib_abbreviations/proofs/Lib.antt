@@ -1,0 +1,3 @@
+pub mod AbbreviationFacts
+pub mod ExpansionFacts
+pub mod LawFacts

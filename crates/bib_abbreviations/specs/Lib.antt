@@ -1,0 +1,2 @@
+pub mod Abbreviations
+pub mod Expanding

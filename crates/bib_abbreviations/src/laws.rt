@@ -1,0 +1,25 @@
+//! Laws of abbreviations. These functions do nothing: what they ensure is proved of the definitions alone.
+
+ghost use Rattle.std.specs.Prelude.{◌≡◌, Bool, List, []};
+ghost use Rattle.bib_chunks.specs.Styled.{Atom};
+ghost use Rattle.bib_abbreviations.specs.Abbreviations.{AreOneFault, Definitions, Evaluates, IsFirstFault};
+ghost use Rattle.bib_syntax.specs.Reading.{Piece};
+ghost use Rattle.bib_syntax.specs.declared.raw.ParseError.{ParseError};
+
+/// Elements say at most one styled text, whatever the abbreviations in them.
+pub fn one_value()
+    ensures { (definitions : Definitions) (is_verbatim : Bool) (pieces : List Piece)
+        (first second : List Atom) → Evaluates definitions is_verbatim pieces first →
+        Evaluates definitions is_verbatim pieces second → first ≡ second }
+{}
+
+/// Elements that say something have no first fault, and others have at most one: its kind, and for a name its place. Of a
+/// text that can't be read the kind, one of two, and the place stay open.
+pub fn one_fault()
+    ensures none { (definitions : Definitions) (is_verbatim : Bool) (pieces : List Piece)
+        (atoms : List Atom) (e : ParseError) → Evaluates definitions is_verbatim pieces atoms →
+        IsFirstFault definitions is_verbatim [] pieces e → ⊥ }
+    ensures one { (definitions : Definitions) (is_verbatim : Bool) (pieces : List Piece)
+        (first second : ParseError) → IsFirstFault definitions is_verbatim [] pieces first →
+        IsFirstFault definitions is_verbatim [] pieces second → AreOneFault first second }
+{}

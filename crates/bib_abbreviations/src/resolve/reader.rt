@@ -1,0 +1,88 @@
+//! Fields that are read one after another.
+
+ghost use Rattle.std.specs.Prelude.{◌≡◌, ◌+◌, ◌⊎◌, [], ◌∷◌, map, length, OnOk, IfOk, IfErr};
+ghost use Rattle.bib_chunks.specs.Styled.{styled};
+ghost use Rattle.bib_abbreviations.specs.Abbreviations.{Evaluates, IsFirstFault, IsReadable, given_by, pairs_in};
+ghost use Rattle.bib_syntax.specs.Faults.{out_of_memory};
+ghost use Rattle.bib_styled.specs.Joined.{AreJoined, ArePlaced};
+ghost use Rattle.bib_syntax.specs.Reading.{Part};
+ghost use Rattle.bib_syntax.specs.Reading.Piece.{literal};
+ghost use Rattle.bib_syntax.specs.Views.{piece_of};
+ghost use Rattle.bib_entry_types.specs.VerbatimFields as names;
+
+use crate::resolve::abbreviations::{Memo, Source};
+use crate::resolve::definitions::LookUp;
+use bib_chunks::chunk::Chunks;
+use bib_entry_types::fields::is_verbatim_field;
+use bib_syntax::raw::{Field, ParseError};
+use std::alloc::Global;
+use std::collections::BTreeMap;
+use std::marker::Model;
+
+/// Reads the contents of fields, one after another, with the same definitions of abbreviations. What a definition says
+/// is read once for verbatim fields and once for others, however many fields use it. Contracts see the names that are
+/// defined, each with its definition.
+#[derive(Drop)]
+pub struct FieldReader<'f, 's> {
+    alloc: Global,
+    definitions: BTreeMap<&'s str, &'f Field<'s>>,
+    verbatim: Memo<'s>,
+    others: Memo<'s>,
+}
+
+impl<'f, 's> Model for FieldReader<'f, 's> {
+    ghost use Rattle.std.specs.Prelude.{ℕ, List, true, false, []};
+    ghost use Rattle.bib_abbreviations.specs.Abbreviations.{pairs_in, sorted_in};
+    ghost use Rattle.bib_abbreviations.specs.Expanding.{IsSound};
+    ghost use Rattle.bib_syntax.specs.Reading.{Piece};
+
+    ghost Value = { List (List ℕ × List Piece) };
+
+    ghost view = { λ a. pairs_in a.definitions };
+
+    ghost invariant = { λ a. IsSound (sorted_in a.definitions) true a.verbatim [] × IsSound (sorted_in a.definitions) false a.others [] };
+}
+
+impl<'f, 's> FieldReader<'f, 's> {
+    /// No field was read yet. Takes no memory.
+    pub fn new(alloc: Global, definitions: BTreeMap<&'s str, &'f Field<'s>>) -> Self
+        ensures { result ≡ pairs_in definitions.entry }
+    {
+        FieldReader {
+            alloc,
+            definitions,
+            verbatim: Memo::new(alloc),
+            others: Memo::new(alloc),
+        }
+    }
+
+    /// Reads the contents of a field with this name, as `parse_field` does.
+    pub fn read(&mut self, key: &str, field: &Field<'s>) -> Result<Chunks, ParseError>
+        ensures same { self.new ≡ self.old }
+        ensures read { IfOk result (λ chunks. Evaluates (given_by self.old)
+            (names.is_verbatim_field key.now) (map piece_of field.now.items)
+            (styled chunks)) }
+        ensures readable { OnOk result (IsReadable (given_by self.old)
+            (names.is_verbatim_field key.now) (map piece_of field.now.items)) }
+        ensures refused { IfErr result (λ e. (e ≡ out_of_memory) ⊎
+            (IsFirstFault (given_by self.old) (names.is_verbatim_field key.now) []
+            (map piece_of field.now.items) e ×
+            (IsReadable (given_by self.old) (names.is_verbatim_field key.now)
+            (map piece_of field.now.items) → ⊥))) }
+        ensures joined { IfOk result AreJoined }
+        ensures placed { (p : Part) → map piece_of field.now.items ≡ literal p ∷ [] →
+            p.end ≡ p.start + length p.text → IfOk result (ArePlaced p.start p.end) }
+    {
+        let is_verbatim = is_verbatim_field(key);
+        let source = Source {
+            alloc: self.alloc,
+            definitions: LookUp::Sorted(&self.definitions),
+            is_verbatim,
+        };
+        if is_verbatim {
+            source.read(&mut self.verbatim, field)
+        } else {
+            source.read(&mut self.others, field)
+        }
+    }
+}

@@ -1,0 +1,11 @@
+use Rattle.std.proofs.Common.{length}
+use Rattle.bib_contents.specs.Passing.{left}
+use Rattle.bib_contents.proofs.ReadingContents.{Reading}
+use Rattle.bib_contents.proofs.contents.contents.Given as goal
+
+-- what was read, and where
+abbrev pub invariant-units : goal.invariant-units
+invariant-units l = Reading l.is_verbatim l.text l.offset l.initial.out l.s l.growing l.out
+
+abbrev pub decreases-units : goal.decreases-units
+decreases-units l = length (left l.s)

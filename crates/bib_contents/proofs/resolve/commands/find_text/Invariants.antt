@@ -1,8 +1,0 @@
-use Rattle.std.proofs.Common.{◌≡◌, map, drop}
-use Rattle.bib_text.specs.Enums.{named}
-use Rattle.bib_contents.proofs.resolve.commands.find_text.Given as goal
-
--- no row before this one has the name
-abbrev pub invariant-rows : goal.invariant-rows
-invariant-rows l =
-    named (map (λ row. (row.0.now, row.1.now)) (drop l.row_name-index l.table)) l.name ≡ named (map (λ row. (row.0.now, row.1.now)) l.table) l.name

@@ -1,8 +1,0 @@
-use Rattle.std.proofs.Common.{◌∙◌, ap}
-use Rattle.bib_text.specs.Enums.{named}
-use Rattle.bib_contents.specs.Commands.{symbols}
-use Rattle.bib_contents.proofs.CommandFacts.{symbols_are, named_encoded}
-use Rattle.bib_contents.proofs.resolve.commands.symbol.Goals as goal
-
-pub returns : goal.returns
-returns c = c.find_text.ensures ∙ ap (λ rows. named rows c.args.name.now) symbols_are ∙ named_encoded symbols c.args.name.now c.utf8.name

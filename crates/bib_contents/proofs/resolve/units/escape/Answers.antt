@@ -1,6 +1,0 @@
-use Rattle.bib_contents.specs.Passing.{left}
-use Rattle.bib_contents.proofs.CommandUnitFacts.{no_escape}
-use Rattle.bib_contents.proofs.resolve.units.escape.Goals as goal
-
-pub returns-in_default-clause-found : goal.returns-in_default-clause-found
-returns-in_default-clause-found c = no_escape (left c.args.s.now) c.args.is_verbatim c.in_default.ensures c.if-is_verbatim.false

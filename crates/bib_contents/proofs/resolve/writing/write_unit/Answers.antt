@@ -1,7 +1,0 @@
-use Rattle.std.proofs.lemmas.Str.{chars-nil}
-use Rattle.bib_contents.specs.declared.resolve.units.Argument.TheVariants as given
-use Rattle.bib_contents.proofs.TakingFacts.{command_is}
-use Rattle.bib_contents.proofs.resolve.writing.write_unit.Goals as goal
-
-pub returns-in_ok-write_command-in-Empty : goal.returns-in_ok-write_command-in-Empty
-returns-in_ok-write_command-in-Empty c = rw (command_is given.Empty c.in-Command.is c.in-Empty.is) (rw chars-nil at c.in_ok-write_command-in-Empty.ensures)

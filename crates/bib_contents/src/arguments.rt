@@ -1,0 +1,205 @@
+//! Arguments in braces: those that stand in one another are read by a stack, and one text grows.
+
+ghost use Rattle.std.specs.Prelude.{◌≡◌, ◌+◌, ◌-◌, ◌≤◌, ◌<◌, ◌^◌, ◌⊎◌, ◌||◌, ◌==◌, ℕ, List, ◌++◌, length, false, true, IfOk, IfErr, OnOk, Some, string_bytes, encode_utf8_all};
+ghost use Rattle.std.specs.Str.{chars};
+ghost use Rattle.bib_chunks.specs.Formatted.{formatted_atoms};
+ghost use Rattle.bib_chunks.specs.Styled.{Atom};
+ghost use Rattle.bib_chunks.specs.Writing.{Writes};
+ghost use Rattle.bib_contents.specs.Arguments.{AreKnown, IsKept, IsReadOn, IsReadTo, IsShorterThan, StandsIn, StandsRight};
+ghost use Rattle.bib_contents.specs.Commands.{given};
+ghost use Rattle.bib_contents.specs.Contents.{IsNext, IsUnread, Reads, is_name, StaysBetween, saturated};
+ghost use Rattle.bib_contents.specs.Effects.{IsFit, made, made_before};
+ghost use Rattle.bib_contents.specs.Passing.{IsStuck, left};
+ghost use Rattle.bib_contents.specs.UnitViews.{unit_of};
+ghost use Rattle.bib_syntax.specs.Faults.{out_of_memory};
+
+use crate::characters::Characters;
+use crate::classes::is_ordinary;
+use crate::commands::Effect;
+use crate::ends::Ends;
+use crate::faults::{ended, unopened};
+use crate::units::{Unit, eat_unit};
+use crate::writing::{write_math, write_unit};
+use bib_syntax::raw::ParseError;
+use std::alloc::{AllocError, Global};
+
+// An argument that is being read: what is left of it, what its command makes of it, where its text begins in what is
+// written, how many braces are open in it, and whether an argument around it is put on one line.
+#[derive(Drop)]
+struct Frame<'s> {
+    s: Characters<'s>,
+    effect: Effect,
+    start: usize,
+    depth: usize,
+    is_flat: bool,
+}
+
+// What stood next in an argument.
+enum Next<'s> {
+    // A unit, which was read.
+    Read,
+    // A command with an argument in braces, which is still to be read.
+    Follows(&'s str, Characters<'s>),
+    // The end.
+    End,
+}
+
+impl<'s> Frame<'s> {
+    // Begins an argument.
+    fn open(
+        text: &mut String,
+        name: &str,
+        inside: Characters<'s>,
+        is_flat: bool,
+    ) -> Result<Self, AllocError>
+        ensures frame { IfOk result (λ frame. (frame.s ≡ inside.entry) × (frame.depth ≡ 0) ×
+            (frame.is_flat ≡ is_flat)) }
+        ensures wrote { IfOk result (λ frame. Writes text.old text.new
+            (made_before frame.effect (chars name.now)) ×
+            (frame.start ≡ length (string_bytes text.new))) }
+        ensures made { IfOk result (λ frame. (argument : List ℕ) →
+            given (chars name.now) (Some argument) ≡ made frame.effect (chars name.now) argument) }
+        ensures fit { IfOk result (λ frame. IsFit frame.effect) }
+    {
+        let effect = Effect::of(name);
+        effect.begin(text, name)?;
+        Ok(Frame {
+            s: inside,
+            effect,
+            start: text.len(),
+            depth: 0,
+            is_flat,
+        })
+    }
+
+    // Whether characters that stand here are put on one line.
+    fn is_flat_here(&self) -> bool
+        ensures { result ≡ (self.now.is_flat || self.now.depth == 0) }
+    {
+        self.is_flat || self.depth == 0
+    }
+
+    // Reads what stands next.
+    fn next(
+        &mut self,
+        text: &mut String,
+        alloc: Global,
+        ends: &Ends,
+        offset: usize,
+    ) -> Result<Next<'s>, ParseError>
+        requires known { AreKnown ends.now self.old.s.text }
+        requires right { StandsRight self.old }
+        ensures kept { OnOk result (IsKept self.old self.new) }
+        ensures right { OnOk result (StandsRight self.new) }
+        ensures read { (whole base : List ℕ) →
+            IsReadTo self.old.is_flat whole base (left self.old.s) self.old.depth
+            (string_bytes text.old) →
+            IfOk result (IsReadOn whole base self.new (string_bytes text.new)) }
+        ensures shorter { IfOk result (IsShorterThan (length (left self.old.s)) self.old.s.text
+            self.old.s.at self.new.s) }
+        ensures refused { (whole base : List ℕ) →
+            IsReadTo self.old.is_flat whole base (left self.old.s) self.old.depth
+            (string_bytes text.old) →
+            IfErr result (λ e. (e ≡ out_of_memory) ⊎ (IsUnread e.kind × IsStuck false 0 whole)) }
+        ensures within { offset + length self.old.s.text < 2 ^ 64 →
+            IfErr result (StaysBetween (offset + self.old.s.at) (offset + length self.old.s.text)) }
+    {
+        let run = self.s.eat_while(|c| is_ordinary(false, c));
+        text.push_str(run)?;
+        if self.s.done() {
+            return Ok(Next::End);
+        }
+        let start = self.s.cursor();
+        let Some(unit) = eat_unit(&mut self.s, false, ends) else {
+            return Err(ended(offset.saturating_add(self.s.len())));
+        };
+        let end = offset.saturating_add(start);
+        let behind = offset.saturating_add(self.s.cursor());
+        let next = self.take(text, alloc, unit, end, behind)?;
+        Ok(next)
+    }
+
+    // Takes a unit that stands from `start` to `end` in the file.
+    fn take(
+        &mut self,
+        text: &mut String,
+        alloc: Global,
+        unit: Unit<'s>,
+        start: usize,
+        end: usize,
+    ) -> Result<Next<'s>, ParseError>
+        requires deep { self.old.depth < 2 ^ 63 }
+        ensures cursor { self.new.s ≡ self.old.s }
+        ensures kept { IsKept self.old self.new }
+        ensures deep { self.new.depth ≤ self.old.depth + 1 }
+        ensures read { (whole base before : List ℕ) →
+            IsNext false (unit_of unit.entry) before (left self.old.s) →
+            IsReadTo self.old.is_flat whole base before self.old.depth (string_bytes text.old) →
+            IfOk result (IsReadOn whole base self.new (string_bytes text.new)) }
+        ensures shorter { (before : List ℕ) (low : ℕ) →
+            IsNext false (unit_of unit.entry) before (left self.old.s) →
+            StandsIn self.old.s.text low unit.entry self.old.s.at →
+            IfOk result (IsShorterThan (length before) self.old.s.text low self.new.s) }
+        ensures refused { (whole base before : List ℕ) →
+            IsNext false (unit_of unit.entry) before (left self.old.s) →
+            IsReadTo self.old.is_flat whole base before self.old.depth (string_bytes text.old) →
+            IfErr result (λ e. (e ≡ out_of_memory) ⊎ (IsUnread e.kind × IsStuck false 0 whole)) }
+        ensures within { start ≤ end → IfErr result (StaysBetween start end) }
+    {
+        match unit {
+            Unit::Shown(shown) => write_unit(text, shown, self.is_flat_here())?,
+            Unit::Applied(name, _, inside) => return Ok(Next::Follows(name, inside)),
+            Unit::Formula(math) => write_math(text, alloc, math, self.is_flat)?,
+            Unit::Opening => self.depth += 1,
+            Unit::Closing => {
+                if self.depth == 0 {
+                    return Err(unopened(start, end));
+                }
+                self.depth -= 1;
+            }
+        }
+        Ok(Next::Read)
+    }
+}
+
+// Reads the argument of a command, in a piece that stands at `offset` in the file, and writes what the command stands
+// for.
+pub(crate) fn write_applied(
+    text: &mut String,
+    alloc: Global,
+    name: &str,
+    inside: Characters<'_>,
+    offset: usize,
+) -> Result<(), ParseError>
+    requires named { is_name (chars name.now) ≡ true }
+    requires place { inside.at ≤ length inside.text }
+    ensures read { OnOk result ((inner : List Atom) × Reads false 0 (left inside.entry) inner ×
+        Writes text.old text.new (given (chars name.now) (Some (formatted_atoms false inner)))) }
+    ensures refused { IfErr result (λ e. (e ≡ out_of_memory) ⊎
+        (IsUnread e.kind × IsStuck false 0 (left inside.entry))) }
+    ensures within { offset + length inside.entry.text < 2 ^ 64 →
+        IfErr result (StaysBetween (offset + inside.entry.at)
+        (offset + length inside.entry.text)) }
+{
+    let ends = Ends::of(alloc, &inside)?;
+    let mut frames = Vec::new(alloc);
+    let mut frame = Frame::open(text, name, inside, false)?;
+    'units: loop {
+        let next = frame.next(text, alloc, &ends, offset)?;
+        match next {
+            Next::Read => {}
+            Next::Follows(name, inside) => {
+                let above = Frame::open(text, name, inside, frame.is_flat_here())?;
+                frames.push(frame)?;
+                frame = above;
+            }
+            Next::End => {
+                frame.effect.end(text, frame.start)?;
+                let Some(below) = frames.pop() else {
+                    return Ok(());
+                };
+                frame = below;
+            }
+        }
+    }
+}

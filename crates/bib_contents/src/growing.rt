@@ -1,0 +1,101 @@
+//! The chunk that a reader of contents is in.
+
+ghost use Rattle.std.specs.Prelude.{◌≡◌, ◌∷◌, [], ◌++◌, ◌+◌, ◌≤◌, ℕ, map, OnOk, string_bytes};
+ghost use Rattle.std.specs.Str.{chars};
+ghost use Rattle.bib_chunks.specs.Styled.{Atom, atoms_of, styled};
+ghost use Rattle.bib_contents.specs.Contents.{character};
+ghost use Rattle.bib_styled.specs.Joined.{AreJoined, ArePlaced};
+ghost use Rattle.bib_contents.specs.Passing.{so_far};
+
+use bib_chunks::chunk::{Chunk, Chunks, Span, Spanned};
+use bib_styled::joining::append;
+use bib_text::text::Text;
+use std::alloc::AllocError;
+
+// A chunk that grows: its text, how many braces are open in it, and where it begins.
+#[derive(Drop)]
+pub(crate) struct Open {
+    pub(crate) text: String,
+    pub(crate) depth: usize,
+    pub(crate) start: usize,
+    // Whether nothing was finished before it.
+    pub(crate) is_first: bool,
+}
+
+// The chunk with this text where so many braces are open.
+fn chunk_of(depth: usize, text: String) -> Chunk
+    ensures { atoms_of result ≡ map (character depth) (chars (string_bytes text)) }
+{
+    if depth == 0 {
+        return Chunk::Normal(Text::from_string(text));
+    }
+    Chunk::Verbatim(Text::from_string(text))
+}
+
+// Finishes the chunk at a brace or math that stands from `end` to `behind`, and begins one with so many braces open.
+pub(crate) fn turn(
+    out: &mut Chunks,
+    growing: &mut Open,
+    end: usize,
+    depth: usize,
+    behind: usize,
+) -> Result<(), AllocError>
+    ensures atoms { OnOk result (styled out.new ≡ so_far out.old growing.old) }
+    ensures begun { OnOk result ((string_bytes growing.new.text ≡ []) ×
+        (growing.new.depth ≡ depth) × (growing.new.start ≡ behind)) }
+    ensures joined { OnOk result (AreJoined out.old → AreJoined out.new) }
+    ensures placed { OnOk result ((low : ℕ) → ArePlaced low growing.old.start out.old →
+        growing.old.start ≤ end → ArePlaced low end out.new) }
+{
+    let empty = String::new(*growing.text.allocator());
+    let mut text = std::mem::replace(&mut growing.text, empty);
+    text.shrink_to_fit();
+    append(
+        out,
+        Spanned::new(chunk_of(growing.depth, text), growing.start..end),
+    )?;
+    growing.depth = depth;
+    growing.start = behind;
+    growing.is_first = false;
+    Ok(())
+}
+
+// Finishes the chunk before math, and adds the math, which stands at `span`.
+pub(crate) fn turn_at_math(
+    out: &mut Chunks,
+    growing: &mut Open,
+    text: &str,
+    end: usize,
+    span: Span,
+    behind: usize,
+) -> Result<(), AllocError>
+    ensures atoms { OnOk result (styled out.new ≡
+        so_far out.old growing.old ++ Atom.math (chars text.now) ∷ []) }
+    ensures begun { OnOk result ((string_bytes growing.new.text ≡ []) ×
+        (growing.new.depth ≡ growing.old.depth) × (growing.new.start ≡ behind)) }
+    ensures joined { OnOk result (AreJoined out.old → AreJoined out.new) }
+    ensures placed { OnOk result ((low : ℕ) → ArePlaced low growing.old.start out.old →
+        growing.old.start ≤ end → end ≤ span.start → span.start ≤ span.end →
+        ArePlaced low span.end out.new) }
+{
+    let alloc = *growing.text.allocator();
+    let depth = growing.depth;
+    turn(out, growing, end, depth, behind)?;
+    let math = Chunk::Math(Text::from_str(alloc, text)?);
+    append(out, Spanned::new(math, span))?;
+    Ok(())
+}
+
+// Finishes the last chunk at the end of a piece. An empty one is left out, unless it is alone.
+pub(crate) fn finish(out: &mut Chunks, mut growing: Open, end: usize) -> Result<(), AllocError>
+    ensures atoms { OnOk result (styled out.new ≡ so_far out.old growing) }
+    ensures joined { OnOk result (AreJoined out.old → AreJoined out.new) }
+    ensures placed { OnOk result ((low : ℕ) → ArePlaced low growing.start out.old →
+        growing.start ≤ end → ArePlaced low end out.new) }
+{
+    if growing.text.as_str().is_empty() && !growing.is_first {
+        return Ok(());
+    }
+    turn(out, &mut growing, end, 0, end)?;
+    Ok(())
+}

@@ -1,0 +1,284 @@
+//! Units of contents: what a field's text is cut into.
+
+ghost use Rattle.std.specs.Prelude.{◌≡◌, ℕ, ◌==◌, Bool, true, false, not, List, [], ◌∷◌, ◌++◌, replicate, IfSome, MatchOption, MatchBool};
+ghost use Rattle.std.specs.List.{list_any};
+ghost use Rattle.std.specs.Str.{chars};
+ghost use Rattle.bib_contents.specs.Arguments.{AreKnown, Encloses, IsFoundIn, StandsIn};
+ghost use Rattle.bib_contents.specs.Contents as contents;
+ghost use Rattle.bib_contents.specs.Contents.{ContentUnit, IsNext, begins, balances, is_argument, argument_spelling};
+ghost use Rattle.bib_contents.specs.Passing.{left, Passes};
+ghost use Rattle.bib_contents.specs.UnitViews.{found_of, unit_of};
+
+use crate::characters::Characters;
+use crate::classes::{
+    is_accent_letter, is_blank, is_escaped, is_mark, is_name_character, is_ordinary, is_sign,
+    is_space,
+};
+use crate::ends::Ends;
+
+// The argument of a command, where it stands in no braces.
+pub(crate) enum Argument {
+    Without,
+    Empty,
+    Single(char),
+}
+
+// The argument of a command.
+enum Found<'s> {
+    Plain(Argument),
+    Braced(Characters<'s>),
+}
+
+// A unit that stands for characters.
+pub(crate) enum TextUnit<'s> {
+    Hyphens(usize),
+    Spaces(&'s str),
+    Escaped(char),
+    Backslash,
+    Copied(char),
+    Command(&'s str, &'s str, Argument),
+    Other(char),
+}
+
+// A unit of contents.
+pub(crate) enum Unit<'s> {
+    Shown(TextUnit<'s>),
+    // A command and its argument in braces.
+    Applied(&'s str, &'s str, Characters<'s>),
+    Formula(&'s str),
+    Opening,
+    Closing,
+}
+
+// Hyphens, counted.
+fn hyphens(s: &mut Characters<'_>) -> usize
+    ensures same { s.new.text ≡ s.old.text }
+    ensures spelt { left s.old ≡ replicate result 45 ++ left s.new }
+    ensures whole { begins (λ c. c == 45) (left s.new) ≡ false }
+{
+    s.eat_while(|c| c == '-').len()
+}
+
+// A math text, behind its dollar sign.
+fn formula<'s>(s: &mut Characters<'s>) -> Option<Unit<'s>>
+    ensures same { s.new.text ≡ s.old.text }
+    ensures found { MatchOption result
+        ((u : ContentUnit) (rest : List ℕ) → IsNext false u (36 ∷ left s.old) rest → ⊥)
+        (λ u. IsNext false (unit_of u) (36 ∷ left s.old) (left s.new)) }
+{
+    let text = s.eat_while(|c| c != '$');
+    if !s.eat_if('$') {
+        return None;
+    }
+    Some(Unit::Formula(text))
+}
+
+// An argument, behind its opening brace: its end is looked for.
+fn search<'s>(s: &mut Characters<'s>) -> Option<Characters<'s>>
+    ensures same { s.new.text ≡ s.old.text }
+    ensures found { MatchOption result
+        ((text rest : List ℕ) → left s.old ≡ text ++ 125 ∷ rest → balances 0 text ≡ true → ⊥)
+        (λ inside. Encloses s.old inside s.new) }
+{
+    let start = s.cursor();
+    let mut depth: usize = 0;
+    'braces: loop {
+        s.eat_while(|c| c != '{' && c != '}');
+        let inside = s.back_to(start);
+        let Some(brace) = s.eat() else {
+            return None;
+        };
+        if brace == '{' {
+            depth += 1;
+        } else if depth == 0 {
+            return Some(inside);
+        } else {
+            depth -= 1;
+        }
+    }
+}
+
+// An argument, behind its opening brace. Its end is looked for where it isn't known.
+fn braced<'s>(s: &mut Characters<'s>, ends: &Ends) -> Option<Characters<'s>>
+    requires known { AreKnown ends.now s.old.text }
+    ensures same { s.new.text ≡ s.old.text }
+    ensures found { MatchOption result
+        ((text rest : List ℕ) → left s.old ≡ text ++ 125 ∷ rest → balances 0 text ≡ true → ⊥)
+        (λ inside. Encloses s.old inside s.new) }
+{
+    let start = s.cursor();
+    let Some(end) = ends.end_of(start) else {
+        return search(s);
+    };
+    if s.len() <= end {
+        return search(s);
+    }
+    s.jump(end);
+    let inside = s.back_to(start);
+    s.eat();
+    Some(inside)
+}
+
+// The argument of a command, behind its name and the white space there.
+fn eat_argument<'s>(
+    s: &mut Characters<'s>,
+    takes_next: bool,
+    is_spaced: bool,
+    ends: &Ends,
+) -> Option<Found<'s>>
+    requires known { AreKnown ends.now s.old.text }
+    ensures same { s.new.text ≡ s.old.text }
+    ensures found { MatchOption result
+        ((a : contents.Argument) (rest : List ℕ) → left s.old ≡ argument_spelling a ++ rest →
+        is_argument takes_next is_spaced a rest ≡ true → ⊥)
+        (λ a. (left s.old ≡ argument_spelling (found_of a) ++ left s.new) ×
+        (is_argument takes_next is_spaced (found_of a) (left s.new) ≡ true)) }
+    ensures inside { IfSome result
+        (λ a. IsFoundIn s.old.text s.old.at a s.new.at) }
+{
+    if s.peek() == Some('{') {
+        if is_spaced {
+            return Some(Found::Plain(Argument::Without));
+        }
+        s.eat();
+        let Some(inside) = braced(s, ends) else {
+            return None;
+        };
+        return Some(Found::Braced(inside));
+    }
+    if !takes_next {
+        return Some(Found::Plain(Argument::Without));
+    }
+    let Some(c) = s.eat() else {
+        return Some(Found::Plain(Argument::Empty));
+    };
+    Some(Found::Plain(Argument::Single(c)))
+}
+
+// Takes the name of a command, whose first character stands here.
+fn eat_name<'s>(s: &mut Characters<'s>, first: char) -> &'s str
+    requires stands { (rest : List ℕ) × (left s.old ≡ first ∷ rest) }
+    requires begins { (contents.is_escaped false first ≡ false) ×
+        (contents.is_blank first ≡ false) }
+    ensures passed { Passes s.old (chars result.now) s.new }
+    ensures name { contents.is_name (chars result.now) ≡ true }
+    ensures whole { contents.is_whole_name (chars result.now) (left s.new) ≡ true }
+{
+    let start = s.cursor();
+    s.eat();
+    if is_sign(first) {
+        return s.from(start);
+    }
+    s.eat_while(is_name_character);
+    s.from(start)
+}
+
+// Whether a command takes the next character.
+fn takes_next(name: &str, is_spaced: bool) -> bool
+    ensures { (space : List ℕ) → is_spaced ≡ not (contents.is_empty space) →
+        result ≡ contents.takes_next (chars name.now) space }
+{
+    let mut letters = Characters::new(name);
+    let Some(first) = letters.eat() else {
+        return false;
+    };
+    if !letters.done() {
+        return false;
+    }
+    is_mark(first) || (is_accent_letter(first) && is_spaced)
+}
+
+// A command, behind its backslash, where a character stands that can begin its name.
+fn command<'s>(s: &mut Characters<'s>, first: char, ends: &Ends) -> Option<Unit<'s>>
+    requires stands { (rest : List ℕ) × (left s.old ≡ first ∷ rest) }
+    requires begins { (contents.is_escaped false first ≡ false) ×
+        (contents.is_blank first ≡ false) }
+    requires known { AreKnown ends.now s.old.text }
+    ensures same { s.new.text ≡ s.old.text }
+    ensures found { MatchOption result
+        ((u : ContentUnit) (rest : List ℕ) → IsNext false u (92 ∷ left s.old) rest → ⊥)
+        (λ u. IsNext false (unit_of u) (92 ∷ left s.old) (left s.new)) }
+    ensures inside { IfSome result
+        (λ u. StandsIn s.old.text s.old.at u s.new.at) }
+{
+    let name = eat_name(s, first);
+    let space = s.eat_while(is_space);
+    let is_spaced = !space.is_empty();
+    let takes = takes_next(name, is_spaced);
+    let Some(found) = eat_argument(s, takes, is_spaced, ends) else {
+        return None;
+    };
+    match found {
+        Found::Plain(argument) => Some(Unit::Shown(TextUnit::Command(name, space, argument))),
+        Found::Braced(inside) => Some(Unit::Applied(name, space, inside)),
+    }
+}
+
+// What a backslash begins, behind it.
+fn escape<'s>(s: &mut Characters<'s>, is_verbatim: bool, ends: &Ends) -> Option<Unit<'s>>
+    requires known { AreKnown ends.now s.old.text }
+    ensures same { s.new.text ≡ s.old.text }
+    ensures found { MatchOption result
+        ((u : ContentUnit) (rest : List ℕ) → IsNext is_verbatim u (92 ∷ left s.old) rest → ⊥)
+        (λ u. IsNext is_verbatim (unit_of u) (92 ∷ left s.old) (left s.new)) }
+    ensures inside { IfSome result
+        (λ u. StandsIn s.old.text s.old.at u s.new.at) }
+{
+    let Some(c) = s.peek() else {
+        if is_verbatim {
+            return Some(Unit::Shown(TextUnit::Backslash));
+        }
+        return None;
+    };
+    if is_escaped(is_verbatim, c) {
+        s.eat();
+        return Some(Unit::Shown(TextUnit::Escaped(c)));
+    }
+    if is_verbatim {
+        return Some(Unit::Shown(TextUnit::Backslash));
+    }
+    if is_blank(c) {
+        return Some(Unit::Shown(TextUnit::Copied(c)));
+    }
+    command(s, c, ends)
+}
+
+// The unit that stands here; none at the end of the text, and where no unit begins.
+pub(crate) fn eat_unit<'s>(
+    s: &mut Characters<'s>,
+    is_verbatim: bool,
+    ends: &Ends,
+) -> Option<Unit<'s>>
+    requires known { AreKnown ends.now s.old.text }
+    ensures same { s.new.text ≡ s.old.text }
+    ensures found { MatchOption result
+        ((u : ContentUnit) (rest : List ℕ) → IsNext is_verbatim u (left s.old) rest → ⊥)
+        (λ u. IsNext is_verbatim (unit_of u) (left s.old) (left s.new)) }
+    ensures inside { IfSome result
+        (λ u. StandsIn s.old.text s.old.at u s.new.at) }
+{
+    let Some(c) = s.peek() else {
+        return None;
+    };
+    if is_ordinary(is_verbatim, c) {
+        s.eat();
+        return Some(Unit::Shown(TextUnit::Other(c)));
+    }
+    if is_space(c) {
+        return Some(Unit::Shown(TextUnit::Spaces(s.eat_while(is_space))));
+    }
+    if c == '-' {
+        return Some(Unit::Shown(TextUnit::Hyphens(hyphens(s))));
+    }
+    s.eat();
+    if c == '\\' {
+        return escape(s, is_verbatim, ends);
+    }
+    if c == '{' {
+        return Some(Unit::Opening);
+    }
+    if c == '}' {
+        return Some(Unit::Closing);
+    }
+    formula(s)
+}

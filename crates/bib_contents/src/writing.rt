@@ -1,0 +1,121 @@
+//! What a unit of contents is written as.
+
+ghost use Rattle.std.specs.Prelude.{◌≡◌, ◌∷◌, [], ◌++◌, OnOk, Some, true, if◌then◌else◌};
+ghost use Rattle.std.specs.Str.{chars};
+ghost use Rattle.bib_chunks.specs.Formatted as formatted;
+ghost use Rattle.bib_chunks.specs.Writing.{Writes};
+ghost use Rattle.bib_contents.specs.Arguments.{laid, unit_written};
+ghost use Rattle.bib_contents.specs.Commands.{given};
+ghost use Rattle.bib_contents.specs.Contents.{dashes};
+ghost use Rattle.bib_contents.specs.UnitViews.{text_unit_of};
+
+use crate::commands::{write_alone, write_command};
+use crate::units::{Argument, TextUnit};
+use bib_chunks::chunk::{Chunk, Spanned, format_verbatim};
+use bib_text::text::Text;
+use std::alloc::{AllocError, Global};
+
+// Writes so many hyphens, cut from the left: threes, then two or one.
+fn write_dashes(text: &mut String, count: usize) -> Result<(), AllocError>
+    ensures { OnOk result (Writes text.old text.new (dashes count)) }
+{
+    'threes: for _ in 0..count / 3 {
+        text.push('—')?;
+    }
+    match count % 3 {
+        2 => text.push('–')?,
+        1 => text.push('-')?,
+        _ => {}
+    }
+    Ok(())
+}
+
+// Writes what a command with this character as its argument stands for.
+fn write_single(text: &mut String, name: &str, c: char) -> Result<(), AllocError>
+    ensures { OnOk result (Writes text.old text.new (given (chars name.now) (Some (c ∷ [])))) }
+{
+    let mut room = [0u8; 4];
+    write_command(text, name, c.encode_utf8(&mut room))
+}
+
+// Whether a character breaks the line.
+fn is_break(c: char) -> bool
+    ensures { result ≡ formatted.is_break c }
+{
+    matches!(c, '\n' | '\r')
+}
+
+// What a character behind a backslash is written as: on one line a break is a space.
+fn copied(c: char, is_flat: bool) -> char
+    ensures { result ≡ (if is_flat then (if formatted.is_break c then 32 else c) else c) }
+{
+    if is_flat && is_break(c) {
+        return ' ';
+    }
+    c
+}
+
+// Writes the characters that a unit stands for, on one line or as they are.
+pub(crate) fn write_unit(
+    text: &mut String,
+    unit: TextUnit<'_>,
+    is_flat: bool,
+) -> Result<(), AllocError>
+    ensures { OnOk result (Writes text.old text.new (unit_written is_flat (text_unit_of unit.entry))) }
+{
+    match unit {
+        TextUnit::Hyphens(count) => write_dashes(text, count)?,
+        TextUnit::Spaces(_) => text.push(' ')?,
+        TextUnit::Escaped(c) => text.push(c)?,
+        TextUnit::Backslash => text.push('\\')?,
+        TextUnit::Copied(c) => {
+            text.push('\\')?;
+            text.push(copied(c, is_flat))?;
+        }
+        TextUnit::Command(name, _, argument) => match argument {
+            Argument::Without => write_alone(text, name)?,
+            Argument::Empty => write_command(text, name, "")?,
+            Argument::Single(c) => write_single(text, name, c)?,
+        },
+        TextUnit::Other(c) => text.push(c)?,
+    }
+    Ok(())
+}
+
+// Writes a text on one line.
+fn write_flat(text: &mut String, alloc: Global, part: &str) -> Result<(), AllocError>
+    ensures { OnOk result (Writes text.old text.new (laid true (chars part.now))) }
+{
+    let chunk = Chunk::Normal(Text::from_str(alloc, part)?);
+    let chunks = [Spanned::new(chunk, 0..0)];
+    let flat = format_verbatim(alloc, &chunks)?;
+    text.push_str(flat.as_str())?;
+    Ok(())
+}
+
+// Writes a text on one line or as it is.
+fn write_laid(text: &mut String, alloc: Global, part: &str, is_flat: bool) -> Result<(), AllocError>
+    ensures { OnOk result (Writes text.old text.new (laid is_flat (chars part.now))) }
+{
+    if is_flat {
+        return write_flat(text, alloc, part);
+    }
+    text.push_str(part)?;
+    Ok(())
+}
+
+// Writes math in an argument between dollar signs, on one line or as it is.
+pub(crate) fn write_math(
+    text: &mut String,
+    alloc: Global,
+    math: &str,
+    is_flat: bool,
+) -> Result<(), AllocError>
+    ensures { OnOk result (Writes text.old text.new
+        (36 ∷ (laid is_flat (chars math.now) ++ 36 ∷ []))) }
+{
+    text.push('$')?;
+    write_laid(text, alloc, math, is_flat)?;
+    text.push('$')?;
+    Ok(())
+}

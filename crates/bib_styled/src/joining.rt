@@ -1,0 +1,87 @@
+//! Chunks that grow at their end.
+
+ghost use Rattle.std.specs.Prelude.{◌≡◌, ℕ, ◌≤◌, ◌++◌, OnOk, IfOk};
+ghost use Rattle.std.specs.Str.{chars};
+ghost use Rattle.bib_chunks.specs.Styled.{atoms_of, styled};
+ghost use Rattle.bib_styled.specs.Joined.{AreJoined, ArePlaced, AreNeighbours};
+
+use bib_chunks::chunk::{Chunk, Chunks, Spanned};
+use bib_text::text::Text;
+use std::alloc::AllocError;
+
+/// Appends a chunk. A normal chunk behind a normal one, and a verbatim one behind a verbatim one, becomes a part of it.
+///
+/// Refused for want of memory alone, and then the last chunk may be lost.
+pub fn append(out: &mut Chunks, chunk: Spanned<Chunk>) -> Result<(), AllocError>
+    ensures styled { OnOk result (styled out.new ≡ styled out.old ++ atoms_of chunk.v) }
+    ensures joined { OnOk result (AreJoined out.old → AreJoined out.new) }
+    ensures placed { OnOk result ((low high : ℕ) → ArePlaced low high out.old →
+        high ≤ chunk.span.start → chunk.span.start ≤ chunk.span.end →
+        ArePlaced low chunk.span.end out.new) }
+{
+    let Some(last) = out.pop() else {
+        out.push(chunk)?;
+        return Ok(());
+    };
+    let (first, second) = join(last, chunk)?;
+    out.push(first)?;
+    let Some(second) = second else {
+        return Ok(());
+    };
+    out.push(second)?;
+    Ok(())
+}
+
+// Two neighbouring chunks: one, where they are both normal or both verbatim.
+fn join(
+    first: Spanned<Chunk>,
+    second: Spanned<Chunk>,
+) -> Result<(Spanned<Chunk>, Option<Spanned<Chunk>>), AllocError>
+    ensures { IfOk result (AreNeighbours first second) }
+{
+    let Spanned { v: a, span: s } = first;
+    let Spanned { v: b, span: t } = second;
+    match (a, b) {
+        (Chunk::Normal(text), Chunk::Normal(more)) => {
+            let v = Chunk::Normal(longer(text, more.as_str())?);
+            Ok((Spanned::new(v, s.start..t.end), None))
+        }
+        (Chunk::Verbatim(text), Chunk::Verbatim(more)) => {
+            let v = Chunk::Verbatim(longer(text, more.as_str())?);
+            Ok((Spanned::new(v, s.start..t.end), None))
+        }
+        (a, b) => Ok((Spanned::new(a, s), Some(Spanned::new(b, t)))),
+    }
+}
+
+// A text with another behind it.
+fn longer(text: Text, more: &str) -> Result<Text, AllocError>
+    ensures { IfOk result (λ whole. chars whole ≡ chars text ++ chars more.now) }
+{
+    let mut whole = text;
+    let _text = whole.as_str();
+    whole.push_str(more)?;
+    Ok(whole)
+}
+
+/// Appends copies of chunks, one after another, as `append` does.
+///
+/// Refused for want of memory alone, and then some first ones may be appended, or the last chunk lost.
+pub fn append_copies(out: &mut Chunks, chunks: &[Spanned<Chunk>]) -> Result<(), AllocError>
+    ensures styled { OnOk result (styled out.new ≡ styled out.old ++ styled chunks.now) }
+    ensures joined { OnOk result (AreJoined out.old → AreJoined out.new) }
+{
+    'copies: for chunk in chunks {
+        append_copy(out, chunk)?;
+    }
+    Ok(())
+}
+
+// Appends a copy of a chunk.
+fn append_copy(out: &mut Chunks, chunk: &Spanned<Chunk>) -> Result<(), AllocError>
+    ensures styled { OnOk result (styled out.new ≡ styled out.old ++ atoms_of chunk.now.v) }
+    ensures joined { OnOk result (AreJoined out.old → AreJoined out.new) }
+{
+    let v = chunk.v.clone()?;
+    append(out, Spanned::new(v, chunk.span.start..chunk.span.end))
+}
