@@ -1,5 +1,5 @@
 -- How names are expanded, each once.
-use Rattle.std.proofs.Common.{◌≡◌, ℕ, suc, ◌+◌, ◌-◌, ◌<◌, ◌≤◌, Bool, true, false, List, [], ◌∷◌, ◌++◌, map, length, take, drop, refl, sym, ap, ap₂, ◌∙◌, subst, append_assoc, append-nil, inl, inr, arith, Option, Some, None, length-append, length-drop, reverse, get_or}
+use Rattle.std.proofs.Common.{◌≡◌, ℕ, suc, ◌+◌, ◌-◌, ◌<◌, ◌≤◌, Bool, true, false, List, [], ◌∷◌, ◌++◌, map, length, take, drop, refl, sym, ap, ap₂, ◌∙◌, subst, append_assoc, append-nil, inl, inr, arith, Option, Some, None, length-append, length-drop, get_or}
 use Rattle.std.specs.Prelude.{◌⊎◌, if◌then◌else◌, bytes_eq, is_some, min, ◌^◌}
 use Rattle.std.specs.BTreeMap as tree
 use Rattle.std.specs.Borrow.{Bor}
@@ -12,7 +12,7 @@ use Rattle.std.specs.Global.{Vec}
 use Rattle.std.specs.Map.{lookup}
 use Rattle.std.specs.Option.{option_map}
 use Rattle.std.specs.Str.{chars}
-use Rattle.std.proofs.lemmas.List.{length-map, map-append, take_more, take-append-le, drop-append-le, take_all, take-append-drop, drop-drop, reverse-append}
+use Rattle.std.proofs.lemmas.List.{length-map, map-append, take_more, take-append-le, drop-append-le, take_all, take-append-drop, drop-drop}
 use Rattle.bib_chunks.specs.declared.chunk.Chunk.{Chunk}
 use Rattle.bib_chunks.specs.declared.chunk.Chunk.TheVariants.{Normal}
 use Rattle.bib_text.specs.declared.spanned.Spanned.{Spanned}
@@ -588,15 +588,6 @@ pub expanding_refused : {definitions : Definitions} {is_verbatim : Bool} {base :
     → (e ≡ out_of_memory) ⊎ IsFirstFault definitions is_verbatim (first ∷ []) whole e
 expanding_refused e piece rest x split d (inl memory) = inl memory
 expanding_refused e piece rest x split d (inr fault) = inr (expanding_fault piece rest x split d (fault (map piece_of rest)))
-
--- a list without elements
-pub no_elements : {A : Type 0} (xs : List A) → length xs ≡ 0 → xs ≡ []
-no_elements [] empty = refl
-no_elements (x ∷ xs) empty = absurd (omega (arith, empty))
-
--- the last element of a list, read backwards
-pub reversed_push : {A : Type 0} (whole xs : List A) (x : A) → whole ≡ xs ++ x ∷ [] → reverse whole ≡ x ∷ reverse xs
-reversed_push whole xs x is = ap reverse is ∙ reverse-append xs (x ∷ [])
 
 module _ {definitions : Definitions} {is_verbatim : Bool} where
   -- a memo without names is right

@@ -11,6 +11,7 @@ pub mod LaidFacts
 pub mod PassingFacts
 pub mod ReaderFacts
 pub mod ReadingContents
+pub mod StackFacts
 pub mod TakingFacts
 pub mod UnitFacts
 pub mod WholeFacts

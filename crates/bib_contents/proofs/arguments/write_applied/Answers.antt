@@ -8,7 +8,7 @@ use Rattle.bib_contents.specs.Effects.{made_before}
 use Rattle.bib_contents.specs.Passing.{left}
 use Rattle.bib_contents.proofs.ArgumentReading.{name_plain}
 use Rattle.bib_contents.proofs.EffectFacts.{wrote_from}
-use Rattle.bib_abbreviations.proofs.ExpansionFacts.{reversed_push, no_elements}
+use Rattle.bib_contents.proofs.StackFacts.{reversed_push, no_elements}
 use Rattle.bib_contents.proofs.FrameFacts.{weight, begun_here, begun_on, read_begun, reading_first, reading_on, reading_follows, reading_below, reading_done, stays_wider, stuck_up}
 use Rattle.bib_contents.proofs.arguments.write_applied.Goals as goal
 

@@ -1,7 +1,7 @@
 use Rattle.std.proofs.Common.{rules, arith, ◌≡◌, ◌∙◌, ◌≤◌, ◌-◌, ◌+◌, ◌∷◌, sym, ap, refl, length, replicate, reverse, append-nil}
 use Rattle.bib_contents.proofs.ArgumentFacts.{is_no_brace, passes_ahead, passes_one, passes_within}
 use Rattle.bib_contents.proofs.EndFacts.{read_none, read_opened, read_closed, read_alone}
-use Rattle.bib_abbreviations.proofs.ExpansionFacts.{reversed_push, no_elements}
+use Rattle.bib_contents.proofs.StackFacts.{reversed_push, no_elements}
 use Rattle.bib_contents.proofs.ends.Ends.between_braces.Goals as goal
 
 pub eat_while-requires-clause-is_test : goal.eat_while-requires-clause-is_test
