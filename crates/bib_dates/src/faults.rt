@@ -3,6 +3,7 @@
 ghost use Rattle.std.specs.Prelude.{◌≡◌, ◌≢◌};
 ghost use Rattle.bib_enums.specs.declared.type_error.TypeErrorKind.TheVariants.{OutOfMemory};
 ghost use Rattle.bib_dates.specs.Code.{kind_of};
+ghost use Rattle.bib_dates.specs.Readings.{IsDateKind};
 
 use bib_enums::type_error::TypeErrorKind;
 
@@ -31,6 +32,7 @@ impl Why {
     pub(crate) fn kind(self) -> TypeErrorKind
         ensures value { result ≡ kind_of self }
         ensures memory { result ≢ OutOfMemory }
+        ensures date { IsDateKind result }
     {
         match self {
             Why::UndefinedRange => TypeErrorKind::UndefinedRange,

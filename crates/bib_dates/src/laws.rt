@@ -1,9 +1,12 @@
 //! Laws of dates and times. These functions do nothing: what they ensure is proved of the definitions alone.
 
-ghost use Rattle.std.specs.Prelude.{◌≡◌, ◌↔◌, ◌≢◌, ◌<ℤ◌, Some, None, is_some};
+ghost use Rattle.std.specs.Prelude.{◌≡◌, ◌↔◌, ◌≢◌, ◌<ℤ◌, ℕ, List, Option, Some, None, is_some};
 ghost use Rattle.std.specs.declared.cmp.Ordering.TheVariants.{Less, Equal};
-ghost use Rattle.bib_dates.specs.Readings.Reading.{says};
+ghost use Rattle.bib_enums.specs.declared.type_error.TypeErrorKind.{TypeErrorKind as AKind};
+ghost use Rattle.bib_dates.specs.Readings.{Reading, IsDateKind, MayRefuse};
+ghost use Rattle.bib_dates.specs.Readings.Reading.{says, fault};
 ghost use Rattle.bib_dates.specs.Dates.{date_of};
+ghost use Rattle.bib_dates.specs.ThreeFields.{three_fields_of};
 ghost use Rattle.bib_dates.specs.Written.{date_text};
 ghost use Rattle.bib_dates.specs.Anew.{date_anew};
 ghost use Rattle.bib_dates.specs.Kept.{IsKept};
@@ -17,6 +20,14 @@ ghost use Rattle.bib_dates.specs.declared.date.Time.{Time as ATime};
 pub fn dates_survive()
     ensures read { (d : ADate) → IsKept d → date_of (date_text d) ≡ says d }
     ensures written { (d : ADate) → IsKept d → date_anew (date_text d) ≡ Some (date_text d) }
+{}
+
+/// Each error of a date, want of memory aside, is of a kind that dates have; so each kind that is promised is one.
+pub fn dates_have_few_kinds()
+    ensures error { (reading : Reading ADate) (kind : AKind) → MayRefuse reading kind → IsDateKind kind }
+    ensures date { (text : List ℕ) (kind : AKind) → date_of text ≡ fault kind → IsDateKind kind }
+    ensures three_fields { (year : List ℕ) (month day : Option (List ℕ)) (kind : AKind) →
+        three_fields_of year month day ≡ fault kind → IsDateKind kind }
 {}
 
 /// Of two times that both have an offset or both lack it, the one is earlier whose seconds are fewer; where one alone has

@@ -88,9 +88,10 @@ adds_date (says date) (Ok d) name old new h same = adds_nothing name old new sam
 adds_date (says date) (Err e) name old new h told = ⊎_elim (λ no_room. absurd (told.0 (ap (λ fault. fault.kind) no_room))) (λ refusal. absurd refusal.2) h
 adds_date (fault kind) (Ok d) name old new h same = absurd (none_is_some h)
 adds_date (fault kind) (Err e) name old new h told =
-    ⊎_elim (λ no_room. absurd (told.0 (ap (λ fault. fault.kind) no_room))) (λ refusal. ((name, e) ∷ [], told.1, ((refl, refusal.2), _))) h
+    ⊎_elim (λ no_room. absurd (told.0 (ap (λ fault. fault.kind) no_room))) (λ refusal. ((name, e) ∷ [], told.1, ((refl, refusal.2.0), _))) h
 adds_date not_read (Ok d) name old new h same = absurd (none_is_some h)
-adds_date not_read (Err e) name old new h told = ((name, e) ∷ [], told.1, ((refl, told.0), _))
+adds_date not_read (Err e) name old new h told =
+    ⊎_elim (λ no_room. absurd (told.0 (ap (λ fault. fault.kind) no_room))) (λ refusal. ((name, e) ∷ [], told.1, ((refl, refusal.2), _))) h
 
 -- what is told of six fields, or of four dates, one after the other
 pub adds_fields : (v₁ v₂ v₃ v₄ v₅ v₆ : List ℕ × Verdict) (old t₁ t₂ t₃ t₄ t₅ new : Told) → Adds (v₁ ∷ []) old t₁ → Adds (v₂ ∷ []) t₁ t₂ → Adds (v₃ ∷ []) t₂ t₃ → Adds (v₄ ∷ []) t₃ t₄ → Adds (v₅ ∷ []) t₄ t₅ → Adds (v₆ ∷ []) t₅ new

@@ -1,12 +1,12 @@
 -- Meaning: words of public contracts.
 -- What a report on an entry tells: the fields that its type requires and that it lacks, those that it must not have, and
 -- those whose chunks aren't read. The rules are those by which the Rust crate `biblatex` verifies entries.
-use Rattle.std.specs.Prelude.{◌≡◌, ◌≢◌, ℕ, Bool, true, false, not, ◌&&◌, ◌||◌, List, [], ◌∷◌, ◌++◌, codes, Option, Some, None, is_some}
+use Rattle.std.specs.Prelude.{◌≡◌, ℕ, Bool, true, false, not, ◌&&◌, ◌||◌, List, [], ◌∷◌, ◌++◌, codes, Option, Some, None, is_some}
 use Rattle.std.specs.List.{filter, AllZip}
 use Rattle.std.specs.FinMap as by_name
 use Rattle.bib_enums.specs.declared.type_error.TypeError.{TypeError}
 use Rattle.bib_enums.specs.declared.type_error.TypeErrorKind.{TypeErrorKind}
-use Rattle.bib_enums.specs.declared.type_error.TypeErrorKind.TheVariants.{InvalidNumber, UnknownGender, UnknownPagination, OutOfMemory}
+use Rattle.bib_enums.specs.declared.type_error.TypeErrorKind.TheVariants.{InvalidNumber, UnknownGender, UnknownPagination}
 use Rattle.bib_entry_types.specs.Requirements.{Names, rules_of, forbidden_of}
 use Rattle.bib_entry_types.specs.declared.mechanics.requirements.AuthorMode.{AuthorMode}
 use Rattle.bib_entry_types.specs.declared.mechanics.requirements.AuthorMode.TheVariants as author
@@ -19,7 +19,7 @@ use Rattle.bib_values.specs.Numbers.{number_read}
 use Rattle.bib_values.specs.Ranges.{ranges_read}
 use Rattle.bib_chunks.specs.Values.{Value}
 use Rattle.bib_dates.specs.Chunks.{three_fields_reading}
-use Rattle.bib_dates.specs.Readings.{Reading}
+use Rattle.bib_dates.specs.Readings.{Reading, IsDateKind}
 use Rattle.bib_dates.specs.Readings.Reading.{says, fault, unread as not_read}
 use Rattle.bib_entry.specs.declared.entry.Entry.{Entry}
 
@@ -160,11 +160,11 @@ is_fault (name, fine) = false
 is_fault (name, refused kind) = true
 is_fault (name, unread) = true
 
--- the kinds of faults that a verdict allows
+-- the kinds of faults that a verdict allows: where no kind is told, those that dates have
 abbrev pub Allows : Verdict → TypeErrorKind → Type 0
 Allows fine kind = ⊥
 Allows (refused told) kind = kind ≡ told
-Allows unread kind = kind ≢ OutOfMemory
+Allows unread kind = IsDateKind kind
 
 -- a field's fault is the one that a verdict tells of
 abbrev pub IsFault : List ℕ × Verdict → List ℕ × TypeError → Type 0

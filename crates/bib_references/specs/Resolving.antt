@@ -5,6 +5,7 @@ use Rattle.std.specs.List.{list_any}
 use Rattle.std.specs.FinMap as by_name
 use Rattle.std.specs.declared.ops.Range.{Range}
 use Rattle.bib_chunks.specs.declared.chunk.Chunk.{Chunk}
+use Rattle.bib_dates.specs.Readings.{IsDateKind}
 use Rattle.bib_entry.specs.declared.entry.Entry.{Entry}
 use Rattle.bib_enums.specs.declared.type_error.TypeErrorKind.{TypeErrorKind}
 use Rattle.bib_graph.specs.Graph.{Graph, HasNoCircle, IsFirstOnCircle, refs_of, Solves}
@@ -59,13 +60,14 @@ KeepsChunks own entry = (name : List ℕ) (chunks : List (Spanned Chunk)) → by
     → (by_name.get entry.fields name ≡ Some chunks) ⊎ (by_name.get entry.fields name ≡ None)
 
 -- the fault of a date that can't be read, which the entry at this place looks for: that of the first such entry that it
--- refers to, with a kind that its year, month and day may be refused with
+-- refers to, with a kind that its year, month and day may be refused with, which is one that dates have
 pub record IsDateFault (graph : Graph) (values : List Source) (place : ℕ) (e : ParseError) : Type 0 where
   pub reference : ℕ
   pub first : find (is_bad_date values) (refs_of graph place) ≡ Some reference
   pub kind : TypeErrorKind
   pub is : e.kind ≡ ResolutionError kind
   pub may : DateMayFail (at_place values reference).fields kind
+  pub of_dates : IsDateKind kind
 
 -- entries keep the chunks of others, place for place
 abbrev pub AllKeepChunks : List Entry → List Entry → Type 0

@@ -1,12 +1,16 @@
-//! Laws of typed values: which values are read back from what is written of them. These functions do nothing: what they
-//! ensure is proved of the definitions alone.
+//! Laws of typed values: which values are read back from what is written of them, and which kinds errors have. These
+//! functions do nothing: what they ensure is proved of the definitions alone.
 
-ghost use Rattle.std.specs.Prelude.{ℕ, List};
+ghost use Rattle.std.specs.Prelude.{◌≡◌, ◌⊎◌, ℕ, List};
 ghost use Rattle.std.specs.declared.ops.Range.{Range as ARange};
+ghost use Rattle.bib_chunks.specs.Values.{Value};
 ghost use Rattle.bib_dates.specs.Kept.{IsKept};
+ghost use Rattle.bib_dates.specs.Readings.{IsDateKind};
 ghost use Rattle.bib_dates.specs.declared.date.Date.{Date as ADate};
 ghost use Rattle.bib_people.specs.Kept.{ArePeople};
 ghost use Rattle.bib_people.specs.declared.person.Person.{Person as APerson};
+ghost use Rattle.bib_enums.specs.declared.type_error.TypeErrorKind.{TypeErrorKind as AKind};
+ghost use Rattle.bib_enums.specs.declared.type_error.TypeErrorKind.TheVariants.{InvalidNumber, MissingNumber, UnknownGender, UnknownLangId, UnknownPagination};
 ghost use Rattle.bib_enums.specs.declared.types.lang.Language.{Language as ALanguage};
 ghost use Rattle.bib_values.specs.Enumerations.{IsNamed};
 ghost use Rattle.bib_values.specs.Lists.{StringsKept};
@@ -14,6 +18,7 @@ ghost use Rattle.bib_values.specs.Permissive.{Permissive, LanguagesKept};
 ghost use Rattle.bib_values.specs.Ranges.{RangesKept};
 
 use crate::typed::{PermissiveType, Type};
+use bib_chunks::chunk::Chunks;
 use bib_dates::date::Date;
 use bib_enums::types::lang::Language;
 use bib_enums::types::{EditorType, Gender, Pagination};
@@ -77,4 +82,39 @@ pub fn lists_of_people_are_kept()
 /// no time.
 pub fn dates_are_kept()
     ensures { (date : ADate) → IsKept date → ⟦<Date as Type>⟧.kept date }
+{}
+
+/// Each type that may refuse chunks has few kinds of errors, want of memory aside.
+pub fn types_have_few_kinds()
+    ensures number { (chunks : Value) (kind : AKind) → ⟦<i64 as Type>⟧.may_refuse chunks kind →
+        (kind ≡ InvalidNumber) ⊎ (kind ≡ MissingNumber) }
+    ensures range { (chunks : Value) (kind : AKind) →
+        ⟦<Range<u32> as Type>⟧.may_refuse chunks kind → kind ≡ InvalidNumber }
+    ensures ranges { (chunks : Value) (kind : AKind) →
+        ⟦<Vec<Range<u32>> as Type>⟧.may_refuse chunks kind → kind ≡ InvalidNumber }
+    ensures pagination { (chunks : Value) (kind : AKind) →
+        ⟦<Pagination as Type>⟧.may_refuse chunks kind → kind ≡ UnknownPagination }
+    ensures gender { (chunks : Value) (kind : AKind) →
+        ⟦<Gender as Type>⟧.may_refuse chunks kind → kind ≡ UnknownGender }
+    ensures language { (chunks : Value) (kind : AKind) →
+        ⟦<Language as Type>⟧.may_refuse chunks kind → kind ≡ UnknownLangId }
+    ensures date { (chunks : Value) (kind : AKind) →
+        ⟦<Date as Type>⟧.may_refuse chunks kind → IsDateKind kind }
+{}
+
+/// The other types refuse no chunks: any are read, want of memory aside.
+pub fn others_read_any_chunks<T: Type + Drop>()
+    ensures text { (chunks : Value) (kind : AKind) → ⟦<String as Type>⟧.may_refuse chunks kind → ⊥ }
+    ensures texts { (chunks : Value) (kind : AKind) →
+        ⟦<Vec<String> as Type>⟧.may_refuse chunks kind → ⊥ }
+    ensures parts { (chunks : Value) (kind : AKind) →
+        ⟦<Vec<Chunks> as Type>⟧.may_refuse chunks kind → ⊥ }
+    ensures role { (chunks : Value) (kind : AKind) →
+        ⟦<EditorType as Type>⟧.may_refuse chunks kind → ⊥ }
+    ensures languages { (chunks : Value) (kind : AKind) →
+        ⟦<Vec<PermissiveType<Language>> as Type>⟧.may_refuse chunks kind → ⊥ }
+    ensures people { (chunks : Value) (kind : AKind) →
+        ⟦<Vec<Person> as Type>⟧.may_refuse chunks kind → ⊥ }
+    ensures permissive { (chunks : Value) (kind : AKind) →
+        ⟦<PermissiveType<T> as Type>⟧.may_refuse chunks kind → ⊥ }
 {}

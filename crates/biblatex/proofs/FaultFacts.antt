@@ -44,4 +44,4 @@ file_fault_same says (IsFaultOf.date are none solves looks earlier is) (IsFaultO
 file_fault_same says (IsFaultOf.date {own = own} are none solves looks earlier is) (IsFaultOf.circle {place = b} are' first' is') =
     absurd (none b (subst (λ g. IsFirstOnCircle g b) (graph_same says are' are) first').within (subst (λ g. IsFirstOnCircle g b) (graph_same says are' are) first').circle)
 file_fault_same says (IsFaultOf.date are none solves looks earlier is) (IsFaultOf.date are' none' solves' looks' earlier' is') =
-    inr (record { kind = is.kind; is = is.is }, record { kind = is'.kind; is = is'.is })
+    inr (record { kind = is.kind; is = is.is; of_dates = is.of_dates }, record { kind = is'.kind; is = is'.is; of_dates = is'.of_dates })

@@ -102,7 +102,7 @@ fault_lies {says} text small stands (IsFaultOf.circle {place = place} own first 
     let starts = ap (λ x. x.span.start) is.is in
     let ends = ap (λ x. x.span.end) is.is in
     inr (omega arith, omega (arith, entry.ordered, starts, ends), omega (arith, entry.within, ends))
-fault_lies text small stands (IsFaultOf.date own none inherits looks earlier is) = inl (record { kind = is.kind; is = is.is })
+fault_lies text small stands (IsFaultOf.date own none inherits looks earlier is) = inl (record { kind = is.kind; is = is.is; of_dates = is.of_dates })
 
 pub refused_inside : {T : Type 0} (X : Type 0) {says : FileReading} (text : List ℕ) (r : Result T ParseError) → length text < 2 ^ 64 → IsRawReading text says
     → IfErr r (λ e. (e ≡ out_of_memory) ⊎ (IsFaultOf says e × X)) → IfErr r (λ e. (e ≡ out_of_memory) ⊎ IsOfDate e ⊎ LiesBetween 0 (length text) e)

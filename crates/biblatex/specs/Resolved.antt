@@ -2,6 +2,7 @@
 -- What a file says as a bibliography, with what its entries inherit.
 use Rattle.std.specs.Prelude.{◌≡◌, ℕ, ◌<◌, ◌⊎◌, true, false, List, [], map, slice_get, Some}
 use Rattle.bib_abbreviations.specs.Abbreviations.{AreOneFault}
+use Rattle.bib_dates.specs.Readings.{IsDateKind}
 use Rattle.bib_entry.specs.declared.entry.Entry.{Entry}
 use Rattle.bib_enums.specs.declared.type_error.TypeErrorKind.{TypeErrorKind}
 use Rattle.bib_graph.specs.Graph.{Graph, HasNoCircle, IsFirstOnCircle}
@@ -60,10 +61,11 @@ pub data IsFaultOf (says : FileReading) (e : ParseError) : Type 0 where
       → ((earlier : ℕ) → earlier < place → has_bad_date (sources_of own) (graph_of own) values earlier ≡ false)
       → IsDateFault (graph_of own) values place e → IsFaultOf says e
 
--- a fault of a date
+-- a fault of a date, of a kind that dates have
 pub record IsOfDate (e : ParseError) : Type 0 where
   pub kind : TypeErrorKind
   pub is : e.kind ≡ ResolutionError kind
+  pub of_dates : IsDateKind kind
 
 -- two faults of a file are one: the same kind at the same place; of a text that is not read, and of a date that is not,
 -- the place and what is said of the kind stay open
