@@ -134,7 +134,7 @@ def calls(file, names):
 
 
 def check_calls():
-    tests = [it for folder in ("tests", "crates/guide") for it in TOP.glob(f"{folder}/src/**/*.rt")]
+    tests = [*TOP.glob("tests/src/**/*.rs"), *CRATES.glob("guide/src/**/*.rt")]
     text = "\n".join(it.read_text() for it in tests)
     names = exported()
     for file in sorted(CRATES.glob("bib*/src/**/*.rt")):

@@ -1,6 +1,7 @@
 #!/usr/bin/env bash
 # Runs the tests in tests/, whose own code is not proved: the rows of each layer, whose answers have to be those of
 # tests/rows/NAME.stdout, and the test functions. `rt try` builds both from the sources of the library, with checks of each access.
+# The files of tests/src/ are Rattle, and end in .rs, since `rt ci` asks for a proof of every .rt file.
 set -eu
 cd "$(dirname "$0")"
 room=$(mktemp -d)
@@ -9,6 +10,7 @@ for crate in crates/bib*/ tests/; do
     mkdir -p "$room/crates/$(basename "$crate")"
     cp -r "$crate/src" "$room/crates/$(basename "$crate")/"
 done
+find "$room/crates/tests" -name '*.rs' | while IFS= read -r file; do mv "$file" "${file%.rs}.rt"; done
 cp -r tests/rows HANDLES "$room/"
 libraries=$(ls -d crates/bib*/src/lib.rt | cut -d/ -f2)
 { grep '^bib' crates.txt; echo "tests:" $libraries; } > "$room/crates.txt"
