@@ -5,9 +5,9 @@ ghost use Rattle.bib_entry.specs.DateFields.{IsDateRead, IsGetDate, IsSetDate, t
 ghost use Rattle.bib_entry.specs.Prefixes.{prefix_text};
 
 use crate::entry::Entry;
-use bib_fields::retrieval::RetrievalError;
 use bib_chunks::chunk::ChunksRef;
 use bib_dates::date::Date;
+use bib_fields::retrieval::RetrievalError;
 use bib_text::text::Text;
 use bib_typed::typed::{PermissiveType, Type};
 use std::alloc::{AllocError, Global};

@@ -11,9 +11,9 @@ mod supplements;
 mod titles;
 
 use crate::entry::Entry;
+use bib_chunks::chunk::ChunksRef;
 use bib_fields::retrieval::RetrievalError;
 use bib_fields::{reading, setting};
-use bib_chunks::chunk::ChunksRef;
 use bib_typed::typed::Type;
 use std::alloc::{AllocError, Global};
 

@@ -6,8 +6,8 @@ ghost use Rattle.bib_syntax.specs.Faults.{out_of_memory};
 ghost use Rattle.bib_file_entries.specs.Loading.{IsEntryOf, IsFieldOf, IsFieldReadable, IsFieldsFault, field_name, last_definition};
 ghost use Rattle.bib_file_entries.specs.Reading.{IsFieldFault};
 
-use bib_chunks::chunk::Chunks;
 use bib_abbreviations::resolve::FieldReader;
+use bib_chunks::chunk::Chunks;
 use bib_entry::entry::Entry;
 use bib_entry_types::mechanics::EntryType;
 use bib_maps::text_map::TextMap;

@@ -11,8 +11,8 @@ ghost use Rattle.bib_maps.specs.Names.{ArePlacesBelow};
 
 use crate::claiming::claims;
 use crate::loading::{definitions, read_entry};
-use bib_chunks::chunk::{Span, Spanned};
 use bib_abbreviations::resolve::FieldReader;
+use bib_chunks::chunk::{Span, Spanned};
 use bib_entry::entry::Entry;
 use bib_maps::claims::Claims;
 use bib_maps::names::Names;

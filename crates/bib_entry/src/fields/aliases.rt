@@ -5,9 +5,9 @@ ghost use Rattle.std.specs.Prelude.{codes};
 ghost use Rattle.bib_entry.specs.Fields.{IsGetOr, IsGotOr, IsPut, IsSet};
 
 use crate::entry::Entry;
-use bib_fields::setting::SetError;
-use bib_fields::retrieval::RetrievalError;
 use bib_chunks::chunk::{Chunks, ChunksRef};
+use bib_fields::retrieval::RetrievalError;
+use bib_fields::setting::SetError;
 use bib_typed::typed::Type;
 use std::alloc::{AllocError, Global};
 

@@ -5,11 +5,11 @@ ghost use Rattle.std.specs.Prelude.{codes};
 ghost use Rattle.bib_entry.specs.Fields.{IsGet, IsGot, IsPut, IsSet};
 
 use crate::entry::Entry;
-use bib_fields::setting::SetError;
-use bib_fields::retrieval::RetrievalError;
 use bib_chunks::chunk::{Chunks, ChunksRef};
 use bib_enums::types::lang::Language;
 use bib_enums::types::{Gender, Pagination};
+use bib_fields::retrieval::RetrievalError;
+use bib_fields::setting::SetError;
 use bib_typed::typed::{PermissiveType, Type};
 use std::alloc::{AllocError, Global};
 
