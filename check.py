@@ -14,6 +14,7 @@ With --definitions it prints each word of specs/ with its comment, by crate and 
 - README.md has at most 80 lines, and its example is the code of tests/src/bibliography_calls/readme.rs.
 - README.md, docs/ and the indexes name no file and no crate that isn't there.
 """
+import os
 import pathlib
 import re
 import sys
@@ -21,11 +22,11 @@ import sys
 TOP = pathlib.Path(__file__).resolve().parent
 CRATES = TOP / "crates"
 FOLDERS = ("must-fail", "wrong")
-faults = []
+errors = []
 
 
-def fault(path, why):
-    faults.append(f"{path.relative_to(TOP)}: {why}")
+def error(path, why):
+    errors.append(f"{path.relative_to(TOP)}: {why}")
 
 
 def check_fit(edit):
@@ -42,11 +43,11 @@ def check_fit(edit):
                 texts[file] = file.read_text() if file.is_file() else ""
             found = texts[file].count(old)
             if found != 1:
-                fault(edit, f"its text stands {found} times in {file.relative_to(crate)}, and not once: {old}")
+                error(edit, f"its text stands {found} times in {file.relative_to(crate)}, and not once: {old}")
             texts[file] = texts[file].replace(old, text)
             old, pairs = None, pairs + 1
     if not pairs:
-        fault(edit, "it changes nothing")
+        error(edit, "it changes nothing")
 
 
 def edits():
@@ -56,9 +57,9 @@ def edits():
         for edit in sorted(CRATES.glob(f"*/{folder}/*.edit")):
             check_fit(edit)
             if not re.fullmatch(r"[a-z0-9]+(-[a-z0-9]+)*", edit.stem):
-                fault(edit, "its name is not words in lowercase with hyphens between them")
+                error(edit, "its name is not words in lowercase with hyphens between them")
             if any(edit.stem in it for it in names.values()):
-                fault(edit, "another wrong body has this name")
+                error(edit, "another wrong body has this name")
             names[folder].add(edit.stem)
     return names
 
@@ -75,15 +76,15 @@ def check_indexes():
             if found and folder:
                 named[folder].append(found[1])
                 if not re.fullmatch(r"- `[^`]+`: [^;]+; .+", line):
-                    fault(index, f"of {found[1]} it doesn't say what it breaks; and which clause refuses it")
+                    error(index, f"of {found[1]} it doesn't say what it breaks; and which clause refuses it")
         for folder in FOLDERS:
             names = sorted(edit.stem for edit in crate.glob(f"{folder}/*.edit"))
             for name in names:
                 if name not in named[folder]:
-                    fault(index, f"it doesn't name {folder}/{name}")
+                    error(index, f"it doesn't name {folder}/{name}")
             for name in named[folder]:
                 if name not in names or named[folder].count(name) > 1:
-                    fault(index, f"it names {folder}/{name}, which isn't there once")
+                    error(index, f"it names {folder}/{name}, which isn't there once")
 
 
 def contracts(text):
@@ -133,7 +134,7 @@ def check_definitions():
         within |= set(re.findall(r"(?m)^  (?:pub )?([A-Za-z_][\w']*) :", file.read_text()))
     for file in sorted(CRATES.glob("*/src/**/*.rt")):
         for word in sorted(set(cited(file)) - commented - within):
-            fault(file, f"it cites {word}, which has no comment in specs/")
+            error(file, f"it cites {word}, which has no comment in specs/")
             commented.add(word)
 
 
@@ -150,7 +151,7 @@ def check_specs():
     for file in sorted(CRATES.glob("*/specs/*.antt")):
         text = file.read_text()
         if file.name != "Lib.antt" and not text.startswith(("-- Meaning: ", "-- Machinery: ")):
-            fault(file, "its first line doesn't say whether it is meaning or machinery")
+            error(file, "its first line doesn't say whether it is meaning or machinery")
 
 
 def exported():
@@ -179,7 +180,7 @@ def check_calls():
         for within, name in calls(file, names):
             called = rf"[.:]{name}\b" if within else rf"\b{name}\("
             if not re.search(called, text):
-                fault(file, f"no test calls {within + '::' if within else ''}{name}, which may be refused memory")
+                error(file, f"no test calls {within + '::' if within else ''}{name}, which may be refused memory")
 
 
 def check_rows():
@@ -188,10 +189,10 @@ def check_rows():
         stdin = stdout.with_suffix("")
         rows, answers = stdin.read_text().split("\n"), stdout.read_text().split("\n")
         if len(rows) != len(answers):
-            fault(stdout, f"it has {len(answers)} lines, and {stdin.name} {len(rows)}")
+            error(stdout, f"it has {len(answers)} lines, and {stdin.name} {len(rows)}")
         for number, (row, answer) in enumerate(zip(rows, answers), 1):
             if not (answer.startswith(f"{row} => ") if "|" in row else answer == row):
-                fault(stdout, f"line {number} doesn't begin with the row of {stdin.name}")
+                error(stdout, f"line {number} doesn't begin with the row of {stdin.name}")
                 break
 
 
@@ -205,19 +206,27 @@ def check_readme():
     readme, test = TOP / "README.md", TOP / "tests" / "src" / "bibliography_calls" / "readme.rs"
     text = readme.read_text()
     if len(text.splitlines()) > 80:
-        fault(readme, f"it has {len(text.splitlines())} lines, and not 80 at most")
+        error(readme, f"it has {len(text.splitlines())} lines, and not 80 at most")
     example = re.search(r"```rust\n(.*?)```.*?```text\n(.*?)```", text, re.S)
     tested = test.read_text() if test.is_file() else ""
     if not example or lines_of(example[1]) not in lines_of(tested):
-        fault(readme, f"its example is not the code of {test.relative_to(TOP)}")
+        error(readme, f"its example is not the code of {test.relative_to(TOP)}")
     elif any(line not in tested for line in example[2].splitlines()):
-        fault(readme, f"what its example prints is not what {test.relative_to(TOP)} wants")
+        error(readme, f"what its example prints is not what {test.relative_to(TOP)} wants")
+
+
+def here():
+    """The files of the repository, and the folders with a slash at their end, but for what is built."""
+    for folder, folders, files in os.walk(TOP):
+        folders[:] = [it for it in folders if it not in (".git", "out")]
+        at = "/" + pathlib.Path(folder).relative_to(TOP).as_posix()
+        yield from (f"{at}/{it}" for it in files)
+        yield from (f"{at}/{it}/" for it in folders)
 
 
 def check_documents():
     """A file is there where a path ends with its name; NAME and * stand for any name."""
-    here = [it.relative_to(TOP) for it in TOP.rglob("*") if not {".git", "out"} & set(it.parts)]
-    paths = "".join(f"/{it}/\n" if (TOP / it).is_dir() else f"/{it}\n" for it in here)
+    paths = "\n".join(here())
     crates = {it.name for it in CRATES.iterdir()}
     for document in [TOP / "README.md", *sorted(TOP.glob("docs/*.md")), *sorted(CRATES.glob("*/wrong/INDEX.md"))]:
         text = document.read_text()
@@ -226,9 +235,9 @@ def check_documents():
         for name in sorted(named):
             pattern = re.escape(name.removeprefix("../").removeprefix("./")).replace(r"\*", "[^/\n]*").replace("NAME", r"[^/\n]*")
             if not re.search(rf"(?m)/{pattern}$", paths) and "out/" not in name:
-                fault(document, f"it names {name}, which isn't there")
+                error(document, f"it names {name}, which isn't there")
         for name in sorted(set(re.findall(r"`(bib_\w+)(?:`|::)", text)) - crates):
-            fault(document, f"it names the crate {name}, which isn't there")
+            error(document, f"it names the crate {name}, which isn't there")
 
 
 def main():
@@ -240,10 +249,10 @@ def main():
     check_rows()
     check_readme()
     check_documents()
-    for it in faults:
+    for it in errors:
         print(f"check: {it}")
-    print(f"check: {len(names['must-fail'])} wrong bodies for the gate and {len(names['wrong'])} others, {len(faults)} faults")
-    return 1 if faults else 0
+    print(f"check: {len(names['must-fail'])} wrong bodies for the gate and {len(names['wrong'])} others, {len(errors)} errors")
+    return 1 if errors else 0
 
 
 if __name__ == "__main__":

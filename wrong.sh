@@ -21,7 +21,7 @@ for crate in "$@"; do
     grep '^rt: must-fail' "$crate.log" | grep -v ': refused' || true
     grep -q '^rt: must-fail' "$crate.log" || { echo "$crate: no wrong body was tried"; tail "$crate.log"; }
 done
-count() { for crate in "$@"; do ls "crates/$crate/must-fail"; done | wc -l; }
+count() { for crate in "$@"; do ls "crates/$crate"/must-fail/*.edit; done | wc -l; }
 refused=$(cat ./*.log | grep -c '^rt: must-fail.*: refused' || true)
 echo "wrong bodies: $refused of $(count "$@") refused"
 [ "$refused" -eq "$(count "$@")" ]
