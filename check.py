@@ -198,7 +198,7 @@ def check_rows():
 
 def lines_of(code):
     """Lines of code without indentation, `use` and assertions; where the one prints, the other makes a text of it."""
-    lines = [it.strip().replace("println!(rt;", "let line = format!(in alloc;") for it in code.splitlines()]
+    lines = [re.sub(r"print(ln)?!\(rt;", "let line = format!(in alloc;", it.strip()) for it in code.splitlines()]
     return "\n".join(it for it in lines if it and not it.startswith(("use ", "assert!", "//")))
 
 
