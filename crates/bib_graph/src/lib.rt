@@ -1,4 +1,4 @@
-//! References between places: turns in which each place comes behind all that it refers to, and circles.
+//! References between entries, by index: a topological order, and cycles.
 //!
 //! Only indices are known here. The worklist counts for each entry the references that aren't done yet, and keeps who
 //! waits for it; an entry that misses none is done, and is counted off where others wait. So the order is made before

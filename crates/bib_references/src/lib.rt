@@ -1,4 +1,4 @@
-//! The entries of a bibliography with what they inherit, each resolved in one turn.
+//! The entries of a bibliography with what they inherit, each resolved once.
 //!
 //! `references` makes the graph: for each entry the indices of those that it refers to. `bib_graph` finds the order,
 //! and `turning` goes through it. `take_turn` is the one use of the rule of inheritance, and writes the index down. An
