@@ -12,6 +12,8 @@ With --definitions it prints each word of specs/ with its comment, by crate and 
 - Each public call of `biblatex` that may be refused memory is named in a test, which calls it where memory is there.
 - The rows of each layer, tests/rows/NAME, stand in NAME.stdout in the same order, each with an answer.
 - README.md has at most 80 lines, and its example is the code of tests/src/bibliography_calls/readme.rs.
+- docs/ARCHITECTURE.md names the modules of each crate, and the files of its specs/.
+- docs/THEOREMS.md says of each word in which file of specs/ it is defined, and names only calls that the sources have.
 - README.md, docs/ and the indexes name no file and no crate that isn't there.
 """
 import os
@@ -240,6 +242,35 @@ def check_documents():
             error(document, f"it names the crate {name}, which isn't there")
 
 
+def check_architecture():
+    """The row of a crate names its modules, and the files of its specs/."""
+    architecture = TOP / "docs" / "ARCHITECTURE.md"
+    for crate, row in re.findall(r"(?m)^\| `(\w+)` (\|.*)$", architecture.read_text()):
+        modules = {it.stem for it in CRATES.glob(f"{crate}/src/**/*.rt")} - {"lib"}
+        specs = {it.stem for it in CRATES.glob(f"{crate}/specs/*.antt")} - {"Lib"}
+        for name in sorted(modules | specs):
+            if not re.search(rf"`(\w+::)?{name}`" if name in modules else rf"\b{name}\b", row):
+                error(architecture, f"the row of {crate} doesn't name {name}")
+
+
+def check_theorems():
+    """The table of words names the files where they stand, and the other one calls that the sources have."""
+    theorems = TOP / "docs" / "THEOREMS.md"
+    sources = "\n".join(it.read_text() for it in CRATES.glob("*/src/**/*.rt"))
+    for line in theorems.read_text().splitlines():
+        columns = [it.strip() for it in re.split(r"(?<!\\)\|", line)]
+        words = re.findall(r"`([\w:]+)`", columns[1] if len(columns) == 5 else "")
+        files = re.findall(r"(\w+\.antt)", columns[3] if len(columns) == 5 else "")
+        crate = re.match(r"(\w+)/specs/", columns[3])[1] if files and "/specs/" in columns[3] else "*"
+        defined = {it[0] for name in files for file in CRATES.glob(f"{crate}/specs/{name}") for it in definitions(file)}
+        for word in words if files else []:
+            if word not in defined:
+                error(theorems, f"{word} isn't defined in {columns[3]}")
+        for call in re.findall(r"`([\w:]+)`", columns[2] if len(columns) == 5 and not files else ""):
+            if not re.search(rf"\b{call.rpartition('::')[2]}\b", sources):
+                error(theorems, f"no source has {call}")
+
+
 def main():
     names = edits()
     check_indexes()
@@ -249,6 +280,8 @@ def main():
     check_rows()
     check_readme()
     check_documents()
+    check_architecture()
+    check_theorems()
     for it in errors:
         print(f"check: {it}")
     print(f"check: {len(names['must-fail'])} wrong bodies for the gate and {len(names['wrong'])} others, {len(errors)} errors")
