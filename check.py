@@ -243,14 +243,16 @@ def check_documents():
 
 
 def check_architecture():
-    """The row of a crate names its modules, and the files of its specs/."""
+    """The row of a crate names its modules, and the files of its specs/: those of meaning, and after a semicolon the others."""
     architecture = TOP / "docs" / "ARCHITECTURE.md"
-    for crate, row in re.findall(r"(?m)^\| `(\w+)` (\|.*)$", architecture.read_text()):
-        modules = {it.stem for it in CRATES.glob(f"{crate}/src/**/*.rt")} - {"lib"}
-        specs = {it.stem for it in CRATES.glob(f"{crate}/specs/*.antt")} - {"Lib"}
-        for name in sorted(modules | specs):
-            if not re.search(rf"`(\w+::)?{name}`" if name in modules else rf"\b{name}\b", row):
-                error(architecture, f"the row of {crate} doesn't name {name}")
+    for crate, modules, specs in re.findall(r"(?m)^\| `(\w+)` \|([^|]*)\|([^|]*)\|$", architecture.read_text()):
+        for file in sorted(CRATES.glob(f"{crate}/src/**/*.rt")):
+            if file.stem != "lib" and not re.search(rf"`(\w+::)?{file.stem}`", modules):
+                error(architecture, f"the row of {crate} doesn't name {file.stem}")
+        for file in sorted(CRATES.glob(f"{crate}/specs/*.antt")):
+            named = specs.partition(";")[0 if file.read_text().startswith("-- Meaning") else 2]
+            if file.stem != "Lib" and not re.search(rf"\b{file.stem}\b", named):
+                error(architecture, f"the row of {crate} doesn't name {file.stem} where it belongs")
 
 
 def check_theorems():
