@@ -1,14 +1,22 @@
 #!/usr/bin/env python3
-"""Checks in a second what the prover doesn't read.
+"""Checks in a second what the prover doesn't read: check.py, or check.py --definitions [CRATE ..]
+
+With --definitions it prints each word of specs/ with its comment, by crate and file.
 
 - Each wrong body, crates/NAME/must-fail/*.edit and crates/NAME/wrong/*.edit, fits its file: each of its `old:` texts
-  stands there exactly once. Its name is words in small letters with hyphens between them, and no other has it.
-- docs/PROMISES.md names each wrong body, in the column of its folder, and none that isn't there.
-- docs/DEFINITIONS.md names each word that a public contract cites.
+  stands there exactly once. Its name is words in lowercase with hyphens between them, and no other has it.
+- crates/NAME/wrong/INDEX.md names each wrong body of its crate, in the section of its folder, with the promise that it
+  breaks and the clause that refuses it, and none that isn't there.
 - Each file of specs/ says in its first line whether it is meaning or machinery.
+- Each word that a public contract cites has a comment in specs/.
 - Each public call of `biblatex` that may be refused memory is named in a test, which calls it where memory is there.
 - The rows of each layer, tests/rows/NAME, stand in NAME.stdout in the same order, each with an answer.
+- README.md has at most 80 lines, and its example is the code of tests/src/bibliography_calls/readme.rs.
+- docs/ARCHITECTURE.md names the modules of each crate, and the files of its specs/.
+- docs/THEOREMS.md says of each word in which file of specs/ it is defined, and names only calls that the sources have.
+- README.md, docs/ and the indexes name no file and no crate that isn't there.
 """
+import os
 import pathlib
 import re
 import sys
@@ -16,11 +24,11 @@ import sys
 TOP = pathlib.Path(__file__).resolve().parent
 CRATES = TOP / "crates"
 FOLDERS = ("must-fail", "wrong")
-faults = []
+errors = []
 
 
-def fault(path, why):
-    faults.append(f"{path.relative_to(TOP)}: {why}")
+def error(path, why):
+    errors.append(f"{path.relative_to(TOP)}: {why}")
 
 
 def check_fit(edit):
@@ -37,11 +45,11 @@ def check_fit(edit):
                 texts[file] = file.read_text() if file.is_file() else ""
             found = texts[file].count(old)
             if found != 1:
-                fault(edit, f"its text stands {found} times in {file.relative_to(crate)}, and not once: {old}")
+                error(edit, f"its text stands {found} times in {file.relative_to(crate)}, and not once: {old}")
             texts[file] = texts[file].replace(old, text)
             old, pairs = None, pairs + 1
     if not pairs:
-        fault(edit, "it changes nothing")
+        error(edit, "it changes nothing")
 
 
 def edits():
@@ -51,27 +59,34 @@ def edits():
         for edit in sorted(CRATES.glob(f"*/{folder}/*.edit")):
             check_fit(edit)
             if not re.fullmatch(r"[a-z0-9]+(-[a-z0-9]+)*", edit.stem):
-                fault(edit, "its name is not words in small letters with hyphens between them")
+                error(edit, "its name is not words in lowercase with hyphens between them")
             if any(edit.stem in it for it in names.values()):
-                fault(edit, "another wrong body has this name")
+                error(edit, "another wrong body has this name")
             names[folder].add(edit.stem)
     return names
 
 
-def check_promises(names):
-    """The last two columns of each table name the wrong bodies of the two folders."""
-    promises = TOP / "docs" / "PROMISES.md"
-    named = {folder: set() for folder in FOLDERS}
-    for line in promises.read_text().splitlines():
-        columns = re.split(r"(?<!\\)\|", line)
-        if len(columns) == 6:
-            for folder, column in zip(FOLDERS, columns[3:5]):
-                named[folder] |= set(re.findall(r"`([^`]+)`", column))
-    for folder in FOLDERS:
-        for name in sorted(names[folder] - named[folder]):
-            fault(promises, f"it doesn't name {folder}/{name}")
-        for name in sorted(named[folder] - names[folder]):
-            fault(promises, f"it names {folder}/{name}, which isn't there")
+def check_indexes():
+    """A line for each wrong body of the crate, in the section whose heading names its folder."""
+    for crate in sorted({edit.parent.parent for folder in FOLDERS for edit in CRATES.glob(f"*/{folder}/*.edit")}):
+        index = crate / "wrong" / "INDEX.md"
+        named, folder = {it: [] for it in FOLDERS}, None
+        for line in (index.read_text() if index.is_file() else "").splitlines():
+            if line.startswith("## "):
+                folder = next((it for it in FOLDERS if f"{it}/" in line), None)
+            found = re.match(r"- `([^`]+)`", line)
+            if found and folder:
+                named[folder].append(found[1])
+                if not re.fullmatch(r"- `[^`]+`: [^;]+; .+", line):
+                    error(index, f"of {found[1]} it doesn't say what it breaks; and which clause refuses it")
+        for folder in FOLDERS:
+            names = sorted(edit.stem for edit in crate.glob(f"{folder}/*.edit"))
+            for name in names:
+                if name not in named[folder]:
+                    error(index, f"it doesn't name {folder}/{name}")
+            for name in named[folder]:
+                if name not in names or named[folder].count(name) > 1:
+                    error(index, f"it names {folder}/{name}, which isn't there once")
 
 
 def contracts(text):
@@ -99,20 +114,46 @@ def cited(file):
                 yield imported[word]
 
 
+def definitions(file):
+    """The words that a file of specs/ defines, each with the comment right above it."""
+    said = []
+    for line in file.read_text().splitlines():
+        found = re.match(r"(?:(?:abbrev|unfoldable|pub|record|data) )+([A-Za-z_][\w']*) ", line)
+        if line.startswith("-- "):
+            said.append(line[3:])
+        elif found and not line.startswith(("pub mod", "pub use")):
+            yield found[1], " ".join(said)
+            said = []
+        else:
+            said = []
+
+
 def check_definitions():
-    definitions = TOP / "docs" / "DEFINITIONS.md"
-    listed = set(re.findall(r"`([A-Za-z_][\w']*)", definitions.read_text()))
+    """A word that stands inside a definition, as a case of it does, is said there."""
+    commented, within = set(), set()
+    for file in CRATES.glob("*/specs/*.antt"):
+        commented |= {word for word, said in definitions(file) if said}
+        within |= set(re.findall(r"(?m)^  (?:pub )?([A-Za-z_][\w']*) :", file.read_text()))
     for file in sorted(CRATES.glob("*/src/**/*.rt")):
-        for word in sorted(set(cited(file)) - listed):
-            fault(definitions, f"it doesn't list {word}, which {file.relative_to(CRATES)} cites")
-            listed.add(word)
+        for word in sorted(set(cited(file)) - commented - within):
+            error(file, f"it cites {word}, which has no comment in specs/")
+            commented.add(word)
+
+
+def print_definitions(crates):
+    for file in sorted(CRATES.glob("*/specs/*.antt")):
+        words = list(definitions(file))
+        if words and (not crates or file.parent.parent.name in crates):
+            print(f"\n{file.relative_to(CRATES)}")
+            for word, said in words:
+                print(f"  {word}: {said}" if said else f"  {word}")
 
 
 def check_specs():
     for file in sorted(CRATES.glob("*/specs/*.antt")):
         text = file.read_text()
         if file.name != "Lib.antt" and not text.startswith(("-- Meaning: ", "-- Machinery: ")):
-            fault(file, "its first line doesn't say whether it is meaning or machinery")
+            error(file, "its first line doesn't say whether it is meaning or machinery")
 
 
 def exported():
@@ -141,7 +182,7 @@ def check_calls():
         for within, name in calls(file, names):
             called = rf"[.:]{name}\b" if within else rf"\b{name}\("
             if not re.search(called, text):
-                fault(file, f"no test calls {within + '::' if within else ''}{name}, which may be refused memory")
+                error(file, f"no test calls {within + '::' if within else ''}{name}, which may be refused memory")
 
 
 def check_rows():
@@ -150,25 +191,106 @@ def check_rows():
         stdin = stdout.with_suffix("")
         rows, answers = stdin.read_text().split("\n"), stdout.read_text().split("\n")
         if len(rows) != len(answers):
-            fault(stdout, f"it has {len(answers)} lines, and {stdin.name} {len(rows)}")
+            error(stdout, f"it has {len(answers)} lines, and {stdin.name} {len(rows)}")
         for number, (row, answer) in enumerate(zip(rows, answers), 1):
             if not (answer.startswith(f"{row} => ") if "|" in row else answer == row):
-                fault(stdout, f"line {number} doesn't begin with the row of {stdin.name}")
+                error(stdout, f"line {number} doesn't begin with the row of {stdin.name}")
                 break
+
+
+def lines_of(code):
+    """Lines of code without indentation, `use` and assertions; where the one prints, the other makes a text of it."""
+    lines = [re.sub(r"print(ln)?!\(rt;", "let line = format!(in alloc;", it.strip()) for it in code.splitlines()]
+    return "\n".join(it for it in lines if it and not it.startswith(("use ", "assert!", "//")))
+
+
+def check_readme():
+    readme, test = TOP / "README.md", TOP / "tests" / "src" / "bibliography_calls" / "readme.rs"
+    text = readme.read_text()
+    if len(text.splitlines()) > 80:
+        error(readme, f"it has {len(text.splitlines())} lines, and not 80 at most")
+    example = re.search(r"```rust\n(.*?)```.*?```text\n(.*?)```", text, re.S)
+    tested = test.read_text() if test.is_file() else ""
+    if not example or lines_of(example[1]) not in lines_of(tested):
+        error(readme, f"its example is not the code of {test.relative_to(TOP)}")
+    elif any(line not in tested for line in example[2].splitlines()):
+        error(readme, f"what its example prints is not what {test.relative_to(TOP)} wants")
+
+
+def here():
+    """The files of the repository, and the folders with a slash at their end, but for what is built."""
+    for folder, folders, files in os.walk(TOP):
+        folders[:] = [it for it in folders if it not in (".git", "out")]
+        at = "/" + pathlib.Path(folder).relative_to(TOP).as_posix()
+        yield from (f"{at}/{it}" for it in files)
+        yield from (f"{at}/{it}/" for it in folders)
+
+
+def check_documents():
+    """A file is there where a path ends with its name; NAME and * stand for any name."""
+    paths = "\n".join(here())
+    crates = {it.name for it in CRATES.iterdir()}
+    for document in [TOP / "README.md", *sorted(TOP.glob("docs/*.md")), *sorted(CRATES.glob("*/wrong/INDEX.md"))]:
+        text = document.read_text()
+        named = set(re.findall(r"(?<![\w/.*-])[\w./*-]+\.(?:md|py|sh|txt|antt|rt|rs|edit|c|stdout)\b", text))
+        named |= set(re.findall(r"(?<![\w/.*`-])(?:[\w.-]+/)+(?=[\s,;:.)])", text))
+        for name in sorted(named):
+            pattern = re.escape(name.removeprefix("../").removeprefix("./")).replace(r"\*", "[^/\n]*").replace("NAME", r"[^/\n]*")
+            if not re.search(rf"(?m)/{pattern}$", paths) and "out/" not in name:
+                error(document, f"it names {name}, which isn't there")
+        for name in sorted(set(re.findall(r"`(bib_\w+)(?:`|::)", text)) - crates):
+            error(document, f"it names the crate {name}, which isn't there")
+
+
+def check_architecture():
+    """The row of a crate names its modules, and the files of its specs/: those of meaning, and after a semicolon the others."""
+    architecture = TOP / "docs" / "ARCHITECTURE.md"
+    for crate, modules, specs in re.findall(r"(?m)^\| `(\w+)` \|([^|]*)\|([^|]*)\|$", architecture.read_text()):
+        for file in sorted(CRATES.glob(f"{crate}/src/**/*.rt")):
+            if file.stem != "lib" and not re.search(rf"`(\w+::)?{file.stem}`", modules):
+                error(architecture, f"the row of {crate} doesn't name {file.stem}")
+        for file in sorted(CRATES.glob(f"{crate}/specs/*.antt")):
+            named = specs.partition(";")[0 if file.read_text().startswith("-- Meaning") else 2]
+            if file.stem != "Lib" and not re.search(rf"\b{file.stem}\b", named):
+                error(architecture, f"the row of {crate} doesn't name {file.stem} where it belongs")
+
+
+def check_theorems():
+    """The table of words names the files where they stand, and the other one calls that the sources have."""
+    theorems = TOP / "docs" / "THEOREMS.md"
+    sources = "\n".join(it.read_text() for it in CRATES.glob("*/src/**/*.rt"))
+    for line in theorems.read_text().splitlines():
+        columns = [it.strip() for it in re.split(r"(?<!\\)\|", line)]
+        words = re.findall(r"`([\w:]+)`", columns[1] if len(columns) == 5 else "")
+        files = re.findall(r"(\w+\.antt)", columns[3] if len(columns) == 5 else "")
+        crate = re.match(r"(\w+)/specs/", columns[3])[1] if files and "/specs/" in columns[3] else "*"
+        defined = {it[0] for name in files for file in CRATES.glob(f"{crate}/specs/{name}") for it in definitions(file)}
+        for word in words if files else []:
+            if word not in defined:
+                error(theorems, f"{word} isn't defined in {columns[3]}")
+        for call in re.findall(r"`([\w:]+)`", columns[2] if len(columns) == 5 and not files else ""):
+            if not re.search(rf"\b{call.rpartition('::')[2]}\b", sources):
+                error(theorems, f"no source has {call}")
 
 
 def main():
     names = edits()
-    check_promises(names)
+    check_indexes()
     check_definitions()
     check_specs()
     check_calls()
     check_rows()
-    for it in faults:
+    check_readme()
+    check_documents()
+    check_architecture()
+    check_theorems()
+    for it in errors:
         print(f"check: {it}")
-    print(f"check: {len(names['must-fail'])} wrong bodies for the gate and {len(names['wrong'])} others, {len(faults)} faults")
-    return 1 if faults else 0
+    print(f"check: {len(names['must-fail'])} wrong bodies for the gate and {len(names['wrong'])} others, {len(errors)} errors")
+    return 1 if errors else 0
 
 
 if __name__ == "__main__":
+    if sys.argv[1:2] == ["--definitions"]:
+        sys.exit(print_definitions(sys.argv[2:]))
     sys.exit(main())

@@ -21,9 +21,11 @@ IsAnswer reading result = IsReadAs (λ value. value) (value_of reading) (MayRefu
 abbrev pub date_reading : Value → Reading Date
 date_reading chunks = date_of (text chunks)
 
+-- the date that the formatted text of chunks is read as, if it is one
 abbrev pub date_read : Value → Option Date
 date_read chunks = value_of (date_reading chunks)
 
+-- the kinds of errors that these chunks may be refused with as a date
 abbrev pub DateMayRefuse : Value → TypeErrorKind → Type 0
 DateMayRefuse chunks kind = MayRefuse (date_reading chunks) kind
 

@@ -89,9 +89,11 @@ same_offset_is (Offset p h m) (Offset q k n) e =
     let y : h ≡ k = nat_is h k two.0 in
     let z : m ≡ n = nat_is m n two.1 in cc
 
+-- a lemma: being the same offset is an equality
 pub same_offset_laws : IsEquivalence same_offset
 same_offset_laws = decided same_offset (λ a b. (same_offset_is a b, λ e. subst (λ x. same_offset a x ≡ true) e (same_offset_itself a)))
 
+-- a lemma: being the same offset is a partial equality
 pub same_offset_partial : IsPartialEquivalence same_offset
 same_offset_partial = partial_equiv_from_equiv same_offset_laws
 
@@ -134,6 +136,7 @@ same_says x y = absorbed (beq (is_some x.offset) (is_some y.offset)) (int_eq (ut
     (λ h. subst (λ z. beq (is_some x.offset) (is_some z.offset) ≡ true) (same_time_is x y h) (bool_eq_equiv.refl (is_some x.offset)))
     (λ h. subst (λ z. int_eq (utc_seconds x) (utc_seconds z) ≡ true) (same_time_is x y h) (int_eq_equiv.refl (utc_seconds x)))
 
+-- a lemma: times are ordered by a partial order, equal exactly for equal ones
 pub time_laws : IsPartialOrder same_time time_cmp
 time_laws = subst (λ E. IsPartialOrder E time_cmp) (λ i x y. same_says x y i)
     (then_po (on_po (λ t. is_some t.offset) (alone_po beq bool_eq_equiv)) (then_po (on_po utc_seconds signed_po) (alone_po same_time (decided same_time same_time_decides))))
@@ -141,6 +144,7 @@ time_laws = subst (λ E. IsPartialOrder E time_cmp) (λ i x y. same_says x y i)
 abbrev pub same_datetime : Datetime → Datetime → Bool
 same_datetime a b = int_eq a.year b.year && (option_eq nat_eq a.month b.month && (option_eq nat_eq a.day b.day && option_eq same_time a.time b.time))
 
+-- a lemma: dates are ordered by a partial order, equal exactly for equal ones
 pub datetime_laws : IsPartialOrder same_datetime datetime_cmp
 datetime_laws =
     then_po (on_po (λ d. d.year) signed_po)

@@ -49,6 +49,7 @@ value_text (After d) mark = datetime_text d ++ (codes "/.." ++ mark)
 value_text (Before d) mark = codes "../" ++ (datetime_text d ++ mark)
 value_text (Between a b) mark = datetime_text a ++ (codes "/" ++ (datetime_text b ++ mark))
 
+-- a date or a range, and its mark
 abbrev pub date_text : Date → List ℕ
 date_text d = value_text d.value (mark_text d.uncertain d.approximate)
 
@@ -77,5 +78,6 @@ abbrev pub day_of_month : Option ℕ → Option ℕ → Option ℕ
 day_of_month None day = None
 day_of_month (Some m) day = day
 
+-- a day, counted from 1, in at least two digits; a day without a month has none
 abbrev pub day_text : Datetime → Option (List ℕ)
 day_text d = option_map count_text (day_of_month d.month d.day)

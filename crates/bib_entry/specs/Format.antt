@@ -20,5 +20,6 @@ abbrev pub field_in : Format → EntryType → List ℕ × List (Spanned Chunk) 
 field_in Biblatex kind f = biblatex_field f
 field_in Bibtex kind f = bibtex_field kind f
 
+-- an entry in the types and fields of BibLaTeX or of BibTeX
 abbrev pub entry_in : Format → Entry → List ℕ
 entry_in format e = entry_text (entry_type_name (kind_in format e.entry_type)) e.key (flat_map (field_in format e.entry_type) (entries e.fields))

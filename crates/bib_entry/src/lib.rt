@@ -1,4 +1,8 @@
 //! Entries of a bibliography, and their fields as typed values.
+//!
+//! A getter or setter is one line over `get_as`, `set_as`, `get` or `set`. `write_entry` writes an entry at the end of
+//! a text, for either format; the calls of `biblatex` that make texts and those that hand them to a sink are a few
+//! lines round it.
 #![tactic(auto)]
 
 mod dates;

@@ -14,6 +14,7 @@ gender_name PluralFemale = codes "PluralFemale"
 gender_name PluralMale = codes "PluralMale"
 gender_name PluralNeuter = codes "PluralNeuter"
 
+-- the same gender of several
 abbrev pub plural_of : Gender → Gender
 plural_of SingularFemale = PluralFemale
 plural_of SingularMale = PluralMale
@@ -22,6 +23,7 @@ plural_of PluralFemale = PluralFemale
 plural_of PluralMale = PluralMale
 plural_of PluralNeuter = PluralNeuter
 
+-- the same gender of one
 abbrev pub singular_of : Gender → Gender
 singular_of SingularFemale = SingularFemale
 singular_of SingularMale = SingularMale

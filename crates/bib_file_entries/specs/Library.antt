@@ -58,6 +58,7 @@ abbrev pub inserted_at : Library → Entry → Option ℕ → Library
 inserted_at library entry (Some place) = exchanged library place entry
 inserted_at library entry None = appended library entry
 
+-- an entry added: at the index that its key points to, or after the others
 abbrev pub inserted : Library → Entry → Library
 inserted library entry = inserted_at library entry (place_of library entry.key)
 
@@ -70,6 +71,7 @@ abbrev pub removed_at : Library → Option ℕ → Library
 removed_at library (Some place) = without_entry library place
 removed_at library None = library
 
+-- the entry that a name points to taken out, with all names that point to it
 abbrev pub removed : Library → List ℕ → Library
 removed library name = removed_at library (place_of library name)
 
@@ -78,5 +80,6 @@ abbrev pub aliased_at : Library → List ℕ → Option ℕ → Library
 aliased_at library alias (Some place) = record library { names = by_name.insert library.names alias place }
 aliased_at library alias None = library
 
+-- another name for the entry that a name points to, if there is one
 abbrev pub aliased : Library → List ℕ → List ℕ → Library
 aliased library name alias = aliased_at library alias (place_of library name)

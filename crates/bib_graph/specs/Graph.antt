@@ -4,6 +4,7 @@
 use Rattle.std.specs.Prelude.{◌≡◌, ℕ, ◌<◌, ◌==◌, List, [], length, map, take, slice_index_or, count_by, nat_lt, if◌then◌else◌}
 use Rattle.std.specs.List.{All, Contains}
 
+-- for each index of an entry the indices that it refers to, in order
 abbrev pub Graph : Type 0
 Graph = List (List ℕ)
 

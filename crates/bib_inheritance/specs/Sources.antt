@@ -45,6 +45,7 @@ first_some None other = other
 abbrev pub source_at : Reference → Source
 source_at reference = source_of reference.entry_type.now reference.fields.now
 
+-- the entries that another refers to, in order
 abbrev pub sources : List Reference → List Source
 sources = map source_at
 

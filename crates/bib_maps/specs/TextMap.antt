@@ -18,9 +18,11 @@ same_pairs same m n = pointwise (same_pair same) (entries m) (entries n)
 pub same_pair_per : {V : Type 0} {same : V → V → Bool} → IsPartialEquivalence same → IsPartialEquivalence (same_pair same)
 same_pair_per laws = and_per (on_per (λ p. p.0) (partial_equiv_from_equiv nat_list_eq_equiv)) (on_per (λ p. p.1) laws)
 
+-- a lemma: this is a partial equality where the test is one
 pub same_pairs_per : {V : Type 0} {same : V → V → Bool} → IsPartialEquivalence same → IsPartialEquivalence (same_pairs same)
 same_pairs_per laws = on_per entries (lists_per (same_pair_per laws))
 
+-- a lemma: this is an equality where the test is one
 pub same_pairs_equiv : {V : Type 0} {same : V → V → Bool} → IsEquivalence same → IsEquivalence (same_pairs same)
 same_pairs_equiv laws = on_equiv entries (lists_equiv (and_equiv (on_equiv (λ p. p.0) nat_list_eq_equiv) (on_equiv (λ p. p.1) laws)))
 

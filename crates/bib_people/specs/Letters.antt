@@ -44,6 +44,7 @@ pub record Word : Type 0 where
   pub gap : List Letter
   pub letters : List Letter
 
+-- the word of these letters and of the gap before it
 abbrev pub a_word : List Letter → List Letter → Word
 a_word gap letters = record { gap = gap; letters = letters }
 

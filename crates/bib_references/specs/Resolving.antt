@@ -26,6 +26,7 @@ graph_by names own = map (λ e. references names (fields_of e.fields)) own
 abbrev pub source_of_entry : Entry → Source
 source_of_entry e = source_of e.entry_type e.fields
 
+-- what inheritance knows of entries, in order
 abbrev pub sources_of : List Entry → List Source
 sources_of = map source_of_entry
 

@@ -9,6 +9,7 @@ use Rattle.bib_syntax.specs.declared.raw.ParseErrorKind.{ParseErrorKind}
 use Rattle.bib_syntax.specs.declared.raw.ParseErrorKind.TheVariants.{UnexpectedEof, Unexpected, Expected, UnknownAbbreviation, MalformedCommand, DuplicateKey, ResolutionError, AbbreviationCycle, ReferenceCycle, OutOfMemory}
 use Rattle.bib_syntax.specs.declared.raw.ParseError.{ParseError}
 
+-- how a token is printed
 abbrev pub token_text : Token → List ℕ
 token_text token.Identifier = codes "identifier"
 token_text token.OpeningBrace = codes "opening brace"

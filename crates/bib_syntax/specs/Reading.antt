@@ -36,6 +36,7 @@ pub record EntryReading : Type 0 where
   pub start : ℕ
   pub end : ℕ
 
+-- what a file says: its entries, its abbreviations and its preamble
 pub record FileReading : Type 0 where
   pub preamble : List ℕ
   pub entries : List EntryReading

@@ -29,6 +29,7 @@ pub record EntryStandsIn (text : List ℕ) (e : EntryReading) : Type 0 where
   pub kind : StandsIn text e.kind
   pub fields : AllByRecursion (FieldStandsIn text) e.fields
 
+-- each key, entry type, field name and element of a reading is the text between its ends
 pub record ReadingStandsIn (text : List ℕ) (says : FileReading) : Type 0 where
   pub entries : AllByRecursion (EntryStandsIn text) says.entries
   pub abbreviations : AllByRecursion (FieldStandsIn text) says.abbreviations

@@ -21,6 +21,7 @@ abbrev pub piece_at : ℕ → ℕ → RawChunk → Piece
 piece_at start end (Normal s) = literal (record { text = s.now; start = start; end = end })
 piece_at start end (Abbreviation s) = abbreviation (record { text = s.now; start = start; end = end })
 
+-- what an element of a value says, with its ends
 abbrev pub piece_of : Spanned RawChunk → Piece
 piece_of s = piece_at s.span.start s.span.end s.v
 
@@ -30,6 +31,7 @@ field_of p = record { name = part_of p.key; value = record { pieces = map piece_
 abbrev pub entry_of : Spanned RawEntry → EntryReading
 entry_of e = record { key = part_of e.v.key; kind = part_of e.v.kind; fields = map field_of e.v.fields.items; start = e.span.start; end = e.span.end }
 
+-- what a raw bibliography says
 abbrev pub file_of : RawBibliography → FileReading
 file_of raw = record {
   preamble = string_bytes raw.preamble;

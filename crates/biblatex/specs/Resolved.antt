@@ -24,6 +24,7 @@ AreOwn says own = AreEntries (definition_in says.abbreviations) [] says.entries 
 abbrev pub names_of : List Entry → ByText ℕ
 names_of own = (loaded_behind nothing own).names
 
+-- for each entry the indices of those that it refers to, by its fields as written and the names of all entries
 abbrev pub graph_of : List Entry → Graph
 graph_of own = graph_by (names_of own) own
 

@@ -13,8 +13,10 @@ use Rattle.bib_maps.specs.TextMap.{same_pairs, same_pairs_per, same_pairs_equiv}
 abbrev pub same_library : Library → Library → Bool
 same_library a b = pointwise entry.ghosts.eq a.entries b.entries && same_pairs nat_eq a.names b.names
 
+-- a lemma: this is a partial equality
 pub same_library_per : IsPartialEquivalence same_library
 same_library_per = and_per (on_per (λ l. l.entries) (lists_per entry_per.laws-law)) (on_per (λ l. l.names) (same_pairs_per (partial_equiv_from_equiv nat_eq_equiv)))
 
+-- a lemma: this is an equality
 pub same_library_equiv : IsEquivalence same_library
 same_library_equiv = and_equiv (on_equiv (λ l. l.entries) (lists_equiv entry_equiv.laws-law)) (on_equiv (λ l. l.names) (same_pairs_equiv nat_eq_equiv))
