@@ -1,13 +1,11 @@
 -- Meaning: words of public contracts.
 -- Entries with the types and fields of either format.
 use Rattle.std.specs.Prelude.{ℕ, List}
-use Rattle.std.specs.FinMap.{entries}
-use Rattle.std.specs.List.{flat_map}
 use Rattle.bib_text.specs.declared.spanned.Spanned.{Spanned}
 use Rattle.bib_chunks.specs.declared.chunk.Chunk.{Chunk}
-use Rattle.bib_entry_types.specs.EntryType.{entry_type_name, biblatex_type, bibtex_type}
+use Rattle.bib_entry_types.specs.EntryType.{biblatex_type, bibtex_type}
 use Rattle.bib_entry_types.specs.declared.mechanics.EntryType.{EntryType}
-use Rattle.bib_entry.specs.WrittenEntries.{biblatex_field, bibtex_field, entry_text}
+use Rattle.bib_entry.specs.WrittenEntries.{biblatex_entry, biblatex_field, bibtex_entry, bibtex_field}
 use Rattle.bib_entry.specs.declared.entry.Entry.{Entry}
 use Rattle.bib_entry.specs.declared.write.Format.{Format}
 use Rattle.bib_entry.specs.declared.write.Format.TheVariants.{Biblatex, Bibtex}
@@ -22,4 +20,5 @@ field_in Bibtex kind f = bibtex_field kind f
 
 -- an entry in the types and fields of BibLaTeX or of BibTeX
 abbrev pub entry_in : Format → Entry → List ℕ
-entry_in format e = entry_text (entry_type_name (kind_in format e.entry_type)) e.key (flat_map (field_in format e.entry_type) (entries e.fields))
+entry_in Biblatex = biblatex_entry
+entry_in Bibtex = bibtex_entry
