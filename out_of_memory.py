@@ -11,6 +11,7 @@ Elsewhere it is passed on, by `?`. A contract can't say so: a body that answers 
 import re
 
 HANDING_BACK = ("AllocFailed", "InsertError", "SetError")
+RENAMED = rf"\b(?:AllocError|OutOfMemory|{'|'.join(HANDING_BACK)})\s+as\s+\w+|\btype \w+ = (?:\w+::)*AllocError\b"
 GIVEN = rf":\s*(AllocError|(?:{'|'.join(HANDING_BACK)})\b)"
 BUILT = rf"(?:\b\w+::)*\b(?:AllocError|OutOfMemory)\b|\b(?:{'|'.join(HANDING_BACK)})\s*(?=\{{)"
 CLOSING = {"(": ")", "[": "]", "{": "}"}
@@ -48,10 +49,15 @@ def opening(text, place):
 
 
 def code(text):
-    """A file's text without comments, texts in quotes, ghost items, clauses, imports and declarations of types."""
+    """A file's text without comments, texts in quotes, ghost items and clauses."""
     for found in re.finditer(r"\"(?:\\.|[^\"\\])*\"|'(?:\\.|[^'\\])'|//[^\n]*", text, re.S):
         text = blank(text, *found.span())
-    for word in (r"\bghost\b", r"\b(?:requires|ensures|invariant|decreases)\b\*?", r"\b(?:struct|enum)\b", r"\b(?:pub )?(?:use|type)\b"):
+    return without(text, r"\bghost\b", r"\b(?:requires|ensures|invariant|decreases)\b\*?")
+
+
+def without(text, *words):
+    """The text without the items that begin with these words: to a semicolon, or to the end of their braces."""
+    for word in words:
         for found in re.finditer(rf"(?m)(?<![\w.]){word}[^{{;]*", text):
             end = found.end()
             if text[found.start():end].strip() and text[end:end + 1] == "{":
@@ -61,7 +67,8 @@ def code(text):
 
 
 def plain(text):
-    """The code without the heads of functions and impls, and without the bodies that may build such errors."""
+    """The code without imports, declarations of types, heads of functions and impls, and bodies that may build such errors."""
+    text = without(text, r"\b(?:struct|enum)\b", r"\b(?:use|type)\b")
     for found in re.finditer(r"\bfn (\w+)([^{;]*)", text):
         may_build = found[1] == "unless_out_of_memory" or re.search(GIVEN, found[2])
         end = closing(text, found.end()) if may_build and text[found.end():found.end() + 1] == "{" else found.end()
@@ -93,8 +100,11 @@ def is_type(text, start, end):
 
 
 def built(text):
-    """The numbers of the lines that build such an error, each with what is built."""
-    text = plain(code(text))
+    """The numbers of the lines that build such an error, or give it another name, each with what stands there."""
+    text = code(text)
+    for found in re.finditer(RENAMED, text):
+        yield text.count("\n", 0, found.start()) + 1, found[0]
+    text = plain(text)
     for found in re.finditer(BUILT, text):
         start, end = found.span()
         if text[end:end + 1] == "{":

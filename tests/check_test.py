@@ -37,6 +37,8 @@ fn read(chunks: ChunksRef<'_>) -> Result<Date, TypeError> {
     "an io error": "fn f() -> io::Error {\n    io::Error::from(ErrorKind::OutOfMemory)\n}\n",
     "an io error of another kind": "fn f(e: io::Error) -> Result<(), AllocError> {\n    match e.kind() {\n        ErrorKind::Other => Err(AllocError),\n        _ => Ok(()),\n    }\n}\n",
     "an option": "fn f(x: Option<u8>) -> Result<u8, AllocError> {\n    x.ok_or(AllocError)\n}\n",
+    "another name": "use std::alloc::{AllocError as Refused, Global};\n",
+    "another name of the type": "type Refused = std::alloc::AllocError;\n",
     "a value in a test": "fn f() -> bool {\n    matches!(g(AllocError), Ok(_))\n}\n",
     "after a text with marks of a comment": "fn f() -> Result<(), AllocError> {\n    let _x = \"http://a\"; Err(AllocError)\n}\n",
 }
@@ -77,6 +79,7 @@ impl TypeError {
 """,
     "passed on": """
 use std::alloc::{AllocError, Global};
+ghost use Rattle.bib_enums.specs.declared.type_error.TypeErrorKind.TheVariants.{OutOfMemory as Lacking};
 
 /// An error. `OutOfMemory` is one.
 pub enum Kind {
