@@ -10,6 +10,7 @@ With --definitions it prints each word of specs/ with its comment, by crate and 
 - Each file of specs/ says in its first line whether it is meaning or machinery.
 - Each word that a public contract cites has a comment in specs/.
 - Each public call of `biblatex` that may be refused memory is named in a test, which calls it where memory is there.
+- No function builds an error that says that memory was refused unless it was given one (out_of_memory.py).
 - The rows of each layer, tests/rows/NAME, stand in NAME.stdout in the same order, each with an answer.
 - README.md has at most 80 lines, and its example is the code of tests/src/bibliography_calls/readme.rs.
 - docs/ARCHITECTURE.md names the modules of each crate, and the files of its specs/.
@@ -20,6 +21,8 @@ import os
 import pathlib
 import re
 import sys
+
+import out_of_memory
 
 TOP = pathlib.Path(__file__).resolve().parent
 CRATES = TOP / "crates"
@@ -185,6 +188,12 @@ def check_calls():
                 error(file, f"no test calls {within + '::' if within else ''}{name}, which may be refused memory")
 
 
+def check_memory():
+    for file in sorted(CRATES.glob("*/src/**/*.rt")):
+        for line, what in out_of_memory.built(file.read_text()):
+            error(file, f"line {line} builds {what}, and wasn't given an error that says that memory was refused")
+
+
 def check_rows():
     """A row is a line with a bar; the other lines are headings, and stand as they are."""
     for stdout in sorted(TOP.glob("tests/rows/*.stdout")):
@@ -279,6 +288,7 @@ def main():
     check_definitions()
     check_specs()
     check_calls()
+    check_memory()
     check_rows()
     check_readme()
     check_documents()

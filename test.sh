@@ -1,10 +1,11 @@
 #!/usr/bin/env bash
-# Looks, without the prover, whether wrong bodies fit and docs/ name what there is; runs the tests; proves every crate from
+# Looks, without the prover, whether wrong bodies fit, docs/ name what there is and out of memory is only passed on; runs the tests; proves every crate from
 # nothing, tries the wrong bodies that must be refused, and runs the program; and runs the program that it built on more
 # inputs. Each check has one processor: a second one costs as much again as it saves.
 set -eu
 cd "$(dirname "$0")"
 python3 check.py
+python3 tests/check_test.py
 said=$(mktemp)
 trap 'rm -f "$said"' EXIT
 bash tests.sh > "$said" 2>&1 & tests=$!

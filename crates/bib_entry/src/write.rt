@@ -15,7 +15,6 @@ use bib_chunks::chunk::{ChunksRef, write_value};
 use bib_dates::date::{Date, Datetime};
 use bib_entry_types::fields::is_verbatim_field;
 use bib_entry_types::mechanics::EntryType;
-use bib_enums::type_error::TypeErrorKind;
 use bib_typed::typed::Type;
 use std::alloc::{AllocError, Global};
 
@@ -158,10 +157,10 @@ fn write_date_field(
 {
     match Date::from_chunks(alloc, chunks) {
         Ok(date) => write_date(alloc, out, &date),
-        Err(error) => match error.kind {
-            TypeErrorKind::OutOfMemory => Err(AllocError),
-            _ => write_line(out, "date", "date", chunks),
-        },
+        Err(error) => {
+            let _unread = error.unless_out_of_memory()?;
+            write_line(out, "date", "date", chunks)
+        }
     }
 }
 

@@ -1,7 +1,8 @@
 //! Why chunks are not a value of a type.
 
-ghost use Rattle.std.specs.Prelude.{◌≡◌, Some};
+ghost use Rattle.std.specs.Prelude.{◌≡◌, ◌≢◌, Some, IfOk, OnErr};
 ghost use Rattle.bib_enums.specs.TypeError.{type_kind_text, type_error_text, no_memory};
+ghost use Rattle.bib_enums.specs.declared.type_error.TypeErrorKind.TheVariants.{OutOfMemory};
 
 use bib_text::spanned::Span;
 use std::alloc::{AllocError, AllocFailed};
@@ -84,13 +85,16 @@ impl fmt::Display for TypeError {
 
 impl Error for TypeError {}
 
-// The fault that is no fault of the chunks.
-fn no_memory() -> TypeError
-    ensures { result ≡ no_memory }
-{
-    TypeError {
-        span: 0..0,
-        kind: TypeErrorKind::OutOfMemory,
+impl TypeError {
+    /// The error, where it is one of the chunks; out of memory is passed on as such.
+    pub fn unless_out_of_memory(self) -> Result<TypeError, AllocError>
+        ensures ok { IfOk result (λ error. (error ≡ self) × (self.kind ≢ OutOfMemory)) }
+        ensures err { OnErr result (self.kind ≡ OutOfMemory) }
+    {
+        match self.kind {
+            TypeErrorKind::OutOfMemory => Err(AllocError),
+            _ => Ok(self),
+        }
     }
 }
 
@@ -98,14 +102,17 @@ impl From<AllocError> for TypeError {
     ghost from_gives = { λ _ error. error ≡ no_memory };
 
     fn from(_error: AllocError) -> TypeError {
-        no_memory()
+        TypeError {
+            span: 0..0,
+            kind: TypeErrorKind::OutOfMemory,
+        }
     }
 }
 
 impl<T: Drop> From<AllocFailed<T>> for TypeError {
     ghost from_gives = { λ _ error. error ≡ no_memory };
 
-    fn from(_error: AllocFailed<T>) -> TypeError {
-        no_memory()
+    fn from(failed: AllocFailed<T>) -> TypeError {
+        TypeError::from(AllocError::from(failed))
     }
 }

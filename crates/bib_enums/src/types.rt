@@ -10,7 +10,7 @@ ghost use Rattle.bib_enums.specs.Gender.{gender_name, plural_of, singular_of, co
 pub mod lang;
 
 use bib_text::text::Text;
-use std::alloc::Global;
+use std::alloc::{AllocError, Global};
 use std::fmt;
 use std::str::FromStr;
 use thiserror::Error;
@@ -24,6 +24,16 @@ pub enum NameError {
     /// The memory for a copy of the name was refused.
     #[error("out of memory")]
     OutOfMemory,
+}
+
+impl From<AllocError> for NameError {
+    ghost use Rattle.bib_enums.specs.declared.types.NameError.{NameError};
+
+    ghost from_gives = { λ _ error. error ≡ NameError.OutOfMemory };
+
+    fn from(_error: AllocError) -> NameError {
+        NameError::OutOfMemory
+    }
 }
 
 /// What the numbers of `pages` count.
@@ -131,9 +141,19 @@ impl EditorType {
         match Self::named(text) {
             Some(role) => Ok(role),
             None => {
-                let text = Text::from_str(alloc, text).map_err(|_| NameError::OutOfMemory)?;
+                let text = Text::from_str(alloc, text)?;
                 Ok(Self::Unknown(text))
             }
+        }
+    }
+
+    /// The named type whose name this text is, and any other text as it stands.
+    pub fn from_text(text: Text) -> Self
+        ensures { result ≡ editor_type_of text }
+    {
+        match Self::named(text.as_str()) {
+            Some(role) => role,
+            None => Self::Unknown(text),
         }
     }
 

@@ -3,7 +3,7 @@
 ghost use Rattle.std.specs.Prelude.{◌≡◌, Some};
 ghost use Rattle.bib_fields.specs.Retrieved.{retrieval_text, retrieval_fault};
 
-use bib_enums::type_error::{TypeError, TypeErrorKind};
+use bib_enums::type_error::TypeError;
 use bib_text::text::Text;
 use std::alloc::{AllocError, AllocFailed};
 use std::error::Error;
@@ -39,9 +39,9 @@ impl From<TypeError> for RetrievalError {
     ghost from_gives = { λ e error. error ≡ retrieval_fault e.kind e };
 
     fn from(e: TypeError) -> RetrievalError {
-        match e.kind {
-            TypeErrorKind::OutOfMemory => RetrievalError::OutOfMemory,
-            _ => RetrievalError::TypeError(e),
+        match e.unless_out_of_memory() {
+            Ok(e) => RetrievalError::TypeError(e),
+            Err(error) => RetrievalError::from(error),
         }
     }
 }
@@ -61,7 +61,7 @@ impl<T: Drop> From<AllocFailed<T>> for RetrievalError {
 
     ghost from_gives = { λ _ error. error ≡ OutOfMemory };
 
-    fn from(_error: AllocFailed<T>) -> RetrievalError {
-        RetrievalError::OutOfMemory
+    fn from(failed: AllocFailed<T>) -> RetrievalError {
+        RetrievalError::from(AllocError::from(failed))
     }
 }

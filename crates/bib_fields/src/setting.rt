@@ -9,7 +9,7 @@ use bib_chunks::chunk::Chunks;
 use bib_maps::text_map::TextMap;
 use bib_text::text::Text;
 use bib_typed::typed::Type;
-use std::alloc::AllocError;
+use std::alloc::{AllocError, AllocFailed};
 use std::error::Error;
 use std::fmt;
 
@@ -30,6 +30,33 @@ impl fmt::Display for SetError {
 
 impl Error for SetError {}
 
+// The chunks are handed back.
+impl From<AllocFailed<(Text, Chunks)>> for SetError {
+    ghost from_gives = { λ failed error. error.chunks ≡ failed.value.1 };
+
+    fn from(failed: AllocFailed<(Text, Chunks)>) -> SetError {
+        SetError {
+            chunks: failed.value.1,
+        }
+    }
+}
+
+// The chunks are let go.
+impl From<SetError> for AllocError {
+    fn from(_error: SetError) -> AllocError {
+        AllocError
+    }
+}
+
+impl SetError {
+    // Memory was refused before the field was looked for.
+    fn handing_back(_error: AllocError, chunks: Chunks) -> SetError
+        ensures { result.chunks ≡ chunks }
+    {
+        SetError { chunks }
+    }
+}
+
 /// Sets the field of the name in lower case, and hands back what it held. A refusal changes nothing, and gives the
 /// chunks back.
 pub fn set(
@@ -43,15 +70,11 @@ pub fn set(
     ensures refused { OnErr result (fields.new ≡ fields.old) }
     ensures returned { IfErr result (λ e. e.chunks ≡ chunks) }
 {
-    let Ok(lowered) = name.to_ascii_lowercase(fields.allocator()) else {
-        return Err(SetError { chunks });
+    let lowered = match name.to_ascii_lowercase(fields.allocator()) {
+        Ok(lowered) => lowered,
+        Err(error) => return Err(SetError::handing_back(error, chunks)),
     };
-    match fields.insert(Text::from_string(lowered), chunks) {
-        Ok(had) => Ok(had),
-        Err(failed) => Err(SetError {
-            chunks: failed.value.1,
-        }),
-    }
+    Ok(fields.insert(Text::from_string(lowered), chunks)?)
 }
 
 /// Sets the field of the name in lower case to the chunks that a value is written as. If the type keeps the value, the
@@ -68,6 +91,6 @@ pub fn set_as<T: Type>(
     ensures refused { OnErr result (fields.new ≡ fields.old) }
 {
     let chunks = value.to_chunks(fields.allocator())?;
-    set(fields, name, chunks).map_err(|_| AllocError)?;
+    set(fields, name, chunks)?;
     Ok(())
 }

@@ -1,10 +1,11 @@
 //! Turns by a worklist.
 
-ghost use Rattle.std.specs.Prelude.{◌≡◌, ◌+◌, ◌<◌, ◌≤◌, ◌==◌, ℕ, length, sum, OnOk, IfOk, IfErr, map, vec_len, if◌then◌else◌};
+ghost use Rattle.std.specs.Prelude.{◌≡◌, ◌+◌, ◌<◌, ◌≤◌, ◌==◌, ℕ, length, sum, OnOk, OnErr, IfOk, IfErr, map, vec_len, if◌then◌else◌};
 ghost use Rattle.std.specs.List.{All};
 ghost use Rattle.bib_graph.specs.Graph.{IsInRange, HasNoCircle, AreTurns};
 ghost use Rattle.bib_graph.specs.Rows.{rows, IsFault};
 ghost use Rattle.bib_graph.specs.Work.{times, missing_at, AreWaiting};
+ghost use Rattle.bib_graph.specs.declared.worklist.TurnsError.TheVariants.{Circle, OutOfMemory};
 
 use crate::circles::first_on_circle;
 use std::alloc::{AllocError, AllocFailed, Global};
@@ -32,8 +33,21 @@ impl<T: Drop> From<AllocFailed<T>> for TurnsError {
 
     ghost from_gives = { λ e r. r ≡ OutOfMemory };
 
-    fn from(_error: AllocFailed<T>) -> TurnsError {
-        TurnsError::OutOfMemory
+    fn from(failed: AllocFailed<T>) -> TurnsError {
+        TurnsError::from(AllocError::from(failed))
+    }
+}
+
+impl TurnsError {
+    /// The first place that leads to itself; out of memory is passed on as such.
+    pub fn unless_out_of_memory(self) -> Result<usize, AllocError>
+        ensures ok { IfOk result (λ place. self ≡ Circle place) }
+        ensures err { OnErr result (self ≡ OutOfMemory) }
+    {
+        match self {
+            TurnsError::Circle(place) => Ok(place),
+            TurnsError::OutOfMemory => Err(AllocError),
+        }
     }
 }
 

@@ -17,7 +17,7 @@ use bib_chunks::chunk::{Chunk, Chunks, ChunksRef, Spanned, format_styled, whole_
 use bib_dates::chunks::date_chunks;
 use bib_dates::date::Date;
 use bib_entry_types::mechanics::EntryType;
-use bib_enums::type_error::{TypeError, TypeErrorKind};
+use bib_enums::type_error::TypeError;
 use bib_maps::text_map::TextMap;
 use bib_text::items::Items;
 use bib_text::text::Text;
@@ -78,9 +78,7 @@ fn anew(alloc: Global, read: Result<Date, TypeError>) -> Result<Option<Chunks>, 
     match read {
         Ok(date) => Ok(Some(date_chunks(alloc, &date)?)),
         Err(e) => {
-            if matches!(e.kind, TypeErrorKind::OutOfMemory) {
-                return Err(AllocError);
-            }
+            let _unread = e.unless_out_of_memory()?;
             Ok(None)
         }
     }
@@ -123,12 +121,7 @@ impl Dating {
         };
         match three_fields(alloc, year, fields) {
             Ok(date) => Ok(Dating::Dated(date_chunks(alloc, &date)?)),
-            Err(e) => {
-                if matches!(e.kind, TypeErrorKind::OutOfMemory) {
-                    return Err(AllocError);
-                }
-                Ok(Dating::Unreadable(e))
-            }
+            Err(e) => Ok(Dating::Unreadable(e.unless_out_of_memory()?)),
         }
     }
 }

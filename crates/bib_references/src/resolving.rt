@@ -15,7 +15,7 @@ use crate::unread::unread_date;
 use bib_chunks::chunk::Span;
 use bib_entry::entry::Entry;
 use bib_enums::type_error::TypeError;
-use bib_graph::worklist::{TurnsError, turns};
+use bib_graph::worklist::turns;
 use bib_maps::names::Names;
 use bib_syntax::raw::{ParseError, ParseErrorKind};
 use std::alloc::{AllocError, Global};
@@ -57,8 +57,7 @@ fn order(
 {
     match turns(alloc, refs) {
         Ok(order) => Ok(order),
-        Err(TurnsError::Circle(place)) => Err(circle(alloc, spans, entries, place)?),
-        Err(TurnsError::OutOfMemory) => Err(ParseError::from(AllocError)),
+        Err(e) => Err(circle(alloc, spans, entries, e.unless_out_of_memory()?)?),
     }
 }
 

@@ -1,10 +1,11 @@
 //! The low-level representation of a bibliography file, with abbreviations not yet resolved.
 
-ghost use Rattle.std.specs.Prelude.{◌≡◌, [], ◌∷◌, ◌++◌, codes, Some, IfOk, IfErr, OnOk};
+ghost use Rattle.std.specs.Prelude.{◌≡◌, ◌≢◌, [], ◌∷◌, ◌++◌, codes, Some, IfOk, IfErr, OnOk, OnErr};
 ghost use Rattle.bib_syntax.specs.Characters as characters;
 ghost use Rattle.bib_syntax.specs.Faults.{token_text, kind_text, error_text, out_of_memory, Refuses};
 ghost use Rattle.bib_syntax.specs.Grammar.{IsFile, IsRawReading};
 ghost use Rattle.bib_syntax.specs.Views.{file_of};
+ghost use Rattle.bib_syntax.specs.declared.raw.ParseErrorKind.TheVariants.{OutOfMemory};
 
 mod fields;
 mod file;
@@ -253,6 +254,19 @@ impl fmt::Display for ParseError {
 
 impl Error for ParseError {}
 
+impl ParseError {
+    /// The error, where it is one of the text; out of memory is passed on as such.
+    pub fn unless_out_of_memory(self) -> Result<ParseError, AllocError>
+        ensures ok { IfOk result (λ error. (error ≡ self) × (self.kind ≢ OutOfMemory)) }
+        ensures err { OnErr result (self.kind ≡ OutOfMemory) }
+    {
+        match self.kind {
+            ParseErrorKind::OutOfMemory => Err(AllocError),
+            _ => Ok(self),
+        }
+    }
+}
+
 impl From<AllocError> for ParseError {
     ghost from_gives = { λ _ error. error ≡ out_of_memory };
 
@@ -267,11 +281,8 @@ impl From<AllocError> for ParseError {
 impl<T: Drop> From<AllocFailed<T>> for ParseError {
     ghost from_gives = { λ _ error. error ≡ out_of_memory };
 
-    fn from(_error: AllocFailed<T>) -> ParseError {
-        ParseError {
-            span: 0..0,
-            kind: ParseErrorKind::OutOfMemory,
-        }
+    fn from(failed: AllocFailed<T>) -> ParseError {
+        ParseError::from(AllocError::from(failed))
     }
 }
 

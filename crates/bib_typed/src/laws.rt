@@ -1,7 +1,7 @@
 //! Laws of typed values: which values are read back from what is written of them, and which kinds errors have. These
 //! functions do nothing: what they ensure is proved of the definitions alone.
 
-ghost use Rattle.std.specs.Prelude.{◌≡◌, ◌⊎◌, ℕ, List};
+ghost use Rattle.std.specs.Prelude.{◌≡◌, ◌⊎◌, ℕ, List, None};
 ghost use Rattle.std.specs.declared.ops.Range.{Range as ARange};
 ghost use Rattle.bib_chunks.specs.Values.{Value};
 ghost use Rattle.bib_dates.specs.Kept.{IsKept};
@@ -16,6 +16,7 @@ ghost use Rattle.bib_values.specs.Enumerations.{IsNamed};
 ghost use Rattle.bib_values.specs.Lists.{StringsKept};
 ghost use Rattle.bib_values.specs.Permissive.{Permissive, LanguagesKept};
 ghost use Rattle.bib_values.specs.Ranges.{RangesKept};
+ghost use Rattle.bib_typed.specs.declared.typed.PermissiveType.TheVariants.{Typed, Chunks as AsTheyStand};
 
 use crate::typed::{PermissiveType, Type};
 use bib_chunks::chunk::Chunks;
@@ -82,6 +83,18 @@ pub fn lists_of_people_are_kept()
 /// no time.
 pub fn dates_are_kept()
     ensures { (date : ADate) → IsKept date → ⟦<Date as Type>⟧.kept date }
+{}
+
+/// A value is kept where its type keeps it, chunks as they stand where the type doesn't read them, and no other.
+pub fn permissive_values_are_kept<T: Type + Drop>(value: &T, chunks: &Chunks)
+    ensures value { T.Type.kept (T.meaning value.now) →
+        ⟦<PermissiveType<T> as Type>⟧.kept (⟦<PermissiveType<T> as Type>⟧.meaning (Typed value.now)) }
+    ensures chunks { T.Type.reads chunks.now ≡ None →
+        ⟦<PermissiveType<T> as Type>⟧.kept (⟦<PermissiveType<T> as Type>⟧.meaning (AsTheyStand chunks.now)) }
+    ensures no_other_value { ⟦<PermissiveType<T> as Type>⟧.kept (⟦<PermissiveType<T> as Type>⟧.meaning (Typed value.now)) →
+        T.Type.kept (T.meaning value.now) }
+    ensures no_other_chunks { ⟦<PermissiveType<T> as Type>⟧.kept (⟦<PermissiveType<T> as Type>⟧.meaning (AsTheyStand chunks.now)) →
+        T.Type.reads chunks.now ≡ None }
 {}
 
 /// Each type that may refuse chunks has few kinds of errors, want of memory aside.

@@ -123,9 +123,7 @@ impl<T: Type + Drop> Type for PermissiveType<T> {
         match T::from_chunks(alloc, chunks) {
             Ok(value) => Ok(PermissiveType::Typed(value)),
             Err(e) => {
-                if e.kind == TypeErrorKind::OutOfMemory {
-                    return Err(e);
-                }
+                let _unread = e.unless_out_of_memory()?;
                 Ok(PermissiveType::Chunks(copy_of(alloc, chunks)?))
             }
         }

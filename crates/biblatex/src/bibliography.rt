@@ -71,6 +71,15 @@ impl fmt::Display for InsertError {
 
 impl Error for InsertError {}
 
+impl InsertError {
+    // Memory was refused, so the entry is handed back.
+    fn handing_back(_error: AllocError, entry: Entry) -> InsertError
+        ensures { result.entry ≡ entry }
+    {
+        InsertError { entry }
+    }
+}
+
 // Makes room for an entry behind the others, and lets the names that it claims point there.
 fn claim_next(entries: &mut Vec<Entry>, names: &mut Names, entry: &Entry) -> Result<(), AllocError>
     ensures same_entries { entries.new.items ≡ entries.old.items }
@@ -216,9 +225,9 @@ impl Bibliography {
             let had = mem::replace(&mut self.entries[place], entry);
             return Ok(Some(had));
         }
-        let Ok(()) = claim_next(&mut self.entries, &mut self.names, &entry) else {
-            return Err(InsertError { entry });
-        };
+        if let Err(error) = claim_next(&mut self.entries, &mut self.names, &entry) {
+            return Err(InsertError::handing_back(error, entry));
+        }
         self.entries.push_reserved(entry);
         Ok(None)
     }

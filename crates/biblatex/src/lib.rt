@@ -14,7 +14,7 @@ pub use bib_dates::date::{Date, DateValue, Datetime, Time, TimeOffset};
 pub use bib_dates::separators::{parse_colon, parse_hyphen};
 pub use bib_entry::entry::Entry;
 pub use bib_entry::report::Report;
-pub use bib_entry_types::mechanics::{AuthorMode, EntryType, PagesChapterMode, Requirements};
+pub use bib_entry_types::mechanics::{AuthorMode, EntryType, PagesChapterMode, Requirements, Row};
 pub use bib_enums::type_error::{TypeError, TypeErrorKind};
 pub use bib_enums::types::lang::Language;
 pub use bib_enums::types::{EditorType, Gender, NameError, Pagination};

@@ -1,7 +1,7 @@
 //! Copies of the raw reading of a file, of its parts and of errors.
 
 use crate::calls::checks::{Reading, are_read};
-use bib_enums::type_error::TypeErrorKind;
+use bib_enums::type_error::{TypeError, TypeErrorKind};
 use bib_syntax::raw::{
     Pair, ParseError, ParseErrorKind, RawBibliography, RawChunk, RawEntry, Token,
 };
@@ -111,6 +111,16 @@ fn kind(alloc: Global, number: u8) -> Result<ParseErrorKind, AllocError> {
     })
 }
 
+fn passes_out_of_memory_on(alloc: Global) -> Reading {
+    let of_chunks = TypeError { span: 3..5, kind: TypeErrorKind::InvalidNumber };
+    let of_text = ParseError { span: 3..5, kind: kind(alloc, 5)? };
+    let lacking = TypeError::from(AllocError).unless_out_of_memory().is_err()
+        && ParseError::from(AllocError).unless_out_of_memory().is_err();
+    Ok(lacking
+        && of_chunks.unless_out_of_memory()?.kind == TypeErrorKind::InvalidNumber
+        && of_text.unless_out_of_memory()?.kind == kind(alloc, 5)?)
+}
+
 // Whether a copy of a kind is the same.
 fn is_copied(kind: &ParseErrorKind) -> Result<bool, AllocError> {
     let copy = kind.clone()?;
@@ -142,6 +152,7 @@ fn files_and_fields(rt: HostRuntime) {
         ("ParseError::clone", clones_errors(alloc)),
         ("ParseErrorKind::clone", clones_kinds_of_errors(alloc)),
         ("Token::clone", clones_tokens(alloc)),
+        ("unless_out_of_memory", passes_out_of_memory_on(alloc)),
     ];
     are_read(&rt, &calls);
 }

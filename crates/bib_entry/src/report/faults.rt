@@ -7,7 +7,7 @@ ghost use Rattle.bib_entry.specs.Judging.{Adds, Tells, TellsField};
 
 use crate::entry::Entry;
 use bib_dates::date::Date;
-use bib_enums::type_error::{TypeError, TypeErrorKind};
+use bib_enums::type_error::TypeError;
 use bib_enums::types::{Gender, Pagination};
 use bib_text::text::Text;
 use bib_typed::typed::Type;
@@ -26,9 +26,7 @@ fn tell<T: Drop>(
     let Err(e) = read else {
         return Ok(());
     };
-    if e.kind == TypeErrorKind::OutOfMemory {
-        return Err(AllocError);
-    }
+    let e = e.unless_out_of_memory()?;
     let name = Text::from_str(alloc, name)?;
     told.push((name, e))?;
     Ok(())
