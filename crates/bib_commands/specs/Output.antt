@@ -1,6 +1,6 @@
 -- Meaning: words of public contracts.
 -- What the program prints, and its status.
-use Rattle.std.specs.Prelude.{◌≡◌, ◌≢◌, ℕ, List, [], ◌∷◌, ◌++◌, codes, map, All, Option, Some, None, IfSome, MatchOption}
+use Rattle.std.specs.Prelude.{◌≡◌, ◌≢◌, ℕ, Bool, if◌then◌else◌, List, [], ◌∷◌, ◌++◌, codes, map, All, Option, Some, None, IfSome, MatchOption}
 use Rattle.std.specs.Fmt.{decimal, debug_str}
 use Rattle.std.specs.declared.ops.Range.{Range}
 use Rattle.std.specs.List.{flat_map}
@@ -148,3 +148,17 @@ pub data IsAnswer (words : List (List ℕ)) (given : List ℕ → Type 0) (faile
   no_input : IsCommand words → failed → IsAnswer words given failed read (error_line (codes "input failed")) 1
   answered : (command : Command) {bytes text : List ℕ} {status : ℕ} → Name words command → read → given bytes → IsCommandAnswer command bytes text status
       → IsAnswer words given failed read text status
+
+-- a text is handed over, whole, in one call, and nothing else is; the status is 1 where it was refused. The sink's
+-- `hands_over` says which states one call leads between, by its text and its answer
+pub record IsHandedOver {K : Type 0} (hands_over : K → List ℕ → Bool → K → Type 0) (text : List ℕ) (status : ℕ) (old new : K) (result : ℕ) : Type 0 where
+  pub is_taken : Bool
+  pub handed : hands_over old text is_taken new
+  pub status_is : result ≡ (if is_taken then status else 1)
+
+-- one of the answers that there may be is handed over
+pub record IsAnswered {K : Type 0} (hands_over : K → List ℕ → Bool → K → Type 0) (may_be : List ℕ → ℕ → Type 0) (old new : K) (result : ℕ) : Type 0 where
+  pub text : List ℕ
+  pub status : ℕ
+  pub answer : may_be text status
+  pub printed : IsHandedOver hands_over text status old new result

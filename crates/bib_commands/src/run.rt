@@ -7,7 +7,7 @@ ghost use Rattle.std.specs.String.{string_bytes};
 ghost use Rattle.biblatex.specs.Syntax.{file_of};
 ghost use Rattle.biblatex.specs.Syntax.{OutOfMemory};
 ghost use Rattle.bib_commands.specs.Answering.{IsLibraryOf};
-ghost use Rattle.bib_commands.specs.Output.{IsAnswer, IsCommand, IsCommandAnswer, IsKeysAnswer, IsLibraryAnswer, IsQuotingLine, Name, ShowsBiblatex, ShowsBibtex, ShowsReports, ShowsSettled, TellsFault, command_name, key_lines};
+ghost use Rattle.bib_commands.specs.Output.{IsAnswer, IsAnswered, IsCommand, IsCommandAnswer, IsHandedOver, IsKeysAnswer, IsLibraryAnswer, IsQuotingLine, Name, ShowsBiblatex, ShowsBibtex, ShowsReports, ShowsSettled, TellsFault, command_name, key_lines};
 
 use crate::reports::reports;
 use biblatex::{Bibliography, ParseError, ParseErrorKind, RawBibliography, Sink, Span};
@@ -280,6 +280,7 @@ pub(crate) fn print<K: Sink>(output: &mut K, text: &str, status: u8) -> u8
         K.refusals output.new ≡ K.refusals output.old →
         Appends (K.taken output.old) (K.taken output.new) text.now × (result ≡ status) }
     ensures refused { K.refusals output.new ≢ K.refusals output.old → result ≡ 1 }
+    ensures handed { IsHandedOver K.hands_over text.now status output.old output.new result }
 {
     if output.write_str(text) { status } else { 1 }
 }
@@ -287,7 +288,7 @@ pub(crate) fn print<K: Sink>(output: &mut K, text: &str, status: u8) -> u8
 /// Runs the program on its words, and answers the status.
 ///
 /// The words are looked at first, and an input is read only for a command that there is. The whole text is made before
-/// any of it is written. A refused write gives status 1, and nothing more is written.
+/// any of it is written, and it is written in one call. A refused write gives status 1, and nothing more is written.
 pub fn run<S: Source, K: Sink>(alloc: Global, words: &[String], input: &mut S, output: &mut K) -> u8
     ensures unread { (IsCommand (map string_bytes words.now) → ⊥) → input.new ≡ input.old }
     ensures printed { K.refusals output.old < 2 ^ 64 - 1 →
@@ -297,6 +298,9 @@ pub fn run<S: Source, K: Sink>(alloc: Global, words: &[String], input: &mut S, o
         (S.failures input.old < 2 ^ 64 - 1 → S.failures input.old < S.failures input.new)
         (S.failures input.new ≡ S.failures input.old) text result }
     ensures refused { K.refusals output.new ≢ K.refusals output.old → result ≡ 1 }
+    ensures handed { IsAnswered K.hands_over (IsAnswer (map string_bytes words.now) (S.gives input.old)
+        (S.failures input.old < 2 ^ 64 - 1 → S.failures input.old < S.failures input.new)
+        (S.failures input.new ≡ S.failures input.old)) output.old output.new result }
 {
     let Some(command) = command_of(words) else {
         return print(output, "usage: bib keys|biblatex|bibtex|check|settled\n", 2);

@@ -3,7 +3,7 @@
 ghost use Rattle.std.specs.Prelude.{◌≡◌, ◌≢◌, ℕ, ◌-◌, ◌^◌, ◌<◌, List, map, IfOk, OnErr};
 ghost use Rattle.std.specs.Io.KnownBytes.{Appends};
 ghost use Rattle.std.specs.String.{string_bytes};
-ghost use Rattle.bib_commands.specs.Output.{IsCommand};
+ghost use Rattle.bib_commands.specs.Output.{IsAnswered, IsCommand};
 ghost use Rattle.bib_commands.specs.Arguments.{IsStartAnswer, IsKnown, IsMemoryLacking, texts_of, words_of};
 
 use crate::run::{Source, print, run};
@@ -44,6 +44,9 @@ pub fn start<S: Source, K: Sink>(
         (S.failures input.old < 2 ^ 64 - 1 → S.failures input.old < S.failures input.new)
         (S.failures input.new ≡ S.failures input.old) text result }
     ensures refused { K.refusals output.new ≢ K.refusals output.old → result ≡ 1 }
+    ensures handed { IsAnswered K.hands_over (IsStartAnswer (texts_of arguments) (S.gives input.old)
+        (S.failures input.old < 2 ^ 64 - 1 → S.failures input.old < S.failures input.new)
+        (S.failures input.new ≡ S.failures input.old)) output.old output.new result }
 {
     match words(alloc, arguments) {
         Ok(words) => run(alloc, &words, input, output),

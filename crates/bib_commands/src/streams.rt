@@ -1,6 +1,7 @@
 //! Standard input and output, as what the engine reads and writes.
 
-ghost use Rattle.std.specs.Prelude.{◌≡◌, ◌≢◌, ◌+◌, ◌-◌, ◌^◌, min, ℕ, List, IfSome, IsOk, IsErr, OnOk, IfErr, IsTrue, ◌↔◌};
+ghost use Rattle.std.specs.Prelude.{◌≡◌, ◌≢◌, ◌+◌, ◌-◌, ◌^◌, min, ℕ, List, IfSome, IsOk, IsErr, OnOk, IfErr, IsTrue, MatchBool, ◌↔◌};
+ghost use Rattle.std.specs.Io.KnownBytes.{Appends};
 ghost use Rattle.std.specs.IoError.{error_kind};
 
 use crate::run::{Source, SourceError};
@@ -127,6 +128,11 @@ impl<W: Write> Sink for Output<W> {
     ghost taken = { λ output. W.contents output.writer };
 
     ghost refusals = { λ output. output.refusals };
+
+    // What the writer holds grows by a text that it takes, and one that it refuses is counted.
+    ghost hands_over = { λ old text is_taken new. MatchBool is_taken
+        (Appends (W.contents old.writer) (W.contents new.writer) text × (new.refusals ≡ old.refusals))
+        (new.refusals ≡ min (old.refusals + 1) (2 ^ 64 - 1)) };
 
     fn write_str(&mut self, text: &str) -> bool {
         let written = self.writer.write_all(text.as_bytes());
