@@ -1,4 +1,4 @@
-use Rattle.std.proofs.Common.{◌++◌, refl, ap, ◌∙◌}
+use Rattle.std.proofs.Common.{◌++◌, ap, ◌∙◌}
 use Rattle.std.proofs.lemmas.Result.{err_from_is_err_and}
 use Rattle.bib_entry.specs.Format.{entry_in}
 use Rattle.biblatex.proofs.HandingFacts.{none_taken, one_refused, text_of}
