@@ -10,10 +10,13 @@ for crate in crates/bib*/ tests/; do
     mkdir -p "$room/crates/$(basename "$crate")"
     cp -r "$crate/src" "$room/crates/$(basename "$crate")/"
 done
+# The tests call the program's modules, and a program is no library: they are made one here, `bib_commands`.
+mv "$room/crates/bib" "$room/crates/bib_commands"
+(cd "$room/crates/bib_commands/src" && sed -n '/^#!/p; s/^mod /pub mod /p' main.rt > lib.rt && rm main.rt)
 find "$room/crates/tests" -name '*.rs' | while IFS= read -r file; do mv "$file" "${file%.rs}.rt"; done
 cp -r tests/rows HANDLES "$room/"
-libraries=$(ls -d crates/bib*/src/lib.rt | cut -d/ -f2)
-{ grep '^bib' crates.txt; echo "tests:" $libraries; } > "$room/crates.txt"
+libraries=$(cd "$room" && ls -d crates/bib*/src/lib.rt | cut -d/ -f2)
+{ grep '^bib' crates.txt | sed 's/^bib:/bib_commands:/'; echo "tests:" $libraries; } > "$room/crates.txt"
 cd "$room/crates/tests"
 rt try --seconds 300 --cases "$room/rows" > "$room/answers" 2>&1 & rows=$!
 rt try --seconds 300 --test > "$room/functions" 2>&1 & functions=$!

@@ -1,13 +1,17 @@
 //! The program `bib`: it reads a bibliography from standard input, and prints what the command asks for.
 #![tactic(auto)]
 
-use bib_commands::start::start;
-use bib_commands::streams::{Input, Output};
+mod reports;
+mod run;
+mod start;
+mod streams;
+
+use crate::streams::{Input, Output};
 use std::process::ExitCode;
 use std::{env, io};
 
 fn main(rt: HostRuntime) -> ExitCode {
     let mut input = Input::new(rt.reader());
     let mut output = Output::new(io::writer(&rt));
-    ExitCode::from(start(rt.alloc(), env::args(&rt), &mut input, &mut output))
+    ExitCode::from(start::start(rt.alloc(), env::args(&rt), &mut input, &mut output))
 }

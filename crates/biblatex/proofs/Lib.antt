@@ -1,6 +1,7 @@
 pub mod AloneFacts
 pub mod DistinctFacts
 pub mod FaultFacts
+pub mod HandingFacts
 pub mod InsideFacts
 pub mod PlaceLaws
 pub mod RefusalFacts

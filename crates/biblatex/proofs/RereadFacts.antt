@@ -47,7 +47,7 @@ use Rattle.bib_file_entries.specs.Library.{Library, claims}
 use Rattle.bib_references.specs.Resolving.{Inherits, sources_of}
 use Rattle.biblatex.specs.Resolved.{AreOwn, IsLoaded, graph_of}
 use Rattle.bib_file_entries.specs.Loaded.{definition_in, name_of, field_in, Says, CanBeRead, AllCanBeRead, IsEntry, AreEntries, is_claimed}
-use Rattle.biblatex.specs.Headline.{IsReadAgain, IsBibliographyOf}
+use Rattle.biblatex.specs.Headline.{IsReadAgain}
 use Rattle.biblatex.proofs.AloneFacts.{RefersToNothing, IsAsWritten, no_circle, no_dates, entries_as_written}
 use Rattle.biblatex.proofs.ResolvedFacts.{graph_same, keys_same, sources_same}
 use Rattle.bib_file_entries.proofs.LoadingFacts.{AllZip-reverse}

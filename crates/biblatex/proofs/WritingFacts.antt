@@ -8,7 +8,8 @@ use Rattle.bib_entry.specs.WrittenEntries.{entries_text}
 use Rattle.bib_entry.specs.declared.entry.Entry.{Entry}
 use Rattle.biblatex.specs.Writing.{parting}
 
-abbrev is_empty : List Entry → Bool
+-- whether there is no entry
+abbrev pub is_empty : List Entry → Bool
 is_empty [] = true
 is_empty (e ∷ es) = false
 
@@ -23,7 +24,8 @@ one_more written (d ∷ next ∷ es) e =
 not_suc : (i : ℕ) → false ≡ (suc i == 0)
 not_suc i = grind arith
 
-first_taken : (es : List Entry) (i : ℕ) → i < length es → is_empty (take i es) ≡ (i == 0)
+-- some first entries are none only before the first
+pub first_taken : (es : List Entry) (i : ℕ) → i < length es → is_empty (take i es) ≡ (i == 0)
 first_taken es zero within = refl
 first_taken [] (suc i) within = absurd (omega arith)
 first_taken (e ∷ es) (suc i) within = not_suc i

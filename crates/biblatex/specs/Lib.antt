@@ -1,4 +1,5 @@
 pub mod Distinct
+pub mod HandedOver
 pub mod Headline
 pub mod Keys
 pub mod Lending

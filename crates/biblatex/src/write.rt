@@ -1,10 +1,11 @@
 //! Bibliographies as they are written in a file.
 
-ghost use Rattle.std.specs.Prelude.{◌≡◌, ◌≢◌, ◌++◌, ℕ, ◌-◌, ◌^◌, ◌<◌, OnOk, OnErr, IfOk, codes, string_bytes, Err, Some};
+ghost use Rattle.std.specs.Prelude.{◌≡◌, ◌≢◌, [], ◌∷◌, ◌++◌, ℕ, ◌-◌, ◌^◌, ◌<◌, OnOk, OnErr, IfOk, codes, string_bytes, Err, Some};
 ghost use Rattle.std.specs.Io.KnownBytes.{Appends};
 ghost use Rattle.bib_entry.specs.Format.{entry_in};
 ghost use Rattle.bib_entry.specs.WrittenEntries.{biblatex_entry, bibtex_entry, entries_text};
 ghost use Rattle.bib_roundtrip.specs.Settled.{AreSettled};
+ghost use Rattle.biblatex.specs.HandedOver.{AreHandedOver, entry_texts};
 ghost use Rattle.biblatex.specs.Headline.{IsReadAgain};
 ghost use Rattle.biblatex.specs.Writing.{parting};
 
@@ -81,6 +82,8 @@ fn hand_next<K: Sink>(
     ensures same { result ≢ Err WriteError.Refused → K.refusals sink.new ≡ K.refusals sink.old }
     ensures refused { result ≡ Err WriteError.Refused → K.refusals sink.old < 2 ^ 64 - 1 →
         K.refusals sink.old < K.refusals sink.new }
+    ensures handed { AreHandedOver K.hands_over sink.old
+        ((parting is_first ++ (entry_in format entry.now ++ codes "\n")) ∷ []) sink.new result }
 {
     let mut text = String::new(alloc);
     write_next(alloc, &mut text, entry, is_first, format)?;
@@ -103,6 +106,8 @@ fn hand<K: Sink>(
     ensures same { result ≢ Err WriteError.Refused → K.refusals sink.new ≡ K.refusals sink.old }
     ensures refused { result ≡ Err WriteError.Refused → K.refusals sink.old < 2 ^ 64 - 1 →
         K.refusals sink.old < K.refusals sink.new }
+    ensures handed { AreHandedOver K.hands_over sink.old (entry_texts (entry_in format) entries.now)
+        sink.new result }
 {
     let mut is_first = true;
     'entries: for entry in entries {
@@ -136,8 +141,9 @@ impl Bibliography {
         text_of(alloc, self.as_slice(), Format::Bibtex)
     }
 
-    /// Writes what [`Self::to_biblatex_string`] gives to a sink, which is handed one text for each entry. Memory is taken
-    /// for one entry's text at a time. `Refused` says that the sink refused a text; what it took before stays.
+    /// Writes what [`Self::to_biblatex_string`] gives to a sink, which is handed one text for each entry, whole and once.
+    /// Memory is taken for one entry's text at a time. `Refused` says that the sink refused a text; what it took before
+    /// stays, and nothing is handed to it after that.
     pub fn write_biblatex<K: Sink>(&self, alloc: Global, sink: &mut K) -> Result<(), WriteError>
         ensures written { OnOk result (Appends (K.taken sink.old) (K.taken sink.new)
             (entries_text biblatex_entry self.now.entries)) }
@@ -145,6 +151,8 @@ impl Bibliography {
             K.refusals sink.new ≡ K.refusals sink.old }
         ensures refused { result ≡ Err WriteError.Refused → K.refusals sink.old < 2 ^ 64 - 1 →
             K.refusals sink.old < K.refusals sink.new }
+        ensures handed { AreHandedOver K.hands_over sink.old
+            (entry_texts biblatex_entry self.now.entries) sink.new result }
     {
         hand(alloc, sink, self.as_slice(), Format::Biblatex)
     }
@@ -157,6 +165,8 @@ impl Bibliography {
             K.refusals sink.new ≡ K.refusals sink.old }
         ensures refused { result ≡ Err WriteError.Refused → K.refusals sink.old < 2 ^ 64 - 1 →
             K.refusals sink.old < K.refusals sink.new }
+        ensures handed { AreHandedOver K.hands_over sink.old
+            (entry_texts bibtex_entry self.now.entries) sink.new result }
     {
         hand(alloc, sink, self.as_slice(), Format::Bibtex)
     }

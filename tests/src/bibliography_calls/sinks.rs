@@ -14,12 +14,16 @@ struct Patient {
 }
 
 impl Sink for Patient {
-    ghost use Rattle.std.specs.Prelude.{Some};
+    ghost use Rattle.std.specs.Prelude.{◌≡◌, ◌+◌, ◌-◌, ◌^◌, ◌++◌, min, MatchBool, Some};
     ghost use Rattle.std.specs.String.{string_bytes};
 
     ghost taken = { λ sink. Some (string_bytes sink.text) };
 
     ghost refusals = { λ sink. sink.refusals };
+
+    ghost hands_over = { λ old text is_taken new. MatchBool is_taken
+        (string_bytes new.text ≡ string_bytes old.text ++ text)
+        (new.refusals ≡ min (old.refusals + 1) (2 ^ 64 - 1)) };
 
     fn write_str(&mut self, text: &str) -> bool {
         if self.left == 0 {

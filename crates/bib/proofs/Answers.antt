@@ -1,0 +1,90 @@
+-- How what the program prints follows from what its parts found.
+use Rattle.std.specs.Str.{bytes_eq}
+use Rattle.std.proofs.lemmas.Slice.Eq.{bytes_eq-Decides}
+use Rattle.biblatex.specs.Syntax.{Refuses, IsFile, ParseError, OutOfMemory, out_of_memory}
+use Rattle.std.specs.Str.{IsUtf8}
+use Rattle.biblatex.specs.Headline.{IsAcceptedText, IsErrorOf}
+use Rattle.biblatex.specs.Syntax.{Library}
+use Rattle.bib.specs.Answering.{IsLibraryOf}
+use Rattle.bib.specs.Output.{IsCommandAnswer, IsKeysAnswer, IsQuotingLine, line, IsLibraryAnswer, TellsFault, TellsNoBibliography, not_utf8}
+use Rattle.bib.specs.declared.run.Command.{Command}
+use Rattle.bib.specs.declared.run.Command.TheVariants.{Keys, Biblatex, Bibtex, Check, Settled}
+use Rattle.bib.specs.Output.IsKeysAnswer.{no_file}
+use Rattle.bib.specs.declared.run.Answer.{Answer}
+use Rattle.bib.specs.declared.run.SourceError.{SourceError}
+use Rattle.bib.specs.declared.run.SourceError.TheVariants as source
+use Rattle.std.specs.Prelude.{◌⊎◌, ◌++◌, IfOk, IfSome, codes, string_bytes, ◌≢◌}
+use Rattle.std.specs.Fmt.{debug_str, decimal}
+use Rattle.std.specs.declared.ops.Range.{Range}
+use Rattle.std.specs.declared.string.String.{String}
+use Rattle.std.proofs.Common.{Result, Ok, Err, inl, inr, ◌≡◌, ◌<◌, ◌≤◌, ℕ, Bool, true, List, [], ◌∷◌, length, get_or, map, sym, ap, ◌∙◌, subst, arith}
+
+-- a list of one item
+pub one_item : {X Y : Type 0} (f : X → Y) (xs : List X) (x : X) → 1 ≤ length xs → length xs < 2 → x ≡ get_or xs 0 x → map f xs ≡ f x ∷ []
+one_item f [] x least most is = absurd (omega arith)
+one_item f (y ∷ []) x least most is = ap (λ z. f z ∷ []) (sym is)
+one_item f (y ∷ z ∷ zs) x least most is = absurd (omega arith)
+
+-- whether the one word of a list is this one
+pub decides_one : (b : Bool) (word text : List ℕ) (words : List (List ℕ)) (named : List ℕ) → b ≡ bytes_eq text named → words ≡ word ∷ [] → text ≡ word
+    → (b ≡ true → words ≡ named ∷ []) × (words ≡ named ∷ [] → b ≡ true)
+decides_one b word text words named tests one same =
+    let decides = bytes_eq-Decides text named in
+    (λ yes. one ∙ ap (λ w. w ∷ []) (sym same ∙ decides.0 (sym tests ∙ yes)), λ is. tests ∙ decides.1 (same ∙ head_same (sym one ∙ is))) where
+      head_same : {x y : List ℕ} → x ∷ [] ≡ y ∷ [] → x ≡ y
+      head_same e = cc
+
+-- a fault of the text, where memory was there
+pub fault_told : {bytes text : List ℕ} {e : ParseError} → IsUtf8 bytes → Refuses bytes e (IsFile bytes → ⊥) → (e.kind ≡ OutOfMemory → ⊥) → TellsFault e text → IsKeysAnswer bytes text 1
+fault_told utf8 (inl memory) other told = absurd (other (ap (λ x. x.kind) memory))
+fault_told utf8 (inr fault) other told = no_file utf8 fault.0 fault.1 told
+
+-- the answer for a fault
+pub fault_answered : {E : Type 0} {bytes : List ℕ} (e : ParseError) (r : Result Answer E)
+    → IfOk r (λ answer. (e.kind ≢ OutOfMemory) × TellsFault e (string_bytes answer.text) × (answer.status ≡ 1))
+    → IsUtf8 bytes → Refuses bytes e (IsFile bytes → ⊥) → IfOk r (λ answer. IsKeysAnswer bytes (string_bytes answer.text) answer.status)
+fault_answered e (Ok answer) told utf8 refused = rw told.2 (fault_told utf8 refused told.0 told.1)
+fault_answered e (Err x) told utf8 refused = tt
+
+-- a text that is no bibliography, where memory was there
+pub no_library : {bytes text : List ℕ} {e : ParseError} → (e ≡ out_of_memory) ⊎ (IsErrorOf bytes e × (IsAcceptedText bytes → ⊥)) → (e.kind ≡ OutOfMemory → ⊥) → TellsFault e text
+    → TellsNoBibliography bytes text
+no_library (inl memory) other told = absurd (other (ap (λ x. x.kind) memory))
+no_library {e = e} (inr fault) other told = record { error = e; of_text = fault.0; refused = fault.1; told = told }
+
+-- the answer that a text is no bibliography
+pub no_library_shown : {shows : Library → List ℕ → ℕ → Type 0} {bytes : List ℕ} (found : Result Library Answer) (answer : Answer) → IsUtf8 bytes → IsLibraryOf bytes found → found ≡ Err answer → IsLibraryAnswer shows bytes (string_bytes answer.text) answer.status
+no_library_shown {shows} {bytes} found answer utf8 is same =
+    let told : IsLibraryOf bytes (Err answer) = subst (IsLibraryOf bytes) same is in
+    subst (λ status. IsLibraryAnswer shows bytes (string_bytes answer.text) status) (sym told.1) (IsLibraryAnswer.no_library utf8 told.0)
+
+-- the answer of a bibliography
+pub library_shown : {shows : Library → List ℕ → ℕ → Type 0} {bytes text : List ℕ} {status : ℕ} (found : Result Library Answer) (library : Library) → IsUtf8 bytes → IsLibraryOf bytes found → found ≡ Ok library → shows library text status
+    → IsLibraryAnswer shows bytes text status
+library_shown {shows} {bytes} found library utf8 is same shown =
+    let read : IsLibraryOf bytes (Ok library) = subst (IsLibraryOf bytes) same is in
+    IsLibraryAnswer.shown utf8 read shown
+
+-- the answer of any command for bytes that are no text
+pub no_text_shown : (command : Command) (bytes : List ℕ) → (IsUtf8 bytes → ⊥) → IsCommandAnswer command bytes not_utf8 1
+no_text_shown Keys bytes none = IsKeysAnswer.no_text none
+no_text_shown Biblatex bytes none = IsLibraryAnswer.no_text none
+no_text_shown Bibtex bytes none = IsLibraryAnswer.no_text none
+no_text_shown Check bytes none = IsLibraryAnswer.no_text none
+no_text_shown Settled bytes none = IsLibraryAnswer.no_text none
+
+-- want of memory is no failed input
+pub lacking_apart : {A : Type 0} {e : SourceError} → e ≡ source.OutOfMemory → (let r : Result A SourceError = Err e in r) ≡ Err source.Failed → ⊥
+lacking_apart is same = apart (sym is ∙ inner same) where
+  inner : {A : Type 0} {e f : SourceError} → (let r : Result A SourceError = Err e in r) ≡ Err f → e ≡ f
+  inner same = cc
+
+  apart : (let e : SourceError = source.OutOfMemory in e) ≡ source.Failed → ⊥
+  apart same = cc
+
+-- the line of an error that quotes a name, as it is put together
+pub quoted_line : {Z E : Type 0} (r : Result (String Z) E) (said : List ℕ × List ℕ) (span : Range ℕ) (quoted : List ℕ) → IfSome (debug_str said.1) (λ told. quoted ≡ told)
+    → IfOk r (λ text. string_bytes text ≡ codes "error: " ++ (said.0 ++ (quoted ++ (codes ": " ++ (decimal span.start ++ (codes "-" ++ line (decimal span.end)))))))
+    → IfOk r (λ text. IsQuotingLine said span (string_bytes text))
+quoted_line (Ok text) said span quoted exact is = record { quoted = quoted; exact = exact; is = is }
+quoted_line (Err e) said span quoted exact is = tt

@@ -1,0 +1,94 @@
+//! Reports on entries, in lines.
+
+ghost use Rattle.std.specs.Prelude.{◌≡◌, ◌++◌, IfOk, OnOk, codes};
+ghost use Rattle.std.specs.List.{flat_map};
+ghost use Rattle.std.specs.String.{string_bytes};
+ghost use Rattle.biblatex.specs.Syntax.{texts};
+ghost use Rattle.bib.specs.Output.{AreReported, field_line, malformed_line};
+ghost use Rattle.bib.specs.Answering.{AddsReport};
+
+use biblatex::{Bibliography, Entry, Text, TypeError};
+use std::alloc::{AllocError, Global};
+
+// Appends a line: the key of an entry, what is wrong with it, and what it is that is wrong.
+fn push_line(text: &mut String, key: &str, wrong: &str, what: &str) -> Result<(), AllocError>
+    ensures { OnOk result (string_bytes text.new ≡ string_bytes text.old ++
+        field_line key.now wrong.now what.now) }
+{
+    text.push_str(key)?;
+    text.push_str(": ")?;
+    text.push_str(wrong)?;
+    text.push(' ')?;
+    text.push_str(what)?;
+    text.push('\n')?;
+    Ok(())
+}
+
+// Appends a line for each name of a field.
+fn push_names(
+    text: &mut String,
+    key: &str,
+    wrong: &str,
+    names: &[&'static str],
+) -> Result<(), AllocError>
+    ensures { OnOk result (string_bytes text.new ≡ string_bytes text.old ++
+        flat_map (field_line key.now wrong.now) (texts names.now)) }
+{
+    'names: for name in names {
+        push_line(text, key, wrong, *name)?;
+    }
+    Ok(())
+}
+
+// Appends the line of a field that is not read: its name, and the kind of its fault.
+fn push_fault(
+    alloc: Global,
+    text: &mut String,
+    key: &str,
+    name: &str,
+    fault: &TypeError,
+) -> Result<(), AllocError>
+    ensures { OnOk result (string_bytes text.new ≡ string_bytes text.old ++
+        malformed_line key.now (name.now, fault.now)) }
+{
+    let told = format!(in alloc; "{name}: {}", fault.kind)?;
+    push_line(text, key, "malformed", &told)
+}
+
+// Appends a line for each field that is not read.
+fn push_faults(
+    alloc: Global,
+    text: &mut String,
+    key: &str,
+    faults: &[(Text, TypeError)],
+) -> Result<(), AllocError>
+    ensures { OnOk result (string_bytes text.new ≡ string_bytes text.old ++
+        flat_map (malformed_line key.now) faults.now) }
+{
+    'faults: for (name, fault) in faults {
+        push_fault(alloc, text, key, name.as_str(), fault)?;
+    }
+    Ok(())
+}
+
+// Appends the lines of the report on an entry.
+fn push_report(alloc: Global, text: &mut String, entry: &Entry) -> Result<(), AllocError>
+    ensures { OnOk result (AddsReport entry.now (string_bytes text.old) (string_bytes text.new)) }
+{
+    let report = entry.verify(alloc)?;
+    let key = entry.key.as_str();
+    push_names(text, key, "missing", &report.missing)?;
+    push_names(text, key, "superfluous", &report.superfluous)?;
+    push_faults(alloc, text, key, &report.malformed)
+}
+
+// The lines of the reports on all entries, in their order.
+pub(crate) fn reports(alloc: Global, library: &Bibliography) -> Result<String, AllocError>
+    ensures { IfOk result (λ text. AreReported library.now.entries (string_bytes text)) }
+{
+    let mut text = String::new(alloc);
+    'entries: for entry in library {
+        push_report(alloc, &mut text, entry)?;
+    }
+    Ok(text)
+}

@@ -1,0 +1,317 @@
+//! The engine of the program.
+
+ghost use Rattle.std.specs.Prelude.{◌≡◌, ◌≢◌, ◌==◌, ℕ, ◌-◌, ◌^◌, ◌<◌, if◌then◌else◌, List, [], ◌∷◌, ◌++◌, length, map, codes, IfOk, MatchOption};
+ghost use Rattle.std.specs.Io.KnownBytes.{Appends};
+ghost use Rattle.std.specs.Str.{IsUtf8};
+ghost use Rattle.std.specs.String.{string_bytes};
+ghost use Rattle.biblatex.specs.Syntax.{file_of};
+ghost use Rattle.biblatex.specs.Syntax.{OutOfMemory};
+ghost use Rattle.bib.specs.Answering.{IsLibraryOf};
+ghost use Rattle.bib.specs.Output.{IsAnswer, IsAnswered, IsCommand, IsCommandAnswer, IsHandedOver, IsKeysAnswer, IsLibraryAnswer, IsQuotingLine, Name, ShowsBiblatex, ShowsBibtex, ShowsReports, ShowsSettled, TellsFault, command_name, key_lines};
+
+use crate::reports::reports;
+use biblatex::{Bibliography, ParseError, ParseErrorKind, RawBibliography, Sink, Span};
+use std::alloc::{AllocError, Global};
+use std::mem;
+
+/// Why an input could not be read.
+#[derive(Debug, Clone, Copy, PartialEq, Eq)]
+pub enum SourceError {
+    /// The input failed.
+    Failed,
+    /// There was no memory for it.
+    OutOfMemory,
+}
+
+/// What an input is read from.
+pub trait Source {
+    // Whether these may be the bytes that are left.
+    ghost gives: { Self → List ℕ → Type 0 };
+
+    // How many reads failed so far. The count may stop at its greatest value.
+    ghost failures: { Self → ℕ };
+
+    /// Reads all the bytes that are left.
+    fn read_all(&mut self, alloc: Global) -> Result<Vec<u8>, SourceError>
+        ensures given { IfOk result (λ bytes. gives self.old bytes.items) }
+        ensures failed { result ≡ Err SourceError.Failed → failures self.old < 2 ^ 64 - 1 →
+            failures self.old < failures self.new }
+        ensures same { result ≢ Err SourceError.Failed → failures self.new ≡ failures self.old };
+}
+
+// What is printed, and the status.
+#[derive(Drop)]
+struct Answer {
+    text: String,
+    status: u8,
+}
+
+/// What the program can be asked for.
+#[derive(Clone, Copy)]
+pub enum Command {
+    /// The keys of a file's entries.
+    Keys,
+    /// The bibliography with BibLaTeX's types and fields.
+    Biblatex,
+    /// The bibliography with BibTeX's types and fields.
+    Bibtex,
+    /// What is wrong with the bibliography's entries.
+    Check,
+    /// Whether the bibliography is settled.
+    Settled,
+}
+
+// The command that the words name.
+fn command_of(words: &[String]) -> Option<Command>
+    ensures { MatchOption result (IsCommand (map string_bytes words.now) → ⊥)
+        (Name (map string_bytes words.now)) }
+{
+    match words {
+        [word] => named(word.as_str()),
+        _ => None,
+    }
+}
+
+// The command that a word names.
+fn named(word: &str) -> Option<Command>
+    ensures { MatchOption result ((command : Command) → word.now ≡ command_name command → ⊥)
+        (λ command. word.now ≡ command_name command) }
+{
+    match word {
+        "keys" => Some(Command::Keys),
+        "biblatex" => Some(Command::Biblatex),
+        "bibtex" => Some(Command::Bibtex),
+        "check" => Some(Command::Check),
+        "settled" => Some(Command::Settled),
+        _ => None,
+    }
+}
+
+// The keys of the entries, each in a line of its own.
+fn key_lines(alloc: Global, raw: &RawBibliography<'_>) -> Result<String, AllocError>
+    ensures { IfOk result (λ text. string_bytes text ≡ key_lines (file_of raw.now)) }
+{
+    let mut text = String::new(alloc);
+    'entries: for entry in &raw.entries {
+        text.push_str(entry.v.key.v)?;
+        text.push('\n')?;
+    }
+    Ok(text)
+}
+
+// The answer of the command `keys` for a text.
+fn keys(alloc: Global, text: &str) -> Result<Answer, AllocError>
+    ensures { IfOk result (λ answer. IsKeysAnswer text.now
+        (string_bytes answer.text) answer.status) }
+{
+    let raw = match RawBibliography::parse(alloc, text) {
+        Ok(raw) => raw,
+        Err(error) => return fault(alloc, error),
+    };
+    Ok(Answer {
+        text: key_lines(alloc, &raw)?,
+        status: 0,
+    })
+}
+
+// The bibliography that a text is, or the answer that it is none.
+fn parsed(alloc: Global, text: &str) -> Result<Result<Bibliography, Answer>, AllocError>
+    ensures { IfOk result (IsLibraryOf text.now) }
+{
+    match Bibliography::parse(alloc, text) {
+        Ok(library) => Ok(Ok(library)),
+        Err(error) => Ok(Err(fault(alloc, error)?)),
+    }
+}
+
+// The bibliography that a text is, or the answer that it is none. The text's memory is free behind it.
+fn library(alloc: Global, text: String) -> Result<Result<Bibliography, Answer>, AllocError>
+    ensures text { IsUtf8 (string_bytes text) }
+    ensures library { IfOk result (IsLibraryOf (string_bytes text)) }
+{
+    parsed(alloc, text.as_str())
+}
+
+// The answer of the command `biblatex` for a text. Here and below the memory of the bibliography isn't given back entry by
+// entry: the program ends behind its answer.
+fn biblatex(alloc: Global, text: String) -> Result<Answer, AllocError>
+    ensures { IfOk result (λ answer. IsLibraryAnswer ShowsBiblatex (string_bytes text)
+        (string_bytes answer.text) answer.status) }
+{
+    let library = match library(alloc, text)? {
+        Ok(library) => library,
+        Err(answer) => return Ok(answer),
+    };
+    let text = library.to_biblatex_string(alloc)?;
+    mem::forget(library);
+    Ok(Answer { text, status: 0 })
+}
+
+// The answer of the command `bibtex` for a text.
+fn bibtex(alloc: Global, text: String) -> Result<Answer, AllocError>
+    ensures { IfOk result (λ answer. IsLibraryAnswer ShowsBibtex (string_bytes text)
+        (string_bytes answer.text) answer.status) }
+{
+    let library = match library(alloc, text)? {
+        Ok(library) => library,
+        Err(answer) => return Ok(answer),
+    };
+    let text = library.to_bibtex_string(alloc)?;
+    mem::forget(library);
+    Ok(Answer { text, status: 0 })
+}
+
+// The status of reports: 4 where there is a line.
+fn status_of(lines: &str) -> u8
+    ensures { result ≡ (if length lines.now == 0 then 0 else 4) }
+{
+    if lines.is_empty() { 0 } else { 4 }
+}
+
+// The answer of the command `check` for a text.
+fn check(alloc: Global, text: String) -> Result<Answer, AllocError>
+    ensures { IfOk result (λ answer. IsLibraryAnswer ShowsReports (string_bytes text)
+        (string_bytes answer.text) answer.status) }
+{
+    let library = match library(alloc, text)? {
+        Ok(library) => library,
+        Err(answer) => return Ok(answer),
+    };
+    let text = reports(alloc, &library)?;
+    mem::forget(library);
+    Ok(Answer {
+        status: status_of(&text),
+        text,
+    })
+}
+
+// The answer of the command `settled` for a text.
+fn settled(alloc: Global, text: String) -> Result<Answer, AllocError>
+    ensures { IfOk result (λ answer. IsLibraryAnswer ShowsSettled (string_bytes text)
+        (string_bytes answer.text) answer.status) }
+{
+    let library = match library(alloc, text)? {
+        Ok(library) => library,
+        Err(answer) => return Ok(answer),
+    };
+    let is_settled = library.is_settled();
+    mem::forget(library);
+    if is_settled {
+        return Ok(Answer {
+            text: String::from_str(alloc, "settled\n")?,
+            status: 0,
+        });
+    }
+    Ok(Answer {
+        text: String::from_str(alloc, "not settled\n")?,
+        status: 4,
+    })
+}
+
+// The answer of a command for a text.
+fn answer_text(alloc: Global, command: Command, text: String) -> Result<Answer, AllocError>
+    ensures { IfOk result (λ answer. IsCommandAnswer command (string_bytes text)
+        (string_bytes answer.text) answer.status) }
+{
+    match command {
+        Command::Keys => keys(alloc, text.as_str()),
+        Command::Biblatex => biblatex(alloc, text),
+        Command::Bibtex => bibtex(alloc, text),
+        Command::Check => check(alloc, text),
+        Command::Settled => settled(alloc, text),
+    }
+}
+
+// The answer of a command for an input.
+fn answer_to(alloc: Global, command: Command, bytes: Vec<u8>) -> Result<Answer, AllocError>
+    ensures { IfOk result (λ answer. IsCommandAnswer command bytes.items
+        (string_bytes answer.text) answer.status) }
+{
+    match String::from_utf8(bytes) {
+        Ok(text) => answer_text(alloc, command, text),
+        Err(_) => Ok(Answer {
+            text: String::from_str(alloc, "error: input is not UTF-8\n")?,
+            status: 1,
+        }),
+    }
+}
+
+// The answer for an input with an error.
+fn fault(alloc: Global, error: ParseError) -> Result<Answer, AllocError>
+    ensures { IfOk result (λ answer. (error.kind ≢ OutOfMemory) ×
+        TellsFault error (string_bytes answer.text) × (answer.status ≡ 1)) }
+{
+    let error = error.unless_out_of_memory()?;
+    let text = match &error.kind {
+        ParseErrorKind::UnknownAbbreviation(name) => {
+            quoting_line(alloc, "unknown abbreviation ", name.as_str(), &error.span)?
+        }
+        ParseErrorKind::DuplicateKey(key) => {
+            quoting_line(alloc, "duplicate key ", key.as_str(), &error.span)?
+        }
+        ParseErrorKind::AbbreviationCycle(name) => {
+            quoting_line(alloc, "circular abbreviation ", name.as_str(), &error.span)?
+        }
+        ParseErrorKind::ReferenceCycle(key) => {
+            quoting_line(alloc, "circular reference ", key.as_str(), &error.span)?
+        }
+        _ => format!(in alloc; "error: {error}\n")?,
+    };
+    Ok(Answer { text, status: 1 })
+}
+
+// The line of an error that quotes a name.
+fn quoting_line(alloc: Global, words: &str, name: &str, span: &Span) -> Result<String, AllocError>
+    ensures { IfOk result (λ text.
+        IsQuotingLine (words.now, name.now) span.now (string_bytes text)) }
+{
+    let quoted = format!(in alloc; "{name:?}")?;
+    format!(in alloc;
+        "error: {words}{}: {}-{}\n",
+        quoted.as_str(),
+        span.start,
+        span.end
+    )
+}
+
+// Prints a text, and answers the status: 1 if the text was refused.
+pub(crate) fn print<K: Sink>(output: &mut K, text: &str, status: u8) -> u8
+    ensures printed { K.refusals output.old < 2 ^ 64 - 1 →
+        K.refusals output.new ≡ K.refusals output.old →
+        Appends (K.taken output.old) (K.taken output.new) text.now × (result ≡ status) }
+    ensures refused { K.refusals output.new ≢ K.refusals output.old → result ≡ 1 }
+    ensures handed { IsHandedOver K.hands_over text.now status output.old output.new result }
+{
+    if output.write_str(text) { status } else { 1 }
+}
+
+/// Runs the program on its words, and answers the status.
+///
+/// The words are looked at first, and an input is read only for a command that there is. The whole text is made before
+/// any of it is written, and it is written in one call. A refused write gives status 1, and nothing more is written.
+pub fn run<S: Source, K: Sink>(alloc: Global, words: &[String], input: &mut S, output: &mut K) -> u8
+    ensures unread { (IsCommand (map string_bytes words.now) → ⊥) → input.new ≡ input.old }
+    ensures printed { K.refusals output.old < 2 ^ 64 - 1 →
+        K.refusals output.new ≡ K.refusals output.old →
+        (text : List ℕ) × Appends (K.taken output.old) (K.taken output.new) text ×
+        IsAnswer (map string_bytes words.now) (S.gives input.old)
+        (S.failures input.old < 2 ^ 64 - 1 → S.failures input.old < S.failures input.new)
+        (S.failures input.new ≡ S.failures input.old) text result }
+    ensures refused { K.refusals output.new ≢ K.refusals output.old → result ≡ 1 }
+    ensures handed { IsAnswered K.hands_over (IsAnswer (map string_bytes words.now) (S.gives input.old)
+        (S.failures input.old < 2 ^ 64 - 1 → S.failures input.old < S.failures input.new)
+        (S.failures input.new ≡ S.failures input.old)) output.old output.new result }
+{
+    let Some(command) = command_of(words) else {
+        return print(output, "usage: bib keys|biblatex|bibtex|check|settled\n", 2);
+    };
+    let bytes = match input.read_all(alloc) {
+        Ok(bytes) => bytes,
+        Err(SourceError::Failed) => return print(output, "error: input failed\n", 1),
+        Err(SourceError::OutOfMemory) => return print(output, "error: out of memory\n", 3),
+    };
+    match answer_to(alloc, command, bytes) {
+        Ok(answer) => print(output, &answer.text, answer.status),
+        Err(AllocError) => print(output, "error: out of memory\n", 3),
+    }
+}

@@ -1,3 +1,0 @@
-mod Answers
-mod ReportFacts
-mod Words

@@ -1,9 +1,0 @@
-use Rattle.bib_commands.specs.Output.{IsKeysAnswer as answer}
-use Rattle.bib_commands.proofs.Answers.{fault_answered}
-use Rattle.bib_commands.proofs.run.keys.Goals as goal
-
-pub returns-in-Err : goal.returns-in-Err
-returns-in-Err c = fault_answered c.in-Err.error c.fault.result c.fault.ensures c.utf8.text c.in-Err.ensures.refused
-
-pub returns : goal.returns
-returns c = rw c.in_ok-key_lines.ensures (answer.keys c.utf8.text c.in-Ok.ensures.read)
