@@ -241,8 +241,8 @@ fn fault(alloc: Global, error: &ParseError) -> Result<Answer, AllocError>
     ensures { IfOk result (λ answer. (error.now.kind ≢ OutOfMemory) ×
         TellsFault error.now (string_bytes answer.text) × (answer.status ≡ 1)) }
 {
+    error.unless_out_of_memory()?;
     let text = match &error.kind {
-        ParseErrorKind::OutOfMemory => return Err(AllocError),
         ParseErrorKind::UnknownAbbreviation(name) => {
             quoting_line(alloc, "unknown abbreviation ", name.as_str(), &error.span)?
         }
