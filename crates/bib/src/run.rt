@@ -106,7 +106,7 @@ fn keys(alloc: Global, text: &str) -> Result<Answer, AllocError>
 {
     let raw = match RawBibliography::parse(alloc, text) {
         Ok(raw) => raw,
-        Err(error) => return fault(alloc, error),
+        Err(error) => return fault(alloc, &error),
     };
     Ok(Answer {
         text: key_lines(alloc, &raw)?,
@@ -120,7 +120,7 @@ fn parsed(alloc: Global, text: &str) -> Result<Result<Bibliography, Answer>, All
 {
     match Bibliography::parse(alloc, text) {
         Ok(library) => Ok(Ok(library)),
-        Err(error) => Ok(Err(fault(alloc, error)?)),
+        Err(error) => Ok(Err(fault(alloc, &error)?)),
     }
 }
 
@@ -237,11 +237,11 @@ fn answer_to(alloc: Global, command: Command, bytes: Vec<u8>) -> Result<Answer, 
 }
 
 // The answer for an input with an error.
-fn fault(alloc: Global, error: ParseError) -> Result<Answer, AllocError>
-    ensures { IfOk result (λ answer. (error.kind ≢ OutOfMemory) ×
-        TellsFault error (string_bytes answer.text) × (answer.status ≡ 1)) }
+fn fault(alloc: Global, error: &ParseError) -> Result<Answer, AllocError>
+    ensures { IfOk result (λ answer. (error.now.kind ≢ OutOfMemory) ×
+        TellsFault error.now (string_bytes answer.text) × (answer.status ≡ 1)) }
 {
-    let error = error.unless_out_of_memory()?;
+    error.unless_out_of_memory()?;
     let text = match &error.kind {
         ParseErrorKind::UnknownAbbreviation(name) => {
             quoting_line(alloc, "unknown abbreviation ", name.as_str(), &error.span)?

@@ -255,14 +255,14 @@ impl fmt::Display for ParseError {
 impl Error for ParseError {}
 
 impl ParseError {
-    /// The error, where it is one of the text; out of memory is passed on as such.
-    pub fn unless_out_of_memory(self) -> Result<ParseError, AllocError>
-        ensures ok { IfOk result (λ error. (error ≡ self) × (self.kind ≢ OutOfMemory)) }
-        ensures err { OnErr result (self.kind ≡ OutOfMemory) }
+    /// Passes out of memory on as such: Ok where the error is one of the text.
+    pub fn unless_out_of_memory(&self) -> Result<(), AllocError>
+        ensures ok { OnOk result (self.now.kind ≢ OutOfMemory) }
+        ensures err { OnErr result (self.now.kind ≡ OutOfMemory) }
     {
         match self.kind {
             ParseErrorKind::OutOfMemory => Err(AllocError),
-            _ => Ok(self),
+            _ => Ok(()),
         }
     }
 }
