@@ -8,7 +8,8 @@ With --definitions it prints each word of specs/ with its comment, by crate and 
 - crates/NAME/wrong/INDEX.md names each wrong body of its crate, in the section of its folder, with the promise that it
   breaks and the clause that refuses it, and none that isn't there.
 - Each file of specs/ says in its first line whether it is meaning or machinery.
-- Each word that a public contract cites has a comment in specs/.
+- Each word that a public contract cites has a comment in specs/. No word is defined in two files of specs/, and no
+  definition says the code of a character that has a name.
 - Each public call of `biblatex` that may be refused memory is named in a test, which calls it where memory is there.
 - No function builds an error that says that memory was refused unless it was given one (out_of_memory.py).
 - The rows of each layer, tests/rows/NAME, stand in NAME.stdout in the same order, each with an answer.
@@ -27,6 +28,9 @@ import out_of_memory
 TOP = pathlib.Path(__file__).resolve().parent
 CRATES = TOP / "crates"
 FOLDERS = ("must-fail", "wrong")
+DEFINITION = re.compile(r"(?:(?:pub|abbrev|unfoldable|opaque|data|record) )+([A-Za-z_][\w'-]*)(?=[ :(]|$)")
+NAMED = re.compile(r"(?m)^(\w+) = (\d+)$")
+CODE = re.compile(r"(?:== |≡ |CharAt [\w']+ |cut_at [\w'.]+ )(\d+)\b|(?<![\w'.])(\d+)(?= ∷)")
 errors = []
 
 
@@ -159,6 +163,30 @@ def check_specs():
             error(file, "its first line doesn't say whether it is meaning or machinery")
 
 
+def check_words():
+    """A word of definitions is defined in one file."""
+    words = {}
+    for file in sorted(CRATES.glob("*/specs/*.antt")):
+        for line in file.read_text().splitlines():
+            found = DEFINITION.match(line)
+            if found and not line.startswith(("pub mod", "pub use")):
+                other = words.setdefault(found[1], file)
+                if other != file:
+                    error(file, f"{found[1]} is defined in {other.relative_to(CRATES)} too")
+
+
+def check_characters():
+    """Definitions name characters, and write no codes."""
+    characters = CRATES / "bib_text" / "specs" / "Characters.antt"
+    names = {int(code): name for name, code in NAMED.findall(characters.read_text())}
+    for file in sorted(CRATES.glob("*/specs/*.antt")):
+        for number, line in enumerate(file.read_text().splitlines(), 1):
+            codes = [int(one or other) for one, other in CODE.findall(line)] if file != characters else []
+            for code in codes:
+                if code in names:
+                    error(file, f"line {number} says {code} where it means char.{names[code]}")
+
+
 def exported():
     """The names that biblatex exports, its own ones and those of the crates below."""
     library = (CRATES / "biblatex" / "src" / "lib.rt").read_text()
@@ -287,6 +315,8 @@ def main():
     check_indexes()
     check_definitions()
     check_specs()
+    check_words()
+    check_characters()
     check_calls()
     check_memory()
     check_rows()

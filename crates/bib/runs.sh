@@ -74,7 +74,7 @@ printf '@misc{a, title={x}}@misc{a,}' >"$files/input"
 run 'a key twice' 1 $'error: duplicate key "a": 19-27\n' biblatex
 run 'a key twice, of which keys know nothing' 0 $'a\na\n' keys
 
-# worked examples, cut short at every byte: each front is read or refused
+# worked examples, cut short at every byte: each prefix is read or refused
 examples=(
     '@string{BT = "bibtex"}' '@article{,}' '@article{a}' '@misc{a, title={x}, %1
 %2
@@ -109,5 +109,5 @@ run 'a key of 2 MiB' 0 "$key"$'\n' keys
 head -c 67108864 /dev/zero | (ulimit -v 32768 && exec "$program" keys) >"$files/output"
 count 'no memory for the input' $? 3 $'error: out of memory\n'
 
-echo "runs: $passed passed, $failed failed, $cuts fronts of examples read or refused"
+echo "runs: $passed passed, $failed failed, $cuts prefixes of examples read or refused"
 [ "$failed" = 0 ]

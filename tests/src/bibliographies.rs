@@ -45,23 +45,23 @@ fn answer_of_text(alloc: Global, call: &str, text: &str) -> Result<Option<String
 }
 
 // What a call that takes a bibliography answers.
-fn answer_of_library(
+fn answer_of_bibliography(
     alloc: Global,
     call: &str,
-    library: &Bibliography,
+    bibliography: &Bibliography,
 ) -> Result<Option<String>, AllocError> {
     let answer = match call {
-        "entries" => entries::entries(alloc, library),
-        "types" => entries::types(alloc, library),
-        "chunks" => entries::chunks(alloc, library),
-        "number" => entries::number(alloc, library),
-        "parents" => reports::parents(alloc, library),
-        "editors" => reports::editors(alloc, library),
-        "report" => reports::report(alloc, library),
-        "biblatex" => written::biblatex(alloc, library),
-        "bibtex" => written::bibtex(alloc, library),
-        "settled" => written::settled(alloc, library),
-        "again" => written::again(alloc, library),
+        "entries" => entries::entries(alloc, bibliography),
+        "types" => entries::types(alloc, bibliography),
+        "chunks" => entries::chunks(alloc, bibliography),
+        "number" => entries::number(alloc, bibliography),
+        "parents" => reports::parents(alloc, bibliography),
+        "editors" => reports::editors(alloc, bibliography),
+        "report" => reports::report(alloc, bibliography),
+        "biblatex" => written::biblatex(alloc, bibliography),
+        "bibtex" => written::bibtex(alloc, bibliography),
+        "settled" => written::settled(alloc, bibliography),
+        "again" => written::again(alloc, bibliography),
         _ => return Ok(None),
     };
     Ok(Some(answer?))
@@ -75,14 +75,14 @@ fn answer(alloc: Global, call: &str, text: &str) -> Result<Option<String>, Parse
     if let Some(answer) = answer_of_text(alloc, call, text)? {
         return Ok(Some(answer));
     }
-    let library = parsed(alloc, text)?;
-    Ok(answer_of_library(alloc, call, &library)?)
+    let bibliography = parsed(alloc, text)?;
+    Ok(answer_of_bibliography(alloc, call, &bibliography)?)
 }
 
 // The calls of bibliographies.
-pub struct Library;
+pub struct Bibliographies;
 
-impl Calls for Library {
+impl Calls for Bibliographies {
     fn answer(alloc: Global, call: &str, text: &str) -> Result<Option<String>, AllocError> {
         match answer(alloc, call, text) {
             Ok(answer) => Ok(answer),

@@ -28,7 +28,7 @@ fn rows(alloc: Global, layer: &str, input: &str) -> Result<String, AllocError> {
         "tables" => answered::<tables::Tables>(alloc, input),
         "values" => answered::<values::Values>(alloc, input),
         "entries" => answered::<entries::Entries>(alloc, input),
-        "bibliographies" => answered::<bibliographies::Library>(alloc, input),
+        "bibliographies" => answered::<bibliographies::Bibliographies>(alloc, input),
         _ => String::from_str(alloc, "there is no such layer"),
     }
 }

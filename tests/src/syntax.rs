@@ -14,7 +14,7 @@ impl Calls for Syntax {
     fn answer(alloc: Global, call: &str, text: &str) -> Result<Option<String>, AllocError> {
         Ok(Some(match call {
             "keys" => keys::keys(alloc, text)?,
-            "fronts" => keys::fronts(alloc, text)?,
+            "fronts" => keys::prefixes(alloc, text)?,
             "raw" => reading::raw(alloc, text)?,
             "is_key" => characters::key_characters(alloc, text)?,
             "is_id_start" => characters::id_starts(alloc, text)?,

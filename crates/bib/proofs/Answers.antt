@@ -4,9 +4,9 @@ use Rattle.std.proofs.lemmas.Slice.Eq.{bytes_eq-Decides}
 use Rattle.biblatex.specs.Syntax.{Refuses, IsFile, ParseError, OutOfMemory, out_of_memory}
 use Rattle.std.specs.Str.{IsUtf8}
 use Rattle.biblatex.specs.Headline.{IsAcceptedText, IsErrorOf}
-use Rattle.biblatex.specs.Syntax.{Library}
-use Rattle.bib.specs.Answering.{IsLibraryOf}
-use Rattle.bib.specs.Output.{IsCommandAnswer, IsKeysAnswer, IsQuotingLine, line, IsLibraryAnswer, TellsFault, TellsNoBibliography, not_utf8}
+use Rattle.biblatex.specs.Syntax.{Bibliography}
+use Rattle.bib.specs.Answering.{IsParseAnswer}
+use Rattle.bib.specs.Output.{IsCommandAnswer, IsKeysAnswer, IsQuotingLine, line, IsBibliographyAnswer, ShowsError, ShowsNoBibliography, not_utf8}
 use Rattle.bib.specs.declared.run.Command.{Command}
 use Rattle.bib.specs.declared.run.Command.TheVariants.{Keys, Biblatex, Bibtex, Check, Settled}
 use Rattle.bib.specs.Output.IsKeysAnswer.{no_file}
@@ -34,46 +34,46 @@ decides_one b word text words named tests one same =
       head_same : {x y : List ℕ} → x ∷ [] ≡ y ∷ [] → x ≡ y
       head_same e = cc
 
--- a fault of the text, where memory was there
-pub fault_told : {bytes text : List ℕ} {e : ParseError} → IsUtf8 bytes → Refuses bytes e (IsFile bytes → ⊥) → (e.kind ≡ OutOfMemory → ⊥) → TellsFault e text → IsKeysAnswer bytes text 1
-fault_told utf8 (inl memory) other told = absurd (other (ap (λ x. x.kind) memory))
-fault_told utf8 (inr fault) other told = no_file utf8 fault.0 fault.1 told
+-- an error of the text, where memory was there
+pub error_reported : {bytes text : List ℕ} {e : ParseError} → IsUtf8 bytes → Refuses bytes e (IsFile bytes → ⊥) → (e.kind ≡ OutOfMemory → ⊥) → ShowsError e text → IsKeysAnswer bytes text 1
+error_reported utf8 (inl memory) other listed = absurd (other (ap (λ x. x.kind) memory))
+error_reported utf8 (inr error_answer) other listed = no_file utf8 error_answer.0 error_answer.1 listed
 
--- the answer for a fault
-pub fault_answered : {E : Type 0} {bytes : List ℕ} (e : ParseError) (r : Result Answer E)
-    → IfOk r (λ answer. (e.kind ≢ OutOfMemory) × TellsFault e (string_bytes answer.text) × (answer.status ≡ 1))
+-- the answer for an error
+pub error_answered : {E : Type 0} {bytes : List ℕ} (e : ParseError) (r : Result Answer E)
+    → IfOk r (λ answer. (e.kind ≢ OutOfMemory) × ShowsError e (string_bytes answer.text) × (answer.status ≡ 1))
     → IsUtf8 bytes → Refuses bytes e (IsFile bytes → ⊥) → IfOk r (λ answer. IsKeysAnswer bytes (string_bytes answer.text) answer.status)
-fault_answered e (Ok answer) told utf8 refused = rw told.2 (fault_told utf8 refused told.0 told.1)
-fault_answered e (Err x) told utf8 refused = tt
+error_answered e (Ok answer) listed utf8 refused = rw listed.2 (error_reported utf8 refused listed.0 listed.1)
+error_answered e (Err x) listed utf8 refused = tt
 
 -- a text that is no bibliography, where memory was there
-pub no_library : {bytes text : List ℕ} {e : ParseError} → (e ≡ out_of_memory) ⊎ (IsErrorOf bytes e × (IsAcceptedText bytes → ⊥)) → (e.kind ≡ OutOfMemory → ⊥) → TellsFault e text
-    → TellsNoBibliography bytes text
-no_library (inl memory) other told = absurd (other (ap (λ x. x.kind) memory))
-no_library {e = e} (inr fault) other told = record { error = e; of_text = fault.0; refused = fault.1; told = told }
+pub no_bibliography : {bytes text : List ℕ} {e : ParseError} → (e ≡ out_of_memory) ⊎ (IsErrorOf bytes e × (IsAcceptedText bytes → ⊥)) → (e.kind ≡ OutOfMemory → ⊥) → ShowsError e text
+    → ShowsNoBibliography bytes text
+no_bibliography (inl memory) other listed = absurd (other (ap (λ x. x.kind) memory))
+no_bibliography {e = e} (inr error_answer) other listed = record { error = e; of_text = error_answer.0; refused = error_answer.1; listed = listed }
 
 -- the answer that a text is no bibliography
-pub no_library_shown : {shows : Library → List ℕ → ℕ → Type 0} {bytes : List ℕ} (found : Result Library Answer) (answer : Answer) → IsUtf8 bytes → IsLibraryOf bytes found → found ≡ Err answer → IsLibraryAnswer shows bytes (string_bytes answer.text) answer.status
-no_library_shown {shows} {bytes} found answer utf8 is same =
-    let told : IsLibraryOf bytes (Err answer) = subst (IsLibraryOf bytes) same is in
-    subst (λ status. IsLibraryAnswer shows bytes (string_bytes answer.text) status) (sym told.1) (IsLibraryAnswer.no_library utf8 told.0)
+pub no_bibliography_shown : {shows : Bibliography → List ℕ → ℕ → Type 0} {bytes : List ℕ} (found : Result Bibliography Answer) (answer : Answer) → IsUtf8 bytes → IsParseAnswer bytes found → found ≡ Err answer → IsBibliographyAnswer shows bytes (string_bytes answer.text) answer.status
+no_bibliography_shown {shows} {bytes} found answer utf8 is same =
+    let listed : IsParseAnswer bytes (Err answer) = subst (IsParseAnswer bytes) same is in
+    subst (λ status. IsBibliographyAnswer shows bytes (string_bytes answer.text) status) (sym listed.1) (IsBibliographyAnswer.no_bibliography utf8 listed.0)
 
 -- the answer of a bibliography
-pub library_shown : {shows : Library → List ℕ → ℕ → Type 0} {bytes text : List ℕ} {status : ℕ} (found : Result Library Answer) (library : Library) → IsUtf8 bytes → IsLibraryOf bytes found → found ≡ Ok library → shows library text status
-    → IsLibraryAnswer shows bytes text status
-library_shown {shows} {bytes} found library utf8 is same shown =
-    let read : IsLibraryOf bytes (Ok library) = subst (IsLibraryOf bytes) same is in
-    IsLibraryAnswer.shown utf8 read shown
+pub bibliography_shown : {shows : Bibliography → List ℕ → ℕ → Type 0} {bytes text : List ℕ} {status : ℕ} (found : Result Bibliography Answer) (bibliography : Bibliography) → IsUtf8 bytes → IsParseAnswer bytes found → found ≡ Ok bibliography → shows bibliography text status
+    → IsBibliographyAnswer shows bytes text status
+bibliography_shown {shows} {bytes} found bibliography utf8 is same shown =
+    let read : IsParseAnswer bytes (Ok bibliography) = subst (IsParseAnswer bytes) same is in
+    IsBibliographyAnswer.shown utf8 read shown
 
 -- the answer of any command for bytes that are no text
 pub no_text_shown : (command : Command) (bytes : List ℕ) → (IsUtf8 bytes → ⊥) → IsCommandAnswer command bytes not_utf8 1
 no_text_shown Keys bytes none = IsKeysAnswer.no_text none
-no_text_shown Biblatex bytes none = IsLibraryAnswer.no_text none
-no_text_shown Bibtex bytes none = IsLibraryAnswer.no_text none
-no_text_shown Check bytes none = IsLibraryAnswer.no_text none
-no_text_shown Settled bytes none = IsLibraryAnswer.no_text none
+no_text_shown Biblatex bytes none = IsBibliographyAnswer.no_text none
+no_text_shown Bibtex bytes none = IsBibliographyAnswer.no_text none
+no_text_shown Check bytes none = IsBibliographyAnswer.no_text none
+no_text_shown Settled bytes none = IsBibliographyAnswer.no_text none
 
--- want of memory is no failed input
+-- out of memory is no failed input
 pub lacking_apart : {A : Type 0} {e : SourceError} → e ≡ source.OutOfMemory → (let r : Result A SourceError = Err e in r) ≡ Err source.Failed → ⊥
 lacking_apart is same = apart (sym is ∙ inner same) where
   inner : {A : Type 0} {e f : SourceError} → (let r : Result A SourceError = Err e in r) ≡ Err f → e ≡ f
@@ -83,7 +83,7 @@ lacking_apart is same = apart (sym is ∙ inner same) where
   apart same = cc
 
 -- the line of an error that quotes a name, as it is put together
-pub quoted_line : {Z E : Type 0} (r : Result (String Z) E) (said : List ℕ × List ℕ) (span : Range ℕ) (quoted : List ℕ) → IfSome (debug_str said.1) (λ told. quoted ≡ told)
+pub quoted_line : {Z E : Type 0} (r : Result (String Z) E) (said : List ℕ × List ℕ) (span : Range ℕ) (quoted : List ℕ) → IfSome (debug_str said.1) (λ listed. quoted ≡ listed)
     → IfOk r (λ text. string_bytes text ≡ codes "error: " ++ (said.0 ++ (quoted ++ (codes ": " ++ (decimal span.start ++ (codes "-" ++ line (decimal span.end)))))))
     → IfOk r (λ text. IsQuotingLine said span (string_bytes text))
 quoted_line (Ok text) said span quoted exact is = record { quoted = quoted; exact = exact; is = is }

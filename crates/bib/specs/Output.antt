@@ -6,14 +6,15 @@ use Rattle.std.specs.declared.ops.Range.{Range}
 use Rattle.std.specs.List.{flat_map}
 use Rattle.std.specs.Str.{IsUtf8}
 use Rattle.biblatex.specs.Headline.{IsAcceptedText, IsBibliographyOf, IsErrorOf}
-use Rattle.biblatex.specs.Syntax.{IsSyntaxFault, error_text, IsFile, IsRawReading, FileReading, ParseError, ParseErrorKind, Entry, Library, AreSettled, biblatex_entry, bibtex_entry, entries_text, TypeError, type_kind_text, missing_of, superfluous_of, AreMalformed}
+use Rattle.biblatex.specs.Syntax.{IsSyntaxError, error_text, IsFile, IsRawReading, FileReading, ParseError, ParseErrorKind, Entry, Bibliography, AreSettled, biblatex_entry, bibtex_entry, entries_text, TypeError, type_kind_text, missing_of, superfluous_of, AreMalformed}
 use Rattle.biblatex.specs.Syntax.{UnknownAbbreviation, DuplicateKey, AbbreviationCycle, ReferenceCycle}
 use Rattle.bib.specs.declared.run.Command.{Command}
 use Rattle.bib.specs.declared.run.Command.TheVariants.{Keys, Biblatex, Bibtex, Check, Settled}
+use Rattle.bib_text.specs.Characters as char
 
 -- a text and a line feed
 abbrev pub line : List ℕ → List ℕ
-line text = text ++ 10 ∷ []
+line text = text ++ char.line_feed ∷ []
 
 abbrev pub usage : List ℕ
 usage = line (codes "usage: bib keys|biblatex|bibtex|check|settled")
@@ -35,12 +36,12 @@ quoting _ = None
 -- the line of an error that quotes a name: what std prints of a name in quotes is said for names of ASCII alone
 pub record IsQuotingLine (said : List ℕ × List ℕ) (span : Range ℕ) (text : List ℕ) : Type 0 where
   pub quoted : List ℕ
-  pub exact : IfSome (debug_str said.1) (λ told. quoted ≡ told)
+  pub exact : IfSome (debug_str said.1) (λ listed. quoted ≡ listed)
   pub is : text ≡ codes "error: " ++ (said.0 ++ (quoted ++ (codes ": " ++ (decimal span.start ++ (codes "-" ++ line (decimal span.end))))))
 
 -- a text reports an error: it is the line for the error's text
-abbrev pub TellsFault : ParseError → List ℕ → Type 0
-TellsFault e text = MatchOption (quoting e.kind) (IfSome (error_text e) (λ told. text ≡ error_line told)) (λ said. IsQuotingLine said e.span text)
+abbrev pub ShowsError : ParseError → List ℕ → Type 0
+ShowsError e text = MatchOption (quoting e.kind) (IfSome (error_text e) (λ listed. text ≡ error_line listed)) (λ said. IsQuotingLine said e.span text)
 
 -- each entry's key in a line of its own, in the order of the file
 abbrev pub key_lines : FileReading → List ℕ
@@ -49,41 +50,41 @@ key_lines says = flat_map (λ e. line e.key.text) says.entries
 -- what the command `keys` prints for these bytes, and the status
 pub data IsKeysAnswer (bytes : List ℕ) : List ℕ → ℕ → Type 0 where
   no_text : (IsUtf8 bytes → ⊥) → IsKeysAnswer bytes not_utf8 1
-  no_file : {e : ParseError} {text : List ℕ} → IsUtf8 bytes → IsSyntaxFault bytes e → (IsFile bytes → ⊥) → TellsFault e text → IsKeysAnswer bytes text 1
+  no_file : {e : ParseError} {text : List ℕ} → IsUtf8 bytes → IsSyntaxError bytes e → (IsFile bytes → ⊥) → ShowsError e text → IsKeysAnswer bytes text 1
   keys : {says : FileReading} → IsUtf8 bytes → IsRawReading bytes says → IsKeysAnswer bytes (key_lines says) 0
 
 -- a text reports why these bytes are no bibliography: their error
-pub record TellsNoBibliography (bytes text : List ℕ) : Type 0 where
+pub record ShowsNoBibliography (bytes text : List ℕ) : Type 0 where
   pub error : ParseError
   pub of_text : IsErrorOf bytes error
   pub refused : IsAcceptedText bytes → ⊥
-  pub told : TellsFault error text
+  pub listed : ShowsError error text
 
 -- what a command on a bibliography prints for these bytes, and the status, given what it prints for a bibliography
-pub data IsLibraryAnswer (shows : Library → List ℕ → ℕ → Type 0) (bytes : List ℕ) : List ℕ → ℕ → Type 0 where
-  no_text : (IsUtf8 bytes → ⊥) → IsLibraryAnswer shows bytes not_utf8 1
-  no_library : {text : List ℕ} → IsUtf8 bytes → TellsNoBibliography bytes text → IsLibraryAnswer shows bytes text 1
-  shown : {library : Library} {text : List ℕ} {status : ℕ} → IsUtf8 bytes → IsBibliographyOf bytes library → shows library text status
-      → IsLibraryAnswer shows bytes text status
+pub data IsBibliographyAnswer (shows : Bibliography → List ℕ → ℕ → Type 0) (bytes : List ℕ) : List ℕ → ℕ → Type 0 where
+  no_text : (IsUtf8 bytes → ⊥) → IsBibliographyAnswer shows bytes not_utf8 1
+  no_bibliography : {text : List ℕ} → IsUtf8 bytes → ShowsNoBibliography bytes text → IsBibliographyAnswer shows bytes text 1
+  shown : {bibliography : Bibliography} {text : List ℕ} {status : ℕ} → IsUtf8 bytes → IsBibliographyOf bytes bibliography → shows bibliography text status
+      → IsBibliographyAnswer shows bytes text status
 
 -- the bibliography in BibLaTeX's types and fields, or in BibTeX's
-pub record ShowsBiblatex (library : Library) (printed : List ℕ) (status : ℕ) : Type 0 where
-  pub text : printed ≡ entries_text biblatex_entry library.entries
+pub record ShowsBiblatex (bibliography : Bibliography) (printed : List ℕ) (status : ℕ) : Type 0 where
+  pub text : printed ≡ entries_text biblatex_entry bibliography.entries
   pub done : status ≡ 0
 
-pub record ShowsBibtex (library : Library) (printed : List ℕ) (status : ℕ) : Type 0 where
-  pub text : printed ≡ entries_text bibtex_entry library.entries
+pub record ShowsBibtex (bibliography : Bibliography) (printed : List ℕ) (status : ℕ) : Type 0 where
+  pub text : printed ≡ entries_text bibtex_entry bibliography.entries
   pub done : status ≡ 0
 
 -- a line on the entry with this key: what is wrong with it, and of which field
 abbrev pub field_line : List ℕ → List ℕ → List ℕ → List ℕ
 field_line key wrong field = key ++ (codes ": " ++ (wrong ++ (codes " " ++ line field)))
 
--- a line on a field that isn't read, with the kind of its fault
+-- a line on a field that isn't read, with the kind of its error
 abbrev pub malformed_line : List ℕ → List ℕ × TypeError → List ℕ
-malformed_line key fault = field_line key (codes "malformed") (fault.0 ++ (codes ": " ++ type_kind_text fault.1.kind))
+malformed_line key error_answer = field_line key (codes "malformed") (error_answer.0 ++ (codes ": " ++ type_kind_text error_answer.1.kind))
 
--- a report: an entry, and the faults that are told of its fields
+-- a report: an entry, and the errors that are reported of its fields
 abbrev pub Reported : Type 0
 Reported = Entry × List (List ℕ × TypeError)
 
@@ -95,26 +96,26 @@ report_lines report =
     ++ (flat_map (field_line report.0.key (codes "superfluous")) (superfluous_of report.0)
     ++ flat_map (malformed_line report.0.key) report.1)
 
--- a report tells the faults of the fields that aren't read, each with a kind that its field allows
+-- a report says the errors of the fields that aren't read, each with a kind that its field allows
 abbrev pub IsReport : Reported → Type 0
 IsReport report = AreMalformed report.0 report.1
 
 -- a text has a report on each of these entries, in their order
 pub record AreReported (entries : List Entry) (printed : List ℕ) : Type 0 where
   pub reports : List Reported
-  pub told : map (λ report. report.0) reports ≡ entries
+  pub listed : map (λ report. report.0) reports ≡ entries
   pub allowed : All IsReport reports
   pub text : printed ≡ flat_map report_lines reports
 
 -- the reports on the bibliography's entries, and whether there is nothing to report
-pub data ShowsReports (library : Library) : List ℕ → ℕ → Type 0 where
-  clean : AreReported library.entries [] → ShowsReports library [] 0
-  told : {printed : List ℕ} → AreReported library.entries printed → printed ≢ [] → ShowsReports library printed 4
+pub data ShowsReports (bibliography : Bibliography) : List ℕ → ℕ → Type 0 where
+  clean : AreReported bibliography.entries [] → ShowsReports bibliography [] 0
+  listed : {printed : List ℕ} → AreReported bibliography.entries printed → printed ≢ [] → ShowsReports bibliography printed 4
 
 -- whether the bibliography is settled
-pub data ShowsSettled (library : Library) : List ℕ → ℕ → Type 0 where
-  settled : AreSettled library.entries → ShowsSettled library (line (codes "settled")) 0
-  unsettled : (AreSettled library.entries → ⊥) → ShowsSettled library (line (codes "not settled")) 4
+pub data ShowsSettled (bibliography : Bibliography) : List ℕ → ℕ → Type 0 where
+  settled : AreSettled bibliography.entries → ShowsSettled bibliography (line (codes "settled")) 0
+  unsettled : (AreSettled bibliography.entries → ⊥) → ShowsSettled bibliography (line (codes "not settled")) 4
 
 -- the word that names a command
 abbrev pub command_name : Command → List ℕ
@@ -127,10 +128,10 @@ command_name Settled = codes "settled"
 -- what a command prints for these bytes, and the status
 abbrev pub IsCommandAnswer : Command → List ℕ → List ℕ → ℕ → Type 0
 IsCommandAnswer Keys = IsKeysAnswer
-IsCommandAnswer Biblatex = IsLibraryAnswer ShowsBiblatex
-IsCommandAnswer Bibtex = IsLibraryAnswer ShowsBibtex
-IsCommandAnswer Check = IsLibraryAnswer ShowsReports
-IsCommandAnswer Settled = IsLibraryAnswer ShowsSettled
+IsCommandAnswer Biblatex = IsBibliographyAnswer ShowsBiblatex
+IsCommandAnswer Bibtex = IsBibliographyAnswer ShowsBibtex
+IsCommandAnswer Check = IsBibliographyAnswer ShowsReports
+IsCommandAnswer Settled = IsBibliographyAnswer ShowsSettled
 
 -- the words name this command
 abbrev pub Name : List (List ℕ) → Command → Type 0
@@ -143,7 +144,7 @@ IsCommand words = (command : Command) × Name words command
 -- what is printed for these words, and the status; `given` are the bytes that the input may have given, `failed` says that
 -- reading it failed, and `read` that it didn't
 pub data IsAnswer (words : List (List ℕ)) (given : List ℕ → Type 0) (failed read : Type 0) : List ℕ → ℕ → Type 0 where
-  usage_told : (IsCommand words → ⊥) → IsAnswer words given failed read usage 2
+  usage_reported : (IsCommand words → ⊥) → IsAnswer words given failed read usage 2
   no_memory : IsCommand words → read → IsAnswer words given failed read (error_line (codes "out of memory")) 3
   no_input : IsCommand words → failed → IsAnswer words given failed read (error_line (codes "input failed")) 1
   answered : (command : Command) {bytes text : List ℕ} {status : ℕ} → Name words command → read → given bytes → IsCommandAnswer command bytes text status

@@ -40,33 +40,33 @@ fn push_names(
     Ok(())
 }
 
-// Appends the line of a field that is not read: its name, and the kind of its fault.
-fn push_fault(
+// Appends the line of a field that is not read: its name, and the kind of its error.
+fn push_error(
     alloc: Global,
     text: &mut String,
     key: &str,
     name: &str,
-    fault: &TypeError,
+    error_answer: &TypeError,
 ) -> Result<(), AllocError>
     ensures { OnOk result (string_bytes text.new ≡ string_bytes text.old ++
-        malformed_line key.now (name.now, fault.now)) }
+        malformed_line key.now (name.now, error_answer.now)) }
 {
-    let told = format!(in alloc; "{name}: {}", fault.kind)?;
-    push_line(text, key, "malformed", &told)
+    let listed = format!(in alloc; "{name}: {}", error_answer.kind)?;
+    push_line(text, key, "malformed", &listed)
 }
 
 // Appends a line for each field that is not read.
-fn push_faults(
+fn push_errors(
     alloc: Global,
     text: &mut String,
     key: &str,
-    faults: &[(Text, TypeError)],
+    errors: &[(Text, TypeError)],
 ) -> Result<(), AllocError>
     ensures { OnOk result (string_bytes text.new ≡ string_bytes text.old ++
-        flat_map (malformed_line key.now) faults.now) }
+        flat_map (malformed_line key.now) errors.now) }
 {
-    'faults: for (name, fault) in faults {
-        push_fault(alloc, text, key, name.as_str(), fault)?;
+    'errors: for (name, error_answer) in errors {
+        push_error(alloc, text, key, name.as_str(), error_answer)?;
     }
     Ok(())
 }
@@ -79,15 +79,15 @@ fn push_report(alloc: Global, text: &mut String, entry: &Entry) -> Result<(), Al
     let key = entry.key.as_str();
     push_names(text, key, "missing", &report.missing)?;
     push_names(text, key, "superfluous", &report.superfluous)?;
-    push_faults(alloc, text, key, &report.malformed)
+    push_errors(alloc, text, key, &report.malformed)
 }
 
 // The lines of the reports on all entries, in their order.
-pub(crate) fn reports(alloc: Global, library: &Bibliography) -> Result<String, AllocError>
-    ensures { IfOk result (λ text. AreReported library.now.entries (string_bytes text)) }
+pub(crate) fn reports(alloc: Global, bibliography: &Bibliography) -> Result<String, AllocError>
+    ensures { IfOk result (λ text. AreReported bibliography.now.entries (string_bytes text)) }
 {
     let mut text = String::new(alloc);
-    'entries: for entry in library {
+    'entries: for entry in bibliography {
         push_report(alloc, &mut text, entry)?;
     }
     Ok(text)

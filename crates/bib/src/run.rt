@@ -6,8 +6,8 @@ ghost use Rattle.std.specs.Str.{IsUtf8};
 ghost use Rattle.std.specs.String.{string_bytes};
 ghost use Rattle.biblatex.specs.Syntax.{file_of};
 ghost use Rattle.biblatex.specs.Syntax.{OutOfMemory};
-ghost use Rattle.bib.specs.Answering.{IsLibraryOf};
-ghost use Rattle.bib.specs.Output.{IsAnswer, IsAnswered, IsCommand, IsCommandAnswer, IsHandedOver, IsKeysAnswer, IsLibraryAnswer, IsQuotingLine, Name, ShowsBiblatex, ShowsBibtex, ShowsReports, ShowsSettled, TellsFault, command_name, key_lines};
+ghost use Rattle.bib.specs.Answering.{IsParseAnswer};
+ghost use Rattle.bib.specs.Output.{IsAnswer, IsAnswered, IsCommand, IsCommandAnswer, IsHandedOver, IsKeysAnswer, IsBibliographyAnswer, IsQuotingLine, Name, ShowsBiblatex, ShowsBibtex, ShowsReports, ShowsSettled, ShowsError, command_name, key_lines};
 
 use crate::reports::reports;
 use biblatex::{Bibliography, ParseError, ParseErrorKind, RawBibliography, Sink, Span};
@@ -106,7 +106,7 @@ fn keys(alloc: Global, text: &str) -> Result<Answer, AllocError>
 {
     let raw = match RawBibliography::parse(alloc, text) {
         Ok(raw) => raw,
-        Err(error) => return fault(alloc, &error),
+        Err(error) => return error_answer(alloc, &error),
     };
     Ok(Answer {
         text: key_lines(alloc, &raw)?,
@@ -116,48 +116,48 @@ fn keys(alloc: Global, text: &str) -> Result<Answer, AllocError>
 
 // The bibliography that a text is, or the answer that it is none.
 fn parsed(alloc: Global, text: &str) -> Result<Result<Bibliography, Answer>, AllocError>
-    ensures { IfOk result (IsLibraryOf text.now) }
+    ensures { IfOk result (IsParseAnswer text.now) }
 {
     match Bibliography::parse(alloc, text) {
-        Ok(library) => Ok(Ok(library)),
-        Err(error) => Ok(Err(fault(alloc, &error)?)),
+        Ok(bibliography) => Ok(Ok(bibliography)),
+        Err(error) => Ok(Err(error_answer(alloc, &error)?)),
     }
 }
 
-// The bibliography that a text is, or the answer that it is none. The text's memory is free behind it.
-fn library(alloc: Global, text: String) -> Result<Result<Bibliography, Answer>, AllocError>
+// The bibliography that a text is, or the answer that it is none. The text's memory is free after it.
+fn bibliography(alloc: Global, text: String) -> Result<Result<Bibliography, Answer>, AllocError>
     ensures text { IsUtf8 (string_bytes text) }
-    ensures library { IfOk result (IsLibraryOf (string_bytes text)) }
+    ensures bibliography { IfOk result (IsParseAnswer (string_bytes text)) }
 {
     parsed(alloc, text.as_str())
 }
 
 // The answer of the command `biblatex` for a text. Here and below the memory of the bibliography isn't given back entry by
-// entry: the program ends behind its answer.
+// entry: the program ends after its answer.
 fn biblatex(alloc: Global, text: String) -> Result<Answer, AllocError>
-    ensures { IfOk result (λ answer. IsLibraryAnswer ShowsBiblatex (string_bytes text)
+    ensures { IfOk result (λ answer. IsBibliographyAnswer ShowsBiblatex (string_bytes text)
         (string_bytes answer.text) answer.status) }
 {
-    let library = match library(alloc, text)? {
-        Ok(library) => library,
+    let bibliography = match bibliography(alloc, text)? {
+        Ok(bibliography) => bibliography,
         Err(answer) => return Ok(answer),
     };
-    let text = library.to_biblatex_string(alloc)?;
-    mem::forget(library);
+    let text = bibliography.to_biblatex_string(alloc)?;
+    mem::forget(bibliography);
     Ok(Answer { text, status: 0 })
 }
 
 // The answer of the command `bibtex` for a text.
 fn bibtex(alloc: Global, text: String) -> Result<Answer, AllocError>
-    ensures { IfOk result (λ answer. IsLibraryAnswer ShowsBibtex (string_bytes text)
+    ensures { IfOk result (λ answer. IsBibliographyAnswer ShowsBibtex (string_bytes text)
         (string_bytes answer.text) answer.status) }
 {
-    let library = match library(alloc, text)? {
-        Ok(library) => library,
+    let bibliography = match bibliography(alloc, text)? {
+        Ok(bibliography) => bibliography,
         Err(answer) => return Ok(answer),
     };
-    let text = library.to_bibtex_string(alloc)?;
-    mem::forget(library);
+    let text = bibliography.to_bibtex_string(alloc)?;
+    mem::forget(bibliography);
     Ok(Answer { text, status: 0 })
 }
 
@@ -170,15 +170,15 @@ fn status_of(lines: &str) -> u8
 
 // The answer of the command `check` for a text.
 fn check(alloc: Global, text: String) -> Result<Answer, AllocError>
-    ensures { IfOk result (λ answer. IsLibraryAnswer ShowsReports (string_bytes text)
+    ensures { IfOk result (λ answer. IsBibliographyAnswer ShowsReports (string_bytes text)
         (string_bytes answer.text) answer.status) }
 {
-    let library = match library(alloc, text)? {
-        Ok(library) => library,
+    let bibliography = match bibliography(alloc, text)? {
+        Ok(bibliography) => bibliography,
         Err(answer) => return Ok(answer),
     };
-    let text = reports(alloc, &library)?;
-    mem::forget(library);
+    let text = reports(alloc, &bibliography)?;
+    mem::forget(bibliography);
     Ok(Answer {
         status: status_of(&text),
         text,
@@ -187,15 +187,15 @@ fn check(alloc: Global, text: String) -> Result<Answer, AllocError>
 
 // The answer of the command `settled` for a text.
 fn settled(alloc: Global, text: String) -> Result<Answer, AllocError>
-    ensures { IfOk result (λ answer. IsLibraryAnswer ShowsSettled (string_bytes text)
+    ensures { IfOk result (λ answer. IsBibliographyAnswer ShowsSettled (string_bytes text)
         (string_bytes answer.text) answer.status) }
 {
-    let library = match library(alloc, text)? {
-        Ok(library) => library,
+    let bibliography = match bibliography(alloc, text)? {
+        Ok(bibliography) => bibliography,
         Err(answer) => return Ok(answer),
     };
-    let is_settled = library.is_settled();
-    mem::forget(library);
+    let is_settled = bibliography.is_settled();
+    mem::forget(bibliography);
     if is_settled {
         return Ok(Answer {
             text: String::from_str(alloc, "settled\n")?,
@@ -237,9 +237,9 @@ fn answer_to(alloc: Global, command: Command, bytes: Vec<u8>) -> Result<Answer, 
 }
 
 // The answer for an input with an error.
-fn fault(alloc: Global, error: &ParseError) -> Result<Answer, AllocError>
+fn error_answer(alloc: Global, error: &ParseError) -> Result<Answer, AllocError>
     ensures { IfOk result (λ answer. (error.now.kind ≢ OutOfMemory) ×
-        TellsFault error.now (string_bytes answer.text) × (answer.status ≡ 1)) }
+        ShowsError error.now (string_bytes answer.text) × (answer.status ≡ 1)) }
 {
     error.unless_out_of_memory()?;
     let text = match &error.kind {

@@ -4,7 +4,7 @@ ghost use Rattle.std.specs.Prelude.{◌≡◌, ◌≢◌, ℕ, ◌-◌, ◌^◌,
 ghost use Rattle.std.specs.Io.KnownBytes.{Appends};
 ghost use Rattle.std.specs.String.{string_bytes};
 ghost use Rattle.bib.specs.Output.{IsAnswered, IsCommand};
-ghost use Rattle.bib.specs.Arguments.{IsStartAnswer, IsKnown, IsMemoryLacking, texts_of, words_of};
+ghost use Rattle.bib.specs.Arguments.{IsStartAnswer, AreArgumentsKnown, IsMemoryLacking, texts_of, program_words};
 
 use crate::run::{Source, print, run};
 use biblatex::Sink;
@@ -13,11 +13,11 @@ use std::env::Args;
 use std::io;
 use std::io::ErrorKind;
 
-// The words behind the program's name: none where the arguments aren't all UTF-8.
+// The words after the program's name: none where the arguments aren't all UTF-8.
 fn words(alloc: Global, arguments: io::Result<Args>) -> Result<Vec<String>, AllocError>
     ensures words { IfOk result
-        (λ words. map string_bytes words.items ≡ words_of (texts_of arguments)) }
-    ensures known { IfOk result (λ _. IsKnown (texts_of arguments)) }
+        (λ words. map string_bytes words.items ≡ program_words (texts_of arguments)) }
+    ensures known { IfOk result (λ _. AreArgumentsKnown (texts_of arguments)) }
     ensures lacking { OnErr result (IsMemoryLacking (texts_of arguments)) }
 {
     match arguments {
@@ -29,14 +29,14 @@ fn words(alloc: Global, arguments: io::Result<Args>) -> Result<Vec<String>, Allo
 
 /// Runs the program on its arguments, the first of which is its name, and answers the status.
 ///
-/// Where they aren't all UTF-8, the program has no words. Want of memory for them is told, with status 3.
+/// Where they aren't all UTF-8, the program has no words. Out of memory for them is reported, with status 3.
 pub fn start<S: Source, K: Sink>(
     alloc: Global,
     arguments: io::Result<Args>,
     input: &mut S,
     output: &mut K,
 ) -> u8
-    ensures unread { (IsCommand (words_of (texts_of arguments)) → ⊥) → input.new ≡ input.old }
+    ensures unread { (IsCommand (program_words (texts_of arguments)) → ⊥) → input.new ≡ input.old }
     ensures printed { K.refusals output.old < 2 ^ 64 - 1 →
         K.refusals output.new ≡ K.refusals output.old →
         (text : List ℕ) × Appends (K.taken output.old) (K.taken output.new) text ×

@@ -40,8 +40,8 @@ impl<R> Input<R> {
         reader
     }
 
-    // Tells what a read gave: these bytes, or why there are none. A failure is counted, and want of memory is not.
-    fn tell(&mut self, read: io::Result<usize>, bytes: Vec<u8>) -> Result<Vec<u8>, SourceError>
+    // Says what a read gave: these bytes, or why there are none. A failure is counted, and out of memory is not.
+    fn count(&mut self, read: io::Result<usize>, bytes: Vec<u8>) -> Result<Vec<u8>, SourceError>
         ensures given { OnOk read (result ≡ Ok bytes) }
         ensures failed { IfErr read (λ error. error_kind error ≢ ErrorKind.OutOfMemory →
             result ≡ Err SourceError.Failed) }
@@ -72,7 +72,7 @@ impl<R: Read> Source for Input<R> {
     fn read_all(&mut self, alloc: Global) -> Result<Vec<u8>, SourceError> {
         let mut bytes = Vec::new(alloc);
         let read = self.reader.read_to_end(&mut bytes);
-        self.tell(read, bytes)
+        self.count(read, bytes)
     }
 }
 
@@ -106,8 +106,8 @@ impl<W> Output<W> {
         writer
     }
 
-    // Tells whether a write was done. One that was not is counted.
-    fn tell(&mut self, written: io::Result<()>) -> bool
+    // Says whether a write was done. One that was not is counted.
+    fn count(&mut self, written: io::Result<()>) -> bool
         ensures done { IsTrue result ↔ IsOk written }
         ensures counted { IsErr written →
             self.new.refusals ≡ min (self.old.refusals + 1) (2 ^ 64 - 1) }
@@ -136,6 +136,6 @@ impl<W: Write> Sink for Output<W> {
 
     fn write_str(&mut self, text: &str) -> bool {
         let written = self.writer.write_all(text.as_bytes());
-        self.tell(written)
+        self.count(written)
     }
 }

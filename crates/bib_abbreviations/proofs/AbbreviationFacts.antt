@@ -1,4 +1,4 @@
--- What pieces say, their first faults, and whether they can be read.
+-- What pieces say, their first errors, and whether they can be read.
 use Rattle.std.proofs.Common.{◌≡◌, ℕ, suc, zero, ◌+◌, ◌<◌, ◌≤◌, List, [], ◌∷◌, refl, sym, ap, ◌∙◌, subst, inl, inr, arith, Some, None, Result, Ok, Err}
 use Rattle.std.specs.Prelude.{◌⊎◌, IfOk, IfErr, OnOk}
 use Rattle.std.specs.Prelude.{bytes_eq, if◌then◌else◌, option_map, Bool, true, false, map}
@@ -13,11 +13,11 @@ use Rattle.bib_syntax.specs.Views.{piece_of}
 use Rattle.bib_chunks.specs.Styled.{Atom}
 use Rattle.bib_syntax.specs.declared.raw.ParseError.{ParseError}
 use Rattle.bib_contents.specs.Contents.{IsContent}
-use Rattle.bib_syntax.specs.Faults.{out_of_memory}
+use Rattle.bib_syntax.specs.Errors.{out_of_memory}
 use Rattle.bib_syntax.specs.Reading.{Part, Piece}
 use Rattle.bib_syntax.specs.Reading.Piece.{literal, abbreviation}
-use Rattle.bib_abbreviations.specs.Abbreviations.{Definitions, month, HoldsName, Reaches, IsKnown, AreRead, IsReadable, Evaluates, IsOnPath, IsFirstFault, definition_among, given_by, pairs_in, sorted_in}
-use Rattle.bib_abbreviations.specs.Abbreviations.{Reaches as reaches, Evaluates as evaluates, IsFirstFault as first_fault}
+use Rattle.bib_abbreviations.specs.Abbreviations.{Definitions, month, HoldsName, Reaches, IsKnown, AreRead, IsReadable, Evaluates, IsOnPath, IsFirstError, definition_among, given_by, pairs_in, sorted_in}
+use Rattle.bib_abbreviations.specs.Abbreviations.{Reaches as reaches, Evaluates as evaluates, IsFirstError as first_error}
 
 -- how many steps it takes to say what pieces say
 abbrev pub steps : {definitions : Definitions} {is_verbatim : Bool} {pieces : List Piece} {atoms : List Atom} → Evaluates definitions is_verbatim pieces atoms → ℕ
@@ -69,43 +69,43 @@ module _ {definitions : Definitions} {is_verbatim : Bool} where
   text_read (evaluates.defined d x rest) text held = text_read rest text held
   text_read (evaluates.month_name d m rest) text held = text_read rest text held
 
-  stands_behind : {name next : List ℕ} {definition : List Piece} {limit : ℕ} → StandsWithin definitions is_verbatim name limit → definitions name ≡ Some definition
+  stands_after : {name next : List ℕ} {definition : List Piece} {limit : ℕ} → StandsWithin definitions is_verbatim name limit → definitions name ≡ Some definition
       → HoldsName definition next → StandsWithin definitions is_verbatim next limit
-  stands_behind {next = next} {definition = definition} (inl x) d held =
+  stands_after {next = next} {definition = definition} (inl x) d held =
       let same : definition ≡ x.definition = cc (d, x.is) in
       more_steps (omega (arith, x.within)) (name_stands x.says (subst (λ pieces. HoldsName pieces next) same held))
-  stands_behind (inr x) d held = absurd (cc (d, x.absent))
+  stands_after (inr x) d held = absurd (cc (d, x.absent))
 
   -- each name that pieces reach which say something stands for something, in fewer steps
   pub reached_stands : {pieces : List Piece} {atoms : List Atom} {name : List ℕ} (x : Evaluates definitions is_verbatim pieces atoms) → Reaches definitions pieces name
       → StandsWithin definitions is_verbatim name (steps x)
   reached_stands x (reaches.held held) = name_stands x held
-  reached_stands x (reaches.through reached d held) = stands_behind (reached_stands x reached) d held
+  reached_stands x (reaches.through reached d held) = stands_after (reached_stands x reached) d held
 
-  circle_step : {name : List ℕ} {definition : List Piece} {bound : ℕ} (limit : ℕ) → definitions name ≡ Some definition → bound ≤ limit
+  cycle_step : {name : List ℕ} {definition : List Piece} {bound : ℕ} (limit : ℕ) → definitions name ≡ Some definition → bound ≤ limit
       → Reaches definitions definition name
       → ((other : List Piece) (atoms : List Atom) (y : Evaluates definitions is_verbatim other atoms) → definitions name ≡ Some other → steps y < limit
       → Reaches definitions other name → ⊥)
       → StandsWithin definitions is_verbatim name bound → ⊥
-  circle_step {name} {definition} limit d below reached next (inl y) =
+  cycle_step {name} {definition} limit d below reached next (inl y) =
       let same : definition ≡ y.definition = cc (d, y.is) in
       next y.definition y.atoms y.says y.is (omega (arith, y.within)) (subst (λ pieces. Reaches definitions pieces name) same reached)
-  circle_step limit d below reached next (inr y) = absurd (cc (d, y.absent))
+  cycle_step limit d below reached next (inr y) = absurd (cc (d, y.absent))
 
   -- a name whose definition says something is not reached from its definition
-  pub no_circle_at : {name : List ℕ} (limit : ℕ) (definition : List Piece) (atoms : List Atom) (x : Evaluates definitions is_verbatim definition atoms)
+  pub no_cycle_at : {name : List ℕ} (limit : ℕ) (definition : List Piece) (atoms : List Atom) (x : Evaluates definitions is_verbatim definition atoms)
       → definitions name ≡ Some definition → steps x < limit → Reaches definitions definition name → ⊥
-  no_circle_at zero definition atoms x d below reached = absurd (omega arith)
-  no_circle_at (suc limit) definition atoms x d below reached =
-      circle_step limit d (omega arith) reached (λ other more y. no_circle_at limit other more y) (reached_stands x reached)
+  no_cycle_at zero definition atoms x d below reached = absurd (omega arith)
+  no_cycle_at (suc limit) definition atoms x d below reached =
+      cycle_step limit d (omega arith) reached (λ other more y. no_cycle_at limit other more y) (reached_stands x reached)
 
   known_by : {name : List ℕ} {limit : ℕ} → StandsWithin definitions is_verbatim name limit → IsKnown definitions name
   known_by (inl x) = inl (x.definition, x.is)
   known_by (inr x) = inr (x.english, x.is)
 
-  circle_by : {name : List ℕ} {definition : List Piece} {limit : ℕ} → definitions name ≡ Some definition → Reaches definitions definition name
+  cycle_by : {name : List ℕ} {definition : List Piece} {limit : ℕ} → definitions name ≡ Some definition → Reaches definitions definition name
       → StandsWithin definitions is_verbatim name limit → ⊥
-  circle_by {limit = limit} d reached x = circle_step limit d (omega arith) reached (λ other more y. no_circle_at limit other more y) x
+  cycle_by {limit = limit} d reached x = cycle_step limit d (omega arith) reached (λ other more y. no_cycle_at limit other more y) x
 
   texts_by : {name : List ℕ} {definition : List Piece} {limit : ℕ} → definitions name ≡ Some definition → StandsWithin definitions is_verbatim name limit
       → AreRead is_verbatim definition
@@ -118,7 +118,7 @@ module _ {definitions : Definitions} {is_verbatim : Bool} where
   pub readable : {field : List Piece} {atoms : List Atom} → Evaluates definitions is_verbatim field atoms → IsReadable definitions is_verbatim field
   readable x = record {
     known = λ name reached. known_by (reached_stands x reached);
-    no_circle = λ name definition reached d again. circle_by d again (reached_stands x reached);
+    no_cycle = λ name definition reached d again. cycle_by d again (reached_stands x reached);
     texts = text_read x;
     inner_texts = λ name definition reached d. texts_by d (reached_stands x reached);
   }
@@ -167,30 +167,30 @@ module _ {definitions : Definitions} {is_verbatim : Bool} {field : List Piece} w
     on_path = λ name on. leads_inside name p.text _ d reached met.on_path (inl refl) on;
   }
 
-  met_behind : {path : List (List ℕ)} {piece : Piece} {rest : List Piece} → IsMet definitions is_verbatim field path (piece ∷ rest)
+  met_after : {path : List (List ℕ)} {piece : Piece} {rest : List Piece} → IsMet definitions is_verbatim field path (piece ∷ rest)
       → IsMet definitions is_verbatim field path rest
-  met_behind {piece = literal p} met = record {
+  met_after {piece = literal p} met = record {
     names = λ name held. met.names name held;
     texts = λ text held. met.texts text (inr held);
     on_path = λ name on. let l = met.on_path name on in record { definition = l.definition; is = l.is; reached = l.reached; leads = λ next held. l.leads next held };
   }
-  met_behind {piece = abbreviation p} met = record {
+  met_after {piece = abbreviation p} met = record {
     names = λ name held. met.names name (inr held);
     texts = λ text held. met.texts text held;
     on_path = λ name on. let l = met.on_path name on in record { definition = l.definition; is = l.is; reached = l.reached; leads = λ next held. l.leads next (inr held) };
   }
 
-  no_fault_met : {path : List (List ℕ)} {pieces : List Piece} {e : ParseError} → IsReadable definitions is_verbatim field
-      → IsMet definitions is_verbatim field path pieces → IsFirstFault definitions is_verbatim path pieces e → ⊥
-  no_fault_met can met (first_fault.unread {p = p} none kind place) = let x = met.texts p.text (inl refl) in none x.0 x.1
-  no_fault_met can met (first_fault.unknown {p = p} d m is) = unknown_clash definitions p.text (can.known p.text (met.names p.text (inl refl))) d m
-  no_fault_met can met (first_fault.circle {p = p} on is) = let l = met.on_path p.text on in can.no_circle p.text l.definition l.reached l.is (l.leads p.text (inl refl))
-  no_fault_met can met (first_fault.inside off d fault) = no_fault_met can (met_inside can met d) fault
-  no_fault_met can met (first_fault.behind x fault) = no_fault_met can (met_behind met) fault
+  no_error_met : {path : List (List ℕ)} {pieces : List Piece} {e : ParseError} → IsReadable definitions is_verbatim field
+      → IsMet definitions is_verbatim field path pieces → IsFirstError definitions is_verbatim path pieces e → ⊥
+  no_error_met can met (first_error.unread {p = p} none kind place) = let x = met.texts p.text (inl refl) in none x.0 x.1
+  no_error_met can met (first_error.unknown {p = p} d m is) = unknown_clash definitions p.text (can.known p.text (met.names p.text (inl refl))) d m
+  no_error_met can met (first_error.cycle {p = p} on is) = let l = met.on_path p.text on in can.no_cycle p.text l.definition l.reached l.is (l.leads p.text (inl refl))
+  no_error_met can met (first_error.inside off d error) = no_error_met can (met_inside can met d) error
+  no_error_met can met (first_error.following x error) = no_error_met can (met_after met) error
 
-  -- a field with a first fault can't be read
-  pub not_readable : {e : ParseError} → IsFirstFault definitions is_verbatim [] field e → IsReadable definitions is_verbatim field → ⊥
-  not_readable fault can = no_fault_met can (record { names = λ name held. reaches.held held; texts = can.texts; on_path = λ name on. absurd on }) fault
+  -- a field with a first error can't be read
+  pub not_readable : {e : ParseError} → IsFirstError definitions is_verbatim [] field e → IsReadable definitions is_verbatim field → ⊥
+  not_readable error can = no_error_met can (record { names = λ name held. reaches.held held; texts = can.texts; on_path = λ name on. absurd on }) error
 
 -- what was read can be read
 pub read_is_readable : {T E : Type 0} (definitions : Definitions) (is_verbatim same_rule : Bool) (field : List Piece) (said : T → List Atom) (r : Result T E) → is_verbatim ≡ same_rule
@@ -200,12 +200,12 @@ read_is_readable definitions is_verbatim same_rule field said (Err e) same read 
 
 -- what was refused can't be read
 pub refused_not_readable : {T : Type 0} (definitions : Definitions) (is_verbatim same_rule : Bool) (field : List Piece) (r : Result T ParseError) → is_verbatim ≡ same_rule
-    → IfErr r (λ e. (e ≡ out_of_memory) ⊎ IsFirstFault definitions is_verbatim [] field e)
-    → IfErr r (λ e. (e ≡ out_of_memory) ⊎ (IsFirstFault definitions same_rule [] field e × (IsReadable definitions same_rule field → ⊥)))
+    → IfErr r (λ e. (e ≡ out_of_memory) ⊎ IsFirstError definitions is_verbatim [] field e)
+    → IfErr r (λ e. (e ≡ out_of_memory) ⊎ (IsFirstError definitions same_rule [] field e × (IsReadable definitions same_rule field → ⊥)))
 refused_not_readable definitions is_verbatim same_rule field (Ok x) same refused = tt
 refused_not_readable definitions is_verbatim same_rule field (Err e) same (inl memory) = inl memory
-refused_not_readable definitions is_verbatim same_rule field (Err e) same (inr fault) =
-    let moved = subst (λ v. IsFirstFault definitions v [] field e) same fault in inr (moved, not_readable moved)
+refused_not_readable definitions is_verbatim same_rule field (Err e) same (inr error) =
+    let moved = subst (λ v. IsFirstError definitions v [] field e) same error in inr (moved, not_readable moved)
 
 -- definitions that are the same at each name
 pub definitions_same : {one two : Definitions} → ((name : List ℕ) → one name ≡ two name) → one ≡ two
@@ -233,7 +233,7 @@ read_same_rule definitions same_definitions is_verbatim same_rule field said r s
     subst (λ v. IfOk r (λ x. Evaluates same_definitions v field (said x))) rule (subst (λ d. IfOk r (λ x. Evaluates d is_verbatim field (said x))) same read)
 
 pub refused_same_rule : {T : Type 0} (definitions same_definitions : Definitions) (is_verbatim : Bool) (field : List Piece) (r : Result T ParseError) → definitions ≡ same_definitions
-    → IfErr r (λ e. (e ≡ out_of_memory) ⊎ IsFirstFault definitions is_verbatim [] field e)
-    → IfErr r (λ e. (e ≡ out_of_memory) ⊎ IsFirstFault same_definitions is_verbatim [] field e)
+    → IfErr r (λ e. (e ≡ out_of_memory) ⊎ IsFirstError definitions is_verbatim [] field e)
+    → IfErr r (λ e. (e ≡ out_of_memory) ⊎ IsFirstError same_definitions is_verbatim [] field e)
 refused_same_rule definitions same_definitions is_verbatim field r same refused =
-    subst (λ d. IfErr r (λ e. (e ≡ out_of_memory) ⊎ IsFirstFault d is_verbatim [] field e)) same refused
+    subst (λ d. IfErr r (λ e. (e ≡ out_of_memory) ⊎ IsFirstError d is_verbatim [] field e)) same refused

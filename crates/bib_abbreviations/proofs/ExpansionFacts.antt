@@ -22,23 +22,23 @@ use Rattle.bib_syntax.specs.declared.raw.RawChunk.{RawChunk}
 use Rattle.bib_syntax.specs.declared.raw.RawChunk.TheVariants.{Normal as RawText}
 use Rattle.bib_abbreviations.specs.declared.resolve.abbreviations.Frame.{Frame}
 use Rattle.bib_abbreviations.specs.declared.resolve.abbreviations.Memo.{Memo}
-use Rattle.bib_abbreviations.specs.declared.resolve.definitions.LookUp.{LookUp}
-use Rattle.bib_abbreviations.specs.declared.resolve.definitions.LookUp.TheVariants.{Hashed, Sorted}
+use Rattle.bib_abbreviations.specs.declared.resolve.definitions.Lookup.{Lookup}
+use Rattle.bib_abbreviations.specs.declared.resolve.definitions.Lookup.TheVariants.{Hashed, Sorted}
 use Rattle.bib_abbreviations.specs.declared.resolve.abbreviations.Progress.{Progress}
 use Rattle.bib_abbreviations.specs.declared.resolve.abbreviations.Progress.TheVariants.{Begun, Done}
 use Rattle.bib_contents.specs.Contents.{IsContent, IsUnread, LiesBetween, StaysBetween}
 use Rattle.bib_syntax.specs.declared.raw.ParseErrorKind.TheVariants.{OutOfMemory}
-use Rattle.bib_syntax.specs.Faults.{out_of_memory}
+use Rattle.bib_syntax.specs.Errors.{out_of_memory}
 use Rattle.bib_styled.specs.Joined.{AreJoined, ArePlaced}
 use Rattle.bib_syntax.specs.Reading.{Part, Piece}
 use Rattle.bib_syntax.specs.Reading.Piece.{literal, abbreviation}
-use Rattle.bib_abbreviations.specs.Abbreviations.{Definitions, month, Evaluates, IsOnPath, IsFirstFault, LiesInPart, definition_among}
-use Rattle.bib_abbreviations.specs.Abbreviations.{Evaluates as evaluates, IsFirstFault as first_fault}
+use Rattle.bib_abbreviations.specs.Abbreviations.{Definitions, month, Evaluates, IsOnPath, IsFirstError, LiesInPart, definition_among}
+use Rattle.bib_abbreviations.specs.Abbreviations.{Evaluates as evaluates, IsFirstError as first_error}
 use Rattle.bib_abbreviations.specs.Expanding.{found_in, progress, noted, chunks_between, AreWithin, IsValue, IsSound, Expands, Opens}
 use Rattle.bib_syntax.specs.Views.{piece_of, piece_at}
 use Rattle.bib_styled.proofs.JoinedFacts.{styled-append, placed_up}
 
--- a text that can't be read is no want of memory
+-- a text that can't be read is no out of memory
 no_memory : (e : ParseError) → IsUnread e.kind → e ≡ out_of_memory → ⊥
 no_memory e (inl eof) memory = let kind : e.kind ≡ OutOfMemory = ap (λ x. x.kind) memory in cc (eof, kind)
 no_memory e (inr brace) memory = let kind : e.kind ≡ OutOfMemory = ap (λ x. x.kind) memory in cc (brace, kind)
@@ -47,7 +47,7 @@ lies_in : (p : Part) (low high : ℕ) (e : ParseError) → IsUnread e.kind → p
 lies_in p low high e unread starts ends (inl memory) = absurd (no_memory e unread memory)
 lies_in p low high e unread starts ends (inr lies) = (omega (arith, starts, lies.0), lies.1, omega (arith, ends, lies.2))
 
--- the fault of a text lies in the text's place
+-- the error of a text lies in the text's place
 stands_in : (p : Part) (text : List ℕ) (offset : ℕ) (e : ParseError) → p.text ≡ text → p.start ≡ offset → IsUnread e.kind
     → (offset + length text < 2 ^ 64 → StaysBetween offset (offset + length text) e) → LiesInPart p e
 stands_in p text offset e same starts unread within long fits =
@@ -70,13 +70,13 @@ module _ {definitions : Definitions} {is_verbatim : Bool} where
   evaluates_append b (evaluates.month_name {english = english} {more = rest'} d m rest) y =
       evaluates_as (sym (append_assoc (map Atom.normal (chars english)) rest' b)) (evaluates.month_name d m (evaluates_append b rest y))
 
-  -- a fault behind pieces that say something is the first of all
-  pub fault_behind : {first more : List Piece} {a : List Atom} {path : List (List ℕ)} {e : ParseError} → Evaluates definitions is_verbatim first a
-      → IsFirstFault definitions is_verbatim path more e → IsFirstFault definitions is_verbatim path (first ++ more) e
-  fault_behind evaluates.none fault = fault
-  fault_behind (evaluates.text x rest) fault = first_fault.behind (evaluates.text x evaluates.none) (fault_behind rest fault)
-  fault_behind (evaluates.defined d x rest) fault = first_fault.behind (evaluates.defined d x evaluates.none) (fault_behind rest fault)
-  fault_behind (evaluates.month_name d m rest) fault = first_fault.behind (evaluates.month_name d m evaluates.none) (fault_behind rest fault)
+  -- an error after pieces that say something is the first of all
+  pub error_after : {first more : List Piece} {a : List Atom} {path : List (List ℕ)} {e : ParseError} → Evaluates definitions is_verbatim first a
+      → IsFirstError definitions is_verbatim path more e → IsFirstError definitions is_verbatim path (first ++ more) e
+  error_after evaluates.none error = error
+  error_after (evaluates.text x rest) error = first_error.following (evaluates.text x evaluates.none) (error_after rest error)
+  error_after (evaluates.defined d x rest) error = first_error.following (evaluates.defined d x evaluates.none) (error_after rest error)
+  error_after (evaluates.month_name d m rest) error = first_error.following (evaluates.month_name d m evaluates.none) (error_after rest error)
 
   -- a text that was read
   pub expands_text : {old new : List (Spanned Chunk)} {atoms : List Atom} (part : List (Spanned Chunk)) (p : Part) (text : List ℕ) → IsContent is_verbatim (chars text) atoms
@@ -106,13 +106,13 @@ module _ {definitions : Definitions} {is_verbatim : Bool} where
   }
 
   -- a text that was not read
-  pub unread_told : (text : List ℕ) (offset : ℕ) (e : ParseError)
+  pub unread_reported : (text : List ℕ) (offset : ℕ) (e : ParseError)
       → (e ≡ out_of_memory) ⊎ (IsUnread e.kind × ((atoms : List Atom) → IsContent is_verbatim (chars text) atoms → ⊥))
       → (offset + length text < 2 ^ 64 → StaysBetween offset (offset + length text) e)
-      → (e ≡ out_of_memory) ⊎ ((p : Part) (path : List (List ℕ)) (rest : List Piece) → p.text ≡ text → p.start ≡ offset → IsFirstFault definitions is_verbatim path (literal p ∷ rest) e)
-  unread_told text offset e (inl memory) within = inl memory
-  unread_told text offset e (inr x) within =
-      inr (λ p path rest same starts. first_fault.unread (λ atoms read. x.1 atoms (subst (λ t. IsContent is_verbatim (chars t) atoms) same read)) x.0 (stands_in p text offset e same starts x.0 within))
+      → (e ≡ out_of_memory) ⊎ ((p : Part) (path : List (List ℕ)) (rest : List Piece) → p.text ≡ text → p.start ≡ offset → IsFirstError definitions is_verbatim path (literal p ∷ rest) e)
+  unread_reported text offset e (inl memory) within = inl memory
+  unread_reported text offset e (inr x) within =
+      inr (λ p path rest same starts. first_error.unread (λ atoms read. x.1 atoms (subst (λ t. IsContent is_verbatim (chars t) atoms) same read)) x.0 (stands_in p text offset e same starts x.0 within))
 
 -- the names of frames
 abbrev pub names_of : List Frame → List (List ℕ)
@@ -160,13 +160,13 @@ between_then start middle chunks ordered =
     sym (take-append-drop (middle - start) (drop start chunks))
     ∙ ap (λ rest. chunks_between start middle chunks ++ rest) (drop-drop (middle - start) start chunks ∙ ap (λ n. drop n chunks) same)
 
-nothing_behind : (chunks : List (Spanned Chunk)) → drop (length chunks) chunks ≡ []
-nothing_behind [] = refl
-nothing_behind (c ∷ chunks) = nothing_behind chunks
+nothing_after : (chunks : List (Spanned Chunk)) → drop (length chunks) chunks ≡ []
+nothing_after [] = refl
+nothing_after (c ∷ chunks) = nothing_after chunks
 
-all_behind : (chunks more : List (Spanned Chunk)) → drop (length chunks) (chunks ++ more) ≡ more
-all_behind [] more = refl
-all_behind (c ∷ chunks) more = all_behind chunks more
+all_after : (chunks more : List (Spanned Chunk)) → drop (length chunks) (chunks ++ more) ≡ more
+all_after [] more = refl
+all_after (c ∷ chunks) more = all_after chunks more
 
 none_begun : None ≡ Some Begun → ⊥
 none_begun is = cc is
@@ -186,9 +186,9 @@ begun_done start end is = cc is
 same_ends : (start end from to : ℕ) → Some (Done start end) ≡ Some (Done from to) → (start ≡ from) × (end ≡ to)
 same_ends start end from to is = (cc is, cc is)
 
-behind_first : {name other : List ℕ} (path : List (List ℕ)) → (name ≡ other → ⊥) → IsOnPath (name ∷ path) other → IsOnPath path other
-behind_first path apart (inl same) = absurd (apart same)
-behind_first path apart (inr on) = on
+after_first : {name other : List ℕ} (path : List (List ℕ)) → (name ≡ other → ⊥) → IsOnPath (name ∷ path) other → IsOnPath path other
+after_first path apart (inl same) = absurd (apart same)
+after_first path apart (inr on) = on
 
 -- what is noted of a name, where that of one changed
 abbrev IsNoted : List ℕ → List ℕ → Progress → (List ℕ → Option Progress) → (List ℕ → Option Progress) → Type 0
@@ -266,7 +266,7 @@ module _ {definitions : Definitions} {is_verbatim : Bool} where
   begun_close : {path : List (List ℕ)} {old : Memo} (new : Memo) (name other : List ℕ) (start end : ℕ) → IsSound definitions is_verbatim old (name ∷ path)
       → progress new other ≡ Some Begun → IsNoted name other (Done start end) (progress new) (progress old) → IsOnPath path other
   begun_close new name other start end sound is (inl x) = absurd (begun_done start end (sym is ∙ x.1))
-  begun_close {path} new name other start end sound is (inr x) = behind_first path x.1 (sound.begun other (sym x.0 ∙ is))
+  begun_close {path} new name other start end sound is (inr x) = after_first path x.1 (sound.begun other (sym x.0 ∙ is))
 
   path_close : {path : List (List ℕ)} {old : Memo} (new : Memo) (name other : List ℕ) (start end : ℕ) → (IsOnPath path name → ⊥)
       → IsSound definitions is_verbatim old (name ∷ path) → IsOnPath path other → IsNoted name other (Done start end) (progress new) (progress old)
@@ -304,7 +304,7 @@ module _ {definitions : Definitions} {is_verbatim : Bool} where
     said = [];
     is = is;
     start = omega (arith, start);
-    says = evaluates_as (ap styled (sym (ap (λ n. drop n memo.values.items) start ∙ nothing_behind memo.values.items))) evaluates.none;
+    says = evaluates_as (ap styled (sym (ap (λ n. drop n memo.values.items) start ∙ nothing_after memo.values.items))) evaluates.none;
     fresh = λ on. on;
     waiting = AreWaiting.none refl start;
   }
@@ -353,7 +353,7 @@ module _ {definitions : Definitions} {is_verbatim : Bool} where
         said = [];
         is = ap definitions opens.named ∙ opens.is;
         start = omega (arith, opens.start, ap length same);
-        says = evaluates_as (ap styled (sym (ap (λ n. drop n new.values.items) opens.start ∙ ap (drop (length memo.values.items)) same ∙ nothing_behind memo.values.items))) evaluates.none;
+        says = evaluates_as (ap styled (sym (ap (λ n. drop n new.values.items) opens.start ∙ ap (drop (length memo.values.items)) same ∙ nothing_after memo.values.items))) evaluates.none;
         fresh = λ on. off (subst (λ n. IsOnPath path n) opens.named on);
         waiting = subst (λ n. AreWaiting definitions is_verbatim new.values.items first (length base) n opened.start all) (sym opens.named)
             (subst (λ n. AreWaiting definitions is_verbatim new.values.items first (length base) p.text n all) (sym opens.start)
@@ -421,7 +421,7 @@ module _ {definitions : Definitions} {is_verbatim : Bool} where
         more = x.more;
         values = items ∙ x.kept;
         says = subst (λ pieces. Evaluates definitions is_verbatim pieces (styled x.more)) same
-            (evaluates_as (ap (λ n. styled (drop n memo.values.items)) at ∙ ap (λ c. styled (drop (length base) c)) x.kept ∙ ap styled (all_behind base x.more)) x.says);
+            (evaluates_as (ap (λ n. styled (drop n memo.values.items)) at ∙ ap (λ c. styled (drop (length base) c)) x.kept ∙ ap styled (all_after base x.more)) x.says);
       }
 
   -- the first name was expanded
@@ -437,28 +437,28 @@ module _ {definitions : Definitions} {is_verbatim : Bool} where
   sound_done {memo = memo} {frame = frame} new x ends values names =
       sound_close new frame.name.now frame.start (length memo.values.items) x.fresh (value_of x ends) values names x.sound
 
-  fault_first : {chunks : List (Spanned Chunk)} {first : List ℕ} {base : ℕ} {e : ParseError} {whole : List Piece} {name : List ℕ} {limit : ℕ} {frames : List Frame}
+  error_first : {chunks : List (Spanned Chunk)} {first : List ℕ} {base : ℕ} {e : ParseError} {whole : List Piece} {name : List ℕ} {limit : ℕ} {frames : List Frame}
       (definition : List Piece) → definitions first ≡ Some whole → AreWaiting definitions is_verbatim chunks first base name limit frames
-      → definitions name ≡ Some definition → (IsOnPath (names_of frames) name → ⊥) → IsFirstFault definitions is_verbatim (name ∷ names_of frames) definition e
-      → IsFirstFault definitions is_verbatim (first ∷ []) whole e
-  fault_first {first = first} {e = e} {whole = whole} definition d (AreWaiting.none is at) defined fresh fault =
+      → definitions name ≡ Some definition → (IsOnPath (names_of frames) name → ⊥) → IsFirstError definitions is_verbatim (name ∷ names_of frames) definition e
+      → IsFirstError definitions is_verbatim (first ∷ []) whole e
+  error_first {first = first} {e = e} {whole = whole} definition d (AreWaiting.none is at) defined fresh error =
       let same : definition ≡ whole = cc (ap definitions is, defined, d) in
-      subst (λ pieces. IsFirstFault definitions is_verbatim (first ∷ []) pieces e) same
-      (subst (λ n. IsFirstFault definitions is_verbatim (n ∷ []) definition e) is fault)
-  fault_first {e = e} definition d (AreWaiting.above {frame = frame} {frames = frames} said p same is start says off waiting) defined fresh fault =
+      subst (λ pieces. IsFirstError definitions is_verbatim (first ∷ []) pieces e) same
+      (subst (λ n. IsFirstError definitions is_verbatim (n ∷ []) definition e) is error)
+  error_first {e = e} definition d (AreWaiting.above {frame = frame} {frames = frames} said p same is start says off waiting) defined fresh error =
       let path = frame.name.now ∷ names_of frames in
-      fault_first (said ++ abbreviation p ∷ map piece_of frame.rest.now) d waiting is off
-      (fault_behind says (first_fault.inside (λ on. fresh (subst (λ n. IsOnPath path n) same on)) (ap definitions same ∙ defined)
-      (subst (λ n. IsFirstFault definitions is_verbatim (n ∷ path) definition e) (sym same) fault)))
+      error_first (said ++ abbreviation p ∷ map piece_of frame.rest.now) d waiting is off
+      (error_after says (first_error.inside (λ on. fresh (subst (λ n. IsOnPath path n) same on)) (ap definitions same ∙ defined)
+      (subst (λ n. IsFirstError definitions is_verbatim (n ∷ path) definition e) (sym same) error)))
 
-  -- a fault of an element is the first fault of all
-  pub expanding_fault : {base : List (Spanned Chunk)} {first : List ℕ} {memo : Memo} {frame : Frame} {frames : List Frame} {whole : List Piece} {e : ParseError}
+  -- an error of an element is the first error of all
+  pub expanding_error : {base : List (Spanned Chunk)} {first : List ℕ} {memo : Memo} {frame : Frame} {frames : List Frame} {whole : List Piece} {e : ParseError}
       (piece : Spanned RawChunk) (rest : List (Spanned RawChunk)) → IsExpanding definitions is_verbatim base first memo frame frames
       → frame.rest.now ≡ piece ∷ rest → definitions first ≡ Some whole
-      → IsFirstFault definitions is_verbatim (frame.name.now ∷ names_of frames) (piece_of piece ∷ map piece_of rest) e
-      → IsFirstFault definitions is_verbatim (first ∷ []) whole e
-  expanding_fault {frame = frame} piece rest x split d fault =
-      fault_first (x.said ++ map piece_of (piece ∷ rest)) d x.waiting (x.is ∙ ap (λ pieces. Some (x.said ++ map piece_of pieces)) split) x.fresh (fault_behind x.says fault)
+      → IsFirstError definitions is_verbatim (frame.name.now ∷ names_of frames) (piece_of piece ∷ map piece_of rest) e
+      → IsFirstError definitions is_verbatim (first ∷ []) whole e
+  expanding_error {frame = frame} piece rest x split d error =
+      error_first (x.said ++ map piece_of (piece ∷ rest)) d x.waiting (x.is ∙ ap (λ pieces. Some (x.said ++ map piece_of pieces)) split) x.fresh (error_after x.says error)
 
   -- the chunks of the names that were expanded stand in the memo
   pub sound_within : {path : List (List ℕ)} {memo : Memo} → IsSound definitions is_verbatim memo path → AreWithin memo
@@ -475,12 +475,12 @@ weight (frame ∷ frames) = suc (length frame.rest.now) + weight frames
 abbrev pub Entries : Type 0
 Entries = List (Bor (List ℕ) × Bor (Vec (Spanned RawChunk)))
 
-abbrev pub entries_of : LookUp → Entries
+abbrev pub entries_of : Lookup → Entries
 entries_of (Hashed m) = m.now.entries
 entries_of (Sorted m) = m.now.entries
 
 -- what is looked up stands among the entries
-pub found_among : (l : LookUp) (name : List ℕ) → found_in l name ≡ definition_among (entries_of l) name
+pub found_among : (l : Lookup) (name : List ℕ) → found_in l name ≡ definition_among (entries_of l) name
 found_among (Hashed m) name = refl
 found_among (Sorted m) name = refl
 
@@ -551,14 +551,14 @@ now_met new old (inl x) = ap is_some x.1
 now_met new old (inr x) = absurd (x.1 refl)
 
 -- an element less is left once it was said
-pub less_said : (l : LookUp) (new old : Memo) (left : List (Spanned RawChunk)) (piece : Spanned RawChunk)
+pub less_said : (l : Lookup) (new old : Memo) (left : List (Spanned RawChunk)) (piece : Spanned RawChunk)
     (rest : List (Spanned RawChunk)) (frames : List Frame) → new.names ≡ old.names → left ≡ piece ∷ rest
     → suc (length rest) + weight frames + unmet (met_in new) (entries_of l) < suc (length left) + weight frames + unmet (met_in old) (entries_of l)
 less_said l new old left piece rest frames names split =
     omega (arith, ap length split, unmet_falls (met_in old) (met_in new) (met_same new old names) (entries_of l))
 
 -- less is left once the expansion of a name begins
-pub less_opened : (l : LookUp) (new old : Memo) (left : List (Spanned RawChunk)) (piece : Spanned RawChunk)
+pub less_opened : (l : Lookup) (new old : Memo) (left : List (Spanned RawChunk)) (piece : Spanned RawChunk)
     (frame opened : Frame) (frames waiting : List Frame) (name : List ℕ) → Opens (found_in l) old new name opened → left ≡ piece ∷ frame.rest.now → waiting ≡ frame ∷ frames
     → suc (length opened.rest.now) + weight waiting + unmet (met_in new) (entries_of l) < suc (length left) + weight frames + unmet (met_in old) (entries_of l)
 less_opened l new old left piece frame opened frames waiting name opens split waits =
@@ -573,21 +573,21 @@ less_opened l new old left piece frame opened frames waiting name opens split wa
     omega (arith, ap length split, ap weight waits, less, many)
 
 -- less is left once the expansion of a name ends
-pub less_closed : (l : LookUp) (new old : Memo) (left : List (Spanned RawChunk))
+pub less_closed : (l : Lookup) (new old : Memo) (left : List (Spanned RawChunk))
     (below : Frame) (frames waiting : List Frame) (name : List ℕ) (now : Progress) → waiting ≡ below ∷ frames → ((other : List ℕ) → progress new other ≡ noted name now (progress old) other)
     → suc (length below.rest.now) + weight frames + unmet (met_in new) (entries_of l) < suc (length left) + weight waiting + unmet (met_in old) (entries_of l)
 less_closed l new old left below frames waiting name now waits names =
     let keeps = λ (q : List ℕ) (met : met_in old q ≡ true). met_noted {name = name} {now = now} new old met (noted_cases name q now (progress new) (progress old) names) in
     omega (arith, ap weight waits, unmet_falls (met_in old) (met_in new) keeps (entries_of l))
 
--- a fault of an element, or want of memory, is that of the first name
+-- an error of an element, or out of memory, is that of the first name
 pub expanding_refused : {definitions : Definitions} {is_verbatim : Bool} {base : List (Spanned Chunk)} {first : List ℕ} {memo : Memo} {frame : Frame} {frames : List Frame}
     {whole : List Piece} (e : ParseError) (piece : Spanned RawChunk) (rest : List (Spanned RawChunk)) → IsExpanding definitions is_verbatim base first memo frame frames
     → frame.rest.now ≡ piece ∷ rest → definitions first ≡ Some whole
-    → (e ≡ out_of_memory) ⊎ ((more : List Piece) → IsFirstFault definitions is_verbatim (frame.name.now ∷ names_of frames) (piece_of piece ∷ more) e)
-    → (e ≡ out_of_memory) ⊎ IsFirstFault definitions is_verbatim (first ∷ []) whole e
+    → (e ≡ out_of_memory) ⊎ ((more : List Piece) → IsFirstError definitions is_verbatim (frame.name.now ∷ names_of frames) (piece_of piece ∷ more) e)
+    → (e ≡ out_of_memory) ⊎ IsFirstError definitions is_verbatim (first ∷ []) whole e
 expanding_refused e piece rest x split d (inl memory) = inl memory
-expanding_refused e piece rest x split d (inr fault) = inr (expanding_fault piece rest x split d (fault (map piece_of rest)))
+expanding_refused e piece rest x split d (inr error) = inr (expanding_error piece rest x split d (error (map piece_of rest)))
 
 module _ {definitions : Definitions} {is_verbatim : Bool} where
   -- a memo without names is right
@@ -614,17 +614,17 @@ module _ {definitions : Definitions} {is_verbatim : Bool} where
     says = evaluates_as (append-nil (styled x.more)) (evaluates.defined opens.is x.says evaluates.none);
   }
 
-  -- what stands behind the chunks of before
-  pub said_behind : {old new : List (Spanned Chunk)} {pieces : List Piece} (x : Expands definitions is_verbatim old new pieces) (start : ℕ) (shown : List (Spanned Chunk))
+  -- what stands after the chunks of before
+  pub said_after : {old new : List (Spanned Chunk)} {pieces : List Piece} (x : Expands definitions is_verbatim old new pieces) (start : ℕ) (shown : List (Spanned Chunk))
       → start ≡ length old → shown ≡ new → chunks_between start (length shown) shown ≡ x.more
-  said_behind {old} x start shown at same = between_all start shown ∙ ap (λ n. drop n shown) at ∙ ap (drop (length old)) (same ∙ x.values) ∙ all_behind old x.more
+  said_after {old} x start shown at same = between_all start shown ∙ ap (λ n. drop n shown) at ∙ ap (drop (length old)) (same ∙ x.values) ∙ all_after old x.more
 
-  pub fault_opened : {old : Memo} (mid : Memo) (p : Part) (frame : Frame) (e : ParseError) → Opens definitions old mid p.text frame
-      → (e ≡ out_of_memory) ⊎ IsFirstFault definitions is_verbatim (frame.name.now ∷ []) (map piece_of frame.rest.now) e
-      → (e ≡ out_of_memory) ⊎ ((rest : List Piece) → IsFirstFault definitions is_verbatim [] (abbreviation p ∷ rest) e)
-  fault_opened mid p frame e opens (inl memory) = inl memory
-  fault_opened mid p frame e opens (inr fault) =
-      inr (λ rest. first_fault.inside (λ on. on) opens.is (subst (λ n. IsFirstFault definitions is_verbatim (n ∷ []) (map piece_of frame.rest.now) e) opens.named fault))
+  pub error_opened : {old : Memo} (mid : Memo) (p : Part) (frame : Frame) (e : ParseError) → Opens definitions old mid p.text frame
+      → (e ≡ out_of_memory) ⊎ IsFirstError definitions is_verbatim (frame.name.now ∷ []) (map piece_of frame.rest.now) e
+      → (e ≡ out_of_memory) ⊎ ((rest : List Piece) → IsFirstError definitions is_verbatim [] (abbreviation p ∷ rest) e)
+  error_opened mid p frame e opens (inl memory) = inl memory
+  error_opened mid p frame e opens (inr error) =
+      inr (λ rest. first_error.inside (λ on. on) opens.is (subst (λ n. IsFirstError definitions is_verbatim (n ∷ []) (map piece_of frame.rest.now) e) opens.named error))
 
 pub opened_defined : {definitions : Definitions} {old : Memo} (new : Memo) (name : List ℕ) (frame : Frame) → Opens definitions old new name frame
     → definitions frame.name.now ≡ Some (map piece_of frame.rest.now)
@@ -667,14 +667,14 @@ module _ {definitions : Definitions} {is_verbatim : Bool} where
         places p one.1 long p.start (subst (λ c. ArePlaced p.start p.start c) (sym (x.empty one.0)) (omega arith));
   }
 
-  -- a fault of an element is that of the field
+  -- an error of an element is that of the field
   pub read_refused : {pieces : List Piece} {out : List (Spanned Chunk)} (whole : List Piece) (piece : Piece) (rest : List Piece) (e : ParseError)
       → IsRead definitions is_verbatim pieces out → whole ≡ pieces ++ piece ∷ rest
-      → (e ≡ out_of_memory) ⊎ ((more : List Piece) → IsFirstFault definitions is_verbatim [] (piece ∷ more) e)
-      → (e ≡ out_of_memory) ⊎ IsFirstFault definitions is_verbatim [] whole e
+      → (e ≡ out_of_memory) ⊎ ((more : List Piece) → IsFirstError definitions is_verbatim [] (piece ∷ more) e)
+      → (e ≡ out_of_memory) ⊎ IsFirstError definitions is_verbatim [] whole e
   read_refused whole piece rest e x is (inl memory) = inl memory
-  read_refused whole piece rest e x is (inr fault) =
-      inr (subst (λ pieces. IsFirstFault definitions is_verbatim [] pieces e) (sym is) (fault_behind x.said (fault rest)))
+  read_refused whole piece rest e x is (inr error) =
+      inr (subst (λ pieces. IsFirstError definitions is_verbatim [] pieces e) (sym is) (error_after x.said (error rest)))
 
 -- a text of a field
 pub text_piece : (piece : Spanned RawChunk) (text : Bor (List ℕ)) → piece.v ≡ RawText text
@@ -690,11 +690,11 @@ module _ {definitions : Definitions} {is_verbatim : Bool} where
   pub text_refused : (piece : Spanned RawChunk) (text : Bor (List ℕ)) (e : ParseError) → piece.v ≡ RawText text
       → (e ≡ out_of_memory) ⊎ (IsUnread e.kind × ((atoms : List Atom) → IsContent is_verbatim (chars text.now) atoms → ⊥))
       → (piece.span.start + length text.now < 2 ^ 64 → StaysBetween piece.span.start (piece.span.start + length text.now) e)
-      → (e ≡ out_of_memory) ⊎ ((rest : List Piece) → IsFirstFault definitions is_verbatim [] (piece_of piece ∷ rest) e)
+      → (e ≡ out_of_memory) ⊎ ((rest : List Piece) → IsFirstError definitions is_verbatim [] (piece_of piece ∷ rest) e)
   text_refused piece text e is (inl memory) within = inl memory
   text_refused piece text e is (inr x) within =
       let stands = stands_in (record { text = text.now; start = piece.span.start; end = piece.span.end }) text.now piece.span.start e refl refl x.0 within in
-      inr (λ rest. subst (λ one. IsFirstFault definitions is_verbatim [] (one ∷ rest) e) (sym (text_piece piece text is)) (first_fault.unread x.1 x.0 stands))
+      inr (λ rest. subst (λ one. IsFirstError definitions is_verbatim [] (one ∷ rest) e) (sym (text_piece piece text is)) (first_error.unread x.1 x.0 stands))
 
 -- the chunks of a text whose span is as long as the text
 pub text_placed : (old new : List (Spanned Chunk)) (piece : Spanned RawChunk) (text : Bor (List ℕ)) (p : Part) (low : ℕ) → piece.v ≡ RawText text
@@ -736,10 +736,10 @@ module _ {definitions : Definitions} {is_verbatim : Bool} where
 
   pub read_stop : {old : List (Spanned Chunk)} (items shown : List (Spanned RawChunk)) (i : ℕ) (d : Spanned RawChunk) (e : ParseError) → shown ≡ items
       → i < length shown → IsRead definitions is_verbatim (map piece_of (take i items)) old
-      → (e ≡ out_of_memory) ⊎ ((more : List Piece) → IsFirstFault definitions is_verbatim [] (piece_of (get_or shown i d) ∷ more) e)
-      → (e ≡ out_of_memory) ⊎ IsFirstFault definitions is_verbatim [] (map piece_of items) e
-  read_stop items shown i d e same within x fault =
+      → (e ≡ out_of_memory) ⊎ ((more : List Piece) → IsFirstError definitions is_verbatim [] (piece_of (get_or shown i d) ∷ more) e)
+      → (e ≡ out_of_memory) ⊎ IsFirstError definitions is_verbatim [] (map piece_of items) e
+  read_stop items shown i d e same within x error =
       let before : i < length items = omega (arith, ap length same) in
       let rest = map piece_of (drop (i + 1) items) in
       let is = pieces_at items i d before ∙ ap (λ xs. map piece_of (take i items) ++ piece_of (get_or xs i d) ∷ rest) (sym same) in
-      read_refused (map piece_of items) (piece_of (get_or shown i d)) rest e x is fault
+      read_refused (map piece_of items) (piece_of (get_or shown i d)) rest e x is error

@@ -1,4 +1,4 @@
--- Pieces say one styled text at most, and have one first fault at most.
+-- Pieces say one styled text at most, and have one first error at most.
 use Rattle.std.proofs.Common.{◌≡◌, ℕ, List, [], ◌∷◌, ◌++◌, Bool, refl, sym, ap, ◌∙◌, subst, inl, inr, Some}
 use Rattle.std.specs.Str.{chars}
 use Rattle.std.specs.Prelude.{map}
@@ -6,8 +6,8 @@ use Rattle.bib_chunks.specs.Styled.{Atom}
 use Rattle.bib_syntax.specs.declared.raw.ParseError.{ParseError}
 use Rattle.bib_syntax.specs.Reading.{Part, Piece}
 use Rattle.bib_syntax.specs.Reading.Piece.{literal, abbreviation}
-use Rattle.bib_abbreviations.specs.Abbreviations.{Definitions, HoldsName, Reaches, Evaluates, IsOnPath, IsFirstFault, AreOneFault}
-use Rattle.bib_abbreviations.specs.Abbreviations.{Reaches as reaches, Evaluates as evaluates, IsFirstFault as first_fault}
+use Rattle.bib_abbreviations.specs.Abbreviations.{Definitions, HoldsName, Reaches, Evaluates, IsOnPath, IsFirstError, AreOneError}
+use Rattle.bib_abbreviations.specs.Abbreviations.{Reaches as reaches, Evaluates as evaluates, IsFirstError as first_error}
 use Rattle.bib_abbreviations.proofs.AbbreviationFacts.{readable}
 use Rattle.bib_contents.proofs.ContentFacts.{read_same}
 
@@ -45,11 +45,11 @@ held_first p rest next (inl same) = inl same
 held_first p rest next (inr held) = absurd held
 
 module _ {definitions : Definitions} where
-  leads_behind : {path : List (List ℕ)} {rest : List Piece} (piece : Piece) → AllLeadOn definitions path (piece ∷ rest) → AllLeadOn definitions path rest
-  leads_behind (literal p) lead = record {
+  leads_after : {path : List (List ℕ)} {rest : List Piece} (piece : Piece) → AllLeadOn definitions path (piece ∷ rest) → AllLeadOn definitions path rest
+  leads_after (literal p) lead = record {
     on = λ name on. let l = lead.on name on in record { definition = l.definition; is = l.is; leads = λ next held. l.leads next held };
   }
-  leads_behind (abbreviation p) lead = record {
+  leads_after (abbreviation p) lead = record {
     on = λ name on. let l = lead.on name on in record { definition = l.definition; is = l.is; leads = λ next held. l.leads next (inr held) };
   }
 
@@ -71,11 +71,11 @@ module _ {definitions : Definitions} where
 
 module _ {definitions : Definitions} {is_verbatim : Bool} where
   -- a name that is being expanded says nothing
-  no_circle_said : {path : List (List ℕ)} {p : Part} {rest : List Piece} {atoms : List Atom} → AllLeadOn definitions path (abbreviation p ∷ rest) → IsOnPath path p.text
+  no_cycle_said : {path : List (List ℕ)} {p : Part} {rest : List Piece} {atoms : List Atom} → AllLeadOn definitions path (abbreviation p ∷ rest) → IsOnPath path p.text
       → Evaluates definitions is_verbatim (abbreviation p ∷ []) atoms → ⊥
-  no_circle_said {p = p} lead on x =
+  no_cycle_said {p = p} lead on x =
       let l = lead.on p.text on in
-      (readable x).no_circle p.text l.definition (reaches.held (inl refl)) l.is (l.leads p.text (inl refl))
+      (readable x).no_cycle p.text l.definition (reaches.held (inl refl)) l.is (l.leads p.text (inl refl))
 
   -- what the first of some pieces says
   said_first : {p : Part} {rest : List Piece} {atoms : List Atom} → Evaluates definitions is_verbatim (abbreviation p ∷ rest) atoms
@@ -89,43 +89,43 @@ module _ {definitions : Definitions} {is_verbatim : Bool} where
   said_rest (evaluates.defined d x rest) = (_, rest)
   said_rest (evaluates.month_name absent m rest) = (_, rest)
 
-  -- pieces with a fault say nothing
-  pub fault_not_said : {path : List (List ℕ)} {pieces : List Piece} {e : ParseError} {atoms : List Atom} → IsFirstFault definitions is_verbatim path pieces e
+  -- pieces with an error say nothing
+  pub error_not_said : {path : List (List ℕ)} {pieces : List Piece} {e : ParseError} {atoms : List Atom} → IsFirstError definitions is_verbatim path pieces e
       → AllLeadOn definitions path pieces → Evaluates definitions is_verbatim pieces atoms → ⊥
-  fault_not_said (first_fault.unread none kind place) lead (evaluates.text x rest) = none _ x
-  fault_not_said (first_fault.unknown absent m is) lead (evaluates.defined d x rest) = cc (d, absent)
-  fault_not_said (first_fault.unknown absent m is) lead (evaluates.month_name absent' m' rest) = cc (m, m')
-  fault_not_said (first_fault.circle on is) lead says = no_circle_said lead on (said_first says).1
-  fault_not_said (first_fault.inside {definition = definition} off d fault) lead (evaluates.defined {definition = other} {first = first} d' x rest) =
+  error_not_said (first_error.unread none kind place) lead (evaluates.text x rest) = none _ x
+  error_not_said (first_error.unknown absent m is) lead (evaluates.defined d x rest) = cc (d, absent)
+  error_not_said (first_error.unknown absent m is) lead (evaluates.month_name absent' m' rest) = cc (m, m')
+  error_not_said (first_error.cycle on is) lead says = no_cycle_said lead on (said_first says).1
+  error_not_said (first_error.inside {definition = definition} off d error) lead (evaluates.defined {definition = other} {first = first} d' x rest) =
       let same : other ≡ definition = cc (d, d') in
-      fault_not_said fault (leads_inside d lead) (subst (λ pieces. Evaluates definitions is_verbatim pieces first) same x)
-  fault_not_said (first_fault.inside off d fault) lead (evaluates.month_name absent m rest) = cc (d, absent)
-  fault_not_said (first_fault.behind {piece = piece} x fault) lead says = fault_not_said fault (leads_behind piece lead) (said_rest says).1
+      error_not_said error (leads_inside d lead) (subst (λ pieces. Evaluates definitions is_verbatim pieces first) same x)
+  error_not_said (first_error.inside off d error) lead (evaluates.month_name absent m rest) = cc (d, absent)
+  error_not_said (first_error.following {piece = piece} x error) lead says = error_not_said error (leads_after piece lead) (said_rest says).1
 
-  -- the first fault is one
-  fault_same : {path : List (List ℕ)} {pieces : List Piece} {e f : ParseError} → AllLeadOn definitions path pieces
-      → IsFirstFault definitions is_verbatim path pieces e → IsFirstFault definitions is_verbatim path pieces f → AreOneFault e f
-  fault_same lead (first_fault.unread none kind place) (first_fault.unread none' kind' place') = inr (kind, kind')
-  fault_same lead (first_fault.unread none kind place) (first_fault.behind (evaluates.text x rest) fault) = absurd (none _ x)
-  fault_same lead (first_fault.behind (evaluates.text x rest) fault) (first_fault.unread none kind place) = absurd (none _ x)
-  fault_same lead (first_fault.unknown absent m is) (first_fault.unknown absent' m' is') = inl (is ∙ sym is')
-  fault_same lead (first_fault.unknown {p = p} absent m is) (first_fault.circle on is') = let l = lead.on p.text on in absurd (cc (absent, l.is))
-  fault_same lead (first_fault.unknown absent m is) (first_fault.inside off d fault) = absurd (cc (absent, d))
-  fault_same lead (first_fault.unknown absent m is) (first_fault.behind says fault) = absurd (fault_not_said (first_fault.unknown absent m is) (leads_first lead) says)
-  fault_same lead (first_fault.circle {p = p} on is) (first_fault.unknown absent m is') = let l = lead.on p.text on in absurd (cc (absent, l.is))
-  fault_same lead (first_fault.circle on is) (first_fault.circle on' is') = inl (is ∙ sym is')
-  fault_same lead (first_fault.circle on is) (first_fault.inside off d fault) = absurd (off on)
-  fault_same lead (first_fault.circle on is) (first_fault.behind says fault) = absurd (no_circle_said lead on says)
-  fault_same lead (first_fault.inside off d fault) (first_fault.unknown absent m is) = absurd (cc (absent, d))
-  fault_same lead (first_fault.inside off d fault) (first_fault.circle on is) = absurd (off on)
-  fault_same {path = path} {f = f} lead (first_fault.inside {p = p} {definition = definition} off d fault) (first_fault.inside {definition = other} off' d' fault') =
+  -- the first error is one
+  error_same : {path : List (List ℕ)} {pieces : List Piece} {e f : ParseError} → AllLeadOn definitions path pieces
+      → IsFirstError definitions is_verbatim path pieces e → IsFirstError definitions is_verbatim path pieces f → AreOneError e f
+  error_same lead (first_error.unread none kind place) (first_error.unread none' kind' place') = inr (kind, kind')
+  error_same lead (first_error.unread none kind place) (first_error.following (evaluates.text x rest) error) = absurd (none _ x)
+  error_same lead (first_error.following (evaluates.text x rest) error) (first_error.unread none kind place) = absurd (none _ x)
+  error_same lead (first_error.unknown absent m is) (first_error.unknown absent' m' is') = inl (is ∙ sym is')
+  error_same lead (first_error.unknown {p = p} absent m is) (first_error.cycle on is') = let l = lead.on p.text on in absurd (cc (absent, l.is))
+  error_same lead (first_error.unknown absent m is) (first_error.inside off d error) = absurd (cc (absent, d))
+  error_same lead (first_error.unknown absent m is) (first_error.following says error) = absurd (error_not_said (first_error.unknown absent m is) (leads_first lead) says)
+  error_same lead (first_error.cycle {p = p} on is) (first_error.unknown absent m is') = let l = lead.on p.text on in absurd (cc (absent, l.is))
+  error_same lead (first_error.cycle on is) (first_error.cycle on' is') = inl (is ∙ sym is')
+  error_same lead (first_error.cycle on is) (first_error.inside off d error) = absurd (off on)
+  error_same lead (first_error.cycle on is) (first_error.following says error) = absurd (no_cycle_said lead on says)
+  error_same lead (first_error.inside off d error) (first_error.unknown absent m is) = absurd (cc (absent, d))
+  error_same lead (first_error.inside off d error) (first_error.cycle on is) = absurd (off on)
+  error_same {path = path} {f = f} lead (first_error.inside {p = p} {definition = definition} off d error) (first_error.inside {definition = other} off' d' error') =
       let same : other ≡ definition = cc (d, d') in
-      fault_same (leads_inside d lead) fault (subst (λ pieces. IsFirstFault definitions is_verbatim (p.text ∷ path) pieces f) same fault')
-  fault_same lead (first_fault.inside off d fault) (first_fault.behind says fault') = absurd (fault_not_said (first_fault.inside off d fault) (leads_first lead) says)
-  fault_same lead (first_fault.behind says fault) (first_fault.unknown absent m is) = absurd (fault_not_said (first_fault.unknown absent m is) (leads_first lead) says)
-  fault_same lead (first_fault.behind says fault) (first_fault.circle on is) = absurd (no_circle_said lead on says)
-  fault_same lead (first_fault.behind says fault) (first_fault.inside off d fault') = absurd (fault_not_said (first_fault.inside off d fault') (leads_first lead) says)
-  fault_same lead (first_fault.behind {piece = piece} says fault) (first_fault.behind says' fault') = fault_same (leads_behind piece lead) fault fault'
+      error_same (leads_inside d lead) error (subst (λ pieces. IsFirstError definitions is_verbatim (p.text ∷ path) pieces f) same error')
+  error_same lead (first_error.inside off d error) (first_error.following says error') = absurd (error_not_said (first_error.inside off d error) (leads_first lead) says)
+  error_same lead (first_error.following says error) (first_error.unknown absent m is) = absurd (error_not_said (first_error.unknown absent m is) (leads_first lead) says)
+  error_same lead (first_error.following says error) (first_error.cycle on is) = absurd (no_cycle_said lead on says)
+  error_same lead (first_error.following says error) (first_error.inside off d error') = absurd (error_not_said (first_error.inside off d error') (leads_first lead) says)
+  error_same lead (first_error.following {piece = piece} says error) (first_error.following says' error') = error_same (leads_after piece lead) error error'
 
-  pub fault_is_one : {pieces : List Piece} {e f : ParseError} → IsFirstFault definitions is_verbatim [] pieces e → IsFirstFault definitions is_verbatim [] pieces f → AreOneFault e f
-  fault_is_one one other = fault_same none_lead_on one other
+  pub error_is_one : {pieces : List Piece} {e f : ParseError} → IsFirstError definitions is_verbatim [] pieces e → IsFirstError definitions is_verbatim [] pieces f → AreOneError e f
+  error_is_one one other = error_same none_lead_on one other

@@ -73,7 +73,7 @@ AreRead is_verbatim pieces = (text : List ℕ) → HoldsText pieces text → (at
 -- definitions of the names that it reaches is read
 pub record IsReadable (definitions : Definitions) (is_verbatim : Bool) (field : List Piece) : Type 0 where
   pub known : (name : List ℕ) → Reaches definitions field name → IsKnown definitions name
-  pub no_circle : (name : List ℕ) (definition : List Piece) → Reaches definitions field name → definitions name ≡ Some definition
+  pub no_cycle : (name : List ℕ) (definition : List Piece) → Reaches definitions field name → definitions name ≡ Some definition
       → Reaches definitions definition name → ⊥
   pub texts : AreRead is_verbatim field
   pub inner_texts : (name : List ℕ) (definition : List Piece) → Reaches definitions field name → definitions name ≡ Some definition
@@ -97,34 +97,34 @@ abbrev pub IsOnPath : List (List ℕ) → List ℕ → Type 0
 IsOnPath [] name = ⊥
 IsOnPath (one ∷ path) name = (one ≡ name) ⊎ IsOnPath path name
 
--- the fault with this kind, at the place of a name
-abbrev pub fault_at : Part → ParseErrorKind → ParseError
-fault_at p kind = record { span = record { start = p.start; end = p.end }; kind = kind }
+-- the error with this kind, at the place of a name
+abbrev pub error_at : Part → ParseErrorKind → ParseError
+error_at p kind = record { span = record { start = p.start; end = p.end }; kind = kind }
 
--- a fault of a text lies in the text's place, where that is as long as the text (and places are numbers of 64 bits)
+-- an error of a text lies in the text's place, where that is as long as the text (and places are numbers of 64 bits)
 abbrev pub LiesInPart : Part → ParseError → Type 0
 LiesInPart p e = p.end ≡ p.start + length p.text → p.end < 2 ^ 64 → LiesBetween p.start p.end e
 
--- the first fault of pieces, from left to right and into definitions as they are met, while the names of a path are
+-- the first error of pieces, from left to right and into definitions as they are met, while the names of a path are
 -- being expanded: a text that is not read, a name that stands for nothing, or one that is being expanded
-pub data IsFirstFault (definitions : Definitions) (is_verbatim : Bool) : List (List ℕ) → List Piece → ParseError → Type 0 where
+pub data IsFirstError (definitions : Definitions) (is_verbatim : Bool) : List (List ℕ) → List Piece → ParseError → Type 0 where
   unread : {path : List (List ℕ)} {p : Part} {rest : List Piece} {e : ParseError}
       → ((atoms : List Atom) → IsContent is_verbatim (chars p.text) atoms → ⊥) → IsUnread e.kind → LiesInPart p e
-      → IsFirstFault definitions is_verbatim path (literal p ∷ rest) e
+      → IsFirstError definitions is_verbatim path (literal p ∷ rest) e
   unknown : {path : List (List ℕ)} {p : Part} {rest : List Piece} {e : ParseError} → definitions p.text ≡ None → month p.text ≡ None
-      → e ≡ fault_at p (UnknownAbbreviation p.text) → IsFirstFault definitions is_verbatim path (abbreviation p ∷ rest) e
-  circle : {path : List (List ℕ)} {p : Part} {rest : List Piece} {e : ParseError} → IsOnPath path p.text
-      → e ≡ fault_at p (AbbreviationCycle p.text) → IsFirstFault definitions is_verbatim path (abbreviation p ∷ rest) e
+      → e ≡ error_at p (UnknownAbbreviation p.text) → IsFirstError definitions is_verbatim path (abbreviation p ∷ rest) e
+  cycle : {path : List (List ℕ)} {p : Part} {rest : List Piece} {e : ParseError} → IsOnPath path p.text
+      → e ≡ error_at p (AbbreviationCycle p.text) → IsFirstError definitions is_verbatim path (abbreviation p ∷ rest) e
   inside : {path : List (List ℕ)} {p : Part} {rest definition : List Piece} {e : ParseError} → (IsOnPath path p.text → ⊥)
-      → definitions p.text ≡ Some definition → IsFirstFault definitions is_verbatim (p.text ∷ path) definition e
-      → IsFirstFault definitions is_verbatim path (abbreviation p ∷ rest) e
-  behind : {path : List (List ℕ)} {piece : Piece} {rest : List Piece} {atoms : List Atom} {e : ParseError}
-      → Evaluates definitions is_verbatim (piece ∷ []) atoms → IsFirstFault definitions is_verbatim path rest e
-      → IsFirstFault definitions is_verbatim path (piece ∷ rest) e
+      → definitions p.text ≡ Some definition → IsFirstError definitions is_verbatim (p.text ∷ path) definition e
+      → IsFirstError definitions is_verbatim path (abbreviation p ∷ rest) e
+  following : {path : List (List ℕ)} {piece : Piece} {rest : List Piece} {atoms : List Atom} {e : ParseError}
+      → Evaluates definitions is_verbatim (piece ∷ []) atoms → IsFirstError definitions is_verbatim path rest e
+      → IsFirstError definitions is_verbatim path (piece ∷ rest) e
 
--- two faults are one: the same kind at the same place; of a text that is not read the kind and the place stay open
-abbrev pub AreOneFault : ParseError → ParseError → Type 0
-AreOneFault e f = (e ≡ f) ⊎ (IsUnread e.kind × IsUnread f.kind)
+-- two errors are one: the same kind at the same place; of a text that is not read the kind and the place stay open
+abbrev pub AreOneError : ParseError → ParseError → Type 0
+AreOneError e f = (e ≡ f) ⊎ (IsUnread e.kind × IsUnread f.kind)
 
 -- the definition of a name among pairs of a name and a field
 abbrev pub definition_among : List (Bor (List ℕ) × Bor (Vec (Spanned RawChunk))) → Definitions

@@ -14,16 +14,16 @@ use Rattle.bib_abbreviations.specs.declared.resolve.abbreviations.Memo.{Memo}
 use Rattle.bib_abbreviations.specs.declared.resolve.abbreviations.Progress.{Progress}
 use Rattle.bib_abbreviations.specs.declared.resolve.abbreviations.Progress.TheVariants.{Begun, Done}
 use Rattle.bib_abbreviations.specs.declared.resolve.abbreviations.Source.{Source}
-use Rattle.bib_abbreviations.specs.declared.resolve.definitions.LookUp.{LookUp}
-use Rattle.bib_abbreviations.specs.declared.resolve.definitions.LookUp.TheVariants.{Hashed, Sorted}
-use Rattle.bib_abbreviations.specs.Abbreviations.{Definitions, Evaluates, IsFirstFault, IsOnPath, defined_in, sorted_in}
-use Rattle.bib_syntax.specs.Faults.{out_of_memory}
+use Rattle.bib_abbreviations.specs.declared.resolve.definitions.Lookup.{Lookup}
+use Rattle.bib_abbreviations.specs.declared.resolve.definitions.Lookup.TheVariants.{Hashed, Sorted}
+use Rattle.bib_abbreviations.specs.Abbreviations.{Definitions, Evaluates, IsFirstError, IsOnPath, defined_in, sorted_in}
+use Rattle.bib_syntax.specs.Errors.{out_of_memory}
 use Rattle.bib_syntax.specs.Reading.{Part, Piece}
 use Rattle.bib_syntax.specs.Reading.Piece.{abbreviation}
 use Rattle.bib_syntax.specs.Views.{piece_of}
 
 -- the definitions that are looked up
-abbrev pub found_in : LookUp → Definitions
+abbrev pub found_in : Lookup → Definitions
 found_in (Hashed m) = defined_in m.now
 found_in (Sorted m) = sorted_in m.now
 
@@ -65,7 +65,7 @@ pub record IsSound (definitions : Definitions) (is_verbatim : Bool) (memo : Memo
   pub begun : (name : List ℕ) → progress memo name ≡ Some Begun → IsOnPath path name
   pub on_path : (name : List ℕ) → IsOnPath path name → progress memo name ≡ Some Begun
 
--- chunks that say what pieces say stand behind others
+-- chunks that say what pieces say stand after others
 pub record Expands (definitions : Definitions) (is_verbatim : Bool) (old new : List (Spanned Chunk)) (pieces : List Piece) : Type 0 where
   pub more : List (Spanned Chunk)
   pub values : new ≡ old ++ more
@@ -93,21 +93,21 @@ abbrev pub IsSoundFor : Source → Memo → List (List ℕ) → Type 0
 IsSoundFor source memo path = IsSound (known_to source) source.is_verbatim memo path
 
 -- pieces say these atoms
-abbrev pub Says : Source → List Piece → List Atom → Type 0
-Says source pieces atoms = Evaluates (known_to source) source.is_verbatim pieces atoms
+abbrev pub PiecesSay : Source → List Piece → List Atom → Type 0
+PiecesSay source pieces atoms = Evaluates (known_to source) source.is_verbatim pieces atoms
 
 -- what pieces say was added to the memo's chunks
-abbrev pub Adds : Source → Memo → Memo → List Piece → Type 0
-Adds source old new pieces = Expands (known_to source) source.is_verbatim old.values.items new.values.items pieces
+abbrev pub AddsPieces : Source → Memo → Memo → List Piece → Type 0
+AddsPieces source old new pieces = Expands (known_to source) source.is_verbatim old.values.items new.values.items pieces
 
 -- an element was taken
 abbrev pub IsTaken : Source → Memo → Memo → Piece → Option Frame → Type 0
 IsTaken source old new piece frame = Takes (known_to source) source.is_verbatim old new piece frame
 
--- want of memory, or the first fault of pieces
-abbrev pub Stops : Source → List (List ℕ) → List Piece → ParseError → Type 0
-Stops source path pieces e = (e ≡ out_of_memory) ⊎ IsFirstFault (known_to source) source.is_verbatim path pieces e
+-- out of memory, or the first error of pieces
+abbrev pub FailsWith : Source → List (List ℕ) → List Piece → ParseError → Type 0
+FailsWith source path pieces e = (e ≡ out_of_memory) ⊎ IsFirstError (known_to source) source.is_verbatim path pieces e
 
--- want of memory, or the fault of an element, whatever stands behind it
+-- out of memory, or the error of an element, whatever stands after it
 abbrev pub StopsAt : Source → List (List ℕ) → Piece → ParseError → Type 0
-StopsAt source path piece e = (e ≡ out_of_memory) ⊎ ((rest : List Piece) → IsFirstFault (known_to source) source.is_verbatim path (piece ∷ rest) e)
+StopsAt source path piece e = (e ≡ out_of_memory) ⊎ ((rest : List Piece) → IsFirstError (known_to source) source.is_verbatim path (piece ∷ rest) e)

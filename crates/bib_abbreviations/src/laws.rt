@@ -2,7 +2,7 @@
 
 ghost use Rattle.std.specs.Prelude.{◌≡◌, Bool, List, []};
 ghost use Rattle.bib_chunks.specs.Styled.{Atom};
-ghost use Rattle.bib_abbreviations.specs.Abbreviations.{AreOneFault, Definitions, Evaluates, IsFirstFault};
+ghost use Rattle.bib_abbreviations.specs.Abbreviations.{AreOneError, Definitions, Evaluates, IsFirstError};
 ghost use Rattle.bib_syntax.specs.Reading.{Piece};
 ghost use Rattle.bib_syntax.specs.declared.raw.ParseError.{ParseError};
 
@@ -13,13 +13,13 @@ pub fn one_value()
         Evaluates definitions is_verbatim pieces second → first ≡ second }
 {}
 
-/// Elements that say something have no first fault, and others have at most one: its kind, and for a name its place. Of a
+/// Elements that say something have no first error, and others have at most one: its kind, and for a name its place. Of a
 /// text that can't be read the kind, one of two, and the place stay open.
-pub fn one_fault()
+pub fn one_error()
     ensures none { (definitions : Definitions) (is_verbatim : Bool) (pieces : List Piece)
         (atoms : List Atom) (e : ParseError) → Evaluates definitions is_verbatim pieces atoms →
-        IsFirstFault definitions is_verbatim [] pieces e → ⊥ }
+        IsFirstError definitions is_verbatim [] pieces e → ⊥ }
     ensures one { (definitions : Definitions) (is_verbatim : Bool) (pieces : List Piece)
-        (first second : ParseError) → IsFirstFault definitions is_verbatim [] pieces first →
-        IsFirstFault definitions is_verbatim [] pieces second → AreOneFault first second }
+        (first second : ParseError) → IsFirstError definitions is_verbatim [] pieces first →
+        IsFirstError definitions is_verbatim [] pieces second → AreOneError first second }
 {}

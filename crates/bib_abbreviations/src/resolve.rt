@@ -2,8 +2,8 @@
 
 ghost use Rattle.std.specs.Prelude.{◌≡◌, ◌+◌, ◌⊎◌, [], ◌∷◌, map, length, OnOk, IfOk, IfErr};
 ghost use Rattle.bib_chunks.specs.Styled.{styled};
-ghost use Rattle.bib_abbreviations.specs.Abbreviations.{Evaluates, IsFirstFault, IsReadable, defined_in};
-ghost use Rattle.bib_syntax.specs.Faults.{out_of_memory};
+ghost use Rattle.bib_abbreviations.specs.Abbreviations.{Evaluates, IsFirstError, IsReadable, defined_in};
+ghost use Rattle.bib_syntax.specs.Errors.{out_of_memory};
 ghost use Rattle.bib_styled.specs.Joined.{AreJoined, ArePlaced};
 ghost use Rattle.bib_syntax.specs.Reading.{Part};
 ghost use Rattle.bib_syntax.specs.Reading.Piece.{literal};
@@ -26,7 +26,7 @@ use std::collections::HashMap;
 /// definition says, else the English name of the month that begins with it. Chunks are joined where two neighbours are
 /// both normal or both verbatim.
 ///
-/// Refused with the first fault, from left to right and into definitions as they are met: `UnexpectedEof` or
+/// Refused with the first error, from left to right and into definitions as they are met: `UnexpectedEof` or
 /// `Unexpected` for a text that can't be read, `UnknownAbbreviation` for a name that is neither defined nor the start of
 /// a month, `AbbreviationCycle` for a name that is met in its own expansion. The latter two have the span of the name,
 /// in bytes of its file.
@@ -41,7 +41,7 @@ pub fn parse_field(
     ensures readable { OnOk result (IsReadable (defined_in abbreviations.now)
         (names.is_verbatim_field key.now) (map piece_of field.now.items)) }
     ensures refused { IfErr result (λ e. (e ≡ out_of_memory) ⊎
-        (IsFirstFault (defined_in abbreviations.now) (names.is_verbatim_field key.now) []
+        (IsFirstError (defined_in abbreviations.now) (names.is_verbatim_field key.now) []
         (map piece_of field.now.items) e ×
         (IsReadable (defined_in abbreviations.now) (names.is_verbatim_field key.now)
         (map piece_of field.now.items) → ⊥))) }

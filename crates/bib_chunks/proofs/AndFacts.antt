@@ -27,9 +27,9 @@ word_letters space (a ∷ n ∷ d ∷ rest) here =
     let outer = and_parts (space && is_and a n d) (begins_with_space rest) here in
     let word = (and_parts space (is_and a n d) outer.0).1 in
     let last = and_parts (a == 97 && n == 110) (d == 100) word in
-    let front = and_parts (a == 97) (n == 110) last.0 in (
+    let leading_run = and_parts (a == 97) (n == 110) last.0 in (
       rest,
-      ap (λ x. x ∷ n ∷ d ∷ rest) (eqb-true a 97 front.0) ∙ ap (λ x. 97 ∷ x ∷ d ∷ rest) (eqb-true n 110 front.1) ∙ ap (λ x. 97 ∷ 110 ∷ x ∷ rest) (eqb-true d 100 last.1),
+      ap (λ x. x ∷ n ∷ d ∷ rest) (eqb-true a 97 leading_run.0) ∙ ap (λ x. 97 ∷ x ∷ d ∷ rest) (eqb-true n 110 leading_run.1) ∙ ap (λ x. 97 ∷ 110 ∷ x ∷ rest) (eqb-true d 100 last.1),
       outer.1,
     )
 
@@ -42,8 +42,8 @@ unfolding encode
 and_bytes_all cs = refl
 
 -- the characters of a text that begins with the word
-and_chars : (text behind : List ℕ) → IsUtf8 text → text ≡ codes "and" ++ behind → (chars text ≡ 97 ∷ 110 ∷ 100 ∷ chars behind) × IsUtf8 behind
-and_chars text behind utf8 word = chars_past (97 ∷ 110 ∷ 100 ∷ []) text behind utf8 (word ∙ and_bytes behind)
+and_chars : (text following : List ℕ) → IsUtf8 text → text ≡ codes "and" ++ following → (chars text ≡ 97 ∷ 110 ∷ 100 ∷ chars following) × IsUtf8 following
+and_chars text following utf8 word = chars_past (97 ∷ 110 ∷ 100 ∷ []) text following utf8 (word ∙ and_bytes following)
 
 never : (cs : List ℕ) → word_here false cs ≡ false
 never [] = refl
@@ -122,17 +122,17 @@ before_place text at cs passed =
     ap (take at) passed.here ∙ take_at (encode_utf8_all cs) (drop at text) at (omega arith)
 
 -- such a word stands there
-pub searched_word : (text : List ℕ) (at : ℕ) (before behind : List ℕ) → Searched text at true → before ≡ take at text → IsUtf8 before → IsAnd (drop at text) behind → IsFirstAnd text before behind
-searched_word text at before behind so_far front front_utf8 word =
-    let letters = and_chars (drop at text) behind so_far.passed.utf8 word.word in
-    let spells : before ≡ encode_utf8_all so_far.cs = front ∙ before_place text at so_far.cs so_far.passed in
-    let chars_before : chars before ≡ so_far.cs = chars_whole so_far.cs before front_utf8 spells in
+pub searched_word : (text : List ℕ) (at : ℕ) (before following : List ℕ) → Searched text at true → before ≡ take at text → IsUtf8 before → IsAnd (drop at text) following → IsFirstAnd text before following
+searched_word text at before following so_far leading_run prefix_utf8 word =
+    let letters = and_chars (drop at text) following so_far.passed.utf8 word.word in
+    let spells : before ≡ encode_utf8_all so_far.cs = leading_run ∙ before_place text at so_far.cs so_far.passed in
+    let chars_before : chars before ≡ so_far.cs = chars_whole so_far.cs before prefix_utf8 spells in
     record {
-      word = sym (take-append-drop at text) ∙ ap (λ xs. xs ++ drop at text) (sym front) ∙ ap (λ xs. before ++ xs) word.word;
+      word = sym (take-append-drop at text) ∙ ap (λ xs. xs ++ drop at text) (sym leading_run) ∙ ap (λ xs. before ++ xs) word.word;
       cut =
-          so_far.texts ∙ ap (λ xs. prepend so_far.cs (between_ands true xs)) letters.0 ∙ ap (prepend so_far.cs) (between_word (chars behind) word.space)
-          ∙ ap (λ xs. xs ∷ between_ands false (chars behind)) (append-nil so_far.cs ∙ sym chars_before);
-      spells = sym (encodes-chars before front_utf8);
+          so_far.texts ∙ ap (λ xs. prepend so_far.cs (between_ands true xs)) letters.0 ∙ ap (prepend so_far.cs) (between_word (chars following) word.space)
+          ∙ ap (λ xs. xs ∷ between_ands false (chars following)) (append-nil so_far.cs ∙ sym chars_before);
+      spells = sym (encodes-chars before prefix_utf8);
       utf8 = letters.1;
     }
 

@@ -8,7 +8,7 @@ use Rattle.bib_chunks.specs.declared.chunk.Chunk.TheVariants.{Normal, Verbatim}
 use Rattle.bib_chunks.specs.Formatted.{formatted}
 use Rattle.bib_chunks.specs.Cuts.{further, between_ands, list_parts, trimmed_from, and_list}
 use Rattle.bib_chunks.specs.Values.{Value, nowhere, alone}
-use Rattle.bib_chunks.specs.Separated.{behind_separator, parts_written}
+use Rattle.bib_chunks.specs.Separated.{after_separator, parts_written}
 use Rattle.bib_chunks.proofs.SeparatedFacts.{IsSeparator, AreWhole, separated_formats}
 
 pub and_separates : IsSeparator 3 (between_ands false) (codes " and ")
@@ -19,12 +19,12 @@ and_separates = record {
   cut = refl;
 }
 
--- verbatim chunks with `and` in front of each
-abbrev behind_ands : List (List ℕ) → Value
-behind_ands texts = flat_map (behind_separator (codes " and ")) (map (λ t. alone (Verbatim t)) texts)
+-- verbatim chunks with `and` before each
+abbrev after_ands : List (List ℕ) → Value
+after_ands texts = flat_map (after_separator (codes " and ")) (map (λ t. alone (Verbatim t)) texts)
 
 -- such a list has nothing to trim
-untrimmed : (first : Bool) (t : List ℕ) (rest : List (List ℕ)) → trimmed_from first (alone (Verbatim t) ++ behind_ands rest) ≡ alone (Verbatim t) ++ behind_ands rest
+untrimmed : (first : Bool) (t : List ℕ) (rest : List (List ℕ)) → trimmed_from first (alone (Verbatim t) ++ after_ands rest) ≡ alone (Verbatim t) ++ after_ands rest
 untrimmed first t [] = refl
 untrimmed first t (u ∷ rest) = ap (λ xs. nowhere (Verbatim t) ∷ nowhere (Normal (codes " and ")) ∷ xs) (untrimmed false u rest)
 

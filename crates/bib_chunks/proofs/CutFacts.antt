@@ -18,8 +18,8 @@ use Rattle.bib_chunks.specs.declared.chunk.cuts.Parts.{Parts}
 use Rattle.bib_chunks.specs.declared.chunk.cuts.Separator.{Separator}
 use Rattle.bib_chunks.specs.declared.chunk.cuts.Separator.TheVariants.{Comma, And}
 use Rattle.bib_chunks.specs.declared.chunk.Chunk.TheVariants.{Normal}
-use Rattle.bib_chunks.specs.Cuts.{further, placed, part_of, piece, pieces, pieces_between, onto, joined, list_parts, between_commas, between_ands, cut_characters, both_pieces, halves}
-use Rattle.bib_chunks.specs.Cutting.{between, width, all_parts, Reads, IsFirstCut, IsFirstAnd}
+use Rattle.bib_chunks.specs.Cuts.{further, placed, chunk_part, piece, pieces, pieces_between, onto, joined_parts, list_parts, between_commas, between_ands, cut_characters, both_pieces, halves}
+use Rattle.bib_chunks.specs.Cutting.{between_cuts, width, all_parts, ReadsPieces, IsFirstCut, IsFirstAnd}
 use Rattle.bib_chunks.proofs.AndFacts.{ands_some}
 
 onto_onto : (xs ys : List (Spanned Chunk)) (parts : List (List (Spanned Chunk))) → onto xs (onto ys parts) ≡ onto (xs ++ ys) parts
@@ -27,7 +27,7 @@ onto_onto xs ys [] = refl
 onto_onto xs ys (part ∷ parts) = ap (λ p. p ∷ parts) (sym (append_assoc xs ys part))
 
 -- nothing before the first part changes nothing
-onto_nothing : (pieces : List (Spanned Chunk)) (parts : List (List (Spanned Chunk))) → onto [] parts ≡ parts → onto [] (joined pieces parts) ≡ joined pieces parts
+onto_nothing : (pieces : List (Spanned Chunk)) (parts : List (List (Spanned Chunk))) → onto [] parts ≡ parts → onto [] (joined_parts pieces parts) ≡ joined_parts pieces parts
 onto_nothing [] parts some = some
 onto_nothing (p ∷ []) parts some = onto_onto [] (p ∷ []) parts
 onto_nothing (p ∷ q ∷ more) parts some = refl
@@ -36,32 +36,32 @@ pub onto_parts : (w : ℕ) (cut : List ℕ → List (List ℕ)) (chunks : List (
 onto_parts w cut [] = refl
 onto_parts w cut (c ∷ rest) = onto_nothing (pieces w cut c.v c.span) (list_parts w cut rest) (onto_parts w cut rest)
 
-onto_some : (next : Spanned Chunk) (more : List (Spanned Chunk)) (parts : List (List (Spanned Chunk))) → onto [] (joined (next ∷ more) parts) ≡ joined (next ∷ more) parts
+onto_some : (next : Spanned Chunk) (more : List (Spanned Chunk)) (parts : List (List (Spanned Chunk))) → onto [] (joined_parts (next ∷ more) parts) ≡ joined_parts (next ∷ more) parts
 onto_some next [] parts = onto_onto [] (next ∷ []) parts
 onto_some next (q ∷ more) parts = refl
 
 -- one chunk was added
-pub read_one : (old new : Parts) (piece : Spanned Chunk) → new ≡ record { done = old.done; last = old.last ++ piece ∷ [] } → Reads old new (piece ∷ [])
-read_one old new piece is behind = ap (λ p. all_parts p behind) is ∙ ap (λ ps. old.done ++ ps) (sym (onto_onto old.last (piece ∷ []) behind))
+pub read_one : (old new : Parts) (piece : Spanned Chunk) → new ≡ record { done = old.done; last = old.last ++ piece ∷ [] } → ReadsPieces old new (piece ∷ [])
+read_one old new piece is following = ap (λ p. all_parts p following) is ∙ ap (λ ps. old.done ++ ps) (sym (onto_onto old.last (piece ∷ []) following))
 
 ended : Parts → Parts
 ended parts = record { done = parts.done ++ parts.last ∷ []; last = [] }
 
 -- a piece was added, and its part ended
 read_end : (old middle new : Parts) (piece next : Spanned Chunk) (more : List (Spanned Chunk)) → middle ≡ record { done = old.done; last = old.last ++ piece ∷ [] } → new ≡ record { done = middle.done ++ middle.last ∷ []; last = [] }
-    → (behind : List (List (Spanned Chunk))) → all_parts new (joined (next ∷ more) behind) ≡ all_parts old (joined (piece ∷ next ∷ more) behind)
+    → (following : List (List (Spanned Chunk))) → all_parts new (joined_parts (next ∷ more) following) ≡ all_parts old (joined_parts (piece ∷ next ∷ more) following)
 unfolding ended
-read_end old middle new piece next more added closed behind =
+read_end old middle new piece next more added closed following =
     let is : new ≡ record { done = old.done ++ (old.last ++ piece ∷ []) ∷ []; last = [] } = closed ∙ ap ended added in
-    ap (λ p. all_parts p (joined (next ∷ more) behind)) is
+    ap (λ p. all_parts p (joined_parts (next ∷ more) following)) is
     ∙ append_assoc old.done ((old.last ++ piece ∷ []) ∷ []) _
-    ∙ ap (λ ps. old.done ++ (old.last ++ piece ∷ []) ∷ ps) (onto_some next more behind)
+    ∙ ap (λ ps. old.done ++ (old.last ++ piece ∷ []) ∷ ps) (onto_some next more following)
 
 -- a place that is counted in two steps
 further_twice : (at n m : ℕ) → further at (further n m) ≡ further at (n + m)
 further_twice at n m = omega arith
 
-pub part_further : (whole text : List ℕ) (span : Range ℕ) (at skipped : ℕ) → part_of whole span (further at skipped) text ≡ part_of whole span (at + skipped) text
+pub part_further : (whole text : List ℕ) (span : Range ℕ) (at skipped : ℕ) → chunk_part whole span (further at skipped) text ≡ chunk_part whole span (at + skipped) text
 part_further whole text span at skipped =
     ap (λ n. if length text == length whole then placed (Normal text) span.start span.end else placed (Normal text) n (further n (length text)))
     (further_twice span.start at skipped)
@@ -76,20 +76,20 @@ pub record IsCharCut (c : ℕ) (text before after : List ℕ) : Type 0 where
 
 -- `split_once` cuts there
 pub char_cut : (c : ℕ) (text : List ℕ) (before after : Bor (List ℕ)) → IsUtf8 text → IsSplitOnceResult c text (Some (before, after)) → IsCharCut c text before.now after.now
-char_cut c text before after utf8 (i, j, found, front, back, ordered, size, rest_size) =
+char_cut c text before after utf8 (i, j, found, leading_run, back, ordered, size, rest_size) =
     let spelt : encode_utf8_all found.0.0 ≡ take i text = found.0.1 in
     let past = chars_past found.0.0 text (drop i text) utf8 (sym (take-append-drop i text) ∙ ap (λ bs. bs ++ drop i text) (sym spelt)) in
     let one = chars_past (c ∷ []) (drop i text) (drop j text) past.1 (found.1.split ∙ ap (λ bs. bs ++ drop j text) (encode_one c)) in
     let within : i ≤ length text = omega arith in
-    let front_utf8 : IsUtf8 (take i text) = IsUtf8-take text i utf8 (IsCharBoundary-from_drop text i within past.1) in
-    let front_chars : chars (take i text) ≡ found.0.0 = chars_whole found.0.0 (take i text) front_utf8 (sym spelt) in
+    let prefix_utf8 : IsUtf8 (take i text) = IsUtf8-take text i utf8 (IsCharBoundary-from_drop text i within past.1) in
+    let prefix_chars : chars (take i text) ≡ found.0.0 = chars_whole found.0.0 (take i text) prefix_utf8 (sym spelt) in
     let rest_chars : chars (drop i text) ≡ c ∷ chars (drop j text) = one.0 in
-    rw (front, back) (record {
-      free = rw front_chars found.0.2;
-      cut = past.0 ∙ ap (λ cs. found.0.0 ++ cs) rest_chars ∙ ap (λ cs. cs ++ c ∷ chars (drop j text)) (sym front_chars);
-      spells = sym (encodes-chars (take i text) front_utf8);
+    rw (leading_run, back) (record {
+      free = rw prefix_chars found.0.2;
+      cut = past.0 ∙ ap (λ cs. found.0.0 ++ cs) rest_chars ∙ ap (λ cs. cs ++ c ∷ chars (drop j text)) (sym prefix_chars);
+      spells = sym (encodes-chars (take i text) prefix_utf8);
       utf8 = one.1;
-      size = omega (arith, found.1.ends, size, rest_size, ap length front, ap length back);
+      size = omega (arith, found.1.ends, size, rest_size, ap length leading_run, ap length back);
     })
 
 -- where it finds none, no character of the text is that one
@@ -106,7 +106,7 @@ split_here test (d ∷ cs) c rest free here = slice_split-cons_no test d (cs ++ 
 
 -- the first comma of a text
 pub first_comma : (text : List ℕ) (r : Option (Bor (List ℕ) × Bor (List ℕ))) → IsUtf8 text → IsSplitOnceResult 44 text r
-    → MatchOption r (between Comma (chars text) ≡ chars text ∷ []) (λ both. IsFirstCut Comma text both.0.now both.1.now)
+    → MatchOption r (between_cuts Comma (chars text) ≡ chars text ∷ []) (λ both. IsFirstCut Comma text both.0.now both.1.now)
 first_comma text None utf8 none = split_none (λ c. c == 44) (chars text) (char_free 44 text utf8 none)
 first_comma text (Some both) utf8 found =
     let is = char_cut 44 text both.0 both.1 utf8 found in
@@ -120,7 +120,7 @@ first_comma text (Some both) utf8 found =
 -- the first word `and`
 pub first_word : (text : List ℕ) (r : Option (Bor (List ℕ) × Bor (List ℕ)))
     → MatchOption r (between_ands false (chars text) ≡ chars text ∷ []) (λ both. IsFirstAnd text both.0.now both.1.now)
-    → MatchOption r (between And (chars text) ≡ chars text ∷ []) (λ both. IsFirstCut And text both.0.now both.1.now)
+    → MatchOption r (between_cuts And (chars text) ≡ chars text ∷ []) (λ both. IsFirstCut And text both.0.now both.1.now)
 first_word text None none = none
 first_word text (Some both) first = record {
   cut = first.cut;
@@ -138,49 +138,49 @@ commas_some (c ∷ cs) =
     (λ other. (c ∷ rest.0, rest.1, slice_split-cons_no (λ d. d == 44) c cs other ∙ ap (onto_first c) rest.2))
     (cases_Bool (c == 44))
 
-between_some : (separator : Separator) (cs : List ℕ) → (text : List ℕ) × (more : List (List ℕ)) × (between separator cs ≡ text ∷ more)
+between_some : (separator : Separator) (cs : List ℕ) → (text : List ℕ) × (more : List (List ℕ)) × (between_cuts separator cs ≡ text ∷ more)
 between_some Comma cs = commas_some cs
 between_some And cs = ands_some false cs
 
-pub pieces_some : (w : ℕ) (whole : List ℕ) (span : Range ℕ) (at : ℕ) (behind : Bool) (text : List ℕ) (more : List (List ℕ))
-    → (x : Spanned Chunk) × (xs : List (Spanned Chunk)) × (pieces_between w whole span at behind (text ∷ more) ≡ x ∷ xs)
-pieces_some w whole span at behind text [] = (_, _, refl)
-pieces_some w whole span at behind text (next ∷ more) = (_, _, refl)
+pub pieces_some : (w : ℕ) (whole : List ℕ) (span : Range ℕ) (at : ℕ) (following : Bool) (text : List ℕ) (more : List (List ℕ))
+    → (x : Spanned Chunk) × (xs : List (Spanned Chunk)) × (pieces_between w whole span at following (text ∷ more) ≡ x ∷ xs)
+pieces_some w whole span at following text [] = (_, _, refl)
+pieces_some w whole span at following text (next ∷ more) = (_, _, refl)
 
 -- a piece up to a separator was read
-pub read_piece : (separator : Separator) (old middle new : Parts) (whole : List ℕ) (span : Range ℕ) (at onward : ℕ) (behind : Bool) (rest before after : List ℕ) (here : Spanned Chunk)
-    → IsFirstCut separator rest before after → onward ≡ at + (length before + width separator) → here ≡ piece whole span at behind true before
+pub read_piece : (separator : Separator) (old middle new : Parts) (whole : List ℕ) (span : Range ℕ) (at onward : ℕ) (following : Bool) (rest before after : List ℕ) (here : Spanned Chunk)
+    → IsFirstCut separator rest before after → onward ≡ at + (length before + width separator) → here ≡ piece whole span at following true before
     → middle ≡ record { done = old.done; last = old.last ++ here ∷ [] } → new ≡ record { done = middle.done ++ middle.last ∷ []; last = [] }
     → (parts : List (List (Spanned Chunk)))
-    → all_parts new (joined (pieces_between (width separator) whole span onward true (between separator (chars after))) parts)
-    ≡ all_parts old (joined (pieces_between (width separator) whole span at behind (between separator (chars rest))) parts)
-read_piece separator old middle new whole span at onward behind rest before after here first onward_is here_is added closed parts =
+    → all_parts new (joined_parts (pieces_between (width separator) whole span onward true (between_cuts separator (chars after))) parts)
+    ≡ all_parts old (joined_parts (pieces_between (width separator) whole span at following (between_cuts separator (chars rest))) parts)
+read_piece separator old middle new whole span at onward following rest before after here first onward_is here_is added closed parts =
     let w = width separator in
     let (text, more, split) = between_some separator (chars after) in
     let (x, xs, some) = pieces_some w whole span onward true text more in
-    let rest_pieces : pieces_between w whole span onward true (between separator (chars after)) ≡ x ∷ xs = ap (pieces_between w whole span onward true) split ∙ some in
+    let rest_pieces : pieces_between w whole span onward true (between_cuts separator (chars after)) ≡ x ∷ xs = ap (pieces_between w whole span onward true) split ∙ some in
     let bytes : encode_utf8_all (chars before) ≡ before = sym first.spells in
-    let all_here : pieces_between w whole span at behind (chars before ∷ text ∷ more) ≡ here ∷ (x ∷ xs) =
-    ap (λ bs. piece whole span at behind true bs ∷ pieces_between w whole span (at + (length bs + w)) true (text ∷ more)) bytes
-    ∙ ap (λ n. piece whole span at behind true before ∷ pieces_between w whole span n true (text ∷ more)) (sym onward_is)
-    ∙ ap (λ ys. piece whole span at behind true before ∷ ys) some
+    let all_here : pieces_between w whole span at following (chars before ∷ text ∷ more) ≡ here ∷ (x ∷ xs) =
+    ap (λ bs. piece whole span at following true bs ∷ pieces_between w whole span (at + (length bs + w)) true (text ∷ more)) bytes
+    ∙ ap (λ n. piece whole span at following true before ∷ pieces_between w whole span n true (text ∷ more)) (sym onward_is)
+    ∙ ap (λ ys. piece whole span at following true before ∷ ys) some
     ∙ ap (λ p. p ∷ (x ∷ xs)) (sym here_is) in
-    let all_pieces : pieces_between w whole span at behind (between separator (chars rest)) ≡ here ∷ (x ∷ xs) = ap (pieces_between w whole span at behind) (first.cut ∙ ap (λ ts. chars before ∷ ts) split) ∙ all_here in
-    ap (λ ps. all_parts new (joined ps parts)) rest_pieces ∙ read_end old middle new here x xs added closed parts ∙ ap (λ ps. all_parts old (joined ps parts)) (sym all_pieces)
+    let all_pieces : pieces_between w whole span at following (between_cuts separator (chars rest)) ≡ here ∷ (x ∷ xs) = ap (pieces_between w whole span at following) (first.cut ∙ ap (λ ts. chars before ∷ ts) split) ∙ all_here in
+    ap (λ ps. all_parts new (joined_parts ps parts)) rest_pieces ∙ read_end old middle new here x xs added closed parts ∙ ap (λ ps. all_parts old (joined_parts ps parts)) (sym all_pieces)
 
 -- the last piece was read
-pub read_rest : (separator : Separator) (old new : Parts) (whole : List ℕ) (span : Range ℕ) (at : ℕ) (behind : Bool) (rest : List ℕ) (here : Spanned Chunk)
-    → IsUtf8 rest → between separator (chars rest) ≡ chars rest ∷ [] → here ≡ piece whole span at behind false rest
+pub read_rest : (separator : Separator) (old new : Parts) (whole : List ℕ) (span : Range ℕ) (at : ℕ) (following : Bool) (rest : List ℕ) (here : Spanned Chunk)
+    → IsUtf8 rest → between_cuts separator (chars rest) ≡ chars rest ∷ [] → here ≡ piece whole span at following false rest
     → new ≡ record { done = old.done; last = old.last ++ here ∷ [] }
-    → Reads old new (pieces_between (width separator) whole span at behind (between separator (chars rest)))
-read_rest separator old new whole span at behind rest here utf8 last here_is added parts =
-    let pieces : pieces_between (width separator) whole span at behind (between separator (chars rest)) ≡ here ∷ [] =
-    ap (pieces_between (width separator) whole span at behind) last ∙ ap (λ bs. piece whole span at behind false bs ∷ []) (encodes-chars rest utf8) ∙ ap (λ p. p ∷ []) (sym here_is) in
-    read_one old new here added parts ∙ ap (λ ps. all_parts old (joined ps parts)) (sym pieces)
+    → ReadsPieces old new (pieces_between (width separator) whole span at following (between_cuts separator (chars rest)))
+read_rest separator old new whole span at following rest here utf8 last here_is added parts =
+    let pieces : pieces_between (width separator) whole span at following (between_cuts separator (chars rest)) ≡ here ∷ [] =
+    ap (pieces_between (width separator) whole span at following) last ∙ ap (λ bs. piece whole span at following false bs ∷ []) (encodes-chars rest utf8) ∙ ap (λ p. p ∷ []) (sym here_is) in
+    read_one old new here added parts ∙ ap (λ ps. all_parts old (joined_parts ps parts)) (sym pieces)
 
 -- one chunk of a list was read
 pub read_chunk : (w : ℕ) (cut : List ℕ → List (List ℕ)) (old new : Parts) (total : List (List (Spanned Chunk))) (chunks : List (Spanned Chunk)) (i : ℕ) (x : Spanned Chunk) → i < length chunks → x ≡ get_or chunks i x
-    → Reads old new (pieces w cut x.v x.span) → all_parts old (list_parts w cut (drop i chunks)) ≡ total → all_parts new (list_parts w cut (drop (i + 1) chunks)) ≡ total
+    → ReadsPieces old new (pieces w cut x.v x.span) → all_parts old (list_parts w cut (drop i chunks)) ≡ total → all_parts new (list_parts w cut (drop (i + 1) chunks)) ≡ total
 read_chunk w cut old new total chunks i x within is reads so_far =
     let split : drop i chunks ≡ x ∷ drop (i + 1) chunks = drop_more chunks i x within ∙ ap (λ y. y ∷ drop (i + 1) chunks) (sym is) in
     reads (list_parts w cut (drop (i + 1) chunks)) ∙ ap (λ cs. all_parts old (list_parts w cut cs)) (sym split) ∙ so_far

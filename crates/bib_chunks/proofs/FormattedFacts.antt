@@ -12,7 +12,7 @@ use Rattle.bib_chunks.specs.declared.chunk.Chunk.{Chunk}
 use Rattle.bib_chunks.specs.declared.chunk.Chunk.TheVariants.{Verbatim}
 use Rattle.bib_text.specs.declared.spanned.Spanned.{Spanned}
 use Rattle.bib_text.specs.Places.{Place, CharAt, Run, Longest, AtEnd, between}
-use Rattle.bib_chunks.specs.Formatted.{is_break, ends_in_space, unbroken, flowing, space_behind, formatted_chunk, formatted_behind, cased, sentence_case, sentence_behind}
+use Rattle.bib_chunks.specs.Formatted.{is_break, ends_in_space, unbroken, flowing, space_after, formatted_chunk, formatted_after, cased, sentence_case, sentence_after}
 use Rattle.bib_text.proofs.TextFacts.{ahead, Passed, passed_char, passed_run, passed_between, written_more, written_all, chars_at_end, chars_past, chars_whole}
 
 -- a character that does not break the line
@@ -27,12 +27,12 @@ pub ends-append : (empty : Bool) (xs ys : List ℕ) → ends_in_space empty (xs 
 ends-append empty [] ys = refl
 ends-append empty (x ∷ xs) ys = ends-append (is_whitespace x) xs ys
 
--- the last character tells how a text ends
-pub ends_at_char : (empty answer : Bool) (bs front : List ℕ) (c : ℕ) → IsUtf8 bs → IsUtf8 front → bs ≡ front ++ encode_utf8 c → answer ≡ is_whitespace c → answer ≡ ends_in_space empty (chars bs)
-ends_at_char empty answer bs front c utf8 front_utf8 ends tells =
-    let past = chars_past (chars front) bs (encode_utf8 c) utf8 (ends ∙ ap (λ xs. xs ++ encode_utf8 c) (sym (encodes-chars front front_utf8))) in
+-- the last character says how a text ends
+pub ends_at_char : (empty answer : Bool) (bs leading_run : List ℕ) (c : ℕ) → IsUtf8 bs → IsUtf8 leading_run → bs ≡ leading_run ++ encode_utf8 c → answer ≡ is_whitespace c → answer ≡ ends_in_space empty (chars bs)
+ends_at_char empty answer bs leading_run c utf8 prefix_utf8 ends decides =
+    let past = chars_past (chars leading_run) bs (encode_utf8 c) utf8 (ends ∙ ap (λ xs. xs ++ encode_utf8 c) (sym (encodes-chars leading_run prefix_utf8))) in
     let one : chars (encode_utf8 c) ≡ c ∷ [] = chars_past_char (encode_utf8 c) [] c past.1 (sym (append-nil _)) ∙ ap (λ xs. c ∷ xs) chars-nil in
-    tells ∙ sym (ap (ends_in_space empty) (past.0 ∙ ap (λ xs. chars front ++ xs) one) ∙ ends-append empty (chars front) (c ∷ []))
+    decides ∙ sym (ap (ends_in_space empty) (past.0 ∙ ap (λ xs. chars leading_run ++ xs) one) ∙ ends-append empty (chars leading_run) (c ∷ []))
 
 pub ends_of_none : (empty : Bool) (bs : List ℕ) → length bs ≡ 0 → empty ≡ ends_in_space empty (chars bs)
 ends_of_none empty [] none = sym (ap (ends_in_space empty) chars-nil)
@@ -50,7 +50,7 @@ gap_ends : (space : Bool) → ends_in_space space (gap space) ≡ true
 gap_ends true = refl
 gap_ends false = refl
 
--- a line break becomes a gap, behind which white space stands
+-- a line break becomes a gap, after which white space stands
 pub flowing_break : (space : Bool) (c : ℕ) (rest : List ℕ) → is_break c ≡ true → flowing space (c ∷ rest) ≡ gap space ++ flowing true rest
 flowing_break space c rest breaks =
     let becomes : unbroken space c ≡ gap space = cond-true (is_break c) _ _ breaks in
@@ -61,10 +61,10 @@ run_written : (out one total run : List ℕ) {u w : Place} (space after ends : B
     → one ≡ out ++ run → after ≡ ends_in_space space (chars run)
     → out ++ encode_utf8_all (flowing space (chars (ahead u))) ≡ total → ends_in_space space (flowing space (chars (ahead u))) ≡ ends
     → (w.text ≡ u.text) × IsUtf8 (ahead w) × (one ++ encode_utf8_all (flowing after (chars (ahead w))) ≡ total) × (ends_in_space after (flowing after (chars (ahead w))) ≡ ends)
-run_written out one total run {u} {w} space after ends runs utf8 run_utf8 is_run first tells before before_ends =
+run_written out one total run {u} {w} space after ends runs utf8 run_utf8 is_run first decides before before_ends =
     let (cs, passed, all) = passed_run runs utf8 in
     let spells : run ≡ encode_utf8_all cs = is_run ∙ passed_between passed in
-    let state : after ≡ ends_in_space space cs = tells ∙ ap (ends_in_space space) (chars_whole cs run run_utf8 spells) in
+    let state : after ≡ ends_in_space space cs = decides ∙ ap (ends_in_space space) (chars_whole cs run run_utf8 spells) in
     let cut : flowing space (chars (ahead u)) ≡ cs ++ flowing after (chars (ahead w)) =
     ap (flowing space) passed.spelt ∙ flowing_run space cs (chars (ahead w)) all ∙ ap (λ b. cs ++ flowing b (chars (ahead w))) (sym state) in (
       passed.same,
@@ -78,8 +78,8 @@ pub flowing_step : (out one two total run : List ℕ) {u w x : Place} {c : ℕ} 
     → one ≡ out ++ run → after ≡ ends_in_space space (chars run) → two ≡ one ++ encode_utf8_all (gap after)
     → out ++ encode_utf8_all (flowing space (chars (ahead u))) ≡ total → ends_in_space space (flowing space (chars (ahead u))) ≡ ends
     → (x.text ≡ u.text) × IsUtf8 (ahead x) × (two ++ encode_utf8_all (flowing true (chars (ahead x))) ≡ total) × (ends_in_space true (flowing true (chars (ahead x))) ≡ ends)
-flowing_step out one two total run {u} {w} {x} {c} space after ends longest utf8 run_utf8 is_run char first tells second before before_ends =
-    let (same, w_utf8, middle, middle_ends) = run_written out one total run space after ends longest.run utf8 run_utf8 is_run first tells before before_ends in
+flowing_step out one two total run {u} {w} {x} {c} space after ends longest utf8 run_utf8 is_run char first decides second before before_ends =
+    let (same, w_utf8, middle, middle_ends) = run_written out one total run space after ends longest.run utf8 run_utf8 is_run first decides before before_ends in
     let passed : Passed w (c ∷ []) x = passed_char char w_utf8 in
     let breaks : is_break c ≡ true = not-false (is_break c) (longest.stops c x char) in
     let cut : flowing after (chars (ahead w)) ≡ gap after ++ flowing true (chars (ahead x)) = ap (flowing after) passed.spelt ∙ flowing_break after c (chars (ahead x)) breaks in (
@@ -94,8 +94,8 @@ pub flowing_end : (out one total run : List ℕ) {u w : Place} (space after ends
     → one ≡ out ++ run → after ≡ ends_in_space space (chars run)
     → out ++ encode_utf8_all (flowing space (chars (ahead u))) ≡ total → ends_in_space space (flowing space (chars (ahead u))) ≡ ends
     → (one ≡ total) × (after ≡ ends)
-flowing_end out one total run {u} {w} space after ends longest utf8 run_utf8 is_run end first tells before before_ends =
-    let (same, w_utf8, middle, middle_ends) = run_written out one total run space after ends longest.run utf8 run_utf8 is_run first tells before before_ends in
+flowing_end out one total run {u} {w} space after ends longest utf8 run_utf8 is_run end first decides before before_ends =
+    let (same, w_utf8, middle, middle_ends) = run_written out one total run space after ends longest.run utf8 run_utf8 is_run first decides before before_ends in
     let nothing : flowing after (chars (ahead w)) ≡ [] = ap (flowing after) (chars_at_end w end) in
     (written_all one total (flowing after (chars (ahead w))) nothing middle, sym (ap (ends_in_space after) nothing) ∙ middle_ends)
 
@@ -105,17 +105,17 @@ pub formatted_verbatim : (recased : List ℕ → List ℕ) (space : Bool) (chunk
 formatted_verbatim recased space chunk text bytes is same spells = spells ∙ ap (λ t. encode_utf8_all (chars t)) same ∙ ap (λ x. encode_utf8_all (formatted_chunk recased space x)) (sym is)
 
 -- one chunk was written
-pub formatted_part : (space behind : Bool) (chunks : List (Spanned Chunk)) (i : ℕ) (x : Spanned Chunk) (out more total : List ℕ) → i < length chunks → x ≡ get_or chunks i x
-    → more ≡ out ++ encode_utf8_all (formatted_chunk (λ cs. cs) space x.v) → behind ≡ space_behind space x.v
-    → out ++ encode_utf8_all (formatted_behind space (drop i chunks)) ≡ total
-    → more ++ encode_utf8_all (formatted_behind behind (drop (i + 1) chunks)) ≡ total
-formatted_part space behind chunks i x out more total within is written tells before =
+pub formatted_part : (space following : Bool) (chunks : List (Spanned Chunk)) (i : ℕ) (x : Spanned Chunk) (out more total : List ℕ) → i < length chunks → x ≡ get_or chunks i x
+    → more ≡ out ++ encode_utf8_all (formatted_chunk (λ cs. cs) space x.v) → following ≡ space_after space x.v
+    → out ++ encode_utf8_all (formatted_after space (drop i chunks)) ≡ total
+    → more ++ encode_utf8_all (formatted_after following (drop (i + 1) chunks)) ≡ total
+formatted_part space following chunks i x out more total within is written decides before =
     let split : drop i chunks ≡ x ∷ drop (i + 1) chunks = drop_more chunks i x within ∙ ap (λ y. y ∷ drop (i + 1) chunks) (sym is) in
     let part = formatted_chunk (λ cs. cs) space x.v in
-    let cut : formatted_behind space (drop i chunks) ≡ part ++ formatted_behind behind (drop (i + 1) chunks) = ap (formatted_behind space) split ∙ ap (λ b. part ++ formatted_behind b (drop (i + 1) chunks)) (sym tells) in
+    let cut : formatted_after space (drop i chunks) ≡ part ++ formatted_after following (drop (i + 1) chunks) = ap (formatted_after space) split ∙ ap (λ b. part ++ formatted_after b (drop (i + 1) chunks)) (sym decides) in
     written_more out more total part _ _ written cut before
 
--- behind its first character a sentence goes on in lower case
+-- after its first character a sentence goes on in lower case
 goes_lower : (cs : List ℕ) → flat_map to_lowercase cs ≡ sentence_case false cs
 goes_lower [] = refl
 goes_lower (c ∷ cs) = refl
@@ -140,17 +140,17 @@ pub sentence_step : (out more total : List ℕ) {u x : Place} {c : ℕ} (d : ℕ
     → more ≡ out ++ encode_utf8_all (cased first d) → after ≡ is_whitespace d
     → out ++ encode_utf8_all (sentence_case first (flowing space (chars (ahead u)))) ≡ total → ends_in_space space (flowing space (chars (ahead u))) ≡ ends
     → (x.text ≡ u.text) × IsUtf8 (ahead x) × (more ++ encode_utf8_all (sentence_case false (flowing after (chars (ahead x)))) ≡ total) × (ends_in_space after (flowing after (chars (ahead x))) ≡ ends)
-sentence_step out more total {u} {x} {c} d first space after ends r char utf8 some becomes written tells before before_ends =
+sentence_step out more total {u} {x} {c} d first space after ends r char utf8 some becomes written decides before before_ends =
     let passed : Passed u (c ∷ []) x = passed_char char utf8 in
     let one : unbroken space c ≡ d ∷ [] = sym becomes ∙ ap option_to_list some in
     let cut : flowing space (chars (ahead u)) ≡ d ∷ flowing after (chars (ahead x)) =
-    ap (flowing space) passed.spelt ∙ ap (λ ys. ys ++ flowing (ends_in_space space ys) (chars (ahead x))) one ∙ ap (λ b. d ∷ flowing b (chars (ahead x))) (sym tells) in
+    ap (flowing space) passed.spelt ∙ ap (λ ys. ys ++ flowing (ends_in_space space ys) (chars (ahead x))) one ∙ ap (λ b. d ∷ flowing b (chars (ahead x))) (sym decides) in
     let cased_cut : sentence_case first (flowing space (chars (ahead u))) ≡ cased first d ++ sentence_case false (flowing after (chars (ahead x))) =
     ap (sentence_case first) cut ∙ ap (λ ys. cased first d ++ ys) (goes_lower (flowing after (chars (ahead x)))) in (
       passed.same,
       passed.utf8,
       written_more out more total (cased first d) _ _ written cased_cut before,
-      ap (λ b. ends_in_space b (flowing after (chars (ahead x)))) tells ∙ sym (ap (ends_in_space space) cut) ∙ before_ends,
+      ap (λ b. ends_in_space b (flowing after (chars (ahead x)))) decides ∙ sym (ap (ends_in_space space) cut) ∙ before_ends,
     )
 
 -- the text ends
@@ -164,12 +164,12 @@ sentence_end out total u first space ends end before before_ends =
     )
 
 -- one chunk of a sentence was written
-pub sentence_part : (begins space behind : Bool) (chunks : List (Spanned Chunk)) (i : ℕ) (x : Spanned Chunk) (out more total : List ℕ) → i < length chunks → x ≡ get_or chunks i x
-    → more ≡ out ++ encode_utf8_all (formatted_chunk (sentence_case begins) space x.v) → behind ≡ space_behind space x.v
-    → out ++ encode_utf8_all (sentence_behind begins space (drop i chunks)) ≡ total
-    → more ++ encode_utf8_all (sentence_behind false behind (drop (i + 1) chunks)) ≡ total
-sentence_part begins space behind chunks i x out more total within is written tells before =
+pub sentence_part : (begins space following : Bool) (chunks : List (Spanned Chunk)) (i : ℕ) (x : Spanned Chunk) (out more total : List ℕ) → i < length chunks → x ≡ get_or chunks i x
+    → more ≡ out ++ encode_utf8_all (formatted_chunk (sentence_case begins) space x.v) → following ≡ space_after space x.v
+    → out ++ encode_utf8_all (sentence_after begins space (drop i chunks)) ≡ total
+    → more ++ encode_utf8_all (sentence_after false following (drop (i + 1) chunks)) ≡ total
+sentence_part begins space following chunks i x out more total within is written decides before =
     let split : drop i chunks ≡ x ∷ drop (i + 1) chunks = drop_more chunks i x within ∙ ap (λ y. y ∷ drop (i + 1) chunks) (sym is) in
     let part = formatted_chunk (sentence_case begins) space x.v in
-    let cut : sentence_behind begins space (drop i chunks) ≡ part ++ sentence_behind false behind (drop (i + 1) chunks) = ap (sentence_behind begins space) split ∙ ap (λ b. part ++ sentence_behind false b (drop (i + 1) chunks)) (sym tells) in
+    let cut : sentence_after begins space (drop i chunks) ≡ part ++ sentence_after false following (drop (i + 1) chunks) = ap (sentence_after begins space) split ∙ ap (λ b. part ++ sentence_after false b (drop (i + 1) chunks)) (sym decides) in
     written_more out more total part _ _ written cut before

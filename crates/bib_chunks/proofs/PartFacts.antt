@@ -12,7 +12,7 @@ use Rattle.bib_chunks.specs.declared.chunk.Chunk.{Chunk}
 use Rattle.bib_chunks.specs.declared.chunk.Chunk.TheVariants.{Normal, Verbatim, Math}
 use Rattle.bib_text.specs.declared.spanned.Spanned.{Spanned}
 use Rattle.bib_chunks.specs.Styled.{Atom, atoms_of, styled, text_of}
-use Rattle.bib_chunks.specs.Cuts.{piece, pieces, pieces_between, onto, joined, list_parts, between_commas, comma_list, trimmed}
+use Rattle.bib_chunks.specs.Cuts.{piece, pieces, pieces_between, onto, joined_parts, list_parts, between_commas, comma_list, trimmed}
 use Rattle.bib_chunks.specs.Parted.{AreTexts, HoldsNoComma, is_normal_comma}
 use Rattle.bib_chunks.proofs.TrimFacts.{IsTrimmed, SaysPiece, piece_says, scalars_parts}
 use Rattle.bib_chunks.proofs.WholeFacts.{rejoined, commas_whole}
@@ -32,11 +32,11 @@ texts_valid separator (text ∷ after ∷ more) valid =
 
 -- what holds of each piece, holds of each chunk of each part
 module _ (P : Spanned Chunk → Type 0) where
-  onto_hold : (front : List (Spanned Chunk)) (parts : List (List (Spanned Chunk))) → AllByRecursion P front → AllByRecursion (AllByRecursion P) parts → AllByRecursion (AllByRecursion P) (onto front parts)
-  onto_hold front [] one hold = (one, tt)
-  onto_hold front (part ∷ parts) one hold = (all-append P front part one hold.0, hold.1)
+  onto_hold : (leading_run : List (Spanned Chunk)) (parts : List (List (Spanned Chunk))) → AllByRecursion P leading_run → AllByRecursion (AllByRecursion P) parts → AllByRecursion (AllByRecursion P) (onto leading_run parts)
+  onto_hold leading_run [] one hold = (one, tt)
+  onto_hold leading_run (part ∷ parts) one hold = (all-append P leading_run part one hold.0, hold.1)
 
-  joined_hold : (ps : List (Spanned Chunk)) (parts : List (List (Spanned Chunk))) → AllByRecursion P ps → AllByRecursion (AllByRecursion P) parts → AllByRecursion (AllByRecursion P) (joined ps parts)
+  joined_hold : (ps : List (Spanned Chunk)) (parts : List (List (Spanned Chunk))) → AllByRecursion P ps → AllByRecursion (AllByRecursion P) parts → AllByRecursion (AllByRecursion P) (joined_parts ps parts)
   joined_hold [] parts one hold = hold
   joined_hold (p ∷ []) parts one hold = onto_hold (p ∷ []) parts one hold
   joined_hold (p ∷ q ∷ more) parts one hold = ((one.0, tt), joined_hold (q ∷ more) parts one.1 hold)
@@ -54,12 +54,12 @@ module _ (R : List ℕ → Type 0) (P : Chunk → Type 0)
       let says : SaysPiece first last text (piece whole span at first last (encode_utf8_all text)) = piece_says whole span at first last text valid in
       subst P (sym says.is) (chunk_holds says.left says.valid (left_holds first last text says.left says.trimmed holds))
 
-  between_hold : (w : ℕ) (whole : List ℕ) (span : Range ℕ) (at : ℕ) (behind : Bool) (texts : List (List ℕ)) → AllByRecursion (λ t. scalars t ≡ true) texts → AllByRecursion R texts
-      → AllByRecursion (λ x. P x.v) (pieces_between w whole span at behind texts)
-  between_hold w whole span at behind [] valid hold = tt
-  between_hold w whole span at behind (text ∷ []) valid hold = (piece_holds whole span at behind false text valid.0 hold.0, tt)
-  between_hold w whole span at behind (text ∷ after ∷ more) valid hold =
-      (piece_holds whole span at behind true text valid.0 hold.0, between_hold w whole span (at + (length (encode_utf8_all text) + w)) true (after ∷ more) valid.1 hold.1)
+  between_hold : (w : ℕ) (whole : List ℕ) (span : Range ℕ) (at : ℕ) (following : Bool) (texts : List (List ℕ)) → AllByRecursion (λ t. scalars t ≡ true) texts → AllByRecursion R texts
+      → AllByRecursion (λ x. P x.v) (pieces_between w whole span at following texts)
+  between_hold w whole span at following [] valid hold = tt
+  between_hold w whole span at following (text ∷ []) valid hold = (piece_holds whole span at following false text valid.0 hold.0, tt)
+  between_hold w whole span at following (text ∷ after ∷ more) valid hold =
+      (piece_holds whole span at following true text valid.0 hold.0, between_hold w whole span (at + (length (encode_utf8_all text) + w)) true (after ∷ more) valid.1 hold.1)
 
   module _ (separator : List ℕ) (w : ℕ) (cut : List ℕ → List (List ℕ)) (whole_again : (cs : List ℕ) → rejoined separator (cut cs) ≡ cs)
       (cut_holds : (cs : List ℕ) → AllByRecursion R (cut cs)) (verbatim_holds : (text : List ℕ) → P (Verbatim text)) (math_holds : (text : List ℕ) → P (Math text)) where

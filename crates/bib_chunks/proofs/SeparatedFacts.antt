@@ -6,10 +6,10 @@ use Rattle.std.specs.declared.ops.Range.{Range}
 use Rattle.std.proofs.lemmas.Str.{chars-nil}
 use Rattle.bib_chunks.specs.declared.chunk.Chunk.{Chunk}
 use Rattle.bib_chunks.specs.declared.chunk.Chunk.TheVariants.{Normal}
-use Rattle.bib_chunks.specs.Formatted.{ends_in_space, flowing, space_behind, formatted, formatted_chunk, formatted_behind}
-use Rattle.bib_chunks.specs.Cuts.{placed, pieces, joined, list_parts}
+use Rattle.bib_chunks.specs.Formatted.{ends_in_space, flowing, space_after, formatted, formatted_chunk, formatted_after}
+use Rattle.bib_chunks.specs.Cuts.{placed, pieces, joined_parts, list_parts}
 use Rattle.bib_chunks.specs.Values.{Value, nowhere, alone}
-use Rattle.bib_chunks.specs.Separated.{behind_separator, joined_by}
+use Rattle.bib_chunks.specs.Separated.{after_separator, joined_by}
 
 -- the bytes of a chunk that stands nowhere
 abbrev pub no_place : Range ℕ
@@ -35,26 +35,26 @@ module _ (width : ℕ) (between : List ℕ → List (List ℕ)) (chunk : List �
   abbrev pub AreWhole : List (List ℕ) → Type 0
   AreWhole = AllByRecursion (λ t. IsWhole width between (chunk t) (chars t))
 
-  -- a text's chunk and a blank one behind it
-  whole_formats : (t : List ℕ) (behind : Value) → IsWhole width between (chunk t) (chars t) → ((space : Bool) → formatted_behind space behind ≡ []) → formatted (nowhere (chunk t) ∷ behind) ≡ chars t
-  whole_formats t behind whole none =
-      ap (λ xs. formatted_chunk (λ cs. cs) false (chunk t) ++ xs) (none (space_behind false (chunk t))) ∙ append-nil (formatted_chunk (λ cs. cs) false (chunk t)) ∙ whole.says
+  -- a text's chunk and a blank one after it
+  whole_formats : (t : List ℕ) (following : Value) → IsWhole width between (chunk t) (chars t) → ((space : Bool) → formatted_after space following ≡ []) → formatted (nowhere (chunk t) ∷ following) ≡ chars t
+  whole_formats t following whole none =
+      ap (λ xs. formatted_chunk (λ cs. cs) false (chunk t) ++ xs) (none (space_after false (chunk t))) ∙ append-nil (formatted_chunk (λ cs. cs) false (chunk t)) ∙ whole.says
 
-  -- an empty chunk in front changes nothing
-  blank_front : (span : Range ℕ) (xs : Value) → formatted (blank span ++ xs) ≡ formatted xs
-  blank_front span xs = ap (λ cs. flowing false cs ++ formatted_behind (ends_in_space false (flowing false cs)) xs) chars-nil
+  -- an empty chunk in start changes nothing
+  blank_prefix : (span : Range ℕ) (xs : Value) → formatted (blank span ++ xs) ≡ formatted xs
+  blank_prefix span xs = ap (λ cs. flowing false cs ++ formatted_after (ends_in_space false (flowing false cs)) xs) chars-nil
 
   module _ (separator : List ℕ) (is : IsSeparator width between separator) where
-    -- the chunks of texts behind separators
-    abbrev behind_separators : List (List ℕ) → Value
-    behind_separators texts = flat_map (behind_separator separator) (map (λ t. alone (chunk t)) texts)
+    -- the chunks of texts after separators
+    abbrev after_separators : List (List ℕ) → Value
+    after_separators texts = flat_map (after_separator separator) (map (λ t. alone (chunk t)) texts)
 
     -- how they are cut: a first part, which is blank, and the others
     record Cut (texts : List (List ℕ)) : Type 0 where
       pub first : Value
       pub others : List Value
-      pub parts : list_parts width between (behind_separators texts) ≡ first ∷ others
-      pub none : (space : Bool) → formatted_behind space first ≡ []
+      pub parts : list_parts width between (after_separators texts) ≡ first ∷ others
+      pub none : (space : Bool) → formatted_after space first ≡ []
       pub formats : map formatted others ≡ map chars texts
 
     cut : (texts : List (List ℕ)) → AreWhole texts → Cut texts
@@ -65,12 +65,12 @@ module _ (width : ℕ) (between : List ℕ → List (List ℕ)) (chunk : List �
           first = blank is.before;
           others = (blank is.after ++ (alone (chunk t) ++ more.first)) ∷ more.others;
           parts =
-              ap (λ ps. joined ps (joined (pieces width between (chunk t) no_place) (list_parts width between (behind_separators rest)))) is.cut
-              ∙ ap (λ ps. joined (blank is.before ++ blank is.after) (joined ps (list_parts width between (behind_separators rest)))) whole.0.one
-              ∙ ap (λ ps. joined (blank is.before ++ blank is.after) (joined (alone (chunk t)) ps)) more.parts;
+              ap (λ ps. joined_parts ps (joined_parts (pieces width between (chunk t) no_place) (list_parts width between (after_separators rest)))) is.cut
+              ∙ ap (λ ps. joined_parts (blank is.before ++ blank is.after) (joined_parts ps (list_parts width between (after_separators rest)))) whole.0.one
+              ∙ ap (λ ps. joined_parts (blank is.before ++ blank is.after) (joined_parts (alone (chunk t)) ps)) more.parts;
           none = λ space. ap (λ cs. flowing space cs ++ []) chars-nil;
           formats =
-              ap (λ x. x ∷ map formatted more.others) (blank_front is.after (alone (chunk t) ++ more.first) ∙ whole_formats t more.first whole.0 more.none)
+              ap (λ x. x ∷ map formatted more.others) (blank_prefix is.after (alone (chunk t) ++ more.first) ∙ whole_formats t more.first whole.0 more.none)
               ∙ ap (λ xs. chars t ∷ xs) more.formats;
         }
 
@@ -79,7 +79,7 @@ module _ (width : ℕ) (between : List ℕ → List (List ℕ)) (chunk : List �
         → map formatted (list_parts width between (joined_by separator (map (λ u. alone (chunk u)) (t ∷ rest)))) ≡ map chars (t ∷ rest)
     separated_formats t rest whole =
         let more : Cut rest = cut rest whole.1 in
-        ap (λ ps. map formatted (joined ps (list_parts width between (behind_separators rest)))) whole.0.one
-        ∙ ap (λ ps. map formatted (joined (alone (chunk t)) ps)) more.parts
+        ap (λ ps. map formatted (joined_parts ps (list_parts width between (after_separators rest)))) whole.0.one
+        ∙ ap (λ ps. map formatted (joined_parts (alone (chunk t)) ps)) more.parts
         ∙ ap (λ x. x ∷ map formatted more.others) (whole_formats t more.first whole.0 more.none)
         ∙ ap (λ xs. chars t ∷ xs) more.formats

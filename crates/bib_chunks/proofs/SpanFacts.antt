@@ -21,6 +21,6 @@ pub whole_span_is : (chunks : List (Spanned Chunk)) (first last : Spanned Chunk)
 unfolding range
 whole_span_is [] first last is_first is_last = cc
 whole_span_is (c ∷ rest) first last is_first is_last =
-    let behind : length rest ≡ length (c ∷ rest) - 1 = omega arith in
+    let following : length rest ≡ length (c ∷ rest) - 1 = omega arith in
     ap (λ x. range x.span.start last.span.end) (same_some first c is_first)
-    ∙ ap (range c.span.start) (last_end_is c rest last (ap (slice_get (c ∷ rest)) behind ∙ sym is_last))
+    ∙ ap (range c.span.start) (last_end_is c rest last (ap (slice_get (c ∷ rest)) following ∙ sym is_last))

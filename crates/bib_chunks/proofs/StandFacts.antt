@@ -12,7 +12,7 @@ use Rattle.bib_chunks.specs.declared.chunk.Chunk.{Chunk}
 use Rattle.bib_chunks.specs.declared.chunk.Chunk.TheVariants.{Normal, Verbatim, Math}
 use Rattle.bib_text.specs.declared.spanned.Spanned.{Spanned}
 use Rattle.bib_chunks.specs.Styled.{text_of}
-use Rattle.bib_chunks.specs.Cuts.{further, placed, part_of, piece, pieces, pieces_between, list_parts, between_commas, comma_list, between_ands, trimmed, trimmed_from, trimmed_ends, and_list}
+use Rattle.bib_chunks.specs.Cuts.{further, placed, chunk_part, piece, pieces, pieces_between, list_parts, between_commas, comma_list, between_ands, trimmed, trimmed_from, trimmed_ends, and_list}
 use Rattle.bib_chunks.specs.Parted.{AreTexts, IsAsLong, StandsInChunk, StandsInOne}
 use Rattle.bib_chunks.proofs.TrimFacts.{IsPiece, piece_is, scalars_parts}
 use Rattle.bib_chunks.proofs.PartFacts.{list_hold}
@@ -21,16 +21,16 @@ use Rattle.bib_chunks.proofs.WordFacts.{letters, ands_whole, trimmed_texts}
 
 -- a chunk stands in itself
 stands_whole : (c : Spanned Chunk) → IsAsLong c → StandsInChunk c c
-stands_whole c long = record { before = []; behind = []; is = sym (append-nil (text_of c.v)); start = omega arith; end = long.0 }
+stands_whole c long = record { before = []; following = []; is = sym (append-nil (text_of c.v)); start = omega arith; end = long.0 }
 
 -- what stands in a chunk that stands in another one
 stands_twice : (c d here : Spanned Chunk) → StandsInChunk c d → StandsInChunk d here → StandsInChunk c here
 stands_twice c d here outer inner = record {
   before = outer.before ++ inner.before;
-  behind = inner.behind ++ outer.behind;
+  following = inner.following ++ outer.following;
   is =
-      outer.is ∙ ap (λ l. outer.before ++ (l ++ outer.behind)) inner.is
-      ∙ ap (λ l. outer.before ++ l) (append_assoc inner.before (text_of here.v ++ inner.behind) outer.behind ∙ ap (λ l. inner.before ++ l) (append_assoc (text_of here.v) inner.behind outer.behind))
+      outer.is ∙ ap (λ l. outer.before ++ (l ++ outer.following)) inner.is
+      ∙ ap (λ l. outer.before ++ l) (append_assoc inner.before (text_of here.v ++ inner.following) outer.following ∙ ap (λ l. inner.before ++ l) (append_assoc (text_of here.v) inner.following outer.following))
       ∙ sym (append_assoc outer.before inner.before _);
   start = omega (arith, outer.start, inner.start, length-append outer.before inner.before);
   end = inner.end;
@@ -39,20 +39,20 @@ stands_twice c d here outer inner = record {
 -- its bytes are as many as those of its text
 stands_long : (c here : Spanned Chunk) → IsAsLong c → StandsInChunk c here → IsAsLong here
 stands_long c here long stands =
-    let size : length (text_of c.v) ≡ length stands.before + (length (text_of here.v) + length stands.behind) =
-    ap length stands.is ∙ length-append stands.before (text_of here.v ++ stands.behind) ∙ ap (λ n. length stands.before + n) (length-append (text_of here.v) stands.behind) in
+    let size : length (text_of c.v) ≡ length stands.before + (length (text_of here.v) + length stands.following) =
+    ap length stands.is ∙ length-append stands.before (text_of here.v ++ stands.following) ∙ ap (λ n. length stands.before + n) (length-append (text_of here.v) stands.following) in
     (stands.end, omega (arith, size, stands.start, stands.end, long.0, long.1))
 
 module _ (whole : List ℕ) (span : Range ℕ) (long : IsAsLong (record { v = Normal whole; span = span })) where
-  part_stands : (before part after : List ℕ) (at : ℕ) → whole ≡ before ++ (part ++ after) → at ≡ length before → StandsInChunk (record { v = Normal whole; span = span }) (part_of whole span at part)
+  part_stands : (before part after : List ℕ) (at : ℕ) → whole ≡ before ++ (part ++ after) → at ≡ length before → StandsInChunk (record { v = Normal whole; span = span }) (chunk_part whole span at part)
   part_stands before part after at is at_is =
       let size : length whole ≡ length before + (length part + length after) = ap length is ∙ length-append before (part ++ after) ∙ ap (λ n. length before + n) (length-append part after) in
       elim (length part == length whole)
       as (λ b. (length part == length whole) ≡ b → StandsInChunk (record { v = Normal whole; span = span }) (if b then placed (Normal part) span.start span.end else placed (Normal part) (further span.start at) (further (further span.start at) (length part)))) [
         | true ↦ λ same.
             let equal : length part ≡ length whole = eqb-true (length part) (length whole) same in
-            record { before = before; behind = after; is = is; start = omega (arith, equal, size); end = omega (arith, equal, long.0) }
-        | false ↦ λ other. record { before = before; behind = after; is = is; start = omega (arith, size, at_is, long.0, long.1); end = omega (arith, size, at_is, long.0, long.1) }
+            record { before = before; following = after; is = is; start = omega (arith, equal, size); end = omega (arith, equal, long.0) }
+        | false ↦ λ other. record { before = before; following = after; is = is; start = omega (arith, size, at_is, long.0, long.1); end = omega (arith, size, at_is, long.0, long.1) }
       ] refl
 
   piece_stands : (before after text : List ℕ) (at : ℕ) (first last : Bool) → scalars text ≡ true → whole ≡ before ++ (encode_utf8_all text ++ after) → at ≡ length before
@@ -67,19 +67,19 @@ module _ (whole : List ℕ) (span : Range ℕ) (long : IsAsLong (record { v = No
       is ∙ ap (λ l. before ++ (l ++ after)) bytes ∙ ap (λ l. before ++ l) (append_assoc lead (left ++ trail) after ∙ ap (λ l. lead ++ l) (append_assoc left trail after)) ∙ sym (append_assoc before lead _) in
       subst (StandsInChunk (record { v = Normal whole; span = span })) (sym one.is) (part_stands (before ++ lead) left (trail ++ after) _ parted (omega (arith, at_is, length-append before lead)))
 
-  between_stand : (separator : List ℕ) (w : ℕ) → w ≡ length (encode_utf8_all separator) → (before : List ℕ) (at : ℕ) (behind : Bool) (texts : List (List ℕ)) → scalars (rejoined separator texts) ≡ true
-      → whole ≡ before ++ encode_utf8_all (rejoined separator texts) → at ≡ length before → AllByRecursion (StandsInChunk (record { v = Normal whole; span = span })) (pieces_between w whole span at behind texts)
-  between_stand separator w width before at behind [] valid is at_is = tt
-  between_stand separator w width before at behind (text ∷ []) valid is at_is =
-      (piece_stands before [] text at behind false valid (is ∙ ap (λ l. before ++ l) (sym (append-nil _))) at_is, tt)
-  between_stand separator w width before at behind (text ∷ after ∷ more) valid is at_is =
+  between_stand : (separator : List ℕ) (w : ℕ) → w ≡ length (encode_utf8_all separator) → (before : List ℕ) (at : ℕ) (following : Bool) (texts : List (List ℕ)) → scalars (rejoined separator texts) ≡ true
+      → whole ≡ before ++ encode_utf8_all (rejoined separator texts) → at ≡ length before → AllByRecursion (StandsInChunk (record { v = Normal whole; span = span })) (pieces_between w whole span at following texts)
+  between_stand separator w width before at following [] valid is at_is = tt
+  between_stand separator w width before at following (text ∷ []) valid is at_is =
+      (piece_stands before [] text at following false valid (is ∙ ap (λ l. before ++ l) (sym (append-nil _))) at_is, tt)
+  between_stand separator w width before at following (text ∷ after ∷ more) valid is at_is =
       let rest = rejoined separator (after ∷ more) in
       let valid_parts = scalars_parts text (separator ++ rest) valid in
       let valid_rest = scalars_parts separator rest valid_parts.1 in
       let here = encode_utf8_all text in
       let word = encode_utf8_all separator in
       let parted : whole ≡ before ++ (here ++ (word ++ encode_utf8_all rest)) = is ∙ ap (λ l. before ++ l) (encodes-append text (separator ++ rest) ∙ ap (λ l. here ++ l) (encodes-append separator rest)) in (
-        piece_stands before (word ++ encode_utf8_all rest) text at behind true valid_parts.0 parted at_is,
+        piece_stands before (word ++ encode_utf8_all rest) text at following true valid_parts.0 parted at_is,
         between_stand separator w width (before ++ (here ++ word)) (at + (length here + w)) true (after ∷ more) valid_rest.1
             (parted ∙ ap (λ l. before ++ l) (sym (append_assoc here word (encode_utf8_all rest))) ∙ sym (append_assoc before (here ++ word) (encode_utf8_all rest)))
             (omega (arith, at_is, width, length-append before (here ++ word), length-append here word)),

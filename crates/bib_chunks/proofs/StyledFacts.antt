@@ -10,7 +10,7 @@ use Rattle.bib_chunks.specs.declared.chunk.Chunk.{Chunk}
 use Rattle.bib_chunks.specs.declared.chunk.Chunk.TheVariants.{Normal, Verbatim, Math}
 use Rattle.bib_text.specs.declared.spanned.Spanned.{Spanned}
 use Rattle.bib_text.proofs.TextFacts.{written_more}
-use Rattle.bib_chunks.specs.Formatted.{flowing, unbroken, ends_in_space, space_behind, formatted_chunk, formatted_atoms}
+use Rattle.bib_chunks.specs.Formatted.{flowing, unbroken, ends_in_space, space_after, formatted_chunk, formatted_atoms}
 use Rattle.bib_chunks.specs.Styled.{Atom, atoms_of, styled, text_of, is_shown}
 use Rattle.bib_chunks.proofs.FormattedFacts.{ends-append}
 
@@ -44,7 +44,7 @@ same_end space text utf8 some =
     ] refl
 
 -- a chunk that shows is formatted as its atoms are
-chunk_text : (space : Bool) (v : Chunk) (more : List Atom) → IsUtf8 (text_of v) → is_shown v ≡ true → formatted_atoms space (atoms_of v ++ more) ≡ formatted_chunk (λ cs. cs) space v ++ formatted_atoms (space_behind space v) more
+chunk_text : (space : Bool) (v : Chunk) (more : List Atom) → IsUtf8 (text_of v) → is_shown v ≡ true → formatted_atoms space (atoms_of v ++ more) ≡ formatted_chunk (λ cs. cs) space v ++ formatted_atoms (space_after space v) more
 chunk_text space (Normal text) more utf8 shown = normal_text space (chars text) more
 chunk_text space (Verbatim text) more utf8 shown = verbatim_text space (chars text) more ∙ ap (λ b. chars text ++ formatted_atoms b more) (same_end space text utf8 shown)
 chunk_text space (Math text) more utf8 shown = ap (λ xs. 36 ∷ xs) (sym (append_assoc (chars text) (36 ∷ []) _))
@@ -60,13 +60,13 @@ styled_from : (chunks : List (Spanned Chunk)) (i : ℕ) (x : Spanned Chunk) → 
 styled_from chunks i x within is = ap styled (drop_more chunks i x within ∙ ap (λ y. y ∷ drop (i + 1) chunks) (sym is))
 
 -- a loop's step: a chunk was written
-pub shown_part : (space behind : Bool) (chunks : List (Spanned Chunk)) (i : ℕ) (x : Spanned Chunk) (out more total : List ℕ) → i < length chunks → x ≡ get_or chunks i x
-    → IsUtf8 (text_of x.v) → is_shown x.v ≡ true → more ≡ out ++ encode_utf8_all (formatted_chunk (λ cs. cs) space x.v) → behind ≡ space_behind space x.v
-    → out ++ encode_utf8_all (formatted_atoms space (styled (drop i chunks))) ≡ total → more ++ encode_utf8_all (formatted_atoms behind (styled (drop (i + 1) chunks))) ≡ total
-shown_part space behind chunks i x out more total within is utf8 shown written tells so_far =
+pub shown_part : (space following : Bool) (chunks : List (Spanned Chunk)) (i : ℕ) (x : Spanned Chunk) (out more total : List ℕ) → i < length chunks → x ≡ get_or chunks i x
+    → IsUtf8 (text_of x.v) → is_shown x.v ≡ true → more ≡ out ++ encode_utf8_all (formatted_chunk (λ cs. cs) space x.v) → following ≡ space_after space x.v
+    → out ++ encode_utf8_all (formatted_atoms space (styled (drop i chunks))) ≡ total → more ++ encode_utf8_all (formatted_atoms following (styled (drop (i + 1) chunks))) ≡ total
+shown_part space following chunks i x out more total within is utf8 shown written decides so_far =
     let rest = styled (drop (i + 1) chunks) in
-    written_more out more total (formatted_chunk (λ cs. cs) space x.v) (formatted_atoms space (styled (drop i chunks))) (formatted_atoms behind rest) written
-    (ap (formatted_atoms space) (styled_from chunks i x within is) ∙ chunk_text space x.v rest utf8 shown ∙ ap (λ b. formatted_chunk (λ cs. cs) space x.v ++ formatted_atoms b rest) (sym tells))
+    written_more out more total (formatted_chunk (λ cs. cs) space x.v) (formatted_atoms space (styled (drop i chunks))) (formatted_atoms following rest) written
+    (ap (formatted_atoms space) (styled_from chunks i x within is) ∙ chunk_text space x.v rest utf8 shown ∙ ap (λ b. formatted_chunk (λ cs. cs) space x.v ++ formatted_atoms b rest) (sym decides))
     so_far
 
 -- or passed over

@@ -13,9 +13,9 @@ use Rattle.bib_chunks.specs.declared.chunk.Chunk.{Chunk}
 use Rattle.bib_chunks.specs.declared.chunk.Chunk.TheVariants.{Normal}
 use Rattle.bib_text.specs.declared.spanned.Spanned.{Spanned}
 use Rattle.bib_chunks.specs.Styled.{Atom, atoms_of}
-use Rattle.bib_chunks.specs.Cuts.{further, placed, trimmed_start, trimmed_end, part_of, piece}
+use Rattle.bib_chunks.specs.Cuts.{further, placed, trimmed_start, trimmed_end, chunk_part, piece}
 
--- white space before what is left, and behind it
+-- white space before what is left, and after it
 skipped : (cs : List ℕ) → (lead : List ℕ) × (cs ≡ lead ++ skip_leading_whitespace cs) × (list_all is_whitespace lead ≡ true)
 skipped [] = ([], refl, refl)
 skipped (c ∷ cs) =
@@ -86,7 +86,7 @@ end_parts true text = let cut = dropped text in (cut.0, cut.1, cut.2, λ no. abs
 end_parts false text = ([], sym (append-nil text), refl, λ _. refl)
 
 -- the chunk of a part
-part_chunk : (whole : List ℕ) (span : Range ℕ) (at : ℕ) (text : List ℕ) → (part_of whole span at text).v ≡ Normal text
+part_chunk : (whole : List ℕ) (span : Range ℕ) (at : ℕ) (text : List ℕ) → (chunk_part whole span at text).v ≡ Normal text
 part_chunk whole span at text =
     elim (length text == length whole) as (λ b. (if b then placed (Normal text) span.start span.end else placed (Normal text) (further span.start at) (further (further span.start at) (length text))).v ≡ Normal text) [
       | true ↦ refl
@@ -98,7 +98,7 @@ pub record IsPiece (whole : List ℕ) (span : Range ℕ) (at : ℕ) (first last 
   pub left : List ℕ
   pub trimmed : IsTrimmed first last text left
   pub valid : scalars left ≡ true
-  pub is : here ≡ part_of whole span (at + length (encode_utf8_all trimmed.lead)) (encode_utf8_all left)
+  pub is : here ≡ chunk_part whole span (at + length (encode_utf8_all trimmed.lead)) (encode_utf8_all left)
 
 pub piece_is : (whole : List ℕ) (span : Range ℕ) (at : ℕ) (first last : Bool) (text : List ℕ) → scalars text ≡ true → IsPiece whole span at first last text (piece whole span at first last (encode_utf8_all text))
 piece_is whole span at first last text valid =
@@ -117,7 +117,7 @@ piece_is whole span at first last text valid =
       left = left;
       trimmed = record { lead = start.0; trail = end.0; is = start.1 ∙ ap (λ l. start.0 ++ l) end.1; white = start.2; blank = end.2; begins = start.3; ends = end.3 };
       valid = left_valid;
-      is = ap (λ n. part_of whole span (at + n) (trimmed_end last (trimmed_start first (encode_utf8_all text)))) skipped_bytes ∙ ap (part_of whole span (at + length (encode_utf8_all start.0))) bytes;
+      is = ap (λ n. chunk_part whole span (at + n) (trimmed_end last (trimmed_start first (encode_utf8_all text)))) skipped_bytes ∙ ap (chunk_part whole span (at + length (encode_utf8_all start.0))) bytes;
     }
 
 -- what a piece says

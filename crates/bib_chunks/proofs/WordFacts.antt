@@ -58,12 +58,12 @@ ands_whole space (a ∷ n ∷ []) = refl
 ands_whole space (a ∷ n ∷ d ∷ rest) =
     one_rejoined (word_here space (a ∷ n ∷ d ∷ rest)) space a n d rest refl (ands_whole false rest) (ands_whole (is_whitespace a) (n ∷ d ∷ rest))
 
--- whether a word stands in characters, behind white space or not
+-- whether a word stands in characters, after white space or not
 abbrev pub holds_and : Bool → List ℕ → Bool
 holds_and space [] = false
 holds_and space (c ∷ cs) = word_here space (c ∷ cs) || holds_and (is_whitespace c) cs
 
--- no word stands in texts, the first of which stands behind white space or not
+-- no word stands in texts, the first of which stands after white space or not
 abbrev pub AreFree : Bool → List (List ℕ) → Type 0
 AreFree space [] = Unit {0}
 AreFree space (text ∷ more) = (holds_and space text ≡ false) × AllByRecursion (λ t. holds_and false t ≡ false) more
@@ -111,13 +111,13 @@ or_right false b holds = holds
 or_left : (a b : Bool) → a ≡ true → (a || b) ≡ true
 or_left a b holds = ap (λ c. c || b) holds
 
-found_and : (space : Bool) (before behind : List ℕ) (s t : ℕ) → is_whitespace s ≡ true → is_whitespace t ≡ true → holds_and space (before ++ (s ∷ 97 ∷ 110 ∷ 100 ∷ t ∷ behind)) ≡ true
-found_and space [] behind s t white blank =
-    or_right (word_here space (s ∷ 97 ∷ 110 ∷ 100 ∷ t ∷ behind)) _ (or_left (word_here (is_whitespace s) (97 ∷ 110 ∷ 100 ∷ t ∷ behind)) _ (ap (λ b. b && true && is_whitespace t) white ∙ blank))
-found_and space (c ∷ before) behind s t white blank = or_right (word_here space (c ∷ (before ++ (s ∷ 97 ∷ 110 ∷ 100 ∷ t ∷ behind)))) _ (found_and (is_whitespace c) before behind s t white blank)
+found_and : (space : Bool) (before following : List ℕ) (s t : ℕ) → is_whitespace s ≡ true → is_whitespace t ≡ true → holds_and space (before ++ (s ∷ 97 ∷ 110 ∷ 100 ∷ t ∷ following)) ≡ true
+found_and space [] following s t white blank =
+    or_right (word_here space (s ∷ 97 ∷ 110 ∷ 100 ∷ t ∷ following)) _ (or_left (word_here (is_whitespace s) (97 ∷ 110 ∷ 100 ∷ t ∷ following)) _ (ap (λ b. b && true && is_whitespace t) white ∙ blank))
+found_and space (c ∷ before) following s t white blank = or_right (word_here space (c ∷ (before ++ (s ∷ 97 ∷ 110 ∷ 100 ∷ t ∷ following)))) _ (found_and (is_whitespace c) before following s t white blank)
 
 free_no_and : (text : List ℕ) → holds_and false text ≡ false → HasNoAnd text
-free_no_and text free before behind s t white blank is = absurd (false≢true (sym free ∙ ap (holds_and false) is ∙ found_and false before behind s t white blank))
+free_no_and text free before following s t white blank is = absurd (false≢true (sym free ∙ ap (holds_and false) is ∙ found_and false before following s t white blank))
 
 all_no_and : (texts : List (List ℕ)) → AllByRecursion (λ t. holds_and false t ≡ false) texts → AllByRecursion HasNoAnd texts
 all_no_and [] free = tt
@@ -127,9 +127,9 @@ between_no_and : (cs : List ℕ) → AllByRecursion HasNoAnd (between_ands false
 between_no_and cs = all_no_and (between_ands false cs) (all_free (between_ands false cs) (ands_free false cs))
 
 left_no_and : (first last : Bool) (text left : List ℕ) → IsTrimmed first last text left → HasNoAnd text → HasNoAnd left
-left_no_and first last text left cut none before behind s t white blank is =
-    none (cut.lead ++ before) (behind ++ cut.trail) s t white blank
-    (cut.is ∙ ap (λ l. cut.lead ++ (l ++ cut.trail)) is ∙ ap (λ l. cut.lead ++ l) (append_assoc before (s ∷ 97 ∷ 110 ∷ 100 ∷ t ∷ behind) cut.trail) ∙ sym (append_assoc cut.lead before _))
+left_no_and first last text left cut none before following s t white blank is =
+    none (cut.lead ++ before) (following ++ cut.trail) s t white blank
+    (cut.is ∙ ap (λ l. cut.lead ++ (l ++ cut.trail)) is ∙ ap (λ l. cut.lead ++ l) (append_assoc before (s ∷ 97 ∷ 110 ∷ 100 ∷ t ∷ following) cut.trail) ∙ sym (append_assoc cut.lead before _))
 
 chunk_no_and : (text : List ℕ) → scalars text ≡ true → HasNoAnd text → IsWithoutAnd (Normal (encode_utf8_all text))
 chunk_no_and text valid none = subst HasNoAnd (sym (chars-encodes text valid)) none

@@ -10,7 +10,7 @@ use Rattle.std.proofs.lemmas.List.{drop_more}
 use Rattle.bib_chunks.specs.declared.chunk.Chunk.{Chunk}
 use Rattle.bib_chunks.specs.declared.chunk.Chunk.TheVariants.{Normal, Verbatim, Math}
 use Rattle.bib_text.specs.declared.spanned.Spanned.{Spanned}
-use Rattle.bib_chunks.specs.Written.{is_grouping, is_reserved, is_bare, spelled, spelling, lead, trail, is_open_behind, written_chunk, written_chunks}
+use Rattle.bib_chunks.specs.Written.{is_grouping, is_reserved, is_bare, spelled, spelling, lead, trail, is_open_after, written_chunk, written_chunks}
 use Rattle.bib_text.proofs.TextFacts.{ahead, Passed, passed_char, passed_run, passed_between, flat_map_same, written_more, written_all, chars_at_end, three_parts}
 
 pub spelled_grouping : (v : Bool) (c : ℕ) → is_grouping c ≡ true → spelled v c ≡ 92 ∷ c ∷ []
@@ -67,11 +67,11 @@ pub written_run_char : (out one two total : List ℕ) {u w x : Place} {c : ℕ} 
     → (x.text ≡ u.text) × IsUtf8 (ahead x) × (two ++ encode_utf8_all (spelling v (chars (ahead x))) ≡ total)
 written_run_char out one two total {u} {w} {x} {c} v run utf8 char first second before =
     let (cs, passed, all) = passed_run run utf8 in
-    let behind : Passed w (c ∷ []) x = passed_char char passed.utf8 in
+    let following : Passed w (c ∷ []) x = passed_char char passed.utf8 in
     let run_spelling : spelling v cs ≡ cs = flat_map_same (is_bare v) (spelled v) (spelled_bare v) cs all in
     let cut : spelling v (chars (ahead u)) ≡ cs ++ spelling v (chars (ahead w)) = ap (spelling v) passed.spelt ∙ flat_map-append (spelled v) cs _ ∙ ap (λ xs. xs ++ spelling v (chars (ahead w))) run_spelling in
     let after : one ++ encode_utf8_all (spelling v (chars (ahead w))) ≡ total = written_more out one total cs _ _ (first ∙ ap (λ bs. out ++ bs) (passed_between passed)) cut before in
-    (behind.same ∙ passed.same, behind.utf8, written_more one two total (spelled v c) _ _ second (ap (spelling v) behind.spelt) after)
+    (following.same ∙ passed.same, following.utf8, written_more one two total (spelled v c) _ _ second (ap (spelling v) following.spelt) after)
 
 -- a run of bare characters was written, and the text ends
 pub written_run_end : (out one total : List ℕ) {u w : Place} (v : Bool) → Run (is_bare v) u w → IsUtf8 (ahead u) → AtEnd w
@@ -89,7 +89,7 @@ written_run_end out one total {u} {w} v run utf8 end first before =
 pub written_math : (v : Bool) (chunk : Chunk) (text bytes : List ℕ) → v ≡ false → chunk ≡ Math text → bytes ≡ text → written_chunk chunk v ≡ chars bytes
 written_math v chunk text bytes normal is same = ap (λ b. written_chunk chunk b) normal ∙ ap (λ x. written_chunk x false) is ∙ ap chars (sym same)
 
--- what stands before and behind a chunk is ASCII
+-- what stands before and after a chunk is ASCII
 pub lead_bytes : (o : Bool) (chunk : Chunk) → lead o chunk ≡ encode_utf8_all (lead o chunk)
 unfolding encode
 lead_bytes true (Normal text) = refl
@@ -105,12 +105,12 @@ trail_bytes (Verbatim text) = refl
 trail_bytes (Math text) = refl
 
 -- one chunk of a value was written
-pub written_part : (v o behind : Bool) (chunks : List (Spanned Chunk)) (i : ℕ) (x : Spanned Chunk) (out more total : List ℕ) → i < length chunks → x ≡ get_or chunks i x
-    → more ≡ out ++ encode_utf8_all (lead o x.v ++ written_chunk x.v v ++ trail x.v) → behind ≡ is_open_behind o x.v
+pub written_part : (v o following : Bool) (chunks : List (Spanned Chunk)) (i : ℕ) (x : Spanned Chunk) (out more total : List ℕ) → i < length chunks → x ≡ get_or chunks i x
+    → more ≡ out ++ encode_utf8_all (lead o x.v ++ written_chunk x.v v ++ trail x.v) → following ≡ is_open_after o x.v
     → out ++ encode_utf8_all (written_chunks v o (drop i chunks)) ≡ total
-    → more ++ encode_utf8_all (written_chunks v behind (drop (i + 1) chunks)) ≡ total
-written_part v o behind chunks i x out more total within is written closes before =
+    → more ++ encode_utf8_all (written_chunks v following (drop (i + 1) chunks)) ≡ total
+written_part v o following chunks i x out more total within is written closes before =
     let split : drop i chunks ≡ x ∷ drop (i + 1) chunks = drop_more chunks i x within ∙ ap (λ y. y ∷ drop (i + 1) chunks) (sym is) in
     let part = lead o x.v ++ written_chunk x.v v ++ trail x.v in
-    let cut : written_chunks v o (drop i chunks) ≡ part ++ written_chunks v behind (drop (i + 1) chunks) = ap (written_chunks v o) split ∙ ap (λ b. part ++ written_chunks v b (drop (i + 1) chunks)) (sym closes) in
+    let cut : written_chunks v o (drop i chunks) ≡ part ++ written_chunks v following (drop (i + 1) chunks) = ap (written_chunks v o) split ∙ ap (λ b. part ++ written_chunks v b (drop (i + 1) chunks)) (sym closes) in
     written_more out more total part _ _ written cut before

@@ -8,6 +8,7 @@ use Rattle.std.specs.declared.ops.Range.{Range}
 use Rattle.bib_chunks.specs.declared.chunk.Chunk.{Chunk}
 use Rattle.bib_chunks.specs.declared.chunk.Chunk.TheVariants.{Normal, Verbatim, Math}
 use Rattle.bib_text.specs.declared.spanned.Spanned.{Spanned}
+use Rattle.bib_text.specs.Characters as char
 
 -- a place so many bytes further on; what stands at the highest number, as nowhere, stays there
 abbrev pub further : ℕ → ℕ → ℕ
@@ -30,8 +31,8 @@ trimmed_end false text = text
 -- a part of a normal chunk's text as a chunk, given that text and the chunk's bytes, and how many bytes of the text
 -- stand before the part. It stands where its text does, counted from the chunk's start; a part that is the whole text
 -- stands where the chunk does, whose bytes may be more than its text has, as around a command, or less.
-abbrev pub part_of : List ℕ → Range ℕ → ℕ → List ℕ → Spanned Chunk
-part_of whole span at text =
+abbrev pub chunk_part : List ℕ → Range ℕ → ℕ → List ℕ → Spanned Chunk
+chunk_part whole span at text =
     if length text == length whole then placed (Normal text) span.start span.end
     else placed (Normal text) (further span.start at) (further (further span.start at) (length text))
 
@@ -39,16 +40,16 @@ part_of whole span at text =
 -- does
 abbrev pub piece : List ℕ → Range ℕ → ℕ → Bool → Bool → List ℕ → Spanned Chunk
 piece whole span at first last text =
-    part_of whole span (at + (length text - length (trimmed_start first text))) (trimmed_end last (trimmed_start first text))
+    chunk_part whole span (at + (length text - length (trimmed_start first text))) (trimmed_end last (trimmed_start first text))
 
 -- the pieces of a normal chunk that is cut at separators of so many bytes, given its text and bytes, how many bytes
 -- stand before the first piece, whether a separator does, and the texts between the separators, by characters: the
 -- white space next to a separator is left out
 abbrev pub pieces_between : ℕ → List ℕ → Range ℕ → ℕ → Bool → List (List ℕ) → List (Spanned Chunk)
-pieces_between width whole span at behind [] = []
-pieces_between width whole span at behind (text ∷ []) = piece whole span at behind false (encode_utf8_all text) ∷ []
-pieces_between width whole span at behind (text ∷ next ∷ more) =
-    piece whole span at behind true (encode_utf8_all text)
+pieces_between width whole span at following [] = []
+pieces_between width whole span at following (text ∷ []) = piece whole span at following false (encode_utf8_all text) ∷ []
+pieces_between width whole span at following (text ∷ next ∷ more) =
+    piece whole span at following true (encode_utf8_all text)
     ∷ pieces_between width whole span (at + (length (encode_utf8_all text) + width)) true (next ∷ more)
 
 -- the pieces of a chunk in a list, given the bytes of a separator and the texts between the separators of a text: a
@@ -63,21 +64,21 @@ abbrev pub onto : List (Spanned Chunk) → List (List (Spanned Chunk)) → List 
 onto chunks [] = chunks ∷ []
 onto chunks (part ∷ parts) = (chunks ++ part) ∷ parts
 
--- the parts of a list that begins with the pieces of a chunk, given the parts behind that chunk: the last piece
+-- the parts of a list that begins with the pieces of a chunk, given the parts after that chunk: the last piece
 -- begins the first of these, and each other piece ends a part
-abbrev pub joined : List (Spanned Chunk) → List (List (Spanned Chunk)) → List (List (Spanned Chunk))
-joined [] parts = parts
-joined (piece ∷ []) parts = onto (piece ∷ []) parts
-joined (piece ∷ next ∷ more) parts = (piece ∷ []) ∷ joined (next ∷ more) parts
+abbrev pub joined_parts : List (Spanned Chunk) → List (List (Spanned Chunk)) → List (List (Spanned Chunk))
+joined_parts [] parts = parts
+joined_parts (piece ∷ []) parts = onto (piece ∷ []) parts
+joined_parts (piece ∷ next ∷ more) parts = (piece ∷ []) ∷ joined_parts (next ∷ more) parts
 
 -- the parts of a list that is cut at such separators; no chunks are one empty part
 abbrev pub list_parts : ℕ → (List ℕ → List (List ℕ)) → List (Spanned Chunk) → List (List (Spanned Chunk))
 list_parts width between [] = [] ∷ []
-list_parts width between (c ∷ rest) = joined (pieces width between c.v c.span) (list_parts width between rest)
+list_parts width between (c ∷ rest) = joined_parts (pieces width between c.v c.span) (list_parts width between rest)
 
 -- the texts between the commas of one, by characters
 abbrev pub between_commas : List ℕ → List (List ℕ)
-between_commas = slice_split (λ c. c == 44)
+between_commas = slice_split (λ c. c == char.comma)
 
 -- the parts of a comma list: it is cut at each comma of a normal chunk
 abbrev pub comma_list : List (Spanned Chunk) → List (List (Spanned Chunk))
@@ -90,14 +91,14 @@ begins_with_space (c ∷ cs) = is_whitespace c
 
 -- the three letters of the word `and`
 abbrev pub is_and : ℕ → ℕ → ℕ → Bool
-is_and a n d = a == 97 && n == 110 && d == 100
+is_and a n d = a == char.letter_a && n == char.letter_n && d == char.letter_d
 
 -- texts, the first of which begins with these characters
 abbrev pub prepend : List ℕ → List (List ℕ) → List (List ℕ)
 prepend cs [] = cs ∷ []
 prepend cs (text ∷ texts) = (cs ++ text) ∷ texts
 
--- the texts between the words `and` of one, by characters: such a word has white space just before it and just behind
+-- the texts between the words `and` of one, by characters: such a word has white space just before it and just after
 -- it; the flag says whether white space stands before the text
 abbrev pub between_ands : Bool → List ℕ → List (List ℕ)
 between_ands space (a ∷ n ∷ d ∷ rest) =
@@ -146,17 +147,17 @@ halves (Normal text) span separator = option_map (both_pieces (len_utf8 separato
 halves (Verbatim text) span separator = None
 halves (Math text) span separator = None
 
--- a cut of chunks behind these
-abbrev pub cut_behind : List (Spanned Chunk) → Option (List (Spanned Chunk) × List (Spanned Chunk)) → Option (List (Spanned Chunk) × List (Spanned Chunk))
-cut_behind chunks None = None
-cut_behind chunks (Some cut) = Some (chunks ++ cut.0, cut.1)
+-- a cut of chunks after these
+abbrev pub cut_after : List (Spanned Chunk) → Option (List (Spanned Chunk) × List (Spanned Chunk)) → Option (List (Spanned Chunk) × List (Spanned Chunk))
+cut_after chunks None = None
+cut_after chunks (Some cut) = Some (chunks ++ cut.0, cut.1)
 
 -- the cut of a chunk and what follows it, given the halves of the chunk and the cut of what follows
 abbrev pub cut_first : Spanned Chunk → List (Spanned Chunk) → Option (Spanned Chunk × Spanned Chunk) → Option (List (Spanned Chunk) × List (Spanned Chunk)) → Option (List (Spanned Chunk) × List (Spanned Chunk))
 cut_first c rest (Some both) later = Some (both.0 ∷ [], both.1 ∷ rest)
-cut_first c rest None later = cut_behind (c ∷ []) later
+cut_first c rest None later = cut_after (c ∷ []) later
 
--- what stands before and behind the first such character of a normal chunk, if there is one
+-- what stands before and after the first such character of a normal chunk, if there is one
 abbrev pub cut_at : List (Spanned Chunk) → ℕ → Option (List (Spanned Chunk) × List (Spanned Chunk))
 cut_at [] separator = None
 cut_at (c ∷ rest) separator = cut_first c rest (halves c.v c.span separator) (cut_at rest separator)

@@ -10,10 +10,11 @@ use Rattle.bib_chunks.specs.declared.chunk.Chunk.{Chunk}
 use Rattle.bib_chunks.specs.declared.chunk.Chunk.TheVariants.{Normal, Verbatim, Math}
 use Rattle.bib_text.specs.declared.spanned.Spanned.{Spanned}
 use Rattle.bib_chunks.specs.Styled.{Atom}
+use Rattle.bib_text.specs.Characters as char
 
 -- the characters that break a line: line feed and carriage return
 abbrev pub is_break : ℕ → Bool
-is_break c = c == 10 || c == 13
+is_break c = c == char.line_feed || c == char.carriage_return
 
 -- whether a text ends in white space, with the answer for an empty one
 abbrev pub ends_in_space : Bool → List ℕ → Bool
@@ -23,7 +24,7 @@ ends_in_space empty (c ∷ cs) = ends_in_space (is_whitespace c) cs
 -- what a character of a normal text becomes: one that breaks the line a space, or nothing where the character written
 -- before it is white space, which the flag says; any other stays
 abbrev pub unbroken : Bool → ℕ → List ℕ
-unbroken space c = if is_break c then (if space then [] else 32 ∷ []) else c ∷ []
+unbroken space c = if is_break c then (if space then [] else char.space ∷ []) else c ∷ []
 
 -- a normal text on one line; the flag says whether white space stands before it
 abbrev pub flowing : Bool → List ℕ → List ℕ
@@ -32,26 +33,26 @@ flowing space (c ∷ cs) = unbroken space c ++ flowing (ends_in_space space (unb
 
 -- whether the character written last before the end of a chunk is white space: math is passed over, and an empty
 -- verbatim chunk counts as none
-abbrev pub space_behind : Bool → Chunk → Bool
-space_behind space (Normal text) = ends_in_space space (flowing space (chars text))
-space_behind space (Verbatim text) = ends_in_space false (chars text)
-space_behind space (Math text) = space
+abbrev pub space_after : Bool → Chunk → Bool
+space_after space (Normal text) = ends_in_space space (flowing space (chars text))
+space_after space (Verbatim text) = ends_in_space false (chars text)
+space_after space (Math text) = space
 
 -- one chunk, formatted: normal text on one line and in the case that is wanted, verbatim text as it is, math
 -- between dollar signs
 abbrev pub formatted_chunk : (List ℕ → List ℕ) → Bool → Chunk → List ℕ
 formatted_chunk recased space (Normal text) = recased (flowing space (chars text))
 formatted_chunk recased space (Verbatim text) = chars text
-formatted_chunk recased space (Math text) = 36 ∷ (chars text ++ 36 ∷ [])
+formatted_chunk recased space (Math text) = char.dollar ∷ (chars text ++ char.dollar ∷ [])
 
--- chunks formatted verbatim, behind white space or not
-abbrev pub formatted_behind : Bool → List (Spanned Chunk) → List ℕ
-formatted_behind space [] = []
-formatted_behind space (c ∷ rest) = formatted_chunk (λ cs. cs) space c.v ++ formatted_behind (space_behind space c.v) rest
+-- chunks formatted verbatim, after white space or not
+abbrev pub formatted_after : Bool → List (Spanned Chunk) → List ℕ
+formatted_after space [] = []
+formatted_after space (c ∷ rest) = formatted_chunk (λ cs. cs) space c.v ++ formatted_after (space_after space c.v) rest
 
 -- chunks formatted verbatim
 abbrev pub formatted : List (Spanned Chunk) → List ℕ
-formatted = formatted_behind false
+formatted = formatted_after false
 
 -- a styled text, formatted: normal characters on one line, math between dollar signs; the flag says whether white space
 -- stands before it
@@ -59,7 +60,7 @@ abbrev pub formatted_atoms : Bool → List Atom → List ℕ
 formatted_atoms space [] = []
 formatted_atoms space (Atom.normal c ∷ rest) = unbroken space c ++ formatted_atoms (ends_in_space space (unbroken space c)) rest
 formatted_atoms space (Atom.verbatim c ∷ rest) = c ∷ formatted_atoms (is_whitespace c) rest
-formatted_atoms space (Atom.math text ∷ rest) = 36 ∷ (text ++ 36 ∷ formatted_atoms space rest)
+formatted_atoms space (Atom.math text ∷ rest) = char.dollar ∷ (text ++ char.dollar ∷ formatted_atoms space rest)
 
 -- a character in lower case, or in upper case where it begins a sentence; by Unicode's mappings, in which a character
 -- of ASCII becomes one of ASCII
@@ -72,13 +73,13 @@ abbrev pub sentence_case : Bool → List ℕ → List ℕ
 sentence_case begins [] = []
 sentence_case begins (c ∷ cs) = cased begins c ++ flat_map to_lowercase cs
 
--- chunks formatted as a sentence, behind the first one or from it on
-abbrev pub sentence_behind : Bool → Bool → List (Spanned Chunk) → List ℕ
-sentence_behind begins space [] = []
-sentence_behind begins space (c ∷ rest) =
-    formatted_chunk (sentence_case begins) space c.v ++ sentence_behind false (space_behind space c.v) rest
+-- chunks formatted as a sentence, after the first one or from it on
+abbrev pub sentence_after : Bool → Bool → List (Spanned Chunk) → List ℕ
+sentence_after begins space [] = []
+sentence_after begins space (c ∷ rest) =
+    formatted_chunk (sentence_case begins) space c.v ++ sentence_after false (space_after space c.v) rest
 
 -- chunks formatted as a sentence: as verbatim, with the characters of normal chunks in lower case, and in upper case
 -- where the character is the first of the first chunk
 abbrev pub sentence : List (Spanned Chunk) → List ℕ
-sentence = sentence_behind true false
+sentence = sentence_after true false

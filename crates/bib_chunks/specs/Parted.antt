@@ -8,6 +8,7 @@ use Rattle.bib_chunks.specs.declared.chunk.Chunk.{Chunk}
 use Rattle.bib_chunks.specs.declared.chunk.Chunk.TheVariants.{Normal, Verbatim, Math}
 use Rattle.bib_text.specs.declared.spanned.Spanned.{Spanned}
 use Rattle.bib_chunks.specs.Styled.{Atom, styled, text_of}
+use Rattle.bib_text.specs.Characters as char
 
 -- the texts of chunks are UTF-8, as each `Text` is
 abbrev pub AreTexts : List (Spanned Chunk) → Type 0
@@ -20,8 +21,8 @@ IsAsLong c = (c.span.end ≡ c.span.start + length (text_of c.v)) × (c.span.end
 -- a piece stands in the bytes of a chunk where its text stands in the chunk's text
 pub record StandsInChunk (c here : Spanned Chunk) : Type 0 where
   pub before : List ℕ
-  pub behind : List ℕ
-  pub is : text_of c.v ≡ before ++ (text_of here.v ++ behind)
+  pub following : List ℕ
+  pub is : text_of c.v ≡ before ++ (text_of here.v ++ following)
   pub start : here.span.start ≡ c.span.start + length before
   pub end : here.span.end ≡ here.span.start + length (text_of here.v)
 
@@ -44,16 +45,16 @@ pub data IsList (separator : List Atom) : List (List Atom) → List Atom → Typ
       → IsList separator (part ∷ parts) (part ++ (left ++ (separator ++ (right ++ rest))))
 
 -- the separator of a comma list
-abbrev pub comma : List Atom
-comma = Atom.normal 44 ∷ []
+abbrev pub comma_text : List Atom
+comma_text = Atom.normal char.comma ∷ []
 
 -- the separator of an `and` list: the word's three letters
 abbrev pub and_word : List Atom
-and_word = Atom.normal 97 ∷ Atom.normal 110 ∷ Atom.normal 100 ∷ []
+and_word = Atom.normal char.letter_a ∷ Atom.normal char.letter_n ∷ Atom.normal char.letter_d ∷ []
 
 -- whether an atom is a normal comma
 abbrev pub is_normal_comma : Atom → Bool
-is_normal_comma (Atom.normal c) = c == 44
+is_normal_comma (Atom.normal c) = c == char.comma
 is_normal_comma (Atom.verbatim c) = false
 is_normal_comma (Atom.math text) = false
 
@@ -63,7 +64,7 @@ HoldsNoComma part = list_any is_normal_comma (styled part) ≡ false
 
 -- characters hold no word `and` between white space
 abbrev pub HasNoAnd : List ℕ → Type 0
-HasNoAnd text = (before behind : List ℕ) (s t : ℕ) → is_whitespace s ≡ true → is_whitespace t ≡ true → text ≡ before ++ (s ∷ 97 ∷ 110 ∷ 100 ∷ t ∷ behind) → ⊥
+HasNoAnd text = (before following : List ℕ) (s t : ℕ) → is_whitespace s ≡ true → is_whitespace t ≡ true → text ≡ before ++ (s ∷ char.letter_a ∷ char.letter_n ∷ char.letter_d ∷ t ∷ following) → ⊥
 
 -- a normal chunk holds no such word
 abbrev pub IsWithoutAnd : Chunk → Type 0
@@ -75,7 +76,7 @@ IsWithoutAnd (Math text) = Unit {0}
 abbrev pub HoldsNoAnd : List (Spanned Chunk) → Type 0
 HoldsNoAnd = AllByRecursion (λ c. IsWithoutAnd c.v)
 
--- a styled text is another one with normal white space before and behind it
+-- a styled text is another one with normal white space before and after it
 pub record IsSpaced (inside whole : List Atom) : Type 0 where
   pub left : List Atom
   pub right : List Atom

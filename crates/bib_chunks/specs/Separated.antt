@@ -6,14 +6,14 @@ use Rattle.std.specs.List.{flat_map}
 use Rattle.bib_chunks.specs.declared.chunk.Chunk.TheVariants.{Normal}
 use Rattle.bib_chunks.specs.Values.{Value, nowhere}
 
--- a part of a list behind a separator, which is a normal chunk
-abbrev pub behind_separator : List ℕ → Value → Value
-behind_separator separator part = nowhere (Normal separator) ∷ part
+-- a part of a list after a separator, which is a normal chunk
+abbrev pub after_separator : List ℕ → Value → Value
+after_separator separator part = nowhere (Normal separator) ∷ part
 
 -- the parts of a list with a separator between each two
 abbrev pub joined_by : List ℕ → List Value → Value
 joined_by separator [] = []
-joined_by separator (part ∷ rest) = part ++ flat_map (behind_separator separator) rest
+joined_by separator (part ∷ rest) = part ++ flat_map (after_separator separator) rest
 
 -- how values are written as an `and` list: their chunks, with ` and ` between each two
 abbrev pub parts_written : List Value → Value

@@ -46,7 +46,7 @@ is_same_kind (Verbatim text) (Normal more) = false
 is_same_kind (Verbatim text) (Math more) = false
 is_same_kind (Math text) other = false
 
--- the end of the last of some chunks, behind one that ends here
+-- the end of the last of some chunks, after one that ends here
 abbrev pub last_end : ℕ → List (Spanned Chunk) → ℕ
 last_end end [] = end
 last_end end (c ∷ rest) = last_end c.span.end rest

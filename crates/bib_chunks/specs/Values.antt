@@ -16,7 +16,7 @@ Value = List (Spanned Chunk)
 abbrev pub text : Value → List ℕ
 text chunks = encode_utf8_all (formatted chunks)
 
--- the same, with `A` to `Z` in small letters
+-- the same, with `A` to `Z` in lowercase letters
 abbrev pub lowered : Value → List ℕ
 lowered chunks = str_to_ascii_lowercase (text chunks)
 

@@ -5,13 +5,13 @@ ghost use Rattle.std.specs.List.{AllByRecursion};
 ghost use Rattle.bib_chunks.specs.declared.chunk.Chunk.{Chunk as AChunk};
 ghost use Rattle.bib_text.specs.declared.spanned.Spanned.{Spanned as APlaced};
 ghost use Rattle.bib_chunks.specs.Cuts.{comma_list, and_list};
-ghost use Rattle.bib_chunks.specs.Parted.{AreTexts, HoldsNoAnd, HoldsNoComma, IsAsLong, IsList, IsSpaced, StandsInOne, and_word, comma};
+ghost use Rattle.bib_chunks.specs.Parted.{AreTexts, HoldsNoAnd, HoldsNoComma, IsAsLong, IsList, IsSpaced, StandsInOne, and_word, comma_text};
 ghost use Rattle.bib_chunks.specs.Styled.{Atom, styled};
 
 /// The parts of a comma list with commas between them are its styled text again, but for white space next to the commas.
 pub fn comma_list_is_whole()
     ensures { (chunks : List (APlaced AChunk)) → AreTexts chunks →
-        IsList comma (map styled (comma_list chunks)) (styled chunks) }
+        IsList comma_text (map styled (comma_list chunks)) (styled chunks) }
 {}
 
 /// No part of a comma list holds a normal comma.

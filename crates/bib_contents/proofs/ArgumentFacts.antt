@@ -12,11 +12,11 @@ use Rattle.bib_text.specs.Places.{Place, place, between}
 use Rattle.bib_text.proofs.TextFacts.{chars_whole, chars_past, encode_one}
 use Rattle.bib_contents.specs.Contents.{ContentUnit, begins, balances, unit_spelling, fits, IsNext}
 use Rattle.bib_contents.specs.Arguments.{Closes, Encloses}
-use Rattle.bib_contents.specs.Passing.{left, Passes}
+use Rattle.bib_contents.specs.Progress.{left, Passes}
 use Rattle.bib_contents.proofs.UnitFacts.{prefix, first_unit, unit_first}
-use Rattle.bib_contents.proofs.PassingFacts.{passes_then, passes_none}
+use Rattle.bib_contents.proofs.ProgressFacts.{passes_then, passes_none}
 
--- a place behind what was passed is in the text
+-- a place after what was passed is in the text
 pub passes_within : {u v : Place} {cs : List ℕ} → Passes u cs v → u.at ≤ length u.text → v.at ≤ length v.text
 passes_within {u} {v} {cs} passed within =
     let sizes : length u.text - u.at ≡ length (encode_utf8_all cs) + length (drop v.at v.text) = sym (length-drop u.at u.text) ∙ ap length passed.here ∙ length-append (encode_utf8_all cs) _ in
@@ -74,14 +74,14 @@ without_dollar : (text rest : List ℕ) → list_all (λ c. not (c == 36)) ((tex
 without_dollar [] rest all = both_ways false refl all
 without_dollar (c ∷ cs) rest all = without_dollar cs rest (and_parts (not (c == 36)) _ all).1
 
-pub behind_first : {c d : ℕ} {xs ys : List ℕ} → c ∷ xs ≡ d ∷ ys → xs ≡ ys
-behind_first same = ap (drop 1) same
+pub after_first : {c d : ℕ} {xs ys : List ℕ} → c ∷ xs ≡ d ∷ ys → xs ≡ ys
+after_first same = ap (drop 1) same
 
 pub no_formula : (text : List ℕ) → list_all (λ c. not (c == 36)) text ≡ true → (u : ContentUnit) (rest : List ℕ) → IsNext false u (36 ∷ text) rest → ⊥
 no_formula text all u rest one =
     let is : ContentUnit.formula (prefix (λ d. not (d == 36)) text) ≡ u = ap (first_unit false) one.spells ∙ unit_first false u rest one.fits in
     let inside = prefix (λ d. not (d == 36)) text in
-    let spelt : text ≡ (inside ++ 36 ∷ []) ++ rest = behind_first (one.spells ∙ ap (λ x. unit_spelling x ++ rest) (sym is)) in
+    let spelt : text ≡ (inside ++ 36 ∷ []) ++ rest = after_first (one.spells ∙ ap (λ x. unit_spelling x ++ rest) (sym is)) in
     without_dollar inside rest (rw spelt at all)
 
 all_none : (text : List ℕ) → list_all (λ d. not (d == 36)) text ≡ true → list_any (λ c. c == 36) text ≡ false
@@ -234,7 +234,7 @@ encloses {u} {t} {w} {inside} {cs} start passed balanced brace is here utf8 with
     let long : length inside.text ≡ t.at = ap (λ p. length p.text) is ∙ size in
     let at : inside.at ≡ u.at = ap (λ p. p.at) is ∙ here in
     let next : t.at ≡ u.at + length (encode_utf8_all cs) = passed.next in
-    let behind : t.at + 1 ≤ w.at = passes_one brace in
+    let following : t.at + 1 ≤ w.at = passes_one brace in
     let cut : drop inside.at inside.text ≡ encode_utf8_all cs =
     ap (λ p. drop p.at p.text) is ∙ ap (λ n. drop n (take t.at t.text)) here ∙ ap (λ n. drop u.at (take n t.text)) next ∙ drop-take u.at (length (encode_utf8_all cs)) t.text
     ∙ ap (λ bs. take (length (encode_utf8_all cs)) (drop u.at bs)) passed.same ∙ ap (take (length (encode_utf8_all cs))) passed.here ∙ take_at (encode_utf8_all cs) (drop t.at t.text) (length (encode_utf8_all cs)) refl in
@@ -242,9 +242,9 @@ encloses {u} {t} {w} {inside} {cs} start passed balanced brace is here utf8 with
     record {
       stands = record {
         cut = ap (λ p. p.text) is ∙ ap (λ bs. take t.at bs) passed.same ∙ ap (λ n. take n u.text) (sym long);
-        behind = omega (arith, at);
+        following = omega (arith, at);
         within = omega (arith, at, long, next);
-        ends = omega (arith, long, behind);
+        ends = omega (arith, long, following);
       };
       spelt = passed.left ∙ ap (λ xs. cs ++ xs) brace.left ∙ ap (λ xs. xs ++ 125 ∷ left w) (sym same);
       balanced = ap (balances 0) same ∙ balanced;
@@ -257,7 +257,7 @@ braced_encloses {u} {s} {t} {w} {inside} {depth} {run} {c} start read none passe
     let closing : c ≡ 125 = is_closing c (next_brace c (left t) (left w) ends brace.left) differs in
     encloses start found.1 found.3 (subst (λ x. Passes t (x ∷ []) w) closing brace) is here utf8 within
 
--- the characters behind a brace
+-- the characters after a brace
 chars_brace : (bs rest : List ℕ) → IsUtf8 bs → bs ≡ 125 ∷ rest → chars bs ≡ 125 ∷ chars rest
 unfolding lib.Utf8.encode
 chars_brace bs rest utf8 is = (chars_past (125 ∷ []) bs rest utf8 is).0

@@ -7,12 +7,12 @@ use Rattle.std.proofs.lemmas.Bool.{cases_Bool, and_parts, and_from, both_ways, n
 use Rattle.bib_chunks.specs.Formatted.{is_break}
 use Rattle.bib_chunks.specs.Styled.{Atom}
 use Rattle.bib_chunks.specs.Written.{is_grouping, is_reserved}
-use Rattle.bib_contents.specs.Arguments.{IsReadTo, laid, written, unit_written}
-use Rattle.bib_contents.specs.Commands.{given}
+use Rattle.bib_contents.specs.Arguments.{IsReadTo, laid, argument_written, unit_written}
+use Rattle.bib_contents.specs.Commands.{command_text}
 use Rattle.bib_contents.specs.Contents.{Argument, ContentUnit, IsNext, Reads, begins, character, dashes, fits, held, is_blank, is_closable, is_empty, is_escapable, is_escaped, is_name, is_name_character, is_ordinary, is_sign, is_space, unit_text}
 use Rattle.bib_contents.specs.Contents.Reads.{end, next}
-use Rattle.bib_contents.specs.Effects.{is_plain}
-use Rattle.bib_contents.specs.Passing.{Goes, IsStuck}
+use Rattle.bib_contents.specs.Effects.{is_unbroken}
+use Rattle.bib_contents.specs.Progress.{Goes, IsStuck}
 use Rattle.bib_contents.proofs.EffectFacts.{wrote_more}
 use Rattle.bib_contents.proofs.LaidFacts.{IsCapped, IsLed, flowing_plain, plain_append, capped_plain, capped_given, laid_given, alone_plain, led_characters, led_math, is_flat_at, written_append, written_characters, written_math}
 use Rattle.bib_contents.proofs.ReaderFacts.{goes_then, goes_unit, goes_run, no_argument, unit_back}
@@ -30,7 +30,7 @@ break_space c breaks = elim (cases_Bool (c == 10)) [
   | inr other ↦ rw (eqb-true c 13 (rw other at breaks)) refl
 ]
 
-plain_unless : (c : ℕ) → is_whitespace c ≡ false → is_plain c ≡ true
+plain_unless : (c : ℕ) → is_whitespace c ≡ false → is_unbroken c ≡ true
 plain_unless c other = elim (cases_Bool (is_break c)) [
   | inl breaks ↦ absurd (both_ways (is_whitespace c) other (break_space c breaks))
   | inr plain ↦ rw plain refl
@@ -43,13 +43,13 @@ break_special c breaks = elim (cases_Bool (c == 10)) [
   | inr other ↦ rw (eqb-true c 13 (rw other at breaks)) refl
 ]
 
-pub ordinary_plain : (c : ℕ) → is_ordinary false c ≡ true → is_plain c ≡ true
+pub ordinary_plain : (c : ℕ) → is_ordinary false c ≡ true → is_unbroken c ≡ true
 ordinary_plain c right = elim (cases_Bool (is_break c)) [
   | inl breaks ↦ absurd (both_ways (is_ordinary false c) (break_special c breaks) right)
   | inr plain ↦ rw plain refl
 ]
 
-pub ordinary_all : (cs : List ℕ) → list_all (is_ordinary false) cs ≡ true → list_all is_plain cs ≡ true
+pub ordinary_all : (cs : List ℕ) → list_all (is_ordinary false) cs ≡ true → list_all is_unbroken cs ≡ true
 ordinary_all [] all = refl
 ordinary_all (c ∷ cs) all =
     let parts = and_parts (is_ordinary false c) (list_all (is_ordinary false) cs) all in
@@ -60,28 +60,28 @@ blank_break : (c : ℕ) → is_break c ≡ true → is_blank c ≡ true
 unfolding is_blank
 blank_break c breaks = rw (break_space c breaks) refl
 
-first_plain : (c : ℕ) → not (is_blank c) ≡ true → is_plain c ≡ true
+first_plain : (c : ℕ) → not (is_blank c) ≡ true → is_unbroken c ≡ true
 first_plain c right = elim (cases_Bool (is_break c)) [
   | inl breaks ↦ absurd (both_ways (is_blank c) (not-true (is_blank c) right) (blank_break c breaks))
   | inr plain ↦ rw plain refl
 ]
 
-character_plain : (c : ℕ) → is_name_character c ≡ true → is_plain c ≡ true
+character_plain : (c : ℕ) → is_name_character c ≡ true → is_unbroken c ≡ true
 unfolding is_name_character
 character_plain c right = plain_unless c (not-true (is_whitespace c) (and_parts _ (not (is_whitespace c)) right).1)
 
-characters_plain : (cs : List ℕ) → list_all is_name_character cs ≡ true → list_all is_plain cs ≡ true
+characters_plain : (cs : List ℕ) → list_all is_name_character cs ≡ true → list_all is_unbroken cs ≡ true
 characters_plain [] all = refl
 characters_plain (c ∷ cs) all =
     let parts = and_parts (is_name_character c) (list_all is_name_character cs) all in
     and_from _ _ (character_plain c parts.0) (characters_plain cs parts.1)
 
-tail_plain : (is : Bool) (cs : List ℕ) → (if is then is_empty cs else list_all is_name_character cs) ≡ true → list_all is_plain cs ≡ true
+tail_plain : (is : Bool) (cs : List ℕ) → (if is then is_empty cs else list_all is_name_character cs) ≡ true → list_all is_unbroken cs ≡ true
 tail_plain true [] right = refl
 tail_plain true (c ∷ cs) right = absurd (both_ways false refl right)
 tail_plain false cs right = characters_plain cs right
 
-pub name_plain : (name : List ℕ) → is_name name ≡ true → list_all is_plain name ≡ true
+pub name_plain : (name : List ℕ) → is_name name ≡ true → list_all is_unbroken name ≡ true
 name_plain [] right = absurd (both_ways false refl right)
 name_plain (c ∷ cs) right =
     let parts = and_parts (not (is_escaped false c) && not (is_blank c)) (if is_sign c then is_empty cs else list_all is_name_character cs) right in
@@ -94,29 +94,29 @@ escaped_break c breaks = elim (cases_Bool (c == 10)) [
   | inr other ↦ rw (eqb-true c 13 (rw other at breaks)) refl
 ]
 
-pub escaped_plain : (c : ℕ) → is_escaped false c ≡ true → is_plain c ≡ true
+pub escaped_plain : (c : ℕ) → is_escaped false c ≡ true → is_unbroken c ≡ true
 escaped_plain c right = elim (cases_Bool (is_break c)) [
   | inl breaks ↦ absurd (both_ways (is_escaped false c) (escaped_break c breaks) right)
   | inr plain ↦ rw plain refl
 ]
 
-pub single_plain : (c : ℕ) → is_space c ≡ false → is_plain c ≡ true
+pub single_plain : (c : ℕ) → is_space c ≡ false → is_unbroken c ≡ true
 unfolding is_space
 single_plain c other = plain_unless c other
 
-replicate_plain : (n c : ℕ) → is_plain c ≡ true → list_all is_plain (replicate n c) ≡ true
+replicate_plain : (n c : ℕ) → is_unbroken c ≡ true → list_all is_unbroken (replicate n c) ≡ true
 replicate_plain zero c plain = refl
 replicate_plain (suc n) c plain = and_from _ _ plain (replicate_plain n c plain)
 
-pub dashes_plain : (n : ℕ) → list_all is_plain (dashes n) ≡ true
+pub dashes_plain : (n : ℕ) → list_all is_unbroken (dashes n) ≡ true
 dashes_plain n = plain_append (replicate (n / 3) 8212) (if n % 3 == 2 then 8211 ∷ [] else if n % 3 == 1 then 45 ∷ [] else []) (replicate_plain (n / 3) 8212 refl) (last (n % 3 == 2) (n % 3 == 1))
   where
-    last : (two one : Bool) → list_all is_plain (if two then 8211 ∷ [] else if one then 45 ∷ [] else []) ≡ true
+    last : (two one : Bool) → list_all is_unbroken (if two then 8211 ∷ [] else if one then 45 ∷ [] else []) ≡ true
     last true one = refl
     last false true = refl
     last false false = refl
 
-pub laid_plain : (is_flat : Bool) (cs : List ℕ) → list_all is_plain cs ≡ true → laid is_flat cs ≡ cs
+pub laid_plain : (is_flat : Bool) (cs : List ℕ) → list_all is_unbroken cs ≡ true → laid is_flat cs ≡ cs
 laid_plain true cs all = flowing_plain false cs all
 laid_plain false cs all = refl
 
@@ -132,7 +132,7 @@ pub record IsUnitWritten (is_flat : Bool) (u : ContentUnit) : Type 0 where
   pub laid_is : laid is_flat (unit_text u []) ≡ unit_written is_flat u
   pub first : begins is_break (unit_text u []) ≡ false
 
-written_plain : (is_flat : Bool) (u : ContentUnit) → unit_written is_flat u ≡ unit_text u [] → list_all is_plain (unit_text u []) ≡ true → IsUnitWritten is_flat u
+written_plain : (is_flat : Bool) (u : ContentUnit) → unit_written is_flat u ≡ unit_text u [] → list_all is_unbroken (unit_text u []) ≡ true → IsUnitWritten is_flat u
 written_plain is_flat u same all = record { laid_is = laid_plain is_flat (unit_text u []) all ∙ sym same; first = (capped_plain (unit_text u []) all).first }
 
 pub unit_laid : (is_flat : Bool) (u : ContentUnit) (rest : List ℕ) → fits false u rest ≡ true → held u ≡ None → IsUnitWritten is_flat u
@@ -149,35 +149,35 @@ unit_laid is_flat (ContentUnit.command name space Argument.without) rest right n
 unit_laid is_flat (ContentUnit.command name space Argument.empty) rest right none =
     let plain = name_plain name (command_parts false name space rest Argument.empty right).1 in
     let capped : IsCapped [] = record { first = refl; last = refl } in
-    record { laid_is = laid_given is_flat name [] plain capped ∙ ap (λ cs. given name (Some cs)) (laid_plain is_flat [] refl); first = (capped_given name [] plain capped).first }
+    record { laid_is = laid_given is_flat name [] plain capped ∙ ap (λ cs. command_text name (Some cs)) (laid_plain is_flat [] refl); first = (capped_given name [] plain capped).first }
 unit_laid is_flat (ContentUnit.command name space (Argument.single c)) rest right none =
     let parts = command_parts false name space rest (Argument.single c) right in
     let plain = name_plain name parts.1 in
-    let one : list_all is_plain (c ∷ []) ≡ true = and_from _ _ (single_plain c parts.4) refl in
+    let one : list_all is_unbroken (c ∷ []) ≡ true = and_from _ _ (single_plain c parts.4) refl in
     record {
-      laid_is = laid_given is_flat name (c ∷ []) plain (capped_plain (c ∷ []) one) ∙ ap (λ cs. given name (Some cs)) (laid_plain is_flat (c ∷ []) one);
+      laid_is = laid_given is_flat name (c ∷ []) plain (capped_plain (c ∷ []) one) ∙ ap (λ cs. command_text name (Some cs)) (laid_plain is_flat (c ∷ []) one);
       first = (capped_given name (c ∷ []) plain (capped_plain (c ∷ []) one)).first;
     }
 unit_laid is_flat (ContentUnit.command name space (Argument.braced text)) rest right none = absurd (no_argument (sym none))
 unit_laid is_flat (ContentUnit.other c) rest right none = written_plain is_flat (ContentUnit.other c) refl (and_from _ _ (ordinary_plain c right) refl)
 
--- atoms behind those that were read, and what they are written as
-pub read_more : {is_flat : Bool} {whole base text rest : List ℕ} {depth after : ℕ} {now more : List ℕ} (atoms : List Atom) (cs : List ℕ) → IsReadTo is_flat whole base text depth now → Goes false depth text atoms after rest → IsLed atoms → written is_flat atoms ≡ cs
+-- atoms after those that were read, and what they are written as
+pub read_more : {is_flat : Bool} {whole base text rest : List ℕ} {depth after : ℕ} {now more : List ℕ} (atoms : List Atom) (cs : List ℕ) → IsReadTo is_flat whole base text depth now → Goes false depth text atoms after rest → IsLed atoms → argument_written is_flat atoms ≡ cs
     → more ≡ now ++ encode_utf8_all cs → IsReadTo is_flat whole base rest after more
 read_more {is_flat} {whole} {base} {text} {rest} {depth} {after} {now} {more} atoms cs read goes led is grew = record {
   atoms = read.atoms ++ atoms;
   goes = goes_then read.goes goes;
   wrote =
-      wrote_more now more (base ++ written is_flat read.atoms) cs read.wrote grew
-      ∙ ap encode_utf8_all (append_assoc base (written is_flat read.atoms) cs ∙ ap (λ xs. base ++ xs) (ap (λ xs. written is_flat read.atoms ++ xs) (sym is) ∙ sym (written_append is_flat read.atoms atoms led)));
+      wrote_more now more (base ++ argument_written is_flat read.atoms) cs read.wrote grew
+      ∙ ap encode_utf8_all (append_assoc base (argument_written is_flat read.atoms) cs ∙ ap (λ xs. base ++ xs) (ap (λ xs. argument_written is_flat read.atoms ++ xs) (sym is) ∙ sym (written_append is_flat read.atoms atoms led)));
 }
 
 -- a run of ordinary characters
 pub read_run : {is_flat : Bool} {whole base text rest : List ℕ} {depth : ℕ} {now more : List ℕ} (run : List ℕ) → IsReadTo is_flat whole base text depth now → text ≡ run ++ rest → list_all (is_ordinary false) run ≡ true → more ≡ now ++ encode_utf8_all run
     → IsReadTo is_flat whole base rest depth more
-read_run {is_flat} {whole} {base} {text} {rest} {depth} run read front all grew =
+read_run {is_flat} {whole} {base} {text} {rest} {depth} run read leading_run all grew =
     let plain = ordinary_all run all in
-    read_more (map (character depth) run) run read (subst (λ xs. Goes false depth xs (map (character depth) run) depth rest) (sym front) (goes_run false depth run rest all)) (led_characters depth run (capped_plain run plain).first)
+    read_more (map (character depth) run) run read (subst (λ xs. Goes false depth xs (map (character depth) run) depth rest) (sym leading_run) (goes_run false depth run rest all)) (led_characters depth run (capped_plain run plain).first)
     (written_characters is_flat depth run ∙ laid_plain (is_flat_at is_flat depth) run plain) grew
 
 pub held_none : (unit : TextUnit) → held (text_unit_of unit) ≡ None
@@ -214,7 +214,7 @@ read_math {is_flat} math read one grew =
 led_none : IsLed []
 led_none = record { any = λ space. refl; first = refl }
 
-pub written_none : (is_flat : Bool) → written is_flat [] ≡ []
+pub written_none : (is_flat : Bool) → argument_written is_flat [] ≡ []
 written_none true = refl
 written_none false = refl
 

@@ -20,43 +20,43 @@ use Rattle.unicode_normalization.proofs.HangulLemmas.{decompose_hangul-two, deco
 use Rattle.unicode_normalization.proofs.KeptLemmas.{list_all-normalize}
 use Rattle.unicode_normalization.proofs.OrderLemmas.{length-canonical_order}
 use Rattle.bib_chunks.specs.Formatted.{is_break}
-use Rattle.bib_contents.specs.Effects.{is_plain}
+use Rattle.bib_contents.specs.Effects.{is_unbroken}
 
-plain_other : (c : ℕ) → (c ≡ 10 → ⊥) → (c ≡ 13 → ⊥) → is_plain c ≡ true
+plain_other : (c : ℕ) → (c ≡ 10 → ⊥) → (c ≡ 13 → ⊥) → is_unbroken c ≡ true
 plain_other c feed return = rw (ne_eqb c 10 feed, ne_eqb c 13 return) refl
 
-plain_from : (c : ℕ) → (is_break c ≡ true → ⊥) → is_plain c ≡ true
+plain_from : (c : ℕ) → (is_break c ≡ true → ⊥) → is_unbroken c ≡ true
 plain_from c differs = elim (cases_Bool (is_break c)) [
   | inl breaks ↦ absurd (differs breaks)
   | inr plain ↦ rw plain refl
 ]
 
 -- no mapping has a break
-mapping_plain : (c : ℕ) → list_all is_plain (canonical_mapping c) ≡ true
+mapping_plain : (c : ℕ) → list_all is_unbroken (canonical_mapping c) ≡ true
 unfolding tables values_ok decomposition_stepped
-mapping_plain = Stepped-at_values decomposition decomposition_stepped (λ entry. list_all is_plain (if_canonical entry)) refl
+mapping_plain = Stepped-at_values decomposition decomposition_stepped (λ entry. list_all is_unbroken (if_canonical entry)) refl
 
-plain_flat_map : (f : ℕ → List ℕ) → ((c : ℕ) → is_plain c ≡ true → list_all is_plain (f c) ≡ true) → (cs : List ℕ) → list_all is_plain cs ≡ true → list_all is_plain (flat_map f cs) ≡ true
+plain_flat_map : (f : ℕ → List ℕ) → ((c : ℕ) → is_unbroken c ≡ true → list_all is_unbroken (f c) ≡ true) → (cs : List ℕ) → list_all is_unbroken cs ≡ true → list_all is_unbroken (flat_map f cs) ≡ true
 plain_flat_map f each [] all = refl
 plain_flat_map f each (c ∷ cs) all =
-    let parts = and_parts (is_plain c) (list_all is_plain cs) all in
-    list_all-append is_plain (f c) (flat_map f cs) (each c parts.0) (plain_flat_map f each cs parts.1)
+    let parts = and_parts (is_unbroken c) (list_all is_unbroken cs) all in
+    list_all-append is_unbroken (f c) (flat_map f cs) (each c parts.0) (plain_flat_map f each cs parts.1)
 
-plain_itself : (c : ℕ) (cs : List ℕ) → is_plain c ≡ true → list_all is_plain cs ≡ true → list_all is_plain (or_itself c cs) ≡ true
+plain_itself : (c : ℕ) (cs : List ℕ) → is_unbroken c ≡ true → list_all is_unbroken cs ≡ true → list_all is_unbroken (or_itself c cs) ≡ true
 plain_itself c [] plain all = and_from _ _ plain refl
 plain_itself c (d ∷ cs) plain all = all
 
-plain_expand : (depth c : ℕ) → list_all is_plain (expand canonical_mapping depth c) ≡ true
+plain_expand : (depth c : ℕ) → list_all is_unbroken (expand canonical_mapping depth c) ≡ true
 unfolding expand
 plain_expand zero c = mapping_plain c
 plain_expand (suc depth) c =
     plain_flat_map (λ x. or_itself x (expand canonical_mapping depth x)) (λ x plain. plain_itself x (expand canonical_mapping depth x) plain (plain_expand depth x)) (canonical_mapping c) (mapping_plain c)
 
-plain_table : (c : ℕ) → list_all is_plain (canonical_decomposition c) ≡ true
+plain_table : (c : ℕ) → list_all is_unbroken (canonical_decomposition c) ≡ true
 unfolding canonical_decomposition
 plain_table c = plain_expand 3 c
 
-plain_decompose : (c : ℕ) → is_plain c ≡ true → list_all is_plain (decompose Nfc c) ≡ true
+plain_decompose : (c : ℕ) → is_unbroken c ≡ true → list_all is_unbroken (decompose Nfc c) ≡ true
 unfolding decompose
 plain_decompose c plain =
     elim (cases_Bool (is_syllable c)) [
@@ -64,10 +64,10 @@ plain_decompose c plain =
           let l = plain_other (0x1100 + (c - 0xAC00) / 588) (λ e. omega arith) (λ e. omega arith) in
           let v = plain_other (0x1161 + (c - 0xAC00) % 588 / 28) (λ e. omega arith) (λ e. omega arith) in
           let t = plain_other (0x11A7 + (c - 0xAC00) % 28) (λ e. omega arith) (λ e. omega arith) in
-          ap (list_all is_plain) (decompose-syllable Nfc c syllable)
+          ap (list_all is_unbroken) (decompose-syllable Nfc c syllable)
           ∙ elim (cases_eq ((c - 0xAC00) % 28) 0) [
-            | inl two ↦ ap (list_all is_plain) (decompose_hangul-two c two) ∙ and_from _ _ l (and_from _ _ v refl)
-            | inr three ↦ ap (list_all is_plain) (decompose_hangul-three c three) ∙ and_from _ _ l (and_from _ _ v (and_from _ _ t refl))
+            | inl two ↦ ap (list_all is_unbroken) (decompose_hangul-two c two) ∙ and_from _ _ l (and_from _ _ v refl)
+            | inr three ↦ ap (list_all is_unbroken) (decompose_hangul-three c three) ∙ and_from _ _ l (and_from _ _ v (and_from _ _ t refl))
           ]
       | inr other ↦ rw other (plain_itself c (canonical_decomposition c) plain (plain_table c))
     ]
@@ -88,12 +88,12 @@ break_ascii c breaks = elim (cases_Bool (c == 10)) [
   | inr other ↦ let is : c ≡ 13 = eqb-true c 13 (rw other at breaks) in omega arith
 ]
 
-plain_composite : (a b c : ℕ) → is_plain a ≡ true → is_plain b ≡ true → primary_composite a b ≡ Some c → is_plain c ≡ true
+plain_composite : (a b c : ℕ) → is_unbroken a ≡ true → is_unbroken b ≡ true → primary_composite a b ≡ Some c → is_unbroken c ≡ true
 plain_composite a b c first second made = plain_from c (λ breaks. composite_wide a b c made (break_ascii c breaks))
 
 -- composed characters break no line where the characters before don't
-pub plain_nfc : (cs : List ℕ) → list_all is_plain cs ≡ true → list_all is_plain (nfc cs) ≡ true
-plain_nfc cs all = list_all-normalize Nfc is_plain plain_decompose plain_composite cs all
+pub plain_nfc : (cs : List ℕ) → list_all is_unbroken cs ≡ true → list_all is_unbroken (nfc cs) ≡ true
+plain_nfc cs all = list_all-normalize Nfc is_unbroken plain_decompose plain_composite cs all
 
 -- a character is composed to something
 pub nfc_some : (c : ℕ) (cs : List ℕ) → nfc (c ∷ cs) ≡ [] → ⊥

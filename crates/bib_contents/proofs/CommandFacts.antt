@@ -14,13 +14,13 @@ use Rattle.bib_text.specs.Enums.{named}
 use Rattle.bib_text.proofs.TextFacts.{chars_past, chars_whole}
 use lib.Utf8.{scalars}
 use Rattle.bib_contents.specs.declared.commands.TheConstants.{SYMBOLS}
-use Rattle.bib_contents.specs.Commands.{accents, symbols, stroke, letter, marked, accented, other, given}
+use Rattle.bib_contents.specs.Commands.{accents, symbols, stroke, letter, with_mark, accented, other, command_text}
 use Rattle.unicode_normalization.specs.Compose.{primary_composite, compose, compose_after}
 use Rattle.unicode_normalization.specs.Forms.{Nfd, nfd, nfc, is_in_form}
 use Rattle.unicode_normalization.specs.Order.{is_starter}
 use Rattle.unicode_normalization.proofs.Computing.{unicode_normalization}
 use Rattle.unicode_normalization.proofs.ComposeLemmas.{joined-free, joined-none, is_blocked-nil, compose-starter, compose_after-nil, compose_after-joined, compose_after-starter, compose_after-kept, is_starter-true, is_starter-false}
-use Rattle.unicode_normalization.proofs.FormsLemmas.{decomposed-passing, is_final-Nfd, class-latin, quick_check-ascii, nfc-by_nfd, normalize-Nfd, is_in_form-true}
+use Rattle.unicode_normalization.proofs.FormsLemmas.{decomposed-progress, is_final-Nfd, class-latin, quick_check-ascii, nfc-by_nfd, normalize-Nfd, is_in_form-true}
 
 -- a command's name, in ASCII
 abbrev pub copyright : List ℕ
@@ -48,10 +48,10 @@ named_encoded (row ∷ rows) bytes utf8 =
   where
     here : (is_here is_named : Bool) (first : Option (List ℕ)) (all : Option (List ℕ)) (this : List ℕ) → is_here ≡ is_named → first ≡ option_map encode_utf8_all all
         → cond is_here (Some (encode_utf8_all this)) first ≡ option_map encode_utf8_all (cond is_named (Some this) all)
-    here true true first all this same behind = refl
-    here true false first all this same behind = cc
-    here false true first all this same behind = cc
-    here false false first all this same behind = behind
+    here true true first all this same following = refl
+    here true false first all this same following = cc
+    here false true first all this same following = cc
+    here false false first all this same following = following
 
 -- a text longer than each name of a table
 pub named_longer : {A : Type 0} (rows : List (List ℕ × A)) (c d : ℕ) (cs : List ℕ) → list_all (λ row. eqb (length row.0) 1) rows ≡ true → named rows (c ∷ d ∷ cs) ≡ None
@@ -89,8 +89,8 @@ named_passes {A = A} test (row ∷ rows) name value all found =
     here (bytes_eq row.0 name) (named rows name) row.1 value parts.0 (named_passes test rows name value parts.1) found
   where
     here : (is_here : Bool) (rest : Option A) (this value : A) → test this ≡ true → (rest ≡ Some value → test value ≡ true) → cond is_here (Some this) rest ≡ Some value → test value ≡ true
-    here true rest this value passes behind found = cc
-    here false rest this value passes behind found = behind found
+    here true rest this value passes following found = cc
+    here false rest this value passes following found = following found
 
 pub mark_stays : (name : List ℕ) (mark : ℕ) → named accents name ≡ Some mark → is_in_form Nfd (mark ∷ []) ≡ true
 mark_stays name mark found = named_passes (λ m. is_in_form Nfd (m ∷ [])) accents name mark marks_stay found
@@ -100,7 +100,7 @@ decomposed_pair : (c mark : ℕ) → c < 128 → is_in_form Nfd (mark ∷ []) �
 decomposed_pair c mark ascii stays =
     let starter = class-latin c (omega arith) in
     normalize-Nfd (c ∷ mark ∷ [])
-    ∙ decomposed-passing Nfd c (mark ∷ []) (is_final-Nfd c (quick_check-ascii Nfd c ascii)) (omega arith)
+    ∙ decomposed-progress Nfd c (mark ∷ []) (is_final-Nfd c (quick_check-ascii Nfd c ascii)) (omega arith)
     ∙ ap (λ cs. c ∷ cs) (sym (normalize-Nfd (mark ∷ [])) ∙ is_in_form-true Nfd (mark ∷ []) stays)
 
 composed_pair : (c mark : ℕ) → c < 128 → is_in_form Nfd (mark ∷ []) ≡ true → nfc (c ∷ mark ∷ []) ≡ compose (c ∷ mark ∷ [])
@@ -115,35 +115,35 @@ composes c mark whole ascii stays one =
 pub stays_apart : (c mark : ℕ) → c < 128 → is_in_form Nfd (mark ∷ []) ≡ true → primary_composite c mark ≡ None → nfc (c ∷ mark ∷ []) ≡ c ∷ mark ∷ []
 stays_apart c mark ascii stays none =
     let starter = class-latin c (omega arith) in
-    composed_pair c mark ascii stays ∙ compose-starter c (mark ∷ []) (omega arith) ∙ behind (is_starter mark) refl
+    composed_pair c mark ascii stays ∙ compose-starter c (mark ∷ []) (omega arith) ∙ following (is_starter mark) refl
   where
-    behind : (b : Bool) → is_starter mark ≡ b → compose_after c [] (mark ∷ []) ≡ c ∷ mark ∷ []
-    behind true is = compose_after-starter c [] mark [] (joined-none c [] mark none) (is_starter-true mark is) ∙ ap (λ cs. c ∷ cs) (compose_after-nil mark [])
-    behind false is = compose_after-kept c [] mark [] (joined-none c [] mark none) (is_starter-false mark is) ∙ compose_after-nil c (mark ∷ [])
+    following : (b : Bool) → is_starter mark ≡ b → compose_after c [] (mark ∷ []) ≡ c ∷ mark ∷ []
+    following true is = compose_after-starter c [] mark [] (joined-none c [] mark none) (is_starter-true mark is) ∙ ap (λ cs. c ∷ cs) (compose_after-nil mark [])
+    following false is = compose_after-kept c [] mark [] (joined-none c [] mark none) (is_starter-false mark is) ∙ compose_after-nil c (mark ∷ [])
 
 -- a mark goes on the last character
-pub marked-push : (mark : ℕ) (front : List ℕ) (c : ℕ) → marked mark (front ++ c ∷ []) ≡ front ++ nfc (letter c ∷ mark ∷ [])
-marked-push mark [] c = refl
-marked-push mark (d ∷ []) c = refl
-marked-push mark (d ∷ e ∷ front) c = ap (λ cs. d ∷ cs) (marked-push mark (e ∷ front) c)
+pub with_mark-push : (mark : ℕ) (leading_run : List ℕ) (c : ℕ) → with_mark mark (leading_run ++ c ∷ []) ≡ leading_run ++ nfc (letter c ∷ mark ∷ [])
+with_mark-push mark [] c = refl
+with_mark-push mark (d ∷ []) c = refl
+with_mark-push mark (d ∷ e ∷ leading_run) c = ap (λ cs. d ∷ cs) (with_mark-push mark (e ∷ leading_run) c)
 
 -- one character's text
 pub chars_one : (bytes : List ℕ) (c : ℕ) → IsUtf8 bytes → bytes ≡ encode_utf8 c → chars bytes ≡ c ∷ []
 chars_one bytes c utf8 spells = chars_past_char bytes [] c utf8 (spells ∙ sym (append-nil _)) ∙ ap (λ cs. c ∷ cs) chars-nil
 
 -- a text and its last character
-pub chars_last : (bytes front : List ℕ) (c : ℕ) → IsUtf8 bytes → IsUtf8 front → bytes ≡ front ++ encode_utf8 c → chars bytes ≡ chars front ++ c ∷ []
-chars_last bytes front c utf8 front_utf8 ends =
-    let past = chars_past (chars front) bytes (encode_utf8 c) utf8 (ends ∙ ap (λ bs. bs ++ encode_utf8 c) (sym (encodes-chars front front_utf8))) in
-    past.0 ∙ ap (λ cs. chars front ++ cs) (chars_one (encode_utf8 c) c past.1 refl)
+pub chars_last : (bytes leading_run : List ℕ) (c : ℕ) → IsUtf8 bytes → IsUtf8 leading_run → bytes ≡ leading_run ++ encode_utf8 c → chars bytes ≡ chars leading_run ++ c ∷ []
+chars_last bytes leading_run c utf8 prefix_utf8 ends =
+    let past = chars_past (chars leading_run) bytes (encode_utf8 c) utf8 (ends ∙ ap (λ bs. bs ++ encode_utf8 c) (sym (encodes-chars leading_run prefix_utf8))) in
+    past.0 ∙ ap (λ cs. chars leading_run ++ cs) (chars_one (encode_utf8 c) c past.1 refl)
 
 -- another text than a name
 pub not_named : (bytes name : List ℕ) → IsUtf8 bytes → (bytes ≡ encode_utf8_all name → ⊥) → bytes_eq (chars bytes) name ≡ false
-not_named bytes name utf8 differs = told (bytes_eq (chars bytes) name) (λ h. differs (sym (encodes-chars bytes utf8) ∙ ap encode_utf8_all ((bytes_eq-Decides _ _).0 h)))
+not_named bytes name utf8 differs = reported (bytes_eq (chars bytes) name) (λ h. differs (sym (encodes-chars bytes utf8) ∙ ap encode_utf8_all ((bytes_eq-Decides _ _).0 h)))
   where
-    told : (b : Bool) → (b ≡ true → ⊥) → b ≡ false
-    told true wrong = absurd (wrong refl)
-    told false wrong = refl
+    reported : (b : Bool) → (b ≡ true → ⊥) → b ≡ false
+    reported true wrong = absurd (wrong refl)
+    reported false wrong = refl
 
 -- no accent has an empty name, or one of several characters
 pub accents_empty : (bytes : List ℕ) → length bytes ≡ 0 → None ≡ named accents (chars bytes)
@@ -172,7 +172,7 @@ pub other_o : (name : List ℕ) → name ≡ 111 ∷ [] → other (chars name) N
 unfolding chars
 other_o name is = ap (λ bs. other (chars bs) None) is
 
-pub other_o_with : (name argument : List ℕ) → name ≡ 111 ∷ [] → other (chars name) (Some argument) ≡ marked stroke argument
+pub other_o_with : (name argument : List ℕ) → name ≡ 111 ∷ [] → other (chars name) (Some argument) ≡ with_mark stroke argument
 unfolding chars
 other_o_with name argument is = ap (λ bs. other (chars bs) (Some argument)) is
 
@@ -194,16 +194,16 @@ unfolding encode_utf8
 other_unknown_with name argument utf8 not_o not_copyright = rw (not_named name (111 ∷ []) utf8 not_o, not_named name copyright utf8 not_copyright)
 
 -- which table has a name
-pub given_accent : (name : List ℕ) (argument : Option (List ℕ)) (mark : ℕ) → named accents name ≡ Some mark → given name argument ≡ accented mark argument
-unfolding given
+pub given_accent : (name : List ℕ) (argument : Option (List ℕ)) (mark : ℕ) → named accents name ≡ Some mark → command_text name argument ≡ accented mark argument
+unfolding command_text
 given_accent name argument mark is = rw is
 
-pub given_symbol : (name : List ℕ) (argument : Option (List ℕ)) (text : List ℕ) → named accents name ≡ None → named symbols name ≡ Some text → given name argument ≡ text
-unfolding given
+pub given_symbol : (name : List ℕ) (argument : Option (List ℕ)) (text : List ℕ) → named accents name ≡ None → named symbols name ≡ Some text → command_text name argument ≡ text
+unfolding command_text
 given_symbol name argument text none is = rw (none, is)
 
-pub given_other : (name : List ℕ) (argument : Option (List ℕ)) → named accents name ≡ None → named symbols name ≡ None → given name argument ≡ other name argument
-unfolding given
+pub given_other : (name : List ℕ) (argument : Option (List ℕ)) → named accents name ≡ None → named symbols name ≡ None → command_text name argument ≡ other name argument
+unfolding command_text
 given_other name argument none absent = rw (none, absent)
 
 -- what is found of a text in UTF-8

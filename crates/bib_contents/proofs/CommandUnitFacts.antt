@@ -9,9 +9,9 @@ use Rattle.std.proofs.lemmas.Str.{encodes-chars, chars-nil}
 use Rattle.bib_text.specs.Places.{Place}
 use Rattle.bib_chunks.specs.Written.{is_grouping}
 use Rattle.bib_contents.specs.Contents.{ContentUnit, is_ordinary, Argument, is_escaped, is_space, is_blank, is_name_character, is_sign, is_mark, is_accent_letter, begins, is_empty, argument_spelling, is_name, is_whole_name, takes_next, is_argument, IsNext}
-use Rattle.bib_contents.specs.Passing.{left, Passes}
-use Rattle.bib_contents.proofs.UnitFacts.{first_unit, first_argument, command_of, unit_first, escape_first, behind, prefix_run, behind_run, command_parts}
-use Rattle.bib_contents.proofs.ArgumentFacts.{behind_first}
+use Rattle.bib_contents.specs.Progress.{left, Passes}
+use Rattle.bib_contents.proofs.UnitFacts.{first_unit, first_argument, command_of, unit_first, escape_first, following, prefix_run, after_run, command_parts}
+use Rattle.bib_contents.proofs.ArgumentFacts.{after_first}
 
 first_same : {c d : ℕ} {xs ys : List ℕ} → c ∷ xs ≡ d ∷ ys → c ≡ d
 first_same same = cc
@@ -49,7 +49,7 @@ pub command_found : (before name middle space after rest : List ℕ) (takes spac
     → middle ≡ space ++ after → list_all is_space space ≡ true → begins is_space after ≡ false → takes ≡ takes_next name space → spaced ≡ not (is_empty space)
     → after ≡ argument_spelling argument ++ rest → is_argument takes spaced argument rest ≡ true
     → IsNext false (ContentUnit.command name space argument) (92 ∷ before) rest
-command_found before name middle space after rest takes spaced argument front name_is whole then_is white stops takes_is spaced_is last right = record {
+command_found before name middle space after rest takes spaced argument leading_run name_is whole then_is white stops takes_is spaced_is last right = record {
   fits =
       let tail : middle ≡ space ++ (argument_spelling argument ++ rest) = then_is ∙ ap (λ xs. space ++ xs) last in
       let whole' : is_whole_name name (space ++ (argument_spelling argument ++ rest)) ≡ true = rw tail at whole in
@@ -58,7 +58,7 @@ command_found before name middle space after rest takes spaced argument front na
       rw (name_is, whole', white, stops', right') refl;
   spells =
       ap (λ xs. 92 ∷ xs) (
-      front ∙ ap (λ xs. name ++ xs) (then_is ∙ ap (λ xs. space ++ xs) last ∙ sym (append_assoc space (argument_spelling argument) rest))
+      leading_run ∙ ap (λ xs. name ++ xs) (then_is ∙ ap (λ xs. space ++ xs) last ∙ sym (append_assoc space (argument_spelling argument) rest))
       ∙ sym (append_assoc name (space ++ argument_spelling argument) rest)
       );
 }
@@ -69,21 +69,21 @@ no_command : (c : ℕ) (cs space after rest : List ℕ) (u : ContentUnit) → is
     → IsNext false u (92 ∷ ((c ∷ cs) ++ (space ++ after))) rest → ⊥
 no_command c cs space after rest u name whole white stops none one =
     let argument = first_argument (takes_next (c ∷ cs) space) (not (is_empty space)) after in
-    let found = ap (λ xs. command_of (c ∷ cs) xs (behind is_space (space ++ after))) (prefix_run is_space space after white stops) ∙ ap (λ xs. command_of (c ∷ cs) space xs) (behind_run is_space space after white stops) in
+    let found = ap (λ xs. command_of (c ∷ cs) xs (following is_space (space ++ after))) (prefix_run is_space space after white stops) ∙ ap (λ xs. command_of (c ∷ cs) space xs) (after_run is_space space after white stops) in
     let is : ContentUnit.command (c ∷ cs) space argument ≡ u = sym (escape_first c cs (space ++ after) (ContentUnit.command (c ∷ cs) space argument) name whole found) ∙ ap (first_unit false) one.spells ∙ unit_first false u rest one.fits in
     let this : IsNext false (ContentUnit.command (c ∷ cs) space argument) (92 ∷ ((c ∷ cs) ++ (space ++ after))) rest = rw is one in
     let parts = command_parts false (c ∷ cs) space rest argument this.fits in
     let spelt : (c ∷ cs) ++ (space ++ after) ≡ (c ∷ cs) ++ (space ++ (argument_spelling argument ++ rest)) =
-    behind_first this.spells ∙ append_assoc (c ∷ cs) (space ++ argument_spelling argument) rest ∙ ap (λ xs. (c ∷ cs) ++ xs) (append_assoc space (argument_spelling argument) rest) in
+    after_first this.spells ∙ append_assoc (c ∷ cs) (space ++ argument_spelling argument) rest ∙ ap (λ xs. (c ∷ cs) ++ xs) (append_assoc space (argument_spelling argument) rest) in
     none argument rest (append_cancel_left space _ _ (append_cancel_left (c ∷ cs) _ _ spelt)) parts.5
 
 pub command_none : (before name middle space after : List ℕ) (takes spaced : Bool) → before ≡ name ++ middle → is_name name ≡ true → is_whole_name name middle ≡ true
     → middle ≡ space ++ after → list_all is_space space ≡ true → begins is_space after ≡ false → takes ≡ takes_next name space → spaced ≡ not (is_empty space)
     → ((a : Argument) (rest : List ℕ) → after ≡ argument_spelling a ++ rest → is_argument takes spaced a rest ≡ true → ⊥)
     → (u : ContentUnit) (rest : List ℕ) → IsNext false u (92 ∷ before) rest → ⊥
-command_none before [] middle space after takes spaced front name_is whole then_is white stops takes_is spaced_is none u rest one = both_ways false refl name_is
-command_none before (c ∷ cs) middle space after takes spaced front name_is whole then_is white stops takes_is spaced_is none u rest one =
-    no_command c cs space after rest u name_is (rw then_is at whole) white stops (rw (takes_is, spaced_is) at none) (rw (front, then_is) at one)
+command_none before [] middle space after takes spaced leading_run name_is whole then_is white stops takes_is spaced_is none u rest one = both_ways false refl name_is
+command_none before (c ∷ cs) middle space after takes spaced leading_run name_is whole then_is white stops takes_is spaced_is none u rest one =
+    no_command c cs space after rest u name_is (rw then_is at whole) white stops (rw (takes_is, spaced_is) at none) (rw (leading_run, then_is) at one)
 
 -- a backslash alone at the end of a text that is not verbatim begins nothing
 pub no_escape : (before : List ℕ) (is_verbatim : Bool) → before ≡ [] → is_verbatim ≡ false → (u : ContentUnit) (rest : List ℕ) → IsNext is_verbatim u (92 ∷ before) rest → ⊥

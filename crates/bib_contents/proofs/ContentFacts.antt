@@ -59,5 +59,5 @@ read_same {is_verbatim} {depth} (next {u = u} {rest = left} {inner = inner} {ato
     let same : u ≡ w = unit_same one two in
     let tail : left ≡ left' = rest_same one two in
     let inside : (text : List ℕ) → held u ≡ Some text → inner ≡ inner' = λ t holds. read_same (argument t holds) (argument' t (rw same at holds)) in
-    let behind : Reads is_verbatim (depth_after depth u) left atoms' = rw (same, tail) rest' in
-    ap (λ xs. xs ++ atoms) (meaning_same depth u inner inner' inside) ∙ ap (λ xs. meaning depth u inner' ++ xs) (read_same rest behind) ∙ ap (λ x. meaning depth x inner' ++ atoms') same
+    let following : Reads is_verbatim (depth_after depth u) left atoms' = rw (same, tail) rest' in
+    ap (λ xs. xs ++ atoms) (meaning_same depth u inner inner' inside) ∙ ap (λ xs. meaning depth u inner' ++ xs) (read_same rest following) ∙ ap (λ x. meaning depth x inner' ++ atoms') same

@@ -5,12 +5,12 @@ use Rattle.std.specs.Str.{chars, IsUtf8, IsCharBoundary}
 use Rattle.std.proofs.lemmas.List.{take_at}
 use Rattle.std.proofs.lemmas.Str.{encodes-append, encodes-chars, length-le-encodes, IsCharBoundary-at_seam}
 use Rattle.bib_text.proofs.TextFacts.{chars_whole, chars_past, three_parts}
-use Rattle.bib_contents.specs.Commands.{marked, letter, bare}
-use Rattle.bib_contents.proofs.CommandFacts.{marked-push, chars_last}
+use Rattle.bib_contents.specs.Commands.{with_mark, letter, bare}
+use Rattle.bib_contents.proofs.CommandFacts.{with_mark-push, chars_last}
 use Rattle.bib_contents.proofs.LaidFacts.{last_of}
 use Rattle.unicode_normalization.specs.Forms.{nfc}
 
--- characters written behind others
+-- characters written after others
 pub wrote_more : (now more before cs : List ℕ) → now ≡ encode_utf8_all before → more ≡ now ++ encode_utf8_all cs → more ≡ encode_utf8_all (before ++ cs)
 wrote_more now more before cs was grew = grew ∙ ap (λ bs. bs ++ encode_utf8_all cs) was ∙ sym (encodes-append before cs)
 
@@ -19,18 +19,18 @@ no_characters [] none = refl
 no_characters (c ∷ cs) none = absurd (omega (arith, none))
 
 -- a text that ends where its last part begins
-pub nothing_behind : (base inside : List ℕ) → length (encode_utf8_all (base ++ inside)) ≤ length (encode_utf8_all base) → inside ≡ []
-nothing_behind base inside short =
+pub nothing_after : (base inside : List ℕ) → length (encode_utf8_all (base ++ inside)) ≤ length (encode_utf8_all base) → inside ≡ []
+nothing_after base inside short =
     let size : length (encode_utf8_all (base ++ inside)) ≡ length (encode_utf8_all base) + length (encode_utf8_all inside) = ap length (encodes-append base inside) ∙ length-append (encode_utf8_all base) _ in
     let wide : length inside ≤ length (encode_utf8_all inside) = length-le-encodes inside in
     no_characters inside (omega (arith, short, size, wide))
 
 pub marked_none : (base inside : List ℕ) (mark : ℕ) (sign old new : List ℕ) {start : ℕ} → length (encode_utf8_all base) ≡ start → old ≡ encode_utf8_all (base ++ inside) → length old ≤ start → sign ≡ bare mark → new ≡ old ++ encode_utf8_all sign
-    → new ≡ encode_utf8_all (base ++ marked mark inside)
+    → new ≡ encode_utf8_all (base ++ with_mark mark inside)
 marked_none base inside mark sign old new {start} size is short bare_is grew =
-    let none : inside ≡ [] = nothing_behind base inside (omega (arith, short, size, ap length is)) in
+    let none : inside ≡ [] = nothing_after base inside (omega (arith, short, size, ap length is)) in
     wrote_more old new (base ++ inside) sign is grew ∙ ap (λ cs. encode_utf8_all ((base ++ cs) ++ sign)) none ∙ ap (λ cs. encode_utf8_all (cs ++ sign)) (append-nil base)
-    ∙ ap (λ cs. encode_utf8_all (base ++ cs)) bare_is ∙ ap (λ cs. encode_utf8_all (base ++ marked mark cs)) (sym none)
+    ∙ ap (λ cs. encode_utf8_all (base ++ cs)) bare_is ∙ ap (λ cs. encode_utf8_all (base ++ with_mark mark cs)) (sym none)
 
 -- texts with one character more are equal part by part
 pub last_same : (xs ys : List ℕ) (c d : ℕ) → xs ++ c ∷ [] ≡ ys ++ d ∷ [] → (xs ≡ ys) × (c ≡ d)
@@ -44,22 +44,22 @@ last_same (x ∷ xs) (y ∷ ys) c d is =
     let first : x ≡ y = cc in
     (ap (λ z. z ∷ xs) first ∙ ap (λ zs. y ∷ zs) rest.0, rest.1)
 
-pub marked_some : (base : List ℕ) (c : ℕ) (cs : List ℕ) (mark last : ℕ) (old front new : List ℕ) → IsUtf8 old → IsUtf8 front → old ≡ encode_utf8_all (base ++ c ∷ cs) → old ≡ front ++ encode_utf8 last
-    → new ≡ front ++ encode_utf8_all (nfc (letter last ∷ mark ∷ [])) → new ≡ encode_utf8_all (base ++ marked mark (c ∷ cs))
-marked_some base c cs mark last old front new utf8 front_utf8 is popped grew =
+pub marked_some : (base : List ℕ) (c : ℕ) (cs : List ℕ) (mark last : ℕ) (old leading_run new : List ℕ) → IsUtf8 old → IsUtf8 leading_run → old ≡ encode_utf8_all (base ++ c ∷ cs) → old ≡ leading_run ++ encode_utf8 last
+    → new ≡ leading_run ++ encode_utf8_all (nfc (letter last ∷ mark ∷ [])) → new ≡ encode_utf8_all (base ++ with_mark mark (c ∷ cs))
+marked_some base c cs mark last old leading_run new utf8 prefix_utf8 is popped grew =
     let split = last_of c cs in
     let whole : chars old ≡ (base ++ split.0) ++ split.1 ∷ [] = chars_whole (base ++ c ∷ cs) old utf8 is ∙ ap (λ xs. base ++ xs) split.2 ∙ sym (append_assoc base split.0 (split.1 ∷ [])) in
-    let parts = last_same (chars front) (base ++ split.0) last split.1 (sym (chars_last old front last utf8 front_utf8 popped) ∙ whole) in
-    wrote_more front new (chars front) (nfc (letter last ∷ mark ∷ [])) (sym (encodes-chars front front_utf8)) grew
+    let parts = last_same (chars leading_run) (base ++ split.0) last split.1 (sym (chars_last old leading_run last utf8 prefix_utf8 popped) ∙ whole) in
+    wrote_more leading_run new (chars leading_run) (nfc (letter last ∷ mark ∷ [])) (sym (encodes-chars leading_run prefix_utf8)) grew
     ∙ ap (λ xs. encode_utf8_all (xs ++ nfc (letter last ∷ mark ∷ []))) parts.0
-    ∙ ap encode_utf8_all (append_assoc base split.0 _ ∙ ap (λ d. base ++ (split.0 ++ nfc (letter d ∷ mark ∷ []))) parts.1 ∙ ap (λ xs. base ++ xs) (sym (ap (marked mark) split.2 ∙ marked-push mark split.0 split.1)))
+    ∙ ap encode_utf8_all (append_assoc base split.0 _ ∙ ap (λ d. base ++ (split.0 ++ nfc (letter d ∷ mark ∷ []))) parts.1 ∙ ap (λ xs. base ++ xs) (sym (ap (with_mark mark) split.2 ∙ with_mark-push mark split.0 split.1)))
 
-pub marked_behind : (base inside : List ℕ) (mark last : ℕ) (old front new : List ℕ) {start : ℕ} → length (encode_utf8_all base) ≡ start → start < length old → IsUtf8 old → IsUtf8 front → old ≡ encode_utf8_all (base ++ inside) → old ≡ front ++ encode_utf8 last
-    → new ≡ front ++ encode_utf8_all (nfc (letter last ∷ mark ∷ [])) → new ≡ encode_utf8_all (base ++ marked mark inside)
-marked_behind base [] mark last old front new size more utf8 front_utf8 is popped grew =
+pub marked_after : (base inside : List ℕ) (mark last : ℕ) (old leading_run new : List ℕ) {start : ℕ} → length (encode_utf8_all base) ≡ start → start < length old → IsUtf8 old → IsUtf8 leading_run → old ≡ encode_utf8_all (base ++ inside) → old ≡ leading_run ++ encode_utf8 last
+    → new ≡ leading_run ++ encode_utf8_all (nfc (letter last ∷ mark ∷ [])) → new ≡ encode_utf8_all (base ++ with_mark mark inside)
+marked_after base [] mark last old leading_run new size more utf8 prefix_utf8 is popped grew =
     let same : length old ≡ length (encode_utf8_all base) = ap length is ∙ ap (λ cs. length (encode_utf8_all cs)) (append-nil base) in
     absurd (omega (arith, size, more, same))
-marked_behind base (c ∷ cs) mark last old front new size more utf8 front_utf8 is popped grew = marked_some base c cs mark last old front new utf8 front_utf8 is popped grew
+marked_after base (c ∷ cs) mark last old leading_run new size more utf8 prefix_utf8 is popped grew = marked_some base c cs mark last old leading_run new utf8 prefix_utf8 is popped grew
 
 -- a text is cut back to where its last part began
 pub cut_back : (base inside now cut : List ℕ) {start : ℕ} → length (encode_utf8_all base) ≡ start → now ≡ encode_utf8_all (base ++ inside) → cut ≡ take start now → cut ≡ encode_utf8_all base
@@ -87,8 +87,8 @@ unknown_end base name inside now new is grew = wrote_more now new _ (125 ∷ [])
     regrouped base name inside = simp append_assoc
 
 -- a text that was written before, and more
-pub wrote_behind : (old new cs : List ℕ) → IsUtf8 old → new ≡ old ++ encode_utf8_all cs → new ≡ encode_utf8_all (chars old ++ cs)
-wrote_behind old new cs utf8 grew = wrote_more old new (chars old) cs (sym (encodes-chars old utf8)) grew
+pub wrote_after : (old new cs : List ℕ) → IsUtf8 old → new ≡ old ++ encode_utf8_all cs → new ≡ encode_utf8_all (chars old ++ cs)
+wrote_after old new cs utf8 grew = wrote_more old new (chars old) cs (sym (encodes-chars old utf8)) grew
 
 pub wrote_from : (old new cs : List ℕ) → IsUtf8 old → new ≡ encode_utf8_all (chars old ++ cs) → new ≡ old ++ encode_utf8_all cs
 wrote_from old new cs utf8 is = is ∙ encodes-append (chars old) cs ∙ ap (λ bs. bs ++ encode_utf8_all cs) (encodes-chars old utf8)

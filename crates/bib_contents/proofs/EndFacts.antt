@@ -9,29 +9,29 @@ use Rattle.std.proofs.lemmas.List.{get_or-set_other, length-replicate}
 use Rattle.bib_text.specs.Places.{Place, place}
 use Rattle.bib_contents.specs.Arguments.{Closes}
 use Rattle.bib_contents.specs.Contents.{begins}
-use Rattle.bib_contents.specs.Passing.{left, Passes}
+use Rattle.bib_contents.specs.Progress.{left, Passes}
 use Rattle.bib_contents.proofs.ArgumentFacts.{BracedRead, braced_none, braced_opens, braced_closes, braced_found, is_no_brace, is_closing, next_brace, passes_ahead, passes_within}
 
--- places behind opening braces that are open, the last one first: so many braces are open behind each
+-- places after opening braces that are open, the last one first: so many braces are open after each
 pub data AreOpen (text : List ℕ) (start : ℕ) (s : Place) : ℕ → List ℕ → Type 0 where
   nothing : {depth : ℕ} → AreOpen text start s depth []
-  behind : {depth begin : ℕ} {opened : List ℕ} → BracedRead (place text begin) depth s → start ≤ begin → begin ≤ s.at → AreOpen text start s (depth + 1) opened → AreOpen text start s depth (begin ∷ opened)
+  following : {depth begin : ℕ} {opened : List ℕ} → BracedRead (place text begin) depth s → start ≤ begin → begin ≤ s.at → AreOpen text start s (depth + 1) opened → AreOpen text start s depth (begin ∷ opened)
 
 -- a brace was opened
 pub open_opened : {text : List ℕ} {start : ℕ} {s t w : Place} {run : List ℕ} {depth : ℕ} {opened : List ℕ} → AreOpen text start s depth opened → Passes s run t → list_all is_no_brace run ≡ true → Passes t (123 ∷ []) w
     → AreOpen text start w (depth + 1) opened
 open_opened AreOpen.nothing passed plain brace = AreOpen.nothing
-open_opened (AreOpen.behind read ahead before rest) passed plain brace =
-    AreOpen.behind (braced_opens read passed plain brace) ahead (let a = passes_ahead passed in let b = passes_ahead brace in omega (arith, before, a, b)) (open_opened rest passed plain brace)
+open_opened (AreOpen.following read ahead before rest) passed plain brace =
+    AreOpen.following (braced_opens read passed plain brace) ahead (let a = passes_ahead passed in let b = passes_ahead brace in omega (arith, before, a, b)) (open_opened rest passed plain brace)
 
 -- a brace was closed, and more are open
 pub open_closed : {text : List ℕ} {start : ℕ} {s t w : Place} {run : List ℕ} {c : ℕ} {opened : List ℕ} (depth before : ℕ) → AreOpen text start s depth opened → depth ≡ before + 1 → Passes s run t → list_all is_no_brace run ≡ true → begins is_no_brace (left t) ≡ false → Passes t (c ∷ []) w → (c ≡ 123 → ⊥)
     → AreOpen text start w before opened
 open_closed depth before AreOpen.nothing is passed plain ends brace differs = AreOpen.nothing
-open_closed {text} {start} {s} {t} {w} depth before (AreOpen.behind {begin = begin} read after ahead rest) is passed plain ends brace differs =
+open_closed {text} {start} {s} {t} {w} depth before (AreOpen.following {begin = begin} read after ahead rest) is passed plain ends brace differs =
     let some : nat_lt 0 depth ≡ true = lt-ltb 0 depth (omega (arith, is)) in
     let same : depth - 1 ≡ before = omega (arith, is) in
-    AreOpen.behind (subst (λ n. BracedRead (place text begin) n w) same (braced_closes read passed plain ends brace differs some)) after
+    AreOpen.following (subst (λ n. BracedRead (place text begin) n w) same (braced_closes read passed plain ends brace differs some)) after
     (let a = passes_ahead passed in let b = passes_ahead brace in omega (arith, ahead, a, b)) (open_closed (depth + 1) (before + 1) rest (omega (arith, is)) passed plain ends brace differs)
 
 -- a place in its text
@@ -75,7 +75,7 @@ noted_more start begin end places text noted closes after within index some insi
 -- braces were read so far: those that are open, and those that were noted
 pub record AreReadTo (text : List ℕ) (start : ℕ) (s : Place) (places waits : List ℕ) : Type 0 where
   pub same : s.text ≡ text
-  pub behind : start ≤ s.at
+  pub following : start ≤ s.at
   pub within : s.at ≤ length s.text
   pub size : length places + start ≡ length text
   pub noted : AreNoted start places text
@@ -86,14 +86,14 @@ pub read_opened : {text : List ℕ} {start c : ℕ} {s t w : Place} {run places 
 read_opened {text} {start} {c} {s} {t} {w} {run} {places} {waits} {more} read passed plain brace is pushed =
     let opening : Passes t (123 ∷ []) w = subst (λ x. Passes t (x ∷ []) w) is brace in
     let same : w.text ≡ text = brace.same ∙ passed.same ∙ read.same in
-    let after : start ≤ w.at = (let a = passes_ahead passed in let b = passes_ahead brace in let here : start ≤ s.at = read.behind in omega arith) in
+    let after : start ≤ w.at = (let a = passes_ahead passed in let b = passes_ahead brace in let here : start ≤ s.at = read.following in omega arith) in
     record {
       same = same;
-      behind = after;
+      following = after;
       within = passes_within brace (passes_within passed read.within);
       size = read.size;
       noted = read.noted;
-      opened = subst (AreOpen text start w 0) (sym pushed) (AreOpen.behind (subst (λ u. BracedRead u 0 w) (sym (place_here text same)) (braced_none w)) after (omega arith) (open_opened read.opened passed plain opening));
+      opened = subst (AreOpen text start w 0) (sym pushed) (AreOpen.following (subst (λ u. BracedRead u 0 w) (sym (place_here text same)) (braced_none w)) after (omega arith) (open_opened read.opened passed plain opening));
     }
 
 pub read_closed : {text : List ℕ} {start c begin : ℕ} {s t w : Place} {run places waits rest : List ℕ} → AreReadTo text start s places waits → Passes s run t → list_all is_no_brace run ≡ true → begins is_no_brace (left t) ≡ false → Passes t (c ∷ []) w → (c ≡ 123 → ⊥) → reverse waits ≡ begin ∷ reverse rest
@@ -102,7 +102,7 @@ read_closed {text} {start} {c} {begin} {s} {t} {w} {run} {places} {waits} {rest}
   where
     popped_one : (all : List ℕ) → AreOpen text start s 0 all → all ≡ begin ∷ reverse rest → (start ≤ begin) × (begin ≤ s.at) × (begin - start < length places → AreReadTo text start w (set places (begin - start) t.at) rest)
     popped_one all AreOpen.nothing is = absurd (cc)
-    popped_one all (AreOpen.behind {begin = first} {opened = others} first_read after ahead more) is =
+    popped_one all (AreOpen.following {begin = first} {opened = others} first_read after ahead more) is =
         let first_is : first ≡ begin = cc in
         let others_are : others ≡ reverse rest = cc in
         let same : w.text ≡ text = brace.same ∙ passed.same ∙ read.same in (
@@ -110,7 +110,7 @@ read_closed {text} {start} {c} {begin} {s} {t} {w} {run} {places} {waits} {rest}
           omega (arith, ahead, first_is),
           λ within. record {
             same = same;
-            behind = (let a = passes_ahead passed in let b = passes_ahead brace in let here : start ≤ s.at = read.behind in omega arith);
+            following = (let a = passes_ahead passed in let b = passes_ahead brace in let here : start ≤ s.at = read.following in omega arith);
             within = passes_within brace (passes_within passed read.within);
             size = ap (λ n. n + start) (length-set places (begin - start) t.at) ∙ read.size;
             noted = noted_more start begin t.at places text read.noted (closes_here (subst (λ n. BracedRead (place text n) 0 s) first_is first_read) passed plain ends brace differs same) (omega (arith, after, first_is)) within;
@@ -127,7 +127,7 @@ zeros (suc n) (suc index) = zeros n index
 pub read_none : {text places waits : List ℕ} {start : ℕ} {s : Place} → s.text ≡ text → start ≡ s.at → s.at ≤ length text → places ≡ replicate (length text - start) 0 → waits ≡ [] → AreReadTo text start s places waits
 read_none {text} {places} {waits} {start} {s} same here within empty alone = record {
   same = same;
-  behind = omega (arith, here);
+  following = omega (arith, here);
   within = rw same within;
   size = (let count : length places ≡ length text - start = ap length empty ∙ length-replicate (length text - start) 0 in omega (arith, here, within, count));
   noted = λ index some inside. absurd (omega (arith, some, ap (λ xs. slice_index xs index) empty, zeros (length text - start) index));
@@ -138,7 +138,7 @@ read_none {text} {places} {waits} {start} {s} same here within empty alone = rec
 pub read_alone : {text : List ℕ} {start c : ℕ} {s t w : Place} {run places waits more : List ℕ} → AreReadTo text start s places waits → Passes s run t → Passes t (c ∷ []) w → more ≡ [] → AreReadTo text start w places more
 read_alone {text} {start} {c} {s} {t} {w} read passed brace alone = record {
   same = brace.same ∙ passed.same ∙ read.same;
-  behind = (let a = passes_ahead passed in let b = passes_ahead brace in let here : start ≤ s.at = read.behind in omega arith);
+  following = (let a = passes_ahead passed in let b = passes_ahead brace in let here : start ≤ s.at = read.following in omega arith);
   within = passes_within brace (passes_within passed read.within);
   size = read.size;
   noted = read.noted;

@@ -9,19 +9,19 @@ use Rattle.std.proofs.lemmas.Str.{encodes-append, encodes-chars, length-le-encod
 use Rattle.bib_text.specs.Places.{Place}
 use Rattle.bib_chunks.specs.Formatted.{formatted_atoms}
 use Rattle.bib_chunks.specs.Styled.{Atom}
-use Rattle.bib_contents.specs.Arguments.{AreKnown, Closes, IsInside, IsKept, IsReadTo, IsShorterThan, StandsRight, laid, written}
-use Rattle.bib_contents.specs.Commands.{given}
+use Rattle.bib_contents.specs.Arguments.{AreKnown, Closes, IsInside, KeepsFrame, IsReadTo, IsShorterThan, StandsRight, laid, argument_written}
+use Rattle.bib_contents.specs.Commands.{command_text}
 use Rattle.bib_contents.specs.Contents.{Argument, ContentUnit, IsNext, Reads, character, unit_spelling, StaysBetween}
 use Rattle.bib_contents.specs.Contents.Reads.{end}
-use Rattle.bib_contents.specs.Effects.{IsFit, is_plain, made, made_before}
+use Rattle.bib_contents.specs.Effects.{IsFit, is_unbroken, made, made_before}
 use Rattle.bib_syntax.specs.declared.raw.ParseError.{ParseError}
-use Rattle.bib_contents.specs.Passing.{IsStuck, left}
+use Rattle.bib_contents.specs.Progress.{IsStuck, left}
 use Rattle.bib_contents.specs.declared.arguments.Frame.{Frame}
 use Rattle.bib_contents.specs.declared.commands.Effect.{Effect}
 use Rattle.bib_contents.specs.declared.arguments.Next.{Next}
 use Rattle.bib_contents.specs.declared.arguments.Next.TheVariants.{Read, Follows, End}
 use Rattle.bib_contents.specs.declared.ends.Ends.{Ends}
-use Rattle.bib_contents.proofs.EffectFacts.{wrote_behind}
+use Rattle.bib_contents.proofs.EffectFacts.{wrote_after}
 use Rattle.bib_contents.proofs.UnitFacts.{command_parts}
 use Rattle.bib_contents.proofs.ArgumentReading.{name_plain, read_more, stuck_argument, written_none}
 use Rattle.bib_contents.proofs.LaidFacts.{is_flat_at, laid_given, written_characters, led_characters, capped_given}
@@ -29,13 +29,13 @@ use Rattle.bib_contents.proofs.ReaderFacts.{goes_here, goes_unit, unit_shorter}
 use Rattle.bib_contents.proofs.TakingFacts.{held_is}
 use Rattle.bib_contents.proofs.WholeFacts.{whole_reads, whole_capped}
 
--- the argument of a command was begun, behind what stood under it
+-- the argument of a command was begun, after what stood under it
 pub record IsBegun (frame : Frame) (name under : List ℕ) (low high : ℕ) : Type 0 where
-  pub gives : (argument : List ℕ) → given name (Some argument) ≡ made frame.effect name argument
+  pub gives : (argument : List ℕ) → command_text name (Some argument) ≡ made frame.effect name argument
   pub fit : IsFit frame.effect
-  pub plain : list_all is_plain name ≡ true
+  pub plain : list_all is_unbroken name ≡ true
   pub start : length (encode_utf8_all (under ++ made_before frame.effect name)) ≡ frame.start
-  pub behind : low ≤ frame.s.at
+  pub following : low ≤ frame.s.at
   pub within : length frame.s.text ≤ high
   pub right : StandsRight frame
 
@@ -65,13 +65,13 @@ weight [] = 0
 weight (frame ∷ frames) = length (left frame.s) + 1 + weight frames
 
 -- a frame that was read on
-pub begun_on : {frame on : Frame} {name under : List ℕ} {low high : ℕ} → IsBegun frame name under low high → IsKept frame on → StandsRight on → IsBegun on name under low high
+pub begun_on : {frame on : Frame} {name under : List ℕ} {low high : ℕ} → IsBegun frame name under low high → KeepsFrame frame on → StandsRight on → IsBegun on name under low high
 begun_on {frame} {on} {name} {under} {low} {high} begun kept right = record {
   gives = λ argument. begun.gives argument ∙ ap (λ e. made e name argument) (sym kept.effect);
   fit = subst IsFit (sym kept.effect) begun.fit;
   plain = begun.plain;
   start = ap (λ e. length (encode_utf8_all (under ++ made_before e name))) kept.effect ∙ begun.start ∙ sym kept.start;
-  behind = (let a : low ≤ frame.s.at = begun.behind in let b : frame.s.at ≤ on.s.at = kept.ahead in omega arith);
+  following = (let a : low ≤ frame.s.at = begun.following in let b : frame.s.at ≤ on.s.at = kept.ahead in omega arith);
   within = (let a : length frame.s.text ≤ high = begun.within in let b : length on.s.text ≡ length frame.s.text = ap length kept.text in omega arith);
   right = right;
 }
@@ -89,7 +89,7 @@ module _ {first_name first_whole first_under : List ℕ} {ends : Ends} {low high
   waiting_on old new {name} {whole} {under} {frames} same waiting = subst (λ flat. AreWaiting first_name first_whole first_under ends low high name whole flat under frames) (sym same) waiting
 
   -- a unit was read
-  pub reading_on : {frame on : Frame} {frames : List Frame} {now more : List ℕ} (reading : IsReading first_name first_whole first_under ends low high frame frames now) → IsKept frame on → StandsRight on
+  pub reading_on : {frame on : Frame} {frames : List Frame} {now more : List ℕ} (reading : IsReading first_name first_whole first_under ends low high frame frames now) → KeepsFrame frame on → StandsRight on
       → IsReadTo on.is_flat reading.whole (reading.under ++ made_before frame.effect reading.name) (left on.s) on.depth more → IsReading first_name first_whole first_under ends low high on frames more
   reading_on {frame} {on} reading kept right read = record {
     name = reading.name;
@@ -102,7 +102,7 @@ module _ {first_name first_whole first_under : List ℕ} {ends : Ends} {low high
   }
 
   -- the argument of a command in it was begun
-  pub reading_above : {frame on above : Frame} {frames : List Frame} {now more most name : List ℕ} (before space inside : List ℕ) (reading : IsReading first_name first_whole first_under ends low high frame frames now) → IsKept frame on → StandsRight on
+  pub reading_above : {frame on above : Frame} {frames : List Frame} {now more most name : List ℕ} (before space inside : List ℕ) (reading : IsReading first_name first_whole first_under ends low high frame frames now) → KeepsFrame frame on → StandsRight on
       → IsReadTo on.is_flat reading.whole (reading.under ++ made_before frame.effect reading.name) before on.depth (encode_utf8_all more) → IsNext false (ContentUnit.command name space (Argument.braced inside)) before (left on.s)
       → IsBegun above name more low high → AreKnown ends above.s.text → above.is_flat ≡ is_flat_at on.is_flat on.depth → IsReadTo above.is_flat inside (more ++ made_before above.effect name) (left above.s) above.depth most
       → IsReading first_name first_whole first_under ends low high above (on ∷ frames) most
@@ -120,11 +120,11 @@ module _ {first_name first_whole first_under : List ℕ} {ends : Ends} {low high
 
   -- the argument ended, and the frame below goes on
   below_of : {name whole under most : List ℕ} {is_flat : Bool} {below : Frame} {frames : List Frame} → AreWaiting first_name first_whole first_under ends low high name whole is_flat under (below ∷ frames) → (atoms : List Atom) → Reads false 0 whole atoms
-      → list_all is_plain name ≡ true → most ≡ encode_utf8_all (under ++ given name (Some (written is_flat atoms))) → IsReading first_name first_whole first_under ends low high below frames most
+      → list_all is_unbroken name ≡ true → most ≡ encode_utf8_all (under ++ command_text name (Some (argument_written is_flat atoms))) → IsReading first_name first_whole first_under ends low high below frames most
   below_of {name} {whole} {under} {most} {is_flat} {below} {frames} (AreWaiting.above below_name below_whole below_under before space begun known read one flat waiting) atoms inner plain wrote =
       let formatted = formatted_atoms false atoms in
       let capped = whole_capped (whole_reads inner) in
-      let said = given name (Some formatted) in
+      let said = command_text name (Some formatted) in
       record {
         name = below_name;
         whole = below_whole;
@@ -132,37 +132,37 @@ module _ {first_name first_whole first_under : List ℕ} {ends : Ends} {low high
         begun = begun;
         known = known;
         read =
-            read_more (map (character below.depth) said) (given name (Some (written is_flat atoms))) read
+            read_more (map (character below.depth) said) (command_text name (Some (argument_written is_flat atoms))) read
             (goes_unit {u = ContentUnit.command name space (Argument.braced whole)} {inner = atoms} one refl (λ argument holds. subst (λ t. Reads false 0 t atoms) (held_is holds) inner) refl)
             (led_characters below.depth said (capped_given name formatted plain capped).first)
-            (written_characters below.is_flat below.depth said ∙ laid_given (is_flat_at below.is_flat below.depth) name formatted plain capped ∙ ap (λ b. given name (Some (laid b formatted))) (sym flat))
-            (wrote ∙ encodes-append under (given name (Some (written is_flat atoms))));
+            (written_characters below.is_flat below.depth said ∙ laid_given (is_flat_at below.is_flat below.depth) name formatted plain capped ∙ ap (λ b. command_text name (Some (laid b formatted))) (sym flat))
+            (wrote ∙ encodes-append under (command_text name (Some (argument_written is_flat atoms))));
         waiting = waiting;
       }
 
-  pub reading_below : {frame on below : Frame} {frames : List Frame} {now more most : List ℕ} (reading : IsReading first_name first_whole first_under ends low high frame (below ∷ frames) now) → IsKept frame on
-      → (read : IsReadTo on.is_flat reading.whole (reading.under ++ made_before frame.effect reading.name) [] on.depth more) → most ≡ encode_utf8_all (reading.under ++ made on.effect reading.name (written on.is_flat read.atoms))
+  pub reading_below : {frame on below : Frame} {frames : List Frame} {now more most : List ℕ} (reading : IsReading first_name first_whole first_under ends low high frame (below ∷ frames) now) → KeepsFrame frame on
+      → (read : IsReadTo on.is_flat reading.whole (reading.under ++ made_before frame.effect reading.name) [] on.depth more) → most ≡ encode_utf8_all (reading.under ++ made on.effect reading.name (argument_written on.is_flat read.atoms))
       → IsReading first_name first_whole first_under ends low high below frames most
   reading_below {frame} {on} {below} {frames} {now} {more} {most} reading kept read wrote =
-      let gives : made on.effect reading.name (written on.is_flat read.atoms) ≡ given reading.name (Some (written frame.is_flat read.atoms)) =
-      ap (λ e. made e reading.name (written on.is_flat read.atoms)) kept.effect ∙ sym (reading.begun.gives (written on.is_flat read.atoms)) ∙ ap (λ b. given reading.name (Some (written b read.atoms))) kept.is_flat in
+      let gives : made on.effect reading.name (argument_written on.is_flat read.atoms) ≡ command_text reading.name (Some (argument_written frame.is_flat read.atoms)) =
+      ap (λ e. made e reading.name (argument_written on.is_flat read.atoms)) kept.effect ∙ sym (reading.begun.gives (argument_written on.is_flat read.atoms)) ∙ ap (λ b. command_text reading.name (Some (argument_written b read.atoms))) kept.is_flat in
       below_of reading.waiting read.atoms (ended_as read) reading.begun.plain (wrote ∙ ap (λ cs. encode_utf8_all (reading.under ++ cs)) gives)
 
   -- the first argument ended
-  done_of : {name whole under most : List ℕ} {is_flat : Bool} → AreWaiting first_name first_whole first_under ends low high name whole is_flat under [] → (atoms : List Atom) → Reads false 0 whole atoms → most ≡ encode_utf8_all (under ++ given name (Some (written is_flat atoms)))
-      → (inner : List Atom) × Reads false 0 first_whole inner × (most ≡ encode_utf8_all (first_under ++ given first_name (Some (formatted_atoms false inner))))
+  done_of : {name whole under most : List ℕ} {is_flat : Bool} → AreWaiting first_name first_whole first_under ends low high name whole is_flat under [] → (atoms : List Atom) → Reads false 0 whole atoms → most ≡ encode_utf8_all (under ++ command_text name (Some (argument_written is_flat atoms)))
+      → (inner : List Atom) × Reads false 0 first_whole inner × (most ≡ encode_utf8_all (first_under ++ command_text first_name (Some (formatted_atoms false inner))))
   done_of {name} {whole} {under} {most} {is_flat} (AreWaiting.none name_is whole_is flat_is under_is) atoms inner wrote = (
     atoms,
     subst (λ t. Reads false 0 t atoms) whole_is inner,
-    wrote ∙ ap (λ xs. encode_utf8_all (xs ++ given name (Some (written is_flat atoms)))) under_is ∙ ap (λ xs. encode_utf8_all (first_under ++ given xs (Some (written is_flat atoms)))) name_is ∙ ap (λ b. encode_utf8_all (first_under ++ given first_name (Some (written b atoms)))) flat_is,
+    wrote ∙ ap (λ xs. encode_utf8_all (xs ++ command_text name (Some (argument_written is_flat atoms)))) under_is ∙ ap (λ xs. encode_utf8_all (first_under ++ command_text xs (Some (argument_written is_flat atoms)))) name_is ∙ ap (λ b. encode_utf8_all (first_under ++ command_text first_name (Some (argument_written b atoms)))) flat_is,
   )
 
-  pub reading_done : {frame on : Frame} {now more most : List ℕ} (reading : IsReading first_name first_whole first_under ends low high frame [] now) → IsKept frame on
-      → (read : IsReadTo on.is_flat reading.whole (reading.under ++ made_before frame.effect reading.name) [] on.depth more) → most ≡ encode_utf8_all (reading.under ++ made on.effect reading.name (written on.is_flat read.atoms))
-      → (inner : List Atom) × Reads false 0 first_whole inner × (most ≡ encode_utf8_all (first_under ++ given first_name (Some (formatted_atoms false inner))))
+  pub reading_done : {frame on : Frame} {now more most : List ℕ} (reading : IsReading first_name first_whole first_under ends low high frame [] now) → KeepsFrame frame on
+      → (read : IsReadTo on.is_flat reading.whole (reading.under ++ made_before frame.effect reading.name) [] on.depth more) → most ≡ encode_utf8_all (reading.under ++ made on.effect reading.name (argument_written on.is_flat read.atoms))
+      → (inner : List Atom) × Reads false 0 first_whole inner × (most ≡ encode_utf8_all (first_under ++ command_text first_name (Some (formatted_atoms false inner))))
   reading_done {frame} {on} {now} {more} {most} reading kept read wrote =
-      let gives : made on.effect reading.name (written on.is_flat read.atoms) ≡ given reading.name (Some (written frame.is_flat read.atoms)) =
-      ap (λ e. made e reading.name (written on.is_flat read.atoms)) kept.effect ∙ sym (reading.begun.gives (written on.is_flat read.atoms)) ∙ ap (λ b. given reading.name (Some (written b read.atoms))) kept.is_flat in
+      let gives : made on.effect reading.name (argument_written on.is_flat read.atoms) ≡ command_text reading.name (Some (argument_written frame.is_flat read.atoms)) =
+      ap (λ e. made e reading.name (argument_written on.is_flat read.atoms)) kept.effect ∙ sym (reading.begun.gives (argument_written on.is_flat read.atoms)) ∙ ap (λ b. command_text reading.name (Some (argument_written b read.atoms))) kept.is_flat in
       done_of reading.waiting read.atoms (ended_as read) (wrote ∙ ap (λ cs. encode_utf8_all (reading.under ++ cs)) gives)
 
   -- where an argument is not read, the first is not
@@ -223,12 +223,12 @@ known_inside ends {text} {low} {high} {inside} known stands index some within =
 
 -- less is left than more
 pub shorter_wider : (next : Next) (size wide low lower : ℕ) (text same : List ℕ) (s : Place) → IsShorterThan size text low s next → size ≤ wide → lower ≤ low → text ≡ same → IsShorterThan wide same lower s next
-shorter_wider Read size wide low lower text same s shorter wider behind is = omega (arith, shorter, wider)
-shorter_wider (Follows name inside) size wide low lower text same s shorter wider behind is = (
+shorter_wider Read size wide low lower text same s shorter wider following is = omega (arith, shorter, wider)
+shorter_wider (Follows name inside) size wide low lower text same s shorter wider following is = (
   omega (arith, shorter.0, wider),
-  record { cut = shorter.1.cut ∙ ap (take (length inside.text)) is; behind = omega (arith, shorter.1.behind, behind); within = shorter.1.within; ends = shorter.1.ends },
+  record { cut = shorter.1.cut ∙ ap (take (length inside.text)) is; following = omega (arith, shorter.1.following, following); within = shorter.1.within; ends = shorter.1.ends },
 )
-shorter_wider End size wide low lower text same s shorter wider behind is = omega (arith, shorter, wider)
+shorter_wider End size wide low lower text same s shorter wider following is = omega (arith, shorter, wider)
 
 -- a unit takes one byte at least
 pub unit_ahead : (u : ContentUnit) (s t : Place) → IsNext false u (left s) (left t) → t.at ≡ s.at + length (encode_utf8_all (unit_spelling u)) → s.at + 1 ≤ t.at
@@ -248,14 +248,14 @@ applied_shorter name space argument before rest one =
     omega arith
 
 -- an argument that was begun
-pub begun_here : {frame : Frame} {name old now : List ℕ} {inside : Place} {low high : ℕ} → frame.s ≡ inside → frame.depth ≡ 0 → ((argument : List ℕ) → given name (Some argument) ≡ made frame.effect name argument) → IsFit frame.effect → list_all is_plain name ≡ true
+pub begun_here : {frame : Frame} {name old now : List ℕ} {inside : Place} {low high : ℕ} → frame.s ≡ inside → frame.depth ≡ 0 → ((argument : List ℕ) → command_text name (Some argument) ≡ made frame.effect name argument) → IsFit frame.effect → list_all is_unbroken name ≡ true
     → now ≡ old ++ encode_utf8_all (made_before frame.effect name) → frame.start ≡ length now → IsUtf8 old → low ≤ inside.at → length inside.text ≤ high → inside.at ≤ length inside.text → IsBegun frame name (chars old) low high
-begun_here {frame} {name} {old} {now} {inside} {low} {high} same shallow gives fit plain wrote start utf8 behind within stands = record {
+begun_here {frame} {name} {old} {now} {inside} {low} {high} same shallow gives fit plain wrote start utf8 following within stands = record {
   gives = gives;
   fit = fit;
   plain = plain;
-  start = sym (ap length (wrote_behind old now (made_before frame.effect name) utf8 wrote)) ∙ sym start;
-  behind = rw same behind;
+  start = sym (ap length (wrote_after old now (made_before frame.effect name) utf8 wrote)) ∙ sym start;
+  following = rw same following;
   within = rw same within;
   right = record { within = rw same stands; deep = rw shallow (omega arith) };
 }
@@ -263,24 +263,24 @@ begun_here {frame} {name} {old} {now} {inside} {low} {high} same shallow gives f
 -- and nothing of it was read
 pub read_begun : (frame : Frame) {flat : Bool} (name old now : List ℕ) {inside : Place} → frame.s ≡ inside → frame.depth ≡ 0 → now ≡ old ++ encode_utf8_all (made_before frame.effect name) → IsUtf8 old
     → IsReadTo flat (left inside) (chars old ++ made_before frame.effect name) (left frame.s) frame.depth now
-read_begun frame name old now same shallow wrote utf8 = read_start (ap left same) shallow (wrote_behind old now (made_before frame.effect name) utf8 wrote)
+read_begun frame name old now same shallow wrote utf8 = read_start (ap left same) shallow (wrote_after old now (made_before frame.effect name) utf8 wrote)
 
 module _ {first_name first_whole first_under : List ℕ} {ends : Ends} {low high : ℕ} where
   -- a command with an argument in braces stands next, and the argument was begun
-  pub reading_follows : {frame on above : Frame} {frames : List Frame} {now more most name : List ℕ} {inside : Place} (reading : IsReading first_name first_whole first_under ends low high frame frames now) → IsKept frame on → StandsRight on → IsUtf8 more
+  pub reading_follows : {frame on above : Frame} {frames : List Frame} {now more most name : List ℕ} {inside : Place} (reading : IsReading first_name first_whole first_under ends low high frame frames now) → KeepsFrame frame on → StandsRight on → IsUtf8 more
       → (before space : List ℕ) → IsReadTo on.is_flat reading.whole (reading.under ++ made_before frame.effect reading.name) before on.depth more → IsNext false (ContentUnit.command name space (Argument.braced (left inside))) before (left on.s)
-      → IsInside frame.s.text frame.s.at inside on.s.at → above.s ≡ inside → above.depth ≡ 0 → above.is_flat ≡ is_flat_at on.is_flat on.depth → ((argument : List ℕ) → given name (Some argument) ≡ made above.effect name argument) → IsFit above.effect
+      → IsInside frame.s.text frame.s.at inside on.s.at → above.s ≡ inside → above.depth ≡ 0 → above.is_flat ≡ is_flat_at on.is_flat on.depth → ((argument : List ℕ) → command_text name (Some argument) ≡ made above.effect name argument) → IsFit above.effect
       → most ≡ more ++ encode_utf8_all (made_before above.effect name) → above.start ≡ length most → IsReading first_name first_whole first_under ends low high above (on ∷ frames) most
   reading_follows {frame} {on} {above} {frames} {now} {more} {most} {name} {inside} reading kept right utf8 before space read one stands same shallow flat gives fit wrote start =
       let named = name_plain name (command_parts false name space (left on.s) (Argument.braced (left inside)) one.fits).1 in
-      let behind : low ≤ inside.at = (let a : low ≤ frame.s.at = reading.begun.behind in let b : frame.s.at ≤ inside.at = stands.behind in omega arith) in
+      let following : low ≤ inside.at = (let a : low ≤ frame.s.at = reading.begun.following in let b : frame.s.at ≤ inside.at = stands.following in omega arith) in
       let long : length inside.text ≤ length frame.s.text = take_shorter (length inside.text) frame.s.text (sym (ap length stands.cut)) in
       let within : length inside.text ≤ high = (let a : length frame.s.text ≤ high = reading.begun.within in omega arith) in
       reading_above before space (left inside) reading kept right
       (subst (λ bs. IsReadTo on.is_flat reading.whole (reading.under ++ made_before frame.effect reading.name) before on.depth bs) (sym (encodes-chars more utf8)) read) one
-      (begun_here same shallow gives fit named wrote start utf8 behind within stands.within) (subst (λ u. AreKnown ends u.text) (sym same) (known_inside ends reading.known stands)) flat (read_begun above name more most same shallow wrote utf8)
+      (begun_here same shallow gives fit named wrote start utf8 following within stands.within) (subst (λ u. AreKnown ends u.text) (sym same) (known_inside ends reading.known stands)) flat (read_begun above name more most same shallow wrote utf8)
 
--- a fault between two places is one between wider ones
+-- an error between two places is one between wider ones
 pub stays_wider : {low high lower higher : ℕ} {e : ParseError} → StaysBetween low high e → lower ≤ low → high ≤ higher → StaysBetween lower higher e
 stays_wider (inl memory) lows highs = inl memory
 stays_wider (inr lies) lows highs = inr (omega (arith, lies.0, lows), lies.1, omega (arith, lies.2, highs))

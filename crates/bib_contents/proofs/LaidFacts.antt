@@ -6,13 +6,13 @@ use Rattle.std.specs.List.{list_all}
 use Rattle.std.proofs.lemmas.Bool.{cases_Bool, and_parts, and_from, not-true}
 use Rattle.bib_chunks.specs.Formatted.{is_break, ends_in_space, unbroken, flowing, formatted_atoms}
 use Rattle.bib_chunks.specs.Styled.{Atom}
-use Rattle.bib_contents.specs.Arguments.{laid, written}
-use Rattle.bib_contents.specs.Commands.{accents, symbols, stroke, marked, letter, bare, other, given}
+use Rattle.bib_contents.specs.Arguments.{laid, argument_written}
+use Rattle.bib_contents.specs.Commands.{accents, symbols, stroke, with_mark, letter, bare, other, command_text}
 use Rattle.bib_text.specs.Enums.{named}
 use Rattle.bib_contents.specs.Contents.{begins, character}
-use Rattle.bib_contents.specs.Effects.{is_plain}
+use Rattle.bib_contents.specs.Effects.{is_unbroken}
 use Rattle.bib_contents.proofs.BreakFacts.{plain_nfc, nfc_some}
-use Rattle.bib_contents.proofs.CommandFacts.{marked-push, named_passes, given_accent, given_symbol, given_other, unknown_shape}
+use Rattle.bib_contents.proofs.CommandFacts.{with_mark-push, named_passes, given_accent, given_symbol, given_other, unknown_shape}
 use Rattle.unicode_normalization.specs.Forms.{nfc}
 
 -- whether a text ends in a break
@@ -26,7 +26,7 @@ pub record IsCapped (cs : List ℕ) : Type 0 where
   pub first : begins is_break cs ≡ false
   pub last : ends_in_break cs ≡ false
 
--- what was written before shows only in front of a break
+-- what was written before shows only before a break
 pub flowing_any : (space : Bool) (cs : List ℕ) → begins is_break cs ≡ false → flowing space cs ≡ flowing false cs
 flowing_any space [] plain = refl
 flowing_any space (c ∷ cs) plain = rw plain refl
@@ -37,42 +37,42 @@ flowing_append space (c ∷ xs) ys plain =
     ap (λ cs. unbroken space c ++ cs) (flowing_append (ends_in_space space (unbroken space c)) xs ys plain) ∙ sym (append_assoc (unbroken space c) _ _)
 
 -- a text without breaks stays as it is
-pub flowing_plain : (space : Bool) (cs : List ℕ) → list_all is_plain cs ≡ true → flowing space cs ≡ cs
+pub flowing_plain : (space : Bool) (cs : List ℕ) → list_all is_unbroken cs ≡ true → flowing space cs ≡ cs
 flowing_plain space [] all = refl
 flowing_plain space (c ∷ cs) all =
-    let parts = and_parts (is_plain c) (list_all is_plain cs) all in
+    let parts = and_parts (is_unbroken c) (list_all is_unbroken cs) all in
     rw (not-true (is_break c) parts.0) (ap (λ xs. c ∷ xs) (flowing_plain (is_whitespace c) cs parts.1))
 
 -- a text on one line has no breaks
-lined_break : (space : Bool) (c : ℕ) (cs : List ℕ) → is_break c ≡ true → list_all is_plain (flowing true cs) ≡ true → list_all is_plain (flowing space (c ∷ cs)) ≡ true
+lined_break : (space : Bool) (c : ℕ) (cs : List ℕ) → is_break c ≡ true → list_all is_unbroken (flowing true cs) ≡ true → list_all is_unbroken (flowing space (c ∷ cs)) ≡ true
 lined_break true c cs breaks rest = rw breaks rest
 lined_break false c cs breaks rest = rw breaks rest
 
-pub flowing_lined : (space : Bool) (cs : List ℕ) → list_all is_plain (flowing space cs) ≡ true
+pub flowing_lined : (space : Bool) (cs : List ℕ) → list_all is_unbroken (flowing space cs) ≡ true
 flowing_lined space [] = refl
 flowing_lined space (c ∷ cs) = elim (cases_Bool (is_break c)) [
   | inl breaks ↦ lined_break space c cs breaks (flowing_lined true cs)
   | inr plain ↦ rw (plain, plain) (flowing_lined (is_whitespace c) cs)
 ]
 
-pub plain_append : (xs ys : List ℕ) → list_all is_plain xs ≡ true → list_all is_plain ys ≡ true → list_all is_plain (xs ++ ys) ≡ true
+pub plain_append : (xs ys : List ℕ) → list_all is_unbroken xs ≡ true → list_all is_unbroken ys ≡ true → list_all is_unbroken (xs ++ ys) ≡ true
 plain_append [] ys first second = second
 plain_append (x ∷ xs) ys first second =
-    let parts = and_parts (is_plain x) (list_all is_plain xs) first in
+    let parts = and_parts (is_unbroken x) (list_all is_unbroken xs) first in
     and_from _ _ parts.0 (plain_append xs ys parts.1 second)
 
 -- a text without breaks is capped
-pub capped_plain : (cs : List ℕ) → list_all is_plain cs ≡ true → IsCapped cs
+pub capped_plain : (cs : List ℕ) → list_all is_unbroken cs ≡ true → IsCapped cs
 capped_plain cs all = record { first = first cs all; last = last cs all }
   where
-    first : (cs : List ℕ) → list_all is_plain cs ≡ true → begins is_break cs ≡ false
+    first : (cs : List ℕ) → list_all is_unbroken cs ≡ true → begins is_break cs ≡ false
     first [] all = refl
-    first (c ∷ cs) all = not-true (is_break c) (and_parts (is_plain c) (list_all is_plain cs) all).0
+    first (c ∷ cs) all = not-true (is_break c) (and_parts (is_unbroken c) (list_all is_unbroken cs) all).0
 
-    last : (cs : List ℕ) → list_all is_plain cs ≡ true → ends_in_break cs ≡ false
+    last : (cs : List ℕ) → list_all is_unbroken cs ≡ true → ends_in_break cs ≡ false
     last [] all = refl
-    last (c ∷ []) all = not-true (is_break c) (and_parts (is_plain c) true all).0
-    last (c ∷ d ∷ cs) all = last (d ∷ cs) (and_parts (is_plain c) (list_all is_plain (d ∷ cs)) all).1
+    last (c ∷ []) all = not-true (is_break c) (and_parts (is_unbroken c) true all).0
+    last (c ∷ d ∷ cs) all = last (d ∷ cs) (and_parts (is_unbroken c) (list_all is_unbroken (d ∷ cs)) all).1
 
 -- texts one after another
 pub begins_append : (xs ys : List ℕ) → begins is_break xs ≡ false → begins is_break ys ≡ false → begins is_break (xs ++ ys) ≡ false
@@ -93,16 +93,16 @@ capped_append xs [] one two = rw (append-nil xs) one
 capped_append xs (y ∷ ys) one two = record { first = begins_append xs (y ∷ ys) one.first two.first; last = ends_append xs y ys two.last }
 
 -- the last character of a text
-pub last_of : (c : ℕ) (cs : List ℕ) → (front : List ℕ) × (d : ℕ) × (c ∷ cs ≡ front ++ d ∷ [])
+pub last_of : (c : ℕ) (cs : List ℕ) → (leading_run : List ℕ) × (d : ℕ) × (c ∷ cs ≡ leading_run ++ d ∷ [])
 last_of c [] = ([], c, refl)
 last_of c (e ∷ cs) = let rest = last_of e cs in (c ∷ rest.0, rest.1, ap (λ xs. c ∷ xs) rest.2)
 
-last_plain : (front : List ℕ) (d : ℕ) → ends_in_break (front ++ d ∷ []) ≡ false → is_break d ≡ false
+last_plain : (leading_run : List ℕ) (d : ℕ) → ends_in_break (leading_run ++ d ∷ []) ≡ false → is_break d ≡ false
 last_plain [] d last = last
 last_plain (c ∷ []) d last = last
-last_plain (c ∷ e ∷ front) d last = last_plain (e ∷ front) d last
+last_plain (c ∷ e ∷ leading_run) d last = last_plain (e ∷ leading_run) d last
 
-letter_plain : (c : ℕ) → is_break c ≡ false → is_plain (letter c) ≡ true
+letter_plain : (c : ℕ) → is_break c ≡ false → is_unbroken (letter c) ≡ true
 letter_plain c plain = elim (cases_Bool (c == 0x131)) [
   | inl dotless ↦ rw dotless refl
   | inr other ↦ elim (cases_Bool (c == 0x237)) [
@@ -112,10 +112,10 @@ letter_plain c plain = elim (cases_Bool (c == 0x131)) [
 ]
 
 -- a letter with a mark on it
-marked_letter : (c mark : ℕ) → is_break c ≡ false → is_plain mark ≡ true → list_all is_plain (nfc (letter c ∷ mark ∷ [])) ≡ true
+marked_letter : (c mark : ℕ) → is_break c ≡ false → is_unbroken mark ≡ true → list_all is_unbroken (nfc (letter c ∷ mark ∷ [])) ≡ true
 marked_letter c mark plain mark_plain = plain_nfc (letter c ∷ mark ∷ []) (and_from _ _ (letter_plain c plain) (and_from _ _ mark_plain refl))
 
-bare_plain : (mark : ℕ) → is_plain mark ≡ true → list_all is_plain (bare mark) ≡ true
+bare_plain : (mark : ℕ) → is_unbroken mark ≡ true → list_all is_unbroken (bare mark) ≡ true
 bare_plain mark plain = elim (cases_Bool (mark == 0x302)) [
   | inl circumflex ↦ rw circumflex refl
   | inr other ↦ elim (cases_Bool (mark == 0x303)) [
@@ -125,45 +125,45 @@ bare_plain mark plain = elim (cases_Bool (mark == 0x302)) [
 ]
 
 -- a mark on the last character of a text on one line
-pub flowing_marked : (mark : ℕ) (cs : List ℕ) → is_plain mark ≡ true → ends_in_break cs ≡ false → flowing false (marked mark cs) ≡ marked mark (flowing false cs)
+pub flowing_marked : (mark : ℕ) (cs : List ℕ) → is_unbroken mark ≡ true → ends_in_break cs ≡ false → flowing false (with_mark mark cs) ≡ with_mark mark (flowing false cs)
 flowing_marked mark [] plain last = flowing_plain false (bare mark) (bare_plain mark plain)
 flowing_marked mark (c ∷ cs) plain last =
     let split = last_of c cs in
     let here : is_break split.1 ≡ false = last_plain split.0 split.1 (subst (λ xs. ends_in_break xs ≡ false) split.2 last) in
-    let composed : list_all is_plain (nfc (letter split.1 ∷ mark ∷ [])) ≡ true = marked_letter split.1 mark here plain in
+    let composed : list_all is_unbroken (nfc (letter split.1 ∷ mark ∷ [])) ≡ true = marked_letter split.1 mark here plain in
     let kept : flowing false (split.1 ∷ []) ≡ split.1 ∷ [] = flowing_plain false (split.1 ∷ []) (rw here refl) in
     let whole : flowing false (c ∷ cs) ≡ flowing false split.0 ++ split.1 ∷ [] = ap (flowing false) split.2 ∙ flowing_append false split.0 (split.1 ∷ []) here ∙ ap (λ xs. flowing false split.0 ++ xs) kept in
-    ap (λ xs. flowing false (marked mark xs)) split.2 ∙ ap (flowing false) (marked-push mark split.0 split.1)
+    ap (λ xs. flowing false (with_mark mark xs)) split.2 ∙ ap (flowing false) (with_mark-push mark split.0 split.1)
     ∙ flowing_append false split.0 (nfc (letter split.1 ∷ mark ∷ [])) (capped_plain (nfc (letter split.1 ∷ mark ∷ [])) composed).first ∙ ap (λ xs. flowing false split.0 ++ xs) (flowing_plain false (nfc (letter split.1 ∷ mark ∷ [])) composed)
-    ∙ sym (marked-push mark (flowing false split.0) split.1) ∙ sym (ap (marked mark) whole)
+    ∙ sym (with_mark-push mark (flowing false split.0) split.1) ∙ sym (ap (with_mark mark) whole)
 
-capped_marked : (mark : ℕ) (cs : List ℕ) → is_plain mark ≡ true → IsCapped cs → IsCapped (marked mark cs)
+capped_marked : (mark : ℕ) (cs : List ℕ) → is_unbroken mark ≡ true → IsCapped cs → IsCapped (with_mark mark cs)
 capped_marked mark [] plain capped = capped_plain (bare mark) (bare_plain mark plain)
 capped_marked mark (c ∷ cs) plain capped =
     let split = last_of c cs in
     let here : is_break split.1 ≡ false = last_plain split.0 split.1 (subst (λ xs. ends_in_break xs ≡ false) split.2 capped.last) in
-    let composed : list_all is_plain (nfc (letter split.1 ∷ mark ∷ [])) ≡ true = marked_letter split.1 mark here plain in
-    let is : marked mark (c ∷ cs) ≡ split.0 ++ nfc (letter split.1 ∷ mark ∷ []) = ap (marked mark) split.2 ∙ marked-push mark split.0 split.1 in
+    let composed : list_all is_unbroken (nfc (letter split.1 ∷ mark ∷ [])) ≡ true = marked_letter split.1 mark here plain in
+    let is : with_mark mark (c ∷ cs) ≡ split.0 ++ nfc (letter split.1 ∷ mark ∷ []) = ap (with_mark mark) split.2 ∙ with_mark-push mark split.0 split.1 in
     let caps = capped_plain (nfc (letter split.1 ∷ mark ∷ [])) composed in
-    let front : begins is_break (split.0 ++ nfc (letter split.1 ∷ mark ∷ [])) ≡ false = front_plain split.0 (split.1 ∷ []) (nfc (letter split.1 ∷ mark ∷ [])) (subst (λ xs. begins is_break xs ≡ false) split.2 capped.first) caps.first in
-    rw is record { first = front; last = ends_some split.0 (nfc (letter split.1 ∷ mark ∷ [])) (nfc_some (letter split.1) (mark ∷ [])) caps.last }
+    let leading_run : begins is_break (split.0 ++ nfc (letter split.1 ∷ mark ∷ [])) ≡ false = prefix_plain split.0 (split.1 ∷ []) (nfc (letter split.1 ∷ mark ∷ [])) (subst (λ xs. begins is_break xs ≡ false) split.2 capped.first) caps.first in
+    rw is record { first = leading_run; last = ends_some split.0 (nfc (letter split.1 ∷ mark ∷ [])) (nfc_some (letter split.1) (mark ∷ [])) caps.last }
   where
-    front_plain : (front tail other : List ℕ) → begins is_break (front ++ tail) ≡ false → begins is_break other ≡ false → begins is_break (front ++ other) ≡ false
-    front_plain [] tail other first second = second
-    front_plain (x ∷ front) tail other first second = first
+    prefix_plain : (leading_run tail other : List ℕ) → begins is_break (leading_run ++ tail) ≡ false → begins is_break other ≡ false → begins is_break (leading_run ++ other) ≡ false
+    prefix_plain [] tail other first second = second
+    prefix_plain (x ∷ leading_run) tail other first second = first
 
 -- what a command makes of its argument: a mark goes on it, a text stands in its place, or it stays between other texts
 data Kind (name : List ℕ) : Type 0 where
-  marks : (m : ℕ) → is_plain m ≡ true → ((cs : List ℕ) → given name (Some cs) ≡ marked m cs) → Kind name
-  stands : (xs : List ℕ) → list_all is_plain xs ≡ true → ((cs : List ℕ) → given name (Some cs) ≡ xs) → Kind name
-  precedes : ((cs : List ℕ) → given name (Some cs) ≡ 169 ∷ cs) → Kind name
-  stays : ((cs : List ℕ) → given name (Some cs) ≡ 92 ∷ (name ++ 123 ∷ (cs ++ 125 ∷ []))) → Kind name
+  marks : (m : ℕ) → is_unbroken m ≡ true → ((cs : List ℕ) → command_text name (Some cs) ≡ with_mark m cs) → Kind name
+  stands : (xs : List ℕ) → list_all is_unbroken xs ≡ true → ((cs : List ℕ) → command_text name (Some cs) ≡ xs) → Kind name
+  precedes : ((cs : List ℕ) → command_text name (Some cs) ≡ 169 ∷ cs) → Kind name
+  stays : ((cs : List ℕ) → command_text name (Some cs) ≡ 92 ∷ (name ++ 123 ∷ (cs ++ 125 ∷ []))) → Kind name
 
-accents_plain : list_all (λ row. is_plain row.1) accents ≡ true
+accents_plain : list_all (λ row. is_unbroken row.1) accents ≡ true
 unfolding accents
 accents_plain = refl
 
-symbols_plain : list_all (λ row. list_all is_plain row.1) symbols ≡ true
+symbols_plain : list_all (λ row. list_all is_unbroken row.1) symbols ≡ true
 unfolding symbols
 symbols_plain = refl
 
@@ -177,14 +177,14 @@ kind_other name accent symbol = elim (cases_Bool (bytes_eq name (codes "o"))) [
 ]
 
 kind_found : (name : List ℕ) (accent : Option ℕ) (symbol : Option (List ℕ)) → named accents name ≡ accent → named symbols name ≡ symbol → Kind name
-kind_found name (Some m) symbol accent_is symbol_is = Kind.marks m (named_passes is_plain accents name m accents_plain accent_is) (λ cs. given_accent name (Some cs) m accent_is)
-kind_found name None (Some xs) accent_is symbol_is = Kind.stands xs (named_passes (list_all is_plain) symbols name xs symbols_plain symbol_is) (λ cs. given_symbol name (Some cs) xs accent_is symbol_is)
+kind_found name (Some m) symbol accent_is symbol_is = Kind.marks m (named_passes is_unbroken accents name m accents_plain accent_is) (λ cs. given_accent name (Some cs) m accent_is)
+kind_found name None (Some xs) accent_is symbol_is = Kind.stands xs (named_passes (list_all is_unbroken) symbols name xs symbols_plain symbol_is) (λ cs. given_symbol name (Some cs) xs accent_is symbol_is)
 kind_found name None None accent_is symbol_is = kind_other name accent_is symbol_is
 
 kind_of : (name : List ℕ) → Kind name
 kind_of name = kind_found name (named accents name) (named symbols name) refl refl
 
-capped_kind : {name : List ℕ} → Kind name → (cs : List ℕ) → list_all is_plain name ≡ true → IsCapped cs → IsCapped (given name (Some cs))
+capped_kind : {name : List ℕ} → Kind name → (cs : List ℕ) → list_all is_unbroken name ≡ true → IsCapped cs → IsCapped (command_text name (Some cs))
 capped_kind {name} (Kind.marks m plain is) cs named capped = subst IsCapped (sym (is cs)) (capped_marked m cs plain capped)
 capped_kind {name} (Kind.stands xs plain is) cs named capped = subst IsCapped (sym (is cs)) (capped_plain xs plain)
 capped_kind {name} (Kind.precedes is) cs named capped = subst IsCapped (sym (is cs)) (capped_append (169 ∷ []) cs (record { first = refl; last = refl }) capped)
@@ -192,10 +192,10 @@ capped_kind {name} (Kind.stays is) cs named capped =
     subst IsCapped (sym (is cs)) record { first = refl; last = ends_append (92 ∷ name) 123 (cs ++ 125 ∷ []) (ends_append (123 ∷ cs) 125 [] refl) }
 
 -- what a command makes of a capped text is capped
-pub capped_given : (name cs : List ℕ) → list_all is_plain name ≡ true → IsCapped cs → IsCapped (given name (Some cs))
+pub capped_given : (name cs : List ℕ) → list_all is_unbroken name ≡ true → IsCapped cs → IsCapped (command_text name (Some cs))
 capped_given name cs named capped = capped_kind (kind_of name) cs named capped
 
-flowing_kind : {name : List ℕ} → Kind name → (cs : List ℕ) → list_all is_plain name ≡ true → IsCapped cs → flowing false (given name (Some cs)) ≡ given name (Some (flowing false cs))
+flowing_kind : {name : List ℕ} → Kind name → (cs : List ℕ) → list_all is_unbroken name ≡ true → IsCapped cs → flowing false (command_text name (Some cs)) ≡ command_text name (Some (flowing false cs))
 flowing_kind (Kind.marks m plain is) cs named capped = ap (flowing false) (is cs) ∙ flowing_marked m cs plain capped.last ∙ sym (is (flowing false cs))
 flowing_kind (Kind.stands xs plain is) cs named capped = ap (flowing false) (is cs) ∙ flowing_plain false xs plain ∙ sym (is (flowing false cs))
 flowing_kind (Kind.precedes is) cs named capped = ap (flowing false) (is cs) ∙ flowing_append false (169 ∷ []) cs capped.first ∙ sym (is (flowing false cs))
@@ -203,33 +203,33 @@ flowing_kind {name} (Kind.stays is) cs named capped =
     let closed : flowing false (cs ++ 125 ∷ []) ≡ flowing false cs ++ 125 ∷ [] = flowing_append false cs (125 ∷ []) refl in
     let opened : flowing false (123 ∷ (cs ++ 125 ∷ [])) ≡ 123 ∷ (flowing false cs ++ 125 ∷ []) = flowing_append false (123 ∷ []) (cs ++ 125 ∷ []) (begins_append cs (125 ∷ []) capped.first refl) ∙ ap (λ xs. 123 ∷ xs) closed in
     ap (flowing false) (is cs) ∙ flowing_append false (92 ∷ name) (123 ∷ (cs ++ 125 ∷ [])) refl
-    ∙ ap (λ xs. xs ++ flowing false (123 ∷ (cs ++ 125 ∷ []))) (flowing_plain false (92 ∷ name) (and_from (is_plain 92) _ refl named))
+    ∙ ap (λ xs. xs ++ flowing false (123 ∷ (cs ++ 125 ∷ []))) (flowing_plain false (92 ∷ name) (and_from (is_unbroken 92) _ refl named))
     ∙ ap (λ xs. (92 ∷ name) ++ xs) opened ∙ sym (is (flowing false cs))
 
 -- what a command makes of a text on one line is what it makes of the text, on one line
-pub laid_given : (is_flat : Bool) (name cs : List ℕ) → list_all is_plain name ≡ true → IsCapped cs → laid is_flat (given name (Some cs)) ≡ given name (Some (laid is_flat cs))
+pub laid_given : (is_flat : Bool) (name cs : List ℕ) → list_all is_unbroken name ≡ true → IsCapped cs → laid is_flat (command_text name (Some cs)) ≡ command_text name (Some (laid is_flat cs))
 laid_given true name cs named capped = flowing_kind (kind_of name) cs named capped
 laid_given false name cs named capped = refl
 
 -- a command without an argument
-alone_other : (name : List ℕ) → list_all is_plain name ≡ true → list_all is_plain (other name None) ≡ true
+alone_other : (name : List ℕ) → list_all is_unbroken name ≡ true → list_all is_unbroken (other name None) ≡ true
 alone_other name all = elim (cases_Bool (bytes_eq name (codes "o"))) [
   | inl is_o ↦ rw is_o refl
   | inr no_o ↦ elim (cases_Bool (bytes_eq name (codes "copyright"))) [
     | inl sign ↦ rw (no_o, sign) refl
-    | inr unknown ↦ rw (no_o, unknown) (and_from (is_plain 92) _ refl (plain_append name (32 ∷ []) all refl))
+    | inr unknown ↦ rw (no_o, unknown) (and_from (is_unbroken 92) _ refl (plain_append name (32 ∷ []) all refl))
   ]
 ]
 
-alone_found : (name : List ℕ) (accent : Option ℕ) (symbol : Option (List ℕ)) → named accents name ≡ accent → named symbols name ≡ symbol → list_all is_plain name ≡ true → list_all is_plain (given name None) ≡ true
-alone_found name (Some m) symbol accent_is symbol_is all = ap (list_all is_plain) (given_accent name None m accent_is) ∙ and_from _ _ (named_passes is_plain accents name m accents_plain accent_is) refl
-alone_found name None (Some xs) accent_is symbol_is all = ap (list_all is_plain) (given_symbol name None xs accent_is symbol_is) ∙ named_passes (list_all is_plain) symbols name xs symbols_plain symbol_is
-alone_found name None None accent_is symbol_is all = ap (list_all is_plain) (given_other name None accent_is symbol_is) ∙ alone_other name all
+alone_found : (name : List ℕ) (accent : Option ℕ) (symbol : Option (List ℕ)) → named accents name ≡ accent → named symbols name ≡ symbol → list_all is_unbroken name ≡ true → list_all is_unbroken (command_text name None) ≡ true
+alone_found name (Some m) symbol accent_is symbol_is all = ap (list_all is_unbroken) (given_accent name None m accent_is) ∙ and_from _ _ (named_passes is_unbroken accents name m accents_plain accent_is) refl
+alone_found name None (Some xs) accent_is symbol_is all = ap (list_all is_unbroken) (given_symbol name None xs accent_is symbol_is) ∙ named_passes (list_all is_unbroken) symbols name xs symbols_plain symbol_is
+alone_found name None None accent_is symbol_is all = ap (list_all is_unbroken) (given_other name None accent_is symbol_is) ∙ alone_other name all
 
-pub alone_plain : (name : List ℕ) → list_all is_plain name ≡ true → list_all is_plain (given name None) ≡ true
+pub alone_plain : (name : List ℕ) → list_all is_unbroken name ≡ true → list_all is_unbroken (command_text name None) ≡ true
 alone_plain name all = alone_found name (named accents name) (named symbols name) refl refl all
 
--- whether white space was written last, behind these atoms
+-- whether white space was written last, after these atoms
 abbrev pub space_after : Bool → List Atom → Bool
 space_after space [] = space
 space_after space (Atom.normal c ∷ rest) = space_after (ends_in_space space (unbroken space c)) rest
@@ -258,7 +258,7 @@ pub record IsLed (atoms : List Atom) : Type 0 where
   pub any : (space : Bool) → formatted_atoms space atoms ≡ formatted_atoms false atoms
   pub first : begins is_break (formatted_atoms false atoms) ≡ false
 
-pub written_append : (is_flat : Bool) (xs ys : List Atom) → IsLed ys → written is_flat (xs ++ ys) ≡ written is_flat xs ++ written is_flat ys
+pub written_append : (is_flat : Bool) (xs ys : List Atom) → IsLed ys → argument_written is_flat (xs ++ ys) ≡ argument_written is_flat xs ++ argument_written is_flat ys
 written_append false xs ys led = formatted_append false xs ys ∙ ap (λ cs. formatted_atoms false xs ++ cs) (led.any (space_after false xs))
 written_append true xs ys led =
     ap (flowing false) (formatted_append false xs ys ∙ ap (λ cs. formatted_atoms false xs ++ cs) (led.any (space_after false xs)))
@@ -288,12 +288,12 @@ is_flat_at is_flat depth = is_flat || depth == 0
 in_braces : (depth : ℕ) → (suc depth == 0) ≡ false
 in_braces depth = ne_eqb (suc depth) 0 (λ same. omega (arith, same))
 
-pub written_characters : (is_flat : Bool) (depth : ℕ) (cs : List ℕ) → written is_flat (map (character depth) cs) ≡ laid (is_flat_at is_flat depth) cs
+pub written_characters : (is_flat : Bool) (depth : ℕ) (cs : List ℕ) → argument_written is_flat (map (character depth) cs) ≡ laid (is_flat_at is_flat depth) cs
 written_characters false zero cs = formatted_normal false cs
 written_characters false (suc depth) cs = rw (in_braces depth) (formatted_verbatim false depth cs)
 written_characters true zero cs = ap (flowing false) (formatted_normal false cs) ∙ flowing_plain false (flowing false cs) (flowing_lined false cs)
 written_characters true (suc depth) cs = ap (flowing false) (formatted_verbatim false depth cs)
 
-pub written_math : (is_flat : Bool) (text : List ℕ) → written is_flat (Atom.math text ∷ []) ≡ 36 ∷ (laid is_flat text ++ 36 ∷ [])
+pub written_math : (is_flat : Bool) (text : List ℕ) → argument_written is_flat (Atom.math text ∷ []) ≡ 36 ∷ (laid is_flat text ++ 36 ∷ [])
 written_math false text = refl
 written_math true text = ap (λ cs. 36 ∷ cs) (flowing_append false text (36 ∷ []) refl)

@@ -8,7 +8,7 @@ pub mod EffectFacts
 pub mod EndFacts
 pub mod FrameFacts
 pub mod LaidFacts
-pub mod PassingFacts
+pub mod ProgressFacts
 pub mod ReaderFacts
 pub mod ReadingContents
 pub mod StackFacts

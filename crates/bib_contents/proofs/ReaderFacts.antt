@@ -11,8 +11,8 @@ use Rattle.bib_text.specs.declared.spanned.Spanned.{Spanned}
 use Rattle.bib_contents.specs.Contents.{ContentUnit, Argument, Reads, IsNext, fits, unit_spelling, is_ordinary, character, meaning, is_closable, depth_after, held}
 use Rattle.bib_contents.specs.Contents.Reads.{end, next}
 use Rattle.bib_styled.specs.Joined.{ArePlaced}
-use Rattle.bib_contents.specs.Passing.{Goes, IsStuck, IsUntaken, Took, so_far}
-use Rattle.bib_contents.specs.declared.growing.Open.{Open}
+use Rattle.bib_contents.specs.Progress.{Goes, IsStuck, IsUntaken, Took, so_far}
+use Rattle.bib_contents.specs.declared.growing.OpenChunk.{OpenChunk}
 use Rattle.std.proofs.lemmas.Str.{chars-nil}
 use Rattle.bib_contents.proofs.ContentFacts.{unit_same, rest_same, no_unit_at_end}
 
@@ -26,7 +26,7 @@ goes_then {is_verbatim} {depth} {after} {last} {text} {rest} {tail} {first} {sec
   back = λ whole read. two.back (one.back whole read).0 (one.back whole read).1;
 }
 
--- what stands behind the first unit is read, where the whole is
+-- what stands after the first unit is read, where the whole is
 pub unit_back : {is_verbatim : Bool} {depth : ℕ} {text rest : List ℕ} {u : ContentUnit} {whole : List Atom} → IsNext is_verbatim u text rest → Reads is_verbatim depth text whole
     → (is_closable depth u ≡ true) × ((argument : List ℕ) → held u ≡ Some argument → (inner : List Atom) × Reads false 0 argument inner) × ((more : List Atom) × Reads is_verbatim (depth_after depth u) rest more)
 unit_back one end = absurd (no_unit_at_end one)
@@ -56,7 +56,7 @@ goes_run is_verbatim depth (c ∷ cs) rest all =
     let one : IsNext is_verbatim (ContentUnit.other c) (c ∷ (cs ++ rest)) (cs ++ rest) = record { fits = parts.0; spells = refl } in
     goes_then (goes_unit {u = ContentUnit.other c} {inner = []} one refl (λ argument holds. absurd (no_argument holds)) refl) (goes_run is_verbatim depth cs rest parts.1)
 
--- a text was read so far: behind these atoms, up to here
+-- a text was read so far: after these atoms, up to here
 pub record ReadSoFar (is_verbatim : Bool) (whole : List ℕ) (start : List Atom) (rest : List ℕ) (depth : ℕ) (now : List Atom) : Type 0 where
   pub atoms : List Atom
   pub goes : Goes is_verbatim 0 whole atoms depth rest
@@ -67,9 +67,9 @@ read_none is_verbatim whole start now same = record { atoms = []; goes = goes_he
 
 pub read_run : {is_verbatim : Bool} {whole text rest : List ℕ} {start now more : List Atom} {depth : ℕ} (run : List ℕ) → ReadSoFar is_verbatim whole start text depth now → text ≡ run ++ rest → list_all (is_ordinary is_verbatim) run ≡ true
     → more ≡ now ++ map (character depth) run → ReadSoFar is_verbatim whole start rest depth more
-read_run {is_verbatim} {whole} {text} {rest} {start} {now} {more} {depth} run read front all written = record {
+read_run {is_verbatim} {whole} {text} {rest} {start} {now} {more} {depth} run read leading_run all written = record {
   atoms = read.atoms ++ map (character depth) run;
-  goes = goes_then read.goes (rw front (goes_run is_verbatim depth run rest all));
+  goes = goes_then read.goes (rw leading_run (goes_run is_verbatim depth run rest all));
   is = written ∙ ap (λ xs. xs ++ map (character depth) run) read.is ∙ append_assoc start read.atoms (map (character depth) run);
 }
 
@@ -149,7 +149,7 @@ unit_longer is_verbatim (ContentUnit.copied c) rest right = omega arith
 unit_longer is_verbatim (ContentUnit.formula text) rest right = omega arith
 unit_longer is_verbatim (ContentUnit.other c) rest right = omega arith
 
--- less is left behind a unit, and its argument is shorter than what stood before it
+-- less is left after a unit, and its argument is shorter than what stood before it
 pub unit_shorter : {is_verbatim : Bool} {u : ContentUnit} {text rest : List ℕ} → IsNext is_verbatim u text rest → (length rest < length text) × (held_length u < length text)
 unit_shorter {is_verbatim} {u} {text} {rest} one =
     let longer : held_length u < length (unit_spelling u) = unit_longer is_verbatim u rest one.fits in
@@ -157,7 +157,7 @@ unit_shorter {is_verbatim} {u} {text} {rest} one =
     (omega arith, omega arith)
 
 -- where the growing chunk is empty, the finished ones say all
-pub nothing_grows : (out : List (Spanned Chunk)) (growing : Open) → string_bytes growing.text ≡ [] → styled out ≡ so_far out growing
+pub nothing_grows : (out : List (Spanned Chunk)) (growing : OpenChunk) → string_bytes growing.text ≡ [] → styled out ≡ so_far out growing
 nothing_grows out growing empty = sym (ap (λ cs. styled out ++ map (character growing.depth) cs) (ap chars empty ∙ chars-nil) ∙ append-nil (styled out))
 
 pub no_bytes : (bs : List ℕ) → length bs ≡ 0 → bs ≡ []

@@ -11,13 +11,13 @@ use Rattle.bib_chunks.specs.declared.chunk.Chunk.{Chunk}
 use Rattle.bib_text.specs.declared.spanned.Spanned.{Spanned}
 use Rattle.bib_contents.specs.Contents.{ContentUnit, IsNext, Reads, is_ordinary, character, depth_after, unit_spelling, saturated}
 use Rattle.bib_styled.specs.Joined.{AreJoined, ArePlaced}
-use Rattle.bib_contents.specs.Passing.{left, Passes, Took, IsMoved, so_far}
-use Rattle.bib_contents.specs.declared.growing.Open.{Open}
+use Rattle.bib_contents.specs.Progress.{left, Passes, Took, StaysPlaced, so_far}
+use Rattle.bib_contents.specs.declared.growing.OpenChunk.{OpenChunk}
 use Rattle.bib_contents.proofs.ArgumentFacts.{passes_within, passes_ahead}
 use Rattle.bib_contents.proofs.ReaderFacts.{ReadSoFar, read_none, read_run, read_unit, read_all, unit_shorter}
 
 -- contents were read up to a place: what the chunks say is what was read, they are joined and in order
-pub record Reading (is_verbatim : Bool) (text : List ℕ) (offset : ℕ) (start : List (Spanned Chunk)) (s : Place) (growing : Open) (out : List (Spanned Chunk)) : Type 0 where
+pub record Reading (is_verbatim : Bool) (text : List ℕ) (offset : ℕ) (start : List (Spanned Chunk)) (s : Place) (growing : OpenChunk) (out : List (Spanned Chunk)) : Type 0 where
   pub read : ReadSoFar is_verbatim (chars text) (styled start) (left s) growing.depth (so_far out growing)
   pub shorter : length (left s) ≤ length (chars text)
   pub joined : AreJoined start → AreJoined out
@@ -27,7 +27,7 @@ pub record Reading (is_verbatim : Bool) (text : List ℕ) (offset : ℕ) (start 
   pub within : s.at ≤ length s.text
 
 -- at the start nothing was read
-pub reading_none : (is_verbatim : Bool) (text : List ℕ) (offset : ℕ) (start : List (Spanned Chunk)) (s : Place) (growing : Open) → s ≡ record { text = text; at = 0 } → offset ≤ 2 ^ 64 - 1 → growing.depth ≡ 0 → growing.start ≡ offset
+pub reading_none : (is_verbatim : Bool) (text : List ℕ) (offset : ℕ) (start : List (Spanned Chunk)) (s : Place) (growing : OpenChunk) → s ≡ record { text = text; at = 0 } → offset ≤ 2 ^ 64 - 1 → growing.depth ≡ 0 → growing.start ≡ offset
     → string_bytes growing.text ≡ [] → Reading is_verbatim text offset start s growing start
 reading_none is_verbatim text offset start s growing here fits shallow begins empty = record {
   read = rw (here, shallow) (read_none is_verbatim (chars text) (styled start) _ (ap (λ cs. styled start ++ map (character 0) cs) (ap chars empty ∙ chars-nil) ∙ append-nil (styled start)));
@@ -40,7 +40,7 @@ reading_none is_verbatim text offset start s growing here fits shallow begins em
 }
 
 -- a run of ordinary characters
-pub reading_run : {is_verbatim : Bool} {text : List ℕ} {offset : ℕ} {start out : List (Spanned Chunk)} {s t : Place} (growing grown : Open) (run : List ℕ) → Reading is_verbatim text offset start s growing out → Passes s (chars run) t → list_all (is_ordinary is_verbatim) (chars run) ≡ true
+pub reading_run : {is_verbatim : Bool} {text : List ℕ} {offset : ℕ} {start out : List (Spanned Chunk)} {s t : Place} (growing grown : OpenChunk) (run : List ℕ) → Reading is_verbatim text offset start s growing out → Passes s (chars run) t → list_all (is_ordinary is_verbatim) (chars run) ≡ true
     → string_bytes grown.text ≡ string_bytes growing.text ++ run → IsUtf8 (string_bytes growing.text) → grown.depth ≡ growing.depth → grown.start ≡ growing.start
     → Reading is_verbatim text offset start t grown out
 reading_run {is_verbatim} {text} {offset} {start} {out} {s} {t} growing grown run reading passed all written utf8 depth begins =
@@ -64,7 +64,7 @@ reading_run {is_verbatim} {text} {offset} {start} {out} {s} {t} growing grown ru
       within = passes_within passed reading.within;
     }
 
--- the place behind a unit
+-- the place after a unit
 pub unit_place : {is_verbatim : Bool} {u : ContentUnit} {s t : Place} → IsNext is_verbatim u (left s) (left t) → t.text ≡ s.text → IsUtf8 (drop s.at s.text) → IsUtf8 (drop t.at t.text) → s.at ≤ length s.text → t.at ≤ length t.text
     → t.at ≡ s.at + length (encode_utf8_all (unit_spelling u))
 unit_place {is_verbatim} {u} {s} {t} one same utf8 utf8' within within' =
@@ -89,13 +89,13 @@ deeper depth (ContentUnit.command name space argument) = omega arith
 deeper depth (ContentUnit.other c) = omega arith
 
 -- a unit
-pub reading_unit : {is_verbatim : Bool} {text : List ℕ} {offset : ℕ} {start out more : List (Spanned Chunk)} {s t : Place} {u : ContentUnit} (growing grown : Open) → Reading is_verbatim text offset start s growing out → IsNext is_verbatim u (left s) (left t) → t.text ≡ s.text
+pub reading_unit : {is_verbatim : Bool} {text : List ℕ} {offset : ℕ} {start out more : List (Spanned Chunk)} {s t : Place} {u : ContentUnit} (growing grown : OpenChunk) → Reading is_verbatim text offset start s growing out → IsNext is_verbatim u (left s) (left t) → t.text ≡ s.text
     → t.at ≡ s.at + length (encode_utf8_all (unit_spelling u)) → t.at ≤ length t.text → Took u growing.depth (so_far out growing) grown.depth (so_far more grown) → (AreJoined out → AreJoined more)
-    → IsMoved out growing (saturated (offset + s.at)) more grown (saturated (offset + t.at))
+    → StaysPlaced out growing (saturated (offset + s.at)) more grown (saturated (offset + t.at))
     → Reading is_verbatim text offset start t grown more
 reading_unit {is_verbatim} {text} {offset} {start} {out} {more} {s} {t} {u} growing grown reading one same next within took joined moved =
     let shorter = unit_shorter one in
-    let behind : length (left t) < length (left s) = shorter.0 in
+    let following : length (left t) < length (left s) = shorter.0 in
     let spelt : length (unit_spelling u) ≤ length (encode_utf8_all (unit_spelling u)) = length-le-encodes (unit_spelling u) in
     let size : length (left s) ≡ length (unit_spelling u) + length (left t) = ap length one.spells ∙ length-append (unit_spelling u) _ in
     let deep : grown.depth ≤ growing.depth + 1 = rw took.deep (deeper growing.depth u) in
@@ -112,14 +112,14 @@ reading_unit {is_verbatim} {text} {offset} {start} {out} {more} {s} {t} {u} grow
     }
 
 -- the text ends
-pub reading_all : {is_verbatim : Bool} {text : List ℕ} {offset : ℕ} {start out : List (Spanned Chunk)} {s : Place} (growing : Open) (after : List Atom) → Reading is_verbatim text offset start s growing out → left s ≡ [] → after ≡ so_far out growing
+pub reading_all : {is_verbatim : Bool} {text : List ℕ} {offset : ℕ} {start out : List (Spanned Chunk)} {s : Place} (growing : OpenChunk) (after : List Atom) → Reading is_verbatim text offset start s growing out → left s ≡ [] → after ≡ so_far out growing
     → (atoms : List Atom) × Reads is_verbatim 0 (chars text) atoms × (after ≡ styled start ++ atoms)
 reading_all growing after reading ends is =
     let all = read_all reading.read ends in
     (all.0, all.1, is ∙ all.2)
 
 -- the last chunk ends in the text
-pub reading_ends : {is_verbatim : Bool} {text : List ℕ} {offset : ℕ} {start out : List (Spanned Chunk)} {s : Place} (growing : Open) → Reading is_verbatim text offset start s growing out → (low : ℕ) → ArePlaced low offset start
+pub reading_ends : {is_verbatim : Bool} {text : List ℕ} {offset : ℕ} {start out : List (Spanned Chunk)} {s : Place} (growing : OpenChunk) → Reading is_verbatim text offset start s growing out → (low : ℕ) → ArePlaced low offset start
     → ArePlaced low growing.start out × (growing.start ≤ saturated (offset + length text))
 reading_ends {is_verbatim} {text} {offset} {start} {out} {s} growing reading low placed =
     let was = reading.placed low placed in

@@ -12,15 +12,15 @@ use Rattle.bib_text.specs.declared.spanned.Spanned.{Spanned}
 use Rattle.bib_text.proofs.TextFacts.{chars_whole}
 use Rattle.bib_contents.specs.Contents.{Argument, ContentUnit, IsNext, unit_spelling, Reads, character, meaning, is_closable, depth_after, held, unit_text}
 use Rattle.bib_styled.specs.Joined.{ArePlaced}
-use Rattle.bib_contents.specs.Passing.{Took, left, so_far}
+use Rattle.bib_contents.specs.Progress.{Took, left, so_far}
 use Rattle.bib_contents.proofs.UnitFacts.{command_parts}
 use Rattle.bib_contents.specs.UnitViews.{text_unit_of, argument_of, unit_of}
-use Rattle.bib_contents.specs.declared.growing.Open.{Open}
+use Rattle.bib_contents.specs.declared.growing.OpenChunk.{OpenChunk}
 use Rattle.std.specs.Borrow.{Bor}
 use Rattle.bib_contents.specs.declared.units.Argument as units
 use Rattle.bib_chunks.specs.Formatted.{formatted_atoms}
-use Rattle.bib_contents.specs.Arguments.{IsNamed, StandsIn, unit_written}
-use Rattle.bib_contents.specs.Commands.{given}
+use Rattle.bib_contents.specs.Arguments.{HasCommandName, IsArgumentBetween, unit_written}
+use Rattle.bib_contents.specs.Commands.{command_text}
 use Rattle.bib_contents.specs.declared.units.Unit as all_units
 use Rattle.bib_contents.specs.declared.units.Unit.TheVariants as any_unit
 use Rattle.bib_contents.specs.declared.units.TextUnit.{TextUnit}
@@ -52,7 +52,7 @@ pub held_is : {text argument : List ℕ} → Some text ≡ Some argument → tex
 held_is same = cc
 
 -- characters were added to the growing chunk
-took_characters : (u : ContentUnit) (growing grown : Open) (out : List (Spanned Chunk)) (inner : List Atom) → IsTextUnit growing.depth u → ((argument : List ℕ) → held u ≡ Some argument → Reads false 0 argument inner)
+took_characters : (u : ContentUnit) (growing grown : OpenChunk) (out : List (Spanned Chunk)) (inner : List Atom) → IsTextUnit growing.depth u → ((argument : List ℕ) → held u ≡ Some argument → Reads false 0 argument inner)
     → Writes growing.text grown.text (unit_text u inner) → grown.depth ≡ growing.depth → Took u growing.depth (so_far out growing) grown.depth (so_far out grown)
 took_characters u growing grown out inner is argument written depth =
     let cs = unit_text u inner in
@@ -70,12 +70,12 @@ took_characters u growing grown out inner is argument written depth =
           ∙ ap (λ xs. so_far out growing ++ xs) (sym (is.means inner));
     }
 
-pub took_text : (unit : TextUnit) (growing grown : Open) (out : List (Spanned Chunk)) (inner : List Atom) → ((argument : List ℕ) → held (text_unit_of unit) ≡ Some argument → Reads false 0 argument inner)
+pub took_text : (unit : TextUnit) (growing grown : OpenChunk) (out : List (Spanned Chunk)) (inner : List Atom) → ((argument : List ℕ) → held (text_unit_of unit) ≡ Some argument → Reads false 0 argument inner)
     → Writes growing.text grown.text (unit_text (text_unit_of unit) inner) → grown.depth ≡ growing.depth → Took (text_unit_of unit) growing.depth (so_far out growing) grown.depth (so_far out grown)
 took_text unit growing grown out inner argument written depth = took_characters (text_unit_of unit) growing grown out inner (text_unit growing.depth unit) argument written depth
 
 -- a command with an argument in braces
-pub took_applied : (name space argument : List ℕ) (growing grown : Open) (out : List (Spanned Chunk)) (inner : List Atom) → Reads false 0 argument inner → Writes growing.text grown.text (given name (Some (formatted_atoms false inner))) → grown.depth ≡ growing.depth
+pub took_applied : (name space argument : List ℕ) (growing grown : OpenChunk) (out : List (Spanned Chunk)) (inner : List Atom) → Reads false 0 argument inner → Writes growing.text grown.text (command_text name (Some (formatted_atoms false inner))) → grown.depth ≡ growing.depth
     → Took (ContentUnit.command name space (Argument.braced argument)) growing.depth (so_far out growing) grown.depth (so_far out grown)
 took_applied name space argument growing grown out inner read written depth =
     took_characters (ContentUnit.command name space (Argument.braced argument)) growing grown out inner record { closable = refl; deep = refl; means = λ inner. refl } (λ text holds. subst (λ t. Reads false 0 t inner) (held_is holds) read) written depth
@@ -94,7 +94,7 @@ pub as_text : (old new : List ℕ) (unit : TextUnit) → new ≡ old ++ encode_u
 as_text old new unit wrote = wrote ∙ ap (λ cs. old ++ encode_utf8_all cs) (as_is unit)
 
 -- math was added
-pub took_formula : (text : List ℕ) (depth : ℕ) (grown : Open) (before : List Atom) (out : List (Spanned Chunk)) → string_bytes grown.text ≡ [] → grown.depth ≡ depth → styled out ≡ before ++ Atom.math text ∷ []
+pub took_formula : (text : List ℕ) (depth : ℕ) (grown : OpenChunk) (before : List Atom) (out : List (Spanned Chunk)) → string_bytes grown.text ≡ [] → grown.depth ≡ depth → styled out ≡ before ++ Atom.math text ∷ []
     → Took (ContentUnit.formula text) depth before grown.depth (so_far out grown)
 took_formula text depth grown before out empty same atoms = record {
   inner = [];
@@ -105,7 +105,7 @@ took_formula text depth grown before out empty same atoms = record {
 }
 
 -- a brace was opened, or closed
-pub took_opening : (depth : ℕ) (grown : Open) (before : List Atom) (out : List (Spanned Chunk)) → string_bytes grown.text ≡ [] → grown.depth ≡ depth + 1 → styled out ≡ before
+pub took_opening : (depth : ℕ) (grown : OpenChunk) (before : List Atom) (out : List (Spanned Chunk)) → string_bytes grown.text ≡ [] → grown.depth ≡ depth + 1 → styled out ≡ before
     → Took ContentUnit.opening depth before grown.depth (so_far out grown)
 took_opening depth grown before out empty same atoms = record {
   inner = [];
@@ -115,7 +115,7 @@ took_opening depth grown before out empty same atoms = record {
   atoms = sym (nothing_grows out grown empty) ∙ atoms ∙ sym (append-nil before);
 }
 
-pub took_closing : (depth : ℕ) (grown : Open) (before : List Atom) (out : List (Spanned Chunk)) → (depth ≡ 0 → ⊥) → string_bytes grown.text ≡ [] → grown.depth ≡ depth - 1 → styled out ≡ before
+pub took_closing : (depth : ℕ) (grown : OpenChunk) (before : List Atom) (out : List (Spanned Chunk)) → (depth ≡ 0 → ⊥) → string_bytes grown.text ≡ [] → grown.depth ≡ depth - 1 → styled out ≡ before
     → Took ContentUnit.closing depth before grown.depth (so_far out grown)
 took_closing depth grown before out some empty same atoms = record {
   inner = [];
@@ -132,11 +132,11 @@ formula_wide text =
     let inside : length (text ++ 36 ∷ []) ≡ length text + 1 = length-append text (36 ∷ []) in
     omega arith
 
--- the bytes of characters behind others
+-- the bytes of characters after others
 sizes : (a b : List ℕ) → length (encode_utf8_all (a ++ b)) ≡ length (encode_utf8_all a) + length (encode_utf8_all b)
 sizes a b = ap length (encodes-append a b) ∙ length-append (encode_utf8_all a) (encode_utf8_all b)
 
--- a command is longer than its argument in braces: one byte stands behind that at least, and two before it
+-- a command is longer than its argument in braces: one byte stands after that at least, and two before it
 pub braced_wide : (name space text : List ℕ) → length (encode_utf8_all text) + 3 ≤ length (encode_utf8_all (unit_spelling (ContentUnit.command name space (Argument.braced text))))
 braced_wide name space text =
     let one : 1 ≤ length (encode_utf8_all (125 ∷ [])) = length-le-encodes (125 ∷ []) in
@@ -149,22 +149,22 @@ braced_wide name space text =
     let whole = sizes (92 ∷ []) (name ++ (space ++ 123 ∷ (text ++ 125 ∷ []))) in
     omega (arith, one, two, three, closed, opened, spaced, named, whole)
 
--- the next chunk begins behind the last one
-pub placed_behind : (low end behind start : ℕ) (out : List (Spanned Chunk)) → ArePlaced low end out → end ≤ behind → start ≡ behind → ArePlaced low start out × (start ≤ behind)
-placed_behind low end behind start out placed wider is = (placed_wider low end start out placed (omega (arith, wider, is)), omega (arith, is))
+-- the next chunk begins after the last one
+pub placed_after : (low end following start : ℕ) (out : List (Spanned Chunk)) → ArePlaced low end out → end ≤ following → start ≡ following → ArePlaced low start out × (start ≤ following)
+placed_after low end following start out placed wider is = (placed_wider low end start out placed (omega (arith, wider, is)), omega (arith, is))
 
 -- a command with this argument
-pub command_is : {unit : TextUnit} {name space : Bor (List ℕ)} {given : units.Argument} (argument : units.Argument) → unit ≡ shown.Command name space given → given ≡ argument
+pub command_is : {unit : TextUnit} {name space : Bor (List ℕ)} {command_text : units.Argument} (argument : units.Argument) → unit ≡ shown.Command name space command_text → command_text ≡ argument
     → text_unit_of unit ≡ ContentUnit.command (chars name.now) (chars space.now) (argument_of argument)
-command_is {unit} {name} {space} {given} argument is same =
+command_is {unit} {name} {space} {command_text} argument is same =
     ap text_unit_of is ∙ ap (λ a. ContentUnit.command (chars name.now) (chars space.now) (argument_of a)) same
 
 -- where the argument of a unit stands
-pub stands_at : (text : List ℕ) (low high start end : ℕ) → start ≡ low → end ≡ high → (unit : all_units.Unit) → StandsIn text low unit high → StandsIn text start unit end
+pub stands_at : (text : List ℕ) (low high start end : ℕ) → start ≡ low → end ≡ high → (unit : all_units.Unit) → IsArgumentBetween text low unit high → IsArgumentBetween text start unit end
 stands_at text low high start end first last unit stands = rw (first, last) stands
 
 -- a command that is next has a name
-pub unit_named : (unit : all_units.Unit) {is_verbatim : Bool} {text rest : List ℕ} → IsNext is_verbatim (unit_of unit) text rest → IsNamed unit
+pub unit_named : (unit : all_units.Unit) {is_verbatim : Bool} {text rest : List ℕ} → IsNext is_verbatim (unit_of unit) text rest → HasCommandName unit
 unit_named (any_unit.Shown shown) one = tt
 unit_named (any_unit.Applied name space inside) {is_verbatim} {text} {rest} one = (command_parts is_verbatim (chars name.now) (chars space.now) rest (Argument.braced (left inside)) one.fits).1
 unit_named (any_unit.Formula text) one = tt

@@ -12,9 +12,9 @@ abbrev pub prefix : (ℕ → Bool) → List ℕ → List ℕ
 prefix test [] = []
 prefix test (c ∷ cs) = if test c then c ∷ prefix test cs else []
 
-abbrev pub behind : (ℕ → Bool) → List ℕ → List ℕ
-behind test [] = []
-behind test (c ∷ cs) = if test c then behind test cs else c ∷ cs
+abbrev pub following : (ℕ → Bool) → List ℕ → List ℕ
+following test [] = []
+following test (c ∷ cs) = if test c then following test cs else c ∷ cs
 
 -- the characters up to the brace that closes so many open ones and one more
 abbrev pub braces : ℕ → List ℕ → List ℕ
@@ -35,7 +35,7 @@ abbrev pub command_of : List ℕ → List ℕ → List ℕ → ContentUnit
 command_of name space rest = ContentUnit.command name space (first_argument (takes_next name space) (not (is_empty space)) rest)
 
 abbrev pub first_command : List ℕ → List ℕ → ContentUnit
-first_command name rest = command_of name (prefix is_space rest) (behind is_space rest)
+first_command name rest = command_of name (prefix is_space rest) (following is_space rest)
 
 abbrev pub first_escape : Bool → List ℕ → ContentUnit
 first_escape is_verbatim [] = ContentUnit.backslash
@@ -44,7 +44,7 @@ first_escape is_verbatim (c ∷ cs) =
     else if is_verbatim then ContentUnit.backslash
     else if is_blank c then ContentUnit.copied c
     else if is_sign c then first_command (c ∷ []) cs
-    else first_command (c ∷ prefix is_name_character cs) (behind is_name_character cs)
+    else first_command (c ∷ prefix is_name_character cs) (following is_name_character cs)
 
 -- the unit that a text begins with
 abbrev pub first_unit : Bool → List ℕ → ContentUnit
@@ -58,7 +58,7 @@ first_unit is_verbatim (c ∷ cs) =
     else if is_space c then ContentUnit.spaces (c ∷ prefix is_space cs)
     else ContentUnit.other c
 
--- a run that ends is the prefix, and the rest stands behind it
+-- a run that ends is the prefix, and the rest stands after it
 pub prefix_run : (test : ℕ → Bool) (cs rest : List ℕ) → list_all test cs ≡ true → begins test rest ≡ false → prefix test (cs ++ rest) ≡ cs
 prefix_run test [] [] all stops = refl
 prefix_run test [] (d ∷ ds) all stops = rw stops refl
@@ -66,12 +66,12 @@ prefix_run test (c ∷ cs) rest all stops =
     let parts = and_parts (test c) (list_all test cs) all in
     rw parts.0 (ap (λ xs. c ∷ xs) (prefix_run test cs rest parts.1 stops))
 
-pub behind_run : (test : ℕ → Bool) (cs rest : List ℕ) → list_all test cs ≡ true → begins test rest ≡ false → behind test (cs ++ rest) ≡ rest
-behind_run test [] [] all stops = refl
-behind_run test [] (d ∷ ds) all stops = rw stops refl
-behind_run test (c ∷ cs) rest all stops =
+pub after_run : (test : ℕ → Bool) (cs rest : List ℕ) → list_all test cs ≡ true → begins test rest ≡ false → following test (cs ++ rest) ≡ rest
+after_run test [] [] all stops = refl
+after_run test [] (d ∷ ds) all stops = rw stops refl
+after_run test (c ∷ cs) rest all stops =
     let parts = and_parts (test c) (list_all test cs) all in
-    rw parts.0 (behind_run test cs rest parts.1 stops)
+    rw parts.0 (after_run test cs rest parts.1 stops)
 
 -- the text in a pair of braces
 pub braces_run : (depth : ℕ) (cs rest : List ℕ) → balances depth cs ≡ true → braces depth (cs ++ 125 ∷ rest) ≡ cs
@@ -114,14 +114,14 @@ argument_first takes spaced (Argument.braced text) rest right =
     let parts = and_parts (not spaced) (balances 0 text) right in
     rw (not-true spaced parts.0, append_assoc text (125 ∷ []) rest) (ap Argument.braced (braces_run 0 text rest parts.1))
 
--- a command is found behind its name
+-- a command is found after its name
 pub command_first : (name space rest : List ℕ) (argument : Argument) → list_all is_space space ≡ true → begins is_space (argument_spelling argument ++ rest) ≡ false
     → is_argument (takes_next name space) (not (is_empty space)) argument rest ≡ true
     → first_command name (space ++ (argument_spelling argument ++ rest)) ≡ ContentUnit.command name space argument
 command_first name space rest argument white stops right =
     let more = argument_spelling argument ++ rest in
-    ap (λ xs. command_of name xs (behind is_space (space ++ more))) (prefix_run is_space space more white stops)
-    ∙ ap (λ xs. command_of name space xs) (behind_run is_space space more white stops)
+    ap (λ xs. command_of name xs (following is_space (space ++ more))) (prefix_run is_space space more white stops)
+    ∙ ap (λ xs. command_of name space xs) (after_run is_space space more white stops)
     ∙ ap (ContentUnit.command name space) (argument_first (takes_next name space) (not (is_empty space)) argument rest right)
 
 -- white space is none of the characters that begin something else
@@ -162,10 +162,10 @@ none_any (c ∷ cs) none =
 
 -- a name that is not a sign is taken whole
 name_first : (c : ℕ) (cs tail : List ℕ) (u : ContentUnit) → list_all is_name_character cs ≡ true → begins is_name_character tail ≡ false → first_command (c ∷ cs) tail ≡ u
-    → first_command (c ∷ prefix is_name_character (cs ++ tail)) (behind is_name_character (cs ++ tail)) ≡ u
+    → first_command (c ∷ prefix is_name_character (cs ++ tail)) (following is_name_character (cs ++ tail)) ≡ u
 name_first c cs tail u named stops found =
-    ap (λ xs. first_command (c ∷ xs) (behind is_name_character (cs ++ tail))) (prefix_run is_name_character cs tail named stops)
-    ∙ ap (first_command (c ∷ cs)) (behind_run is_name_character cs tail named stops)
+    ap (λ xs. first_command (c ∷ xs) (following is_name_character (cs ++ tail))) (prefix_run is_name_character cs tail named stops)
+    ∙ ap (first_command (c ∷ cs)) (after_run is_name_character cs tail named stops)
     ∙ found
 
 -- a sign is a whole name

@@ -4,7 +4,7 @@ use Rattle.std.specs.Prelude.{◌==◌}
 use Rattle.std.proofs.lemmas.Bool.{cases_Bool, and_parts, and_from, both_ways, eqb-true}
 use Rattle.bib_chunks.specs.Formatted.{is_break, flowing, formatted_atoms}
 use Rattle.bib_chunks.specs.Styled.{Atom}
-use Rattle.bib_contents.specs.Commands.{given}
+use Rattle.bib_contents.specs.Commands.{command_text}
 use Rattle.bib_contents.specs.Contents.{Argument, ContentUnit, Reads, begins, character, dashes, fits, held, is_blank, is_space, meaning, unit_text}
 use Rattle.bib_contents.specs.Contents.Reads.{end, next}
 use Rattle.bib_contents.proofs.ArgumentReading.{name_plain, dashes_plain, escaped_plain, ordinary_plain, single_plain}
@@ -51,7 +51,7 @@ unit_ends ContentUnit.backslash rest inner right whole = capped_ends ContentUnit
 unit_ends (ContentUnit.copied c) rest inner right whole = record { first = refl; last = λ plain. plain }
 unit_ends (ContentUnit.formula text) rest inner right whole = capped_ends (ContentUnit.formula text) inner (capped_plain [] refl)
 unit_ends (ContentUnit.command name space Argument.without) rest inner right whole =
-    capped_ends (ContentUnit.command name space Argument.without) inner (capped_plain (given name None) (alone_plain name (name_plain name (command_parts false name space rest Argument.without right).1)))
+    capped_ends (ContentUnit.command name space Argument.without) inner (capped_plain (command_text name None) (alone_plain name (name_plain name (command_parts false name space rest Argument.without right).1)))
 unit_ends (ContentUnit.command name space Argument.empty) rest inner right whole =
     capped_ends (ContentUnit.command name space Argument.empty) inner (capped_given name [] (name_plain name (command_parts false name space rest Argument.empty right).1) record { first = refl; last = refl })
 unit_ends (ContentUnit.command name space (Argument.single c)) rest inner right whole =
@@ -86,7 +86,7 @@ added depth (ContentUnit.formula text) inner has = record { led = led_math text;
 added depth (ContentUnit.command name space argument) inner has = added_characters depth (ContentUnit.command name space argument) inner has
 added depth (ContentUnit.other c) inner has = added_characters depth (ContentUnit.other c) inner has
 
--- white space follows a break behind a backslash
+-- white space follows a break after a backslash
 next_spaces : (c : ℕ) (rest : List ℕ) → is_break c ≡ true → first_unit false (c ∷ rest) ≡ ContentUnit.spaces (c ∷ prefix is_space rest)
 unfolding is_space
 next_spaces c rest breaks = elim (cases_Bool (c == 10)) [
@@ -101,26 +101,26 @@ space_shown (suc depth) more none = cc
 spaces_shown : (depth : ℕ) (u : ContentUnit) (c : ℕ) (rest : List ℕ) (inner more : List Atom) → u ≡ ContentUnit.spaces (c ∷ rest) → formatted_atoms false (meaning depth u inner ++ more) ≡ [] → ⊥
 spaces_shown depth u c rest inner more is none = space_shown depth more (subst (λ w. formatted_atoms false (meaning depth w inner ++ more) ≡ []) is none)
 
-some_behind : (c : ℕ) (depth : ℕ) (text : List ℕ) (atoms : List Atom) → is_break c ≡ true → begins (λ d. d == c) text ≡ true → Reads false depth text atoms → formatted_atoms false atoms ≡ [] → ⊥
-some_behind c depth [] atoms breaks follows read none = both_ways false refl follows
-some_behind c depth (d ∷ ds) atoms breaks follows (next {u = u} {rest = rest} {inner = inner} {atoms = more} one closable argument read) none =
+some_after : (c : ℕ) (depth : ℕ) (text : List ℕ) (atoms : List Atom) → is_break c ≡ true → begins (λ d. d == c) text ≡ true → Reads false depth text atoms → formatted_atoms false atoms ≡ [] → ⊥
+some_after c depth [] atoms breaks follows read none = both_ways false refl follows
+some_after c depth (d ∷ ds) atoms breaks follows (next {u = u} {rest = rest} {inner = inner} {atoms = more} one closable argument read) none =
     let same : d ≡ c = eqb-true d c follows in
     let is : u ≡ ContentUnit.spaces (d ∷ prefix is_space ds) = sym (unit_first false u rest one.fits) ∙ ap (first_unit false) (sym one.spells) ∙ next_spaces d ds (rw same breaks) in
     spaces_shown depth u d (prefix is_space ds) inner more is none
 
--- behind a unit that ends in a break stands something
-behind_break : (u : ContentUnit) (depth : ℕ) (rest : List ℕ) (atoms : List Atom) → breaks_last u ≡ true → fits false u rest ≡ true → Reads false depth rest atoms → formatted_atoms false atoms ≡ [] → ⊥
-behind_break (ContentUnit.copied c) depth rest atoms breaks right read none =
-    some_behind c depth rest atoms breaks (and_parts (not false && is_blank c) (begins (λ d. d == c) rest) right).1 read none
-behind_break (ContentUnit.hyphens n) depth rest atoms breaks right read none = both_ways false refl breaks
-behind_break (ContentUnit.spaces cs) depth rest atoms breaks right read none = both_ways false refl breaks
-behind_break ContentUnit.opening depth rest atoms breaks right read none = both_ways false refl breaks
-behind_break ContentUnit.closing depth rest atoms breaks right read none = both_ways false refl breaks
-behind_break (ContentUnit.escaped c) depth rest atoms breaks right read none = both_ways false refl breaks
-behind_break ContentUnit.backslash depth rest atoms breaks right read none = both_ways false refl breaks
-behind_break (ContentUnit.formula text) depth rest atoms breaks right read none = both_ways false refl breaks
-behind_break (ContentUnit.command name space argument) depth rest atoms breaks right read none = both_ways false refl breaks
-behind_break (ContentUnit.other c) depth rest atoms breaks right read none = both_ways false refl breaks
+-- after a unit that ends in a break stands something
+after_break : (u : ContentUnit) (depth : ℕ) (rest : List ℕ) (atoms : List Atom) → breaks_last u ≡ true → fits false u rest ≡ true → Reads false depth rest atoms → formatted_atoms false atoms ≡ [] → ⊥
+after_break (ContentUnit.copied c) depth rest atoms breaks right read none =
+    some_after c depth rest atoms breaks (and_parts (not false && is_blank c) (begins (λ d. d == c) rest) right).1 read none
+after_break (ContentUnit.hyphens n) depth rest atoms breaks right read none = both_ways false refl breaks
+after_break (ContentUnit.spaces cs) depth rest atoms breaks right read none = both_ways false refl breaks
+after_break ContentUnit.opening depth rest atoms breaks right read none = both_ways false refl breaks
+after_break ContentUnit.closing depth rest atoms breaks right read none = both_ways false refl breaks
+after_break (ContentUnit.escaped c) depth rest atoms breaks right read none = both_ways false refl breaks
+after_break ContentUnit.backslash depth rest atoms breaks right read none = both_ways false refl breaks
+after_break (ContentUnit.formula text) depth rest atoms breaks right read none = both_ways false refl breaks
+after_break (ContentUnit.command name space argument) depth rest atoms breaks right read none = both_ways false refl breaks
+after_break (ContentUnit.other c) depth rest atoms breaks right read none = both_ways false refl breaks
 
 last_joined : (u : ContentUnit) (xs ys : List ℕ) → (breaks_last u ≡ true → ys ≡ [] → ⊥) → (breaks_last u ≡ false → ends_in_break xs ≡ false) → ends_in_break ys ≡ false → ends_in_break (xs ++ ys) ≡ false
 last_joined u xs [] some alone last = elim (cases_Bool (breaks_last u)) [
@@ -132,10 +132,10 @@ last_joined u xs (y ∷ ys) some alone last = ends_append xs y ys last
 pub whole_reads : {depth : ℕ} {text : List ℕ} {atoms : List Atom} → Reads false depth text atoms → IsWhole atoms
 whole_reads end = record { led = record { any = λ space. refl; first = refl }; last = refl }
 whole_reads {depth} (next {u = u} {rest = rest} {inner = inner} {atoms = more} one closable argument read) =
-    let behind = whole_reads read in
+    let following = whole_reads read in
     let here = added depth u inner (unit_ends u rest inner one.fits (λ text holds. whole_reads (argument text holds))) in
-    let joined = formatted_append false (meaning depth u inner) more ∙ ap (λ cs. formatted_atoms false (meaning depth u inner) ++ cs) (behind.led.any (space_after false (meaning depth u inner))) in
+    let joined = formatted_append false (meaning depth u inner) more ∙ ap (λ cs. formatted_atoms false (meaning depth u inner) ++ cs) (following.led.any (space_after false (meaning depth u inner))) in
     record {
-      led = led_append (meaning depth u inner) more here.led behind.led;
-      last = ap ends_in_break joined ∙ last_joined u (formatted_atoms false (meaning depth u inner)) (formatted_atoms false more) (λ breaks none. behind_break u _ rest more breaks one.fits read none) here.last behind.last;
+      led = led_append (meaning depth u inner) more here.led following.led;
+      last = ap ends_in_break joined ∙ last_joined u (formatted_atoms false (meaning depth u inner)) (formatted_atoms false more) (λ breaks none. after_break u _ rest more breaks one.fits read none) here.last following.last;
     }

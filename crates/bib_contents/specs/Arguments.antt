@@ -6,7 +6,7 @@ use Rattle.bib_text.specs.Places.{Place}
 use Rattle.bib_chunks.specs.Formatted.{flowing, formatted_atoms, is_break}
 use Rattle.bib_chunks.specs.Styled.{Atom}
 use Rattle.bib_contents.specs.Contents.{Argument, ContentUnit, IsNext, balances, is_name, unit_text}
-use Rattle.bib_contents.specs.Passing.{Goes, left}
+use Rattle.bib_contents.specs.Progress.{Goes, left}
 use Rattle.bib_contents.specs.declared.ends.Ends.{Ends}
 use Rattle.bib_contents.specs.declared.arguments.Frame.{Frame}
 use Rattle.bib_contents.specs.declared.arguments.Next.{Next}
@@ -15,6 +15,7 @@ use Rattle.bib_contents.specs.declared.units.Found.{Found}
 use Rattle.bib_contents.specs.declared.units.Found.TheVariants.{Braced as InBraces}
 use Rattle.bib_contents.specs.declared.units.Unit as units
 use Rattle.bib_contents.specs.declared.units.Unit.TheVariants.{Applied}
+use Rattle.bib_text.specs.Characters as char
 
 -- a closing brace stands at `end`, and the braces before it balance from `begin` on
 pub record Closes (text : List ℕ) (begin end : ℕ) : Type 0 where
@@ -22,7 +23,7 @@ pub record Closes (text : List ℕ) (begin end : ℕ) : Type 0 where
   pub width : end ≡ begin + length (encode_utf8_all inside)
   pub spelt : drop begin text ≡ encode_utf8_all inside ++ drop end text
   pub balanced : balances 0 inside ≡ true
-  pub brace : drop end text ≡ 125 ∷ drop (end + 1) text
+  pub brace : drop end text ≡ char.close_brace ∷ drop (end + 1) text
 
 -- the ends that are known are those of a text, as far as it goes
 abbrev pub AreKnown : Ends → List ℕ → Type 0
@@ -30,28 +31,28 @@ AreKnown ends text =
     (index : ℕ) → 0 < slice_index ends.places.items index → slice_index ends.places.items index < length text
     → Closes text (ends.start + index) (slice_index ends.places.items index)
 
--- an argument stands in a text behind a place, and ends before another
+-- an argument stands in a text after a place, and ends before another
 pub record IsInside (text : List ℕ) (low : ℕ) (inside : Place) (high : ℕ) : Type 0 where
   pub cut : inside.text ≡ take (length inside.text) text
-  pub behind : low ≤ inside.at
+  pub following : low ≤ inside.at
   pub within : inside.at ≤ length inside.text
   pub ends : length inside.text < high
 
 -- an argument begins at a place, and the brace that closes it ends at another
 pub record Encloses (u inside v : Place) : Type 0 where
   pub stands : IsInside u.text u.at inside v.at
-  pub spelt : left u ≡ left inside ++ 125 ∷ left v
+  pub spelt : left u ≡ left inside ++ char.close_brace ∷ left v
   pub balanced : balances 0 (left inside) ≡ true
 
 -- the argument of a unit stands between two places
-abbrev pub StandsIn : List ℕ → ℕ → units.Unit → ℕ → Type 0
-StandsIn text low (Applied name space inside) high = IsInside text low inside high
-StandsIn text low u high = Unit {0}
+abbrev pub IsArgumentBetween : List ℕ → ℕ → units.Unit → ℕ → Type 0
+IsArgumentBetween text low (Applied name space inside) high = IsInside text low inside high
+IsArgumentBetween text low u high = Unit {0}
 
 -- the command of a unit with an argument in braces has a name
-abbrev pub IsNamed : units.Unit → Type 0
-IsNamed (Applied name space inside) = is_name (chars name.now) ≡ true
-IsNamed u = Unit {0}
+abbrev pub HasCommandName : units.Unit → Type 0
+HasCommandName (Applied name space inside) = is_name (chars name.now) ≡ true
+HasCommandName u = Unit {0}
 
 abbrev pub IsFoundIn : List ℕ → ℕ → Found → ℕ → Type 0
 IsFoundIn text low (InBraces inside) high = IsInside text low inside high
@@ -62,21 +63,21 @@ abbrev pub laid : Bool → List ℕ → List ℕ
 laid is_flat cs = if is_flat then flowing false cs else cs
 
 -- what an argument's atoms are written as: formatted, and on one line where an argument around it is
-abbrev pub written : Bool → List Atom → List ℕ
-written is_flat atoms = laid is_flat (formatted_atoms false atoms)
+abbrev pub argument_written : Bool → List Atom → List ℕ
+argument_written is_flat atoms = laid is_flat (formatted_atoms false atoms)
 
 -- what a unit without an argument in braces is written as, on one line or as it is
 abbrev pub unit_written : Bool → ContentUnit → List ℕ
-unit_written is_flat (ContentUnit.copied c) = 92 ∷ (if is_flat then (if is_break c then 32 else c) else c) ∷ []
+unit_written is_flat (ContentUnit.copied c) = char.backslash ∷ (if is_flat then (if is_break c then char.space else c) else c) ∷ []
 unit_written is_flat u = unit_text u []
 
--- an argument was read up to here, and written behind what stood before
+-- an argument was read up to here, and written after what stood before
 pub record IsReadTo (is_flat : Bool) (whole base rest : List ℕ) (depth : ℕ) (now : List ℕ) : Type 0 where
   pub atoms : List Atom
   pub goes : Goes false 0 whole atoms depth rest
-  pub wrote : now ≡ encode_utf8_all (base ++ written is_flat atoms)
+  pub wrote : now ≡ encode_utf8_all (base ++ argument_written is_flat atoms)
 
--- an argument was read up to here: behind a unit, before a command with an argument in braces, or to its end
+-- an argument was read up to here: after a unit, before a command with an argument in braces, or to its end
 abbrev pub IsReadOn : List ℕ → List ℕ → Frame → List ℕ → Next → Type 0
 IsReadOn whole base frame now Read = IsReadTo frame.is_flat whole base (left frame.s) frame.depth now
 IsReadOn whole base frame now (Follows name inside) =
@@ -96,7 +97,7 @@ pub record StandsRight (frame : Frame) : Type 0 where
   pub deep : frame.depth ≤ frame.s.at
 
 -- the parts of a frame that stay
-pub record IsKept (old new : Frame) : Type 0 where
+pub record KeepsFrame (old new : Frame) : Type 0 where
   pub text : new.s.text ≡ old.s.text
   pub effect : new.effect ≡ old.effect
   pub start : new.start ≡ old.start

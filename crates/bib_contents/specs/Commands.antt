@@ -61,15 +61,15 @@ abbrev pub bare : ℕ → List ℕ
 bare mark = if mark == 0x302 then codes "^" else if mark == 0x303 then codes "~" else mark ∷ []
 
 -- a text with a mark on its last character, composed with it
-abbrev pub marked : ℕ → List ℕ → List ℕ
-marked mark [] = bare mark
-marked mark (c ∷ []) = nfc (letter c ∷ mark ∷ [])
-marked mark (c ∷ d ∷ cs) = c ∷ marked mark (d ∷ cs)
+abbrev pub with_mark : ℕ → List ℕ → List ℕ
+with_mark mark [] = bare mark
+with_mark mark (c ∷ []) = nfc (letter c ∷ mark ∷ [])
+with_mark mark (c ∷ d ∷ cs) = c ∷ with_mark mark (d ∷ cs)
 
 -- what an accent stands for
 abbrev pub accented : ℕ → Option (List ℕ) → List ℕ
 accented mark None = mark ∷ []
-accented mark (Some argument) = marked mark argument
+accented mark (Some argument) = with_mark mark argument
 
 -- what the other commands stand for: two that ask whether there is an argument, and those that are not known, which
 -- stay as they are (`bytes_eq` compares two lists of numbers, here code points)
@@ -79,7 +79,7 @@ other name None =
     else if bytes_eq name (codes "copyright") then codes "©"
     else codes "\\" ++ name ++ codes " "
 other name (Some argument) =
-    if bytes_eq name (codes "o") then marked stroke argument
+    if bytes_eq name (codes "o") then with_mark stroke argument
     else if bytes_eq name (codes "copyright") then codes "©" ++ argument
     else codes "\\" ++ name ++ codes "{" ++ argument ++ codes "}"
 
@@ -90,5 +90,5 @@ found None (Some text) name argument = text
 found None None name argument = other name argument
 
 -- what a command with this name stands for, by the text of its argument if it has one
-unfoldable pub given : List ℕ → Option (List ℕ) → List ℕ
-given name argument = found (named accents name) (named symbols name) name argument
+unfoldable pub command_text : List ℕ → Option (List ℕ) → List ℕ
+command_text name argument = found (named accents name) (named symbols name) name argument

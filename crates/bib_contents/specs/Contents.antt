@@ -8,21 +8,22 @@ use Rattle.bib_chunks.specs.Formatted.{formatted_atoms}
 use Rattle.bib_chunks.specs.Styled.{Atom}
 use Rattle.bib_chunks.specs.Written.{is_grouping, is_reserved}
 use Rattle.bib_syntax.specs.Characters.{is_id_continue}
-use Rattle.bib_contents.specs.Commands.{given}
-use Rattle.bib_syntax.specs.Faults.{out_of_memory}
+use Rattle.bib_contents.specs.Commands.{command_text}
+use Rattle.bib_syntax.specs.Errors.{out_of_memory}
 use Rattle.bib_syntax.specs.declared.raw.Token.TheVariants.{ClosingBrace}
 use Rattle.bib_syntax.specs.declared.raw.ParseError.{ParseError}
 use Rattle.bib_syntax.specs.declared.raw.ParseErrorKind.{ParseErrorKind}
 use Rattle.bib_syntax.specs.declared.raw.ParseErrorKind.TheVariants.{UnexpectedEof, Unexpected}
+use Rattle.bib_text.specs.Characters as char
 
 -- whether a backslash takes a character its meaning: grouping characters; outside verbatim fields reserved ones, the
 -- tilde and the circumflex too; and the colon where a text is read, since Zotero writes a backslash before it
 unfoldable pub is_escapable : ℕ → Bool → Bool → Bool
-is_escapable c is_verbatim is_read = is_grouping c || (not is_verbatim && (is_reserved c || c == 126 || c == 94)) || (is_read && c == 58)
+is_escapable c is_verbatim is_read = is_grouping c || (not is_verbatim && (is_reserved c || c == char.tilde || c == char.circumflex)) || (is_read && c == char.colon)
 
 -- whether a backslash and a character are that character: not the tilde and the circumflex, which name accents
 unfoldable pub is_escaped : Bool → ℕ → Bool
-is_escaped is_verbatim c = is_escapable c is_verbatim true && not (c == 126 || c == 94)
+is_escaped is_verbatim c = is_escapable c is_verbatim true && not (c == char.tilde || c == char.circumflex)
 
 -- white space
 unfoldable pub is_space : ℕ → Bool
@@ -38,20 +39,20 @@ is_name_character c = is_id_continue c
 
 -- the characters that name an accent: " ' ^ ~ = . U+00B4 U+0060
 unfoldable pub is_mark : ℕ → Bool
-is_mark c = c == 34 || c == 39 || c == 94 || c == 126 || c == 61 || c == 46 || c == 180 || c == 96
+is_mark c = c == char.quote || c == char.apostrophe || c == char.circumflex || c == char.tilde || c == char.equals || c == char.point || c == char.acute || c == char.grave
 
 -- the letters that name an accent: b c d H k r u v
 unfoldable pub is_accent_letter : ℕ → Bool
-is_accent_letter c = c == 98 || c == 99 || c == 100 || c == 72 || c == 107 || c == 114 || c == 117 || c == 118
+is_accent_letter c = c == char.letter_b || c == char.letter_c || c == char.letter_d || c == char.upper_h || c == char.letter_k || c == char.letter_r || c == char.letter_u || c == char.letter_v
 
 -- the characters that are a command's whole name: the marks of accents, and the hyphen
 unfoldable pub is_sign : ℕ → Bool
-is_sign c = is_mark c || c == 45
+is_sign c = is_mark c || c == char.hyphen
 
 -- a character that neither begins nor ends anything: no hyphen, white space, brace or backslash, and outside verbatim
 -- fields no dollar sign
 unfoldable pub is_ordinary : Bool → ℕ → Bool
-is_ordinary is_verbatim c = not (c == 45 || is_space c || is_grouping c || (not is_verbatim && c == 36))
+is_ordinary is_verbatim c = not (c == char.hyphen || is_space c || is_grouping c || (not is_verbatim && c == char.dollar))
 
 -- whether a text begins with a character that passes the test
 abbrev pub begins : (ℕ → Bool) → List ℕ → Bool
@@ -62,12 +63,12 @@ abbrev pub is_empty : List ℕ → Bool
 is_empty [] = true
 is_empty (c ∷ cs) = false
 
--- whether the braces of a text balance behind so many that are open; a backslash hides none of them
+-- whether the braces of a text balance after so many that are open; a backslash hides none of them
 abbrev pub balances : ℕ → List ℕ → Bool
 balances depth [] = depth == 0
 balances depth (c ∷ cs) =
-    if c == 123 then balances (suc depth) cs
-    else if c == 125 then (nat_lt 0 depth && balances (depth - 1) cs)
+    if c == char.open_brace then balances (suc depth) cs
+    else if c == char.close_brace then (nat_lt 0 depth && balances (depth - 1) cs)
     else balances depth cs
 
 -- the argument of a command: none, the empty one at the end of a text, the next character whatever it is, or the text
@@ -95,23 +96,23 @@ abbrev pub argument_spelling : Argument → List ℕ
 argument_spelling Argument.without = []
 argument_spelling Argument.empty = []
 argument_spelling (Argument.single c) = c ∷ []
-argument_spelling (Argument.braced text) = 123 ∷ (text ++ 125 ∷ [])
+argument_spelling (Argument.braced text) = char.open_brace ∷ (text ++ char.close_brace ∷ [])
 
 -- how a unit is spelt
 abbrev pub unit_spelling : ContentUnit → List ℕ
-unit_spelling (ContentUnit.hyphens n) = replicate n 45
+unit_spelling (ContentUnit.hyphens n) = replicate n char.hyphen
 unit_spelling (ContentUnit.spaces cs) = cs
-unit_spelling ContentUnit.opening = 123 ∷ []
-unit_spelling ContentUnit.closing = 125 ∷ []
-unit_spelling (ContentUnit.escaped c) = 92 ∷ c ∷ []
-unit_spelling ContentUnit.backslash = 92 ∷ []
-unit_spelling (ContentUnit.copied c) = 92 ∷ []
-unit_spelling (ContentUnit.formula text) = 36 ∷ (text ++ 36 ∷ [])
-unit_spelling (ContentUnit.command name space argument) = 92 ∷ (name ++ (space ++ argument_spelling argument))
+unit_spelling ContentUnit.opening = char.open_brace ∷ []
+unit_spelling ContentUnit.closing = char.close_brace ∷ []
+unit_spelling (ContentUnit.escaped c) = char.backslash ∷ c ∷ []
+unit_spelling ContentUnit.backslash = char.backslash ∷ []
+unit_spelling (ContentUnit.copied c) = char.backslash ∷ []
+unit_spelling (ContentUnit.formula text) = char.dollar ∷ (text ++ char.dollar ∷ [])
+unit_spelling (ContentUnit.command name space argument) = char.backslash ∷ (name ++ (space ++ argument_spelling argument))
 unit_spelling (ContentUnit.other c) = c ∷ []
 
 -- the name of a command: a sign, or any character that is not escaped and no white space or control character, with
--- identifier characters behind it
+-- identifier characters after it
 abbrev pub is_name : List ℕ → Bool
 is_name [] = false
 is_name (c ∷ cs) =
@@ -128,25 +129,25 @@ takes_next (c ∷ []) space = is_mark c || (is_accent_letter c && not (is_empty 
 takes_next (c ∷ d ∷ cs) space = false
 
 -- which argument a command has before the rest of a text, by whether it takes the next character, and whether white
--- space stands behind its name: a command that takes the next character takes any but a brace; otherwise a pair of
--- braces right behind the name is the argument
+-- space stands after its name: a command that takes the next character takes any but a brace; otherwise a pair of
+-- braces right after the name is the argument
 abbrev pub is_argument : Bool → Bool → Argument → List ℕ → Bool
-is_argument takes spaced Argument.without rest = if begins (λ c. c == 123) rest then spaced else not takes
+is_argument takes spaced Argument.without rest = if begins (λ c. c == char.open_brace) rest then spaced else not takes
 is_argument takes spaced Argument.empty rest = takes && is_empty rest
-is_argument takes spaced (Argument.single c) rest = takes && not (c == 123)
+is_argument takes spaced (Argument.single c) rest = takes && not (c == char.open_brace)
 is_argument takes spaced (Argument.braced text) rest = not spaced && balances 0 text
 
 -- whether a unit can stand before the rest of a text, in a verbatim field or another: runs, names and the white space
--- behind a name are as long as they can be
+-- after a name are as long as they can be
 abbrev pub fits : Bool → ContentUnit → List ℕ → Bool
-fits is_verbatim (ContentUnit.hyphens n) rest = nat_lt 0 n && not (begins (λ c. c == 45) rest)
+fits is_verbatim (ContentUnit.hyphens n) rest = nat_lt 0 n && not (begins (λ c. c == char.hyphen) rest)
 fits is_verbatim (ContentUnit.spaces cs) rest = not (is_empty cs) && list_all is_space cs && not (begins is_space rest)
 fits is_verbatim ContentUnit.opening rest = true
 fits is_verbatim ContentUnit.closing rest = true
 fits is_verbatim (ContentUnit.escaped c) rest = is_escaped is_verbatim c
 fits is_verbatim ContentUnit.backslash rest = is_verbatim && not (begins (is_escaped true) rest)
 fits is_verbatim (ContentUnit.copied c) rest = not is_verbatim && is_blank c && begins (λ d. d == c) rest
-fits is_verbatim (ContentUnit.formula text) rest = not is_verbatim && not (list_any (λ c. c == 36) text)
+fits is_verbatim (ContentUnit.formula text) rest = not is_verbatim && not (list_any (λ c. c == char.dollar) text)
 fits is_verbatim (ContentUnit.command name space argument) rest =
     not is_verbatim && is_name name && is_whole_name name (space ++ (argument_spelling argument ++ rest))
     && list_all is_space space && not (begins is_space (argument_spelling argument ++ rest))
@@ -167,19 +168,19 @@ argument_text (Argument.braced text) inner = Some (formatted_atoms false inner)
 
 -- hyphens, cut from the left: em dashes for threes, then an en dash for two or a hyphen for one
 abbrev pub dashes : ℕ → List ℕ
-dashes n = replicate (n / 3) 8212 ++ (if n % 3 == 2 then 8211 ∷ [] else if n % 3 == 1 then 45 ∷ [] else [])
+dashes n = replicate (n / 3) char.em_dash ++ (if n % 3 == 2 then char.en_dash ∷ [] else if n % 3 == 1 then char.hyphen ∷ [] else [])
 
 -- the characters that a unit other than math stands for
 abbrev pub unit_text : ContentUnit → List Atom → List ℕ
 unit_text (ContentUnit.hyphens n) inner = dashes n
-unit_text (ContentUnit.spaces cs) inner = 32 ∷ []
+unit_text (ContentUnit.spaces cs) inner = char.space ∷ []
 unit_text ContentUnit.opening inner = []
 unit_text ContentUnit.closing inner = []
 unit_text (ContentUnit.escaped c) inner = c ∷ []
-unit_text ContentUnit.backslash inner = 92 ∷ []
-unit_text (ContentUnit.copied c) inner = 92 ∷ c ∷ []
+unit_text ContentUnit.backslash inner = char.backslash ∷ []
+unit_text (ContentUnit.copied c) inner = char.backslash ∷ c ∷ []
 unit_text (ContentUnit.formula text) inner = []
-unit_text (ContentUnit.command name space argument) inner = given name (argument_text argument inner)
+unit_text (ContentUnit.command name space argument) inner = command_text name (argument_text argument inner)
 unit_text (ContentUnit.other c) inner = c ∷ []
 
 -- characters are normal where no brace is open, and verbatim elsewhere
@@ -221,15 +222,15 @@ pub data Reads : Bool → ℕ → List ℕ → List Atom → Type 0 where
 abbrev pub IsContent : Bool → List ℕ → List Atom → Type 0
 IsContent is_verbatim text atoms = Reads is_verbatim 0 text atoms
 
--- a fault of contents: a closing brace that nothing opened, or a text that ends too soon
+-- an error of contents: a closing brace that nothing opened, or a text that ends too soon
 abbrev pub IsUnread : ParseErrorKind → Type 0
 IsUnread kind = (kind ≡ UnexpectedEof) ⊎ (kind ≡ Unexpected ClosingBrace)
 
--- the bytes at fault lie between two places
+-- the bytes at error lie between two places
 abbrev pub LiesBetween : ℕ → ℕ → ParseError → Type 0
 LiesBetween low high e = (low ≤ e.span.start) × (e.span.start ≤ e.span.end) × (e.span.end ≤ high)
 
--- want of memory, or a fault between two places
+-- out of memory, or an error between two places
 abbrev pub StaysBetween : ℕ → ℕ → ParseError → Type 0
 StaysBetween low high e = (e ≡ out_of_memory) ⊎ LiesBetween low high e
 

@@ -2,5 +2,5 @@ pub mod Arguments
 pub mod Commands
 pub mod Contents
 pub mod Effects
-pub mod Passing
+pub mod Progress
 pub mod UnitViews

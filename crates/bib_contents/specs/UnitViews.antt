@@ -2,7 +2,7 @@
 -- What the program's units of contents are.
 use Rattle.std.specs.Str.{chars}
 use Rattle.bib_contents.specs.Contents as contents
-use Rattle.bib_contents.specs.Passing.{left}
+use Rattle.bib_contents.specs.Progress.{left}
 use Rattle.bib_contents.specs.declared.units.Argument.{Argument}
 use Rattle.bib_contents.specs.declared.units.Argument.TheVariants.{Without, Empty, Single}
 use Rattle.bib_contents.specs.declared.units.Found.{Found}

@@ -5,19 +5,19 @@ ghost use Rattle.std.specs.Str.{chars};
 ghost use Rattle.bib_chunks.specs.Formatted.{formatted_atoms};
 ghost use Rattle.bib_chunks.specs.Styled.{Atom};
 ghost use Rattle.bib_chunks.specs.Writing.{Writes};
-ghost use Rattle.bib_contents.specs.Arguments.{AreKnown, IsKept, IsReadOn, IsReadTo, IsShorterThan, StandsIn, StandsRight};
-ghost use Rattle.bib_contents.specs.Commands.{given};
+ghost use Rattle.bib_contents.specs.Arguments.{AreKnown, KeepsFrame, IsReadOn, IsReadTo, IsShorterThan, IsArgumentBetween, StandsRight};
+ghost use Rattle.bib_contents.specs.Commands.{command_text};
 ghost use Rattle.bib_contents.specs.Contents.{IsNext, IsUnread, Reads, is_name, StaysBetween, saturated};
 ghost use Rattle.bib_contents.specs.Effects.{IsFit, made, made_before};
-ghost use Rattle.bib_contents.specs.Passing.{IsStuck, left};
+ghost use Rattle.bib_contents.specs.Progress.{IsStuck, left};
 ghost use Rattle.bib_contents.specs.UnitViews.{unit_of};
-ghost use Rattle.bib_syntax.specs.Faults.{out_of_memory};
+ghost use Rattle.bib_syntax.specs.Errors.{out_of_memory};
 
 use crate::characters::Characters;
 use crate::classes::is_ordinary;
 use crate::commands::Effect;
 use crate::ends::Ends;
-use crate::faults::{ended, unopened};
+use crate::errors::{ended, unopened};
 use crate::units::{Unit, eat_unit};
 use crate::writing::{write_math, write_unit};
 use bib_syntax::raw::ParseError;
@@ -58,7 +58,7 @@ impl<'s> Frame<'s> {
             (made_before frame.effect (chars name.now)) ×
             (frame.start ≡ length (string_bytes text.new))) }
         ensures made { IfOk result (λ frame. (argument : List ℕ) →
-            given (chars name.now) (Some argument) ≡ made frame.effect (chars name.now) argument) }
+            command_text (chars name.now) (Some argument) ≡ made frame.effect (chars name.now) argument) }
         ensures fit { IfOk result (λ frame. IsFit frame.effect) }
     {
         let effect = Effect::of(name);
@@ -89,7 +89,7 @@ impl<'s> Frame<'s> {
     ) -> Result<Next<'s>, ParseError>
         requires known { AreKnown ends.now self.old.s.text }
         requires right { StandsRight self.old }
-        ensures kept { OnOk result (IsKept self.old self.new) }
+        ensures kept { OnOk result (KeepsFrame self.old self.new) }
         ensures right { OnOk result (StandsRight self.new) }
         ensures read { (whole base : List ℕ) →
             IsReadTo self.old.is_flat whole base (left self.old.s) self.old.depth
@@ -114,8 +114,8 @@ impl<'s> Frame<'s> {
             return Err(ended(offset.saturating_add(self.s.len())));
         };
         let end = offset.saturating_add(start);
-        let behind = offset.saturating_add(self.s.cursor());
-        let next = self.take(text, alloc, unit, end, behind)?;
+        let following = offset.saturating_add(self.s.cursor());
+        let next = self.take(text, alloc, unit, end, following)?;
         Ok(next)
     }
 
@@ -130,7 +130,7 @@ impl<'s> Frame<'s> {
     ) -> Result<Next<'s>, ParseError>
         requires deep { self.old.depth < 2 ^ 63 }
         ensures cursor { self.new.s ≡ self.old.s }
-        ensures kept { IsKept self.old self.new }
+        ensures kept { KeepsFrame self.old self.new }
         ensures deep { self.new.depth ≤ self.old.depth + 1 }
         ensures read { (whole base before : List ℕ) →
             IsNext false (unit_of unit.entry) before (left self.old.s) →
@@ -138,7 +138,7 @@ impl<'s> Frame<'s> {
             IfOk result (IsReadOn whole base self.new (string_bytes text.new)) }
         ensures shorter { (before : List ℕ) (low : ℕ) →
             IsNext false (unit_of unit.entry) before (left self.old.s) →
-            StandsIn self.old.s.text low unit.entry self.old.s.at →
+            IsArgumentBetween self.old.s.text low unit.entry self.old.s.at →
             IfOk result (IsShorterThan (length before) self.old.s.text low self.new.s) }
         ensures refused { (whole base before : List ℕ) →
             IsNext false (unit_of unit.entry) before (left self.old.s) →
@@ -174,7 +174,7 @@ pub(crate) fn write_applied(
     requires named { is_name (chars name.now) ≡ true }
     requires place { inside.at ≤ length inside.text }
     ensures read { OnOk result ((inner : List Atom) × Reads false 0 (left inside.entry) inner ×
-        Writes text.old text.new (given (chars name.now) (Some (formatted_atoms false inner)))) }
+        Writes text.old text.new (command_text (chars name.now) (Some (formatted_atoms false inner)))) }
     ensures refused { IfErr result (λ e. (e ≡ out_of_memory) ⊎
         (IsUnread e.kind × IsStuck false 0 (left inside.entry))) }
     ensures within { offset + length inside.entry.text < 2 ^ 64 →

@@ -5,7 +5,7 @@ ghost use Rattle.std.specs.List.{list_all};
 ghost use Rattle.std.specs.Str.{chars, IsCharBoundary, IsUtf8};
 ghost use Rattle.bib_text.specs.Places.{Place, place, Answers, between};
 ghost use Rattle.bib_contents.specs.Contents.{begins, is_space};
-ghost use Rattle.bib_contents.specs.Passing.{left, Passes};
+ghost use Rattle.bib_contents.specs.Progress.{left, Passes};
 
 use bib_text::scanner::Scanner;
 use std::marker::Model;
@@ -99,7 +99,7 @@ impl<'s> Characters<'s> {
     // The text from an earlier place up to here.
     pub(crate) fn from(&self, start: usize) -> &'s str
         requires boundary { IsCharBoundary self.now.text start }
-        requires behind { start ≤ self.now.at }
+        requires following { start ≤ self.now.at }
         ensures { result.now ≡ between (place self.now.text start) self.now }
     {
         self.scanner.from(start)
@@ -124,7 +124,7 @@ impl<'s> Characters<'s> {
     // A cursor over the text up to here, at an earlier place.
     pub(crate) fn back_to(&self, start: usize) -> Characters<'s>
         requires boundary { IsCharBoundary self.now.text start }
-        requires behind { start ≤ self.now.at }
+        requires following { start ≤ self.now.at }
         ensures place { result ≡ place (take self.now.at self.now.text) start }
         ensures utf8 { IsUtf8 (drop result.at result.text) }
     {

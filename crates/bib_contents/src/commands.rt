@@ -5,7 +5,7 @@ ghost use Rattle.std.specs.Option.{option_map};
 ghost use Rattle.std.specs.Str.{chars};
 ghost use Rattle.bib_text.specs.Enums.{named};
 ghost use Rattle.bib_chunks.specs.Writing.{Writes};
-ghost use Rattle.bib_contents.specs.Commands.{accents, symbols, letter, bare, marked, other, given};
+ghost use Rattle.bib_contents.specs.Commands.{accents, symbols, letter, bare, with_mark, other, command_text};
 ghost use Rattle.bib_contents.specs.Effects.{made, made_before, IsFit};
 ghost use Rattle.unicode_normalization.specs.Forms.{Nfd, nfc, is_in_form};
 
@@ -131,7 +131,7 @@ fn mark_last(out: &mut String, start: usize, mark: char) -> Result<(), AllocErro
     requires { IsTrue (is_in_form Nfd (mark ∷ [])) }
     ensures { (base inside : List ℕ) → length (encode_utf8_all base) ≡ start →
         string_bytes out.old ≡ encode_utf8_all (base ++ inside) →
-        OnOk result (string_bytes out.new ≡ encode_utf8_all (base ++ marked mark inside)) }
+        OnOk result (string_bytes out.new ≡ encode_utf8_all (base ++ with_mark mark inside)) }
 {
     if out.len() <= start {
         out.push(bare(mark))?;
@@ -162,7 +162,7 @@ fn write_other_alone(out: &mut String, name: &str) -> Result<(), AllocError>
 
 // Writes what a command with this name stands for where it has no argument.
 pub(crate) fn write_alone(out: &mut String, name: &str) -> Result<(), AllocError>
-    ensures { OnOk result (Writes out.old out.new (given (chars name.now) None)) }
+    ensures { OnOk result (Writes out.old out.new (command_text (chars name.now) None)) }
 {
     if let Some(mark) = accent_mark(name) {
         out.push(mark)?;
@@ -192,7 +192,7 @@ impl Effect {
     // What the command with this name makes of its argument.
     pub(crate) fn of(name: &str) -> Self
         ensures made { (argument : List ℕ) →
-            given (chars name.now) (Some argument) ≡ made result (chars name.now) argument }
+            command_text (chars name.now) (Some argument) ≡ made result (chars name.now) argument }
         ensures fit { IsFit result }
     {
         if let Some(mark) = accent_mark(name) {
@@ -252,7 +252,7 @@ impl Effect {
 // Writes what a command with this name and this argument stands for.
 pub(crate) fn write_command(out: &mut String, name: &str, argument: &str) -> Result<(), AllocError>
     ensures { OnOk result (Writes out.old out.new
-        (given (chars name.now) (Some (chars argument.now)))) }
+        (command_text (chars name.now) (Some (chars argument.now)))) }
 {
     let effect = Effect::of(name);
     effect.begin(out, name)?;

@@ -3,19 +3,19 @@
 ghost use Rattle.std.specs.Prelude.{◌≡◌, ◌++◌, ◌+◌, ◌<◌, ◌^◌, ◌⊎◌, ℕ, List, length, OnOk, IfErr, encode_utf8_all};
 ghost use Rattle.std.specs.Str.{chars};
 ghost use Rattle.bib_chunks.specs.Styled.{Atom, styled};
-ghost use Rattle.bib_contents.specs.Arguments.{IsNamed, StandsIn};
+ghost use Rattle.bib_contents.specs.Arguments.{HasCommandName, IsArgumentBetween};
 ghost use Rattle.bib_contents.specs.Contents.{IsContent, IsUnread, unit_spelling, StaysBetween, saturated};
-ghost use Rattle.bib_syntax.specs.Faults.{out_of_memory};
+ghost use Rattle.bib_syntax.specs.Errors.{out_of_memory};
 ghost use Rattle.bib_styled.specs.Joined.{AreJoined, ArePlaced};
-ghost use Rattle.bib_contents.specs.Passing.{IsMoved, IsUntaken, Took, so_far};
+ghost use Rattle.bib_contents.specs.Progress.{StaysPlaced, IsUntaken, Took, so_far};
 ghost use Rattle.bib_contents.specs.UnitViews.{unit_of};
 
 use crate::arguments::write_applied;
 use crate::characters::Characters;
 use crate::classes::is_ordinary;
 use crate::ends::Ends;
-use crate::faults::{ended, unopened};
-use crate::growing::{Open, finish, turn, turn_at_math};
+use crate::errors::{ended, unopened};
+use crate::growing::{OpenChunk, finish, finish_before_math, finish_chunk};
 use crate::units::{Unit, eat_unit};
 use crate::writing::write_unit;
 use bib_chunks::chunk::{Chunks, Span};
@@ -25,7 +25,7 @@ use std::alloc::Global;
 // Takes a unit that stands at `span` of a piece, which stands at `offset` in the file.
 fn take(
     out: &mut Chunks,
-    growing: &mut Open,
+    growing: &mut OpenChunk,
     alloc: Global,
     unit: Unit<'_>,
     offset: usize,
@@ -34,8 +34,8 @@ fn take(
     requires deep { growing.old.depth < 2 ^ 63 }
     requires spelt { span.end ≡ span.start + length
         (encode_utf8_all (unit_spelling (unit_of unit))) }
-    requires stands { (text : List ℕ) × StandsIn text span.start unit span.end }
-    requires named { IsNamed unit }
+    requires stands { (text : List ℕ) × IsArgumentBetween text span.start unit span.end }
+    requires named { HasCommandName unit }
     ensures taken { OnOk result (Took (unit_of unit.entry) growing.old.depth
         (so_far out.old growing.old) growing.new.depth (so_far out.new growing.new)) }
     ensures refused { IfErr result (λ e. (e ≡ out_of_memory) ⊎
@@ -43,11 +43,11 @@ fn take(
     ensures within { offset + span.end < 2 ^ 64 →
         IfErr result (StaysBetween (offset + span.start) (offset + span.end)) }
     ensures joined { OnOk result (AreJoined out.old → AreJoined out.new) }
-    ensures placed { OnOk result (IsMoved out.old growing.old
+    ensures placed { OnOk result (StaysPlaced out.old growing.old
         (saturated (offset + span.start)) out.new growing.new (saturated (offset + span.end))) }
 {
     let end = offset.saturating_add(span.start);
-    let behind = offset.saturating_add(span.end);
+    let following = offset.saturating_add(span.end);
     match unit {
         Unit::Shown(shown) => write_unit(&mut growing.text, shown, false)?,
         Unit::Applied(name, _, inside) => {
@@ -56,18 +56,18 @@ fn take(
         Unit::Formula(text) => {
             let first = offset.saturating_add(span.start + 1);
             let last = offset.saturating_add(span.end - 1);
-            turn_at_math(out, growing, text, end, first..last, behind)?;
+            finish_before_math(out, growing, text, end, first..last, following)?;
         }
         Unit::Opening => {
             let depth = growing.depth + 1;
-            turn(out, growing, end, depth, behind)?;
+            finish_chunk(out, growing, end, depth, following)?;
         }
         Unit::Closing => {
             if growing.depth == 0 {
-                return Err(unopened(end, behind));
+                return Err(unopened(end, following));
             }
             let depth = growing.depth - 1;
-            turn(out, growing, end, depth, behind)?;
+            finish_chunk(out, growing, end, depth, following)?;
         }
     }
     Ok(())
@@ -76,8 +76,8 @@ fn take(
 /// Reads the contents of a text that stands at `offset` in the file, and appends them. A chunk is joined to the one before
 /// it where both are normal or both verbatim. Places are counted in bytes of the file, up to `usize::MAX`.
 ///
-/// Refused with `UnexpectedEof` or `Unexpected` where the text can't be read, with a span in it, and for want of memory.
-/// What was read up to there stays appended, and for want of memory the last chunk may be lost.
+/// Refused with `UnexpectedEof` or `Unexpected` where the text can't be read, with a span in it, and when out of memory.
+/// What was read up to there stays appended, and when out of memory the last chunk may be lost.
 pub fn contents(
     out: &mut Chunks,
     alloc: Global,
@@ -99,7 +99,7 @@ pub fn contents(
     let end = offset.saturating_add(text.len());
     let mut s = Characters::new(text);
     let ends = Ends::none(alloc);
-    let mut growing = Open {
+    let mut growing = OpenChunk {
         text: String::with_capacity(alloc, text.len())?,
         depth: 0,
         start: offset,

@@ -6,7 +6,7 @@ ghost use Rattle.bib_contents.specs.Arguments.{AreKnown, Closes};
 use crate::characters::Characters;
 use std::alloc::{AllocError, Global};
 
-// The places of the closing braces in a text, each beside the place behind the opening brace that it closes, counted
+// The places of the closing braces in a text, each beside the place after the opening brace that it closes, counted
 // from `start`; 0 where no opening brace stands. So the text is gone through once, however deep its braces go.
 #[derive(Drop)]
 pub(crate) struct Ends {

@@ -5,7 +5,7 @@ ghost use Rattle.std.specs.Str.{chars};
 ghost use Rattle.bib_chunks.specs.Styled.{Atom, atoms_of, styled};
 ghost use Rattle.bib_contents.specs.Contents.{character};
 ghost use Rattle.bib_styled.specs.Joined.{AreJoined, ArePlaced};
-ghost use Rattle.bib_contents.specs.Passing.{so_far};
+ghost use Rattle.bib_contents.specs.Progress.{so_far};
 
 use bib_chunks::chunk::{Chunk, Chunks, Span, Spanned};
 use bib_styled::joining::append;
@@ -14,7 +14,7 @@ use std::alloc::AllocError;
 
 // A chunk that grows: its text, how many braces are open in it, and where it begins.
 #[derive(Drop)]
-pub(crate) struct Open {
+pub(crate) struct OpenChunk {
     pub(crate) text: String,
     pub(crate) depth: usize,
     pub(crate) start: usize,
@@ -32,17 +32,17 @@ fn chunk_of(depth: usize, text: String) -> Chunk
     Chunk::Verbatim(Text::from_string(text))
 }
 
-// Finishes the chunk at a brace or math that stands from `end` to `behind`, and begins one with so many braces open.
-pub(crate) fn turn(
+// Finishes the chunk at a brace or math that stands from `end` to `following`, and begins one with so many braces open.
+pub(crate) fn finish_chunk(
     out: &mut Chunks,
-    growing: &mut Open,
+    growing: &mut OpenChunk,
     end: usize,
     depth: usize,
-    behind: usize,
+    following: usize,
 ) -> Result<(), AllocError>
     ensures atoms { OnOk result (styled out.new ≡ so_far out.old growing.old) }
     ensures begun { OnOk result ((string_bytes growing.new.text ≡ []) ×
-        (growing.new.depth ≡ depth) × (growing.new.start ≡ behind)) }
+        (growing.new.depth ≡ depth) × (growing.new.start ≡ following)) }
     ensures joined { OnOk result (AreJoined out.old → AreJoined out.new) }
     ensures placed { OnOk result ((low : ℕ) → ArePlaced low growing.old.start out.old →
         growing.old.start ≤ end → ArePlaced low end out.new) }
@@ -55,24 +55,24 @@ pub(crate) fn turn(
         Spanned::new(chunk_of(growing.depth, text), growing.start..end),
     )?;
     growing.depth = depth;
-    growing.start = behind;
+    growing.start = following;
     growing.is_first = false;
     Ok(())
 }
 
 // Finishes the chunk before math, and adds the math, which stands at `span`.
-pub(crate) fn turn_at_math(
+pub(crate) fn finish_before_math(
     out: &mut Chunks,
-    growing: &mut Open,
+    growing: &mut OpenChunk,
     text: &str,
     end: usize,
     span: Span,
-    behind: usize,
+    following: usize,
 ) -> Result<(), AllocError>
     ensures atoms { OnOk result (styled out.new ≡
         so_far out.old growing.old ++ Atom.math (chars text.now) ∷ []) }
     ensures begun { OnOk result ((string_bytes growing.new.text ≡ []) ×
-        (growing.new.depth ≡ growing.old.depth) × (growing.new.start ≡ behind)) }
+        (growing.new.depth ≡ growing.old.depth) × (growing.new.start ≡ following)) }
     ensures joined { OnOk result (AreJoined out.old → AreJoined out.new) }
     ensures placed { OnOk result ((low : ℕ) → ArePlaced low growing.old.start out.old →
         growing.old.start ≤ end → end ≤ span.start → span.start ≤ span.end →
@@ -80,14 +80,14 @@ pub(crate) fn turn_at_math(
 {
     let alloc = *growing.text.allocator();
     let depth = growing.depth;
-    turn(out, growing, end, depth, behind)?;
+    finish_chunk(out, growing, end, depth, following)?;
     let math = Chunk::Math(Text::from_str(alloc, text)?);
     append(out, Spanned::new(math, span))?;
     Ok(())
 }
 
 // Finishes the last chunk at the end of a piece. An empty one is left out, unless it is alone.
-pub(crate) fn finish(out: &mut Chunks, mut growing: Open, end: usize) -> Result<(), AllocError>
+pub(crate) fn finish(out: &mut Chunks, mut growing: OpenChunk, end: usize) -> Result<(), AllocError>
     ensures atoms { OnOk result (styled out.new ≡ so_far out.old growing) }
     ensures joined { OnOk result (AreJoined out.old → AreJoined out.new) }
     ensures placed { OnOk result ((low : ℕ) → ArePlaced low growing.start out.old →
@@ -96,6 +96,6 @@ pub(crate) fn finish(out: &mut Chunks, mut growing: Open, end: usize) -> Result<
     if growing.text.as_str().is_empty() && !growing.is_first {
         return Ok(());
     }
-    turn(out, &mut growing, end, 0, end)?;
+    finish_chunk(out, &mut growing, end, 0, end)?;
     Ok(())
 }

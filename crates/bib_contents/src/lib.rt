@@ -22,7 +22,7 @@ pub mod classes;
 mod commands;
 pub mod contents;
 mod ends;
-mod faults;
+mod errors;
 mod growing;
 pub mod laws;
 mod units;

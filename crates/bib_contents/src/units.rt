@@ -3,10 +3,10 @@
 ghost use Rattle.std.specs.Prelude.{◌≡◌, ℕ, ◌==◌, Bool, true, false, not, List, [], ◌∷◌, ◌++◌, replicate, IfSome, MatchOption, MatchBool};
 ghost use Rattle.std.specs.List.{list_any};
 ghost use Rattle.std.specs.Str.{chars};
-ghost use Rattle.bib_contents.specs.Arguments.{AreKnown, Encloses, IsFoundIn, StandsIn};
+ghost use Rattle.bib_contents.specs.Arguments.{AreKnown, Encloses, IsFoundIn, IsArgumentBetween};
 ghost use Rattle.bib_contents.specs.Contents as contents;
 ghost use Rattle.bib_contents.specs.Contents.{ContentUnit, IsNext, begins, balances, is_argument, argument_spelling};
-ghost use Rattle.bib_contents.specs.Passing.{left, Passes};
+ghost use Rattle.bib_contents.specs.Progress.{left, Passes};
 ghost use Rattle.bib_contents.specs.UnitViews.{found_of, unit_of};
 
 use crate::characters::Characters;
@@ -59,7 +59,7 @@ fn hyphens(s: &mut Characters<'_>) -> usize
     s.eat_while(|c| c == '-').len()
 }
 
-// A math text, behind its dollar sign.
+// A math text, after its dollar sign.
 fn formula<'s>(s: &mut Characters<'s>) -> Option<Unit<'s>>
     ensures same { s.new.text ≡ s.old.text }
     ensures found { MatchOption result
@@ -73,7 +73,7 @@ fn formula<'s>(s: &mut Characters<'s>) -> Option<Unit<'s>>
     Some(Unit::Formula(text))
 }
 
-// An argument, behind its opening brace: its end is looked for.
+// An argument, after its opening brace: its end is looked for.
 fn search<'s>(s: &mut Characters<'s>) -> Option<Characters<'s>>
     ensures same { s.new.text ≡ s.old.text }
     ensures found { MatchOption result
@@ -98,7 +98,7 @@ fn search<'s>(s: &mut Characters<'s>) -> Option<Characters<'s>>
     }
 }
 
-// An argument, behind its opening brace. Its end is looked for where it isn't known.
+// An argument, after its opening brace. Its end is looked for where it isn't known.
 fn braced<'s>(s: &mut Characters<'s>, ends: &Ends) -> Option<Characters<'s>>
     requires known { AreKnown ends.now s.old.text }
     ensures same { s.new.text ≡ s.old.text }
@@ -119,7 +119,7 @@ fn braced<'s>(s: &mut Characters<'s>, ends: &Ends) -> Option<Characters<'s>>
     Some(inside)
 }
 
-// The argument of a command, behind its name and the white space there.
+// The argument of a command, after its name and the white space there.
 fn eat_argument<'s>(
     s: &mut Characters<'s>,
     takes_next: bool,
@@ -188,7 +188,7 @@ fn takes_next(name: &str, is_spaced: bool) -> bool
     is_mark(first) || (is_accent_letter(first) && is_spaced)
 }
 
-// A command, behind its backslash, where a character stands that can begin its name.
+// A command, after its backslash, where a character stands that can begin its name.
 fn command<'s>(s: &mut Characters<'s>, first: char, ends: &Ends) -> Option<Unit<'s>>
     requires stands { (rest : List ℕ) × (left s.old ≡ first ∷ rest) }
     requires begins { (contents.is_escaped false first ≡ false) ×
@@ -199,7 +199,7 @@ fn command<'s>(s: &mut Characters<'s>, first: char, ends: &Ends) -> Option<Unit<
         ((u : ContentUnit) (rest : List ℕ) → IsNext false u (92 ∷ left s.old) rest → ⊥)
         (λ u. IsNext false (unit_of u) (92 ∷ left s.old) (left s.new)) }
     ensures inside { IfSome result
-        (λ u. StandsIn s.old.text s.old.at u s.new.at) }
+        (λ u. IsArgumentBetween s.old.text s.old.at u s.new.at) }
 {
     let name = eat_name(s, first);
     let space = s.eat_while(is_space);
@@ -214,7 +214,7 @@ fn command<'s>(s: &mut Characters<'s>, first: char, ends: &Ends) -> Option<Unit<
     }
 }
 
-// What a backslash begins, behind it.
+// What a backslash begins, after it.
 fn escape<'s>(s: &mut Characters<'s>, is_verbatim: bool, ends: &Ends) -> Option<Unit<'s>>
     requires known { AreKnown ends.now s.old.text }
     ensures same { s.new.text ≡ s.old.text }
@@ -222,7 +222,7 @@ fn escape<'s>(s: &mut Characters<'s>, is_verbatim: bool, ends: &Ends) -> Option<
         ((u : ContentUnit) (rest : List ℕ) → IsNext is_verbatim u (92 ∷ left s.old) rest → ⊥)
         (λ u. IsNext is_verbatim (unit_of u) (92 ∷ left s.old) (left s.new)) }
     ensures inside { IfSome result
-        (λ u. StandsIn s.old.text s.old.at u s.new.at) }
+        (λ u. IsArgumentBetween s.old.text s.old.at u s.new.at) }
 {
     let Some(c) = s.peek() else {
         if is_verbatim {
@@ -255,7 +255,7 @@ pub(crate) fn eat_unit<'s>(
         ((u : ContentUnit) (rest : List ℕ) → IsNext is_verbatim u (left s.old) rest → ⊥)
         (λ u. IsNext is_verbatim (unit_of u) (left s.old) (left s.new)) }
     ensures inside { IfSome result
-        (λ u. StandsIn s.old.text s.old.at u s.new.at) }
+        (λ u. IsArgumentBetween s.old.text s.old.at u s.new.at) }
 {
     let Some(c) = s.peek() else {
         return None;

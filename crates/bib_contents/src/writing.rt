@@ -5,7 +5,7 @@ ghost use Rattle.std.specs.Str.{chars};
 ghost use Rattle.bib_chunks.specs.Formatted as formatted;
 ghost use Rattle.bib_chunks.specs.Writing.{Writes};
 ghost use Rattle.bib_contents.specs.Arguments.{laid, unit_written};
-ghost use Rattle.bib_contents.specs.Commands.{given};
+ghost use Rattle.bib_contents.specs.Commands.{command_text};
 ghost use Rattle.bib_contents.specs.Contents.{dashes};
 ghost use Rattle.bib_contents.specs.UnitViews.{text_unit_of};
 
@@ -32,7 +32,7 @@ fn write_dashes(text: &mut String, count: usize) -> Result<(), AllocError>
 
 // Writes what a command with this character as its argument stands for.
 fn write_single(text: &mut String, name: &str, c: char) -> Result<(), AllocError>
-    ensures { OnOk result (Writes text.old text.new (given (chars name.now) (Some (c ∷ [])))) }
+    ensures { OnOk result (Writes text.old text.new (command_text (chars name.now) (Some (c ∷ [])))) }
 {
     let mut room = [0u8; 4];
     write_command(text, name, c.encode_utf8(&mut room))
@@ -45,7 +45,7 @@ fn is_break(c: char) -> bool
     matches!(c, '\n' | '\r')
 }
 
-// What a character behind a backslash is written as: on one line a break is a space.
+// What a character after a backslash is written as: on one line a break is a space.
 fn copied(c: char, is_flat: bool) -> char
     ensures { result ≡ (if is_flat then (if formatted.is_break c then 32 else c) else c) }
 {

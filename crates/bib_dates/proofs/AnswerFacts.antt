@@ -4,63 +4,63 @@ use Rattle.std.specs.Borrow.{Bor}
 use Rattle.std.specs.Prelude.{ℤ}
 use Rattle.bib_enums.specs.declared.type_error.TypeError.{TypeError}
 use Rattle.bib_enums.specs.ReadAs.{IsRefusal}
-use Rattle.bib_dates.specs.declared.faults.Fault.{Fault}
-use Rattle.bib_dates.specs.declared.faults.Fault.TheVariants.{Told, Untold}
-use Rattle.bib_dates.specs.Readings.{Reading, ◌>>=◌, value_of, MayRefuse}
-use Rattle.bib_dates.specs.Readings.Reading.{says, fault, unread}
-use Rattle.bib_dates.specs.Code.{reading, part}
+use Rattle.bib_dates.specs.declared.errors.ReadError.{ReadError}
+use Rattle.bib_dates.specs.declared.errors.ReadError.TheVariants.{Specified, Unspecified}
+use Rattle.bib_dates.specs.Readings.{Reading, ◌>>=◌, readable_value, MayRefuse}
+use Rattle.bib_dates.specs.Readings.Reading.{says, error, unread}
+use Rattle.bib_dates.specs.Code.{reading, parsed}
 use Rattle.bib_dates.specs.ThreeFields.{month_field, day_of, month_with_day, year_field, month_and_day, on_day, three_fields_of}
 
 -- a reading is refused so
 abbrev pub Refused : {A : Type 0} → Reading A → TypeError → Type 0
-Refused r e = IsRefusal (value_of r) (MayRefuse r) e
+Refused r e = IsRefusal (readable_value r) (MayRefuse r) e
 
-said : {A : Type 0} (r : Reading A) (a : A) → value_of r ≡ Some a → r ≡ says a
+said : {A : Type 0} (r : Reading A) (a : A) → readable_value r ≡ Some a → r ≡ says a
 said (says b) a e = let x : b ≡ a = cc in ap (λ y. says y) x
-said (fault kind) a e = cc
+said (error kind) a e = cc
 said unread a e = cc
 
 passed : {A B : Type 0} (r : Reading A) (next : A → Reading B) (e : TypeError) → Refused r e → Refused (r >>= next) e
 passed (says a) next e (inl h) = inl h
 passed (says a) next e (inr (other, none, never)) = absurd never
-passed (fault kind) next e (inl h) = inl h
-passed (fault kind) next e (inr (other, none, is)) = inr (other, refl, is)
+passed (error kind) next e (inl h) = inl h
+passed (error kind) next e (inr (other, none, is)) = inr (other, refl, is)
 passed unread next e (inl h) = inl h
 passed unread next e (inr (other, none, is)) = inr (other, refl, is)
 
-part_refused : {A : Type 0} (r : Result (A × Bor (List ℕ)) Fault) (e : TypeError) → Refused (reading r) e → Refused (part r) e
+part_refused : {A : Type 0} (r : Result (A × Bor (List ℕ)) ReadError) (e : TypeError) → Refused (reading r) e → Refused (parsed r) e
 part_refused (Ok p) e (inl h) = inl h
 part_refused (Ok p) e (inr (other, none, never)) = absurd never
-part_refused (Err (Told why)) e (inl h) = inl h
-part_refused (Err (Told why)) e (inr (other, none, is)) = inr (other, refl, is)
-part_refused (Err (Untold why)) e (inl h) = inl h
-part_refused (Err (Untold why)) e (inr (other, none, is)) = inr (other, refl, is)
+part_refused (Err (Specified reason)) e (inl h) = inl h
+part_refused (Err (Specified reason)) e (inr (other, none, is)) = inr (other, refl, is)
+part_refused (Err (Unspecified reason)) e (inl h) = inl h
+part_refused (Err (Unspecified reason)) e (inr (other, none, is)) = inr (other, refl, is)
 
-part_said : {A : Type 0} (r : Result (A × Bor (List ℕ)) Fault) (p : A × Bor (List ℕ)) → value_of (reading r) ≡ Some p → part r ≡ says (p.0, p.1.now)
+part_said : {A : Type 0} (r : Result (A × Bor (List ℕ)) ReadError) (p : A × Bor (List ℕ)) → readable_value (reading r) ≡ Some p → parsed r ≡ says (p.0, p.1.now)
 part_said (Ok q) p e = let x : q ≡ p = cc in ap (λ y. says (y.0, y.1.now)) x
-part_said (Err (Told why)) p e = cc
-part_said (Err (Untold why)) p e = cc
+part_said (Err (Specified reason)) p e = cc
+part_said (Err (Unspecified reason)) p e = cc
 
--- ---- a month, and the day behind it or in a field of its own
+-- ---- a month, and the day after it or in a field of its own
 
-pub month_refused : (text : List ℕ) (day : Option (List ℕ)) (r : Result (Option ℕ × Bor (List ℕ)) Fault) (e : TypeError)
-    → part r ≡ month_field text → Refused (reading r) e → Refused (month_with_day text day) e
+pub month_refused : (text : List ℕ) (day : Option (List ℕ)) (r : Result (Option ℕ × Bor (List ℕ)) ReadError) (e : TypeError)
+    → parsed r ≡ month_field text → Refused (reading r) e → Refused (month_with_day text day) e
 unfolding month_with_day
 month_refused text day r e is h = passed (month_field text) _ e (subst (λ x. Refused x e) is (part_refused r e h))
 
-month_said : (text : List ℕ) (day : Option (List ℕ)) (r : Result (Option ℕ × Bor (List ℕ)) Fault) (p : Option ℕ × Bor (List ℕ))
-    → part r ≡ month_field text → value_of (reading r) ≡ Some p
+month_said : (text : List ℕ) (day : Option (List ℕ)) (r : Result (Option ℕ × Bor (List ℕ)) ReadError) (p : Option ℕ × Bor (List ℕ))
+    → parsed r ≡ month_field text → readable_value (reading r) ≡ Some p
     → month_with_day text day ≡ (day_of day p.1.now >>= (λ at. says (p.0, at)))
 unfolding month_with_day
 month_said text day r p is found = rw (sym is ∙ part_said r p found) refl
 
-pub day_refused : (text : List ℕ) (day : Option (List ℕ)) (r : Result (Option ℕ × Bor (List ℕ)) Fault) (p : Option ℕ × Bor (List ℕ)) (read : Reading (Option ℕ)) (e : TypeError)
-    → part r ≡ month_field text → value_of (reading r) ≡ Some p → read ≡ day_of day p.1.now → Refused read e → Refused (month_with_day text day) e
+pub day_refused : (text : List ℕ) (day : Option (List ℕ)) (r : Result (Option ℕ × Bor (List ℕ)) ReadError) (p : Option ℕ × Bor (List ℕ)) (read : Reading (Option ℕ)) (e : TypeError)
+    → parsed r ≡ month_field text → readable_value (reading r) ≡ Some p → read ≡ day_of day p.1.now → Refused read e → Refused (month_with_day text day) e
 day_refused text day r p read e is found same h =
     subst (λ x. Refused x e) (sym (month_said text day r p is found)) (passed (day_of day p.1.now) (λ at. says (p.0, at)) e (subst (λ x. Refused x e) same h))
 
-pub month_and_day_read : (text : List ℕ) (day : Option (List ℕ)) (r : Result (Option ℕ × Bor (List ℕ)) Fault) (p : Option ℕ × Bor (List ℕ)) (read : Reading (Option ℕ)) (d : Option ℕ)
-    → part r ≡ month_field text → value_of (reading r) ≡ Some p → read ≡ day_of day p.1.now → value_of read ≡ Some d → value_of (month_with_day text day) ≡ Some (p.0, d)
+pub month_and_day_read : (text : List ℕ) (day : Option (List ℕ)) (r : Result (Option ℕ × Bor (List ℕ)) ReadError) (p : Option ℕ × Bor (List ℕ)) (read : Reading (Option ℕ)) (d : Option ℕ)
+    → parsed r ≡ month_field text → readable_value (reading r) ≡ Some p → read ≡ day_of day p.1.now → readable_value read ≡ Some d → readable_value (month_with_day text day) ≡ Some (p.0, d)
 month_and_day_read text day r p read d is found same h =
     let one : day_of day p.1.now ≡ says d = sym same ∙ said read d h in
     rw (month_said text day r p is found, one) refl
@@ -71,18 +71,18 @@ pub year_refused : (year : List ℕ) (month day : Option (List ℕ)) (e : TypeEr
 unfolding three_fields_of
 year_refused year month day e h = passed (year_field year) _ e h
 
-year_said : (year : List ℕ) (month day : Option (List ℕ)) (y : ℤ) → value_of (year_field year) ≡ Some y
+year_said : (year : List ℕ) (month day : Option (List ℕ)) (y : ℤ) → readable_value (year_field year) ≡ Some y
     → three_fields_of year month day ≡ (month_and_day month day >>= (λ parts. says (on_day y parts.0 parts.1)))
 unfolding three_fields_of
 year_said year month day y h = rw (said (year_field year) y h) refl
 
-pub parts_refused : (year : List ℕ) (month day : Option (List ℕ)) (y : ℤ) (e : TypeError) → value_of (year_field year) ≡ Some y
+pub parts_refused : (year : List ℕ) (month day : Option (List ℕ)) (y : ℤ) (e : TypeError) → readable_value (year_field year) ≡ Some y
     → Refused (month_and_day month day) e → Refused (three_fields_of year month day) e
 parts_refused year month day y e found h =
     subst (λ x. Refused x e) (sym (year_said year month day y found)) (passed (month_and_day month day) (λ parts. says (on_day y parts.0 parts.1)) e h)
 
-pub all_read : (year : List ℕ) (month day : Option (List ℕ)) (y : ℤ) (m d : Option ℕ) → value_of (year_field year) ≡ Some y
-    → value_of (month_and_day month day) ≡ Some (m, d) → value_of (three_fields_of year month day) ≡ Some (on_day y m d)
+pub all_read : (year : List ℕ) (month day : Option (List ℕ)) (y : ℤ) (m d : Option ℕ) → readable_value (year_field year) ≡ Some y
+    → readable_value (month_and_day month day) ≡ Some (m, d) → readable_value (three_fields_of year month day) ≡ Some (on_day y m d)
 all_read year month day y m d found h =
     let one : month_and_day month day ≡ says (m, d) = said (month_and_day month day) (m, d) h in
     rw (year_said year month day y found, one) refl

@@ -13,14 +13,14 @@ use Rattle.bib_dates.specs.declared.date.Date.{Date}
 use Rattle.bib_dates.specs.declared.date.DateValue.{DateValue}
 use Rattle.bib_dates.specs.declared.date.DateValue.TheVariants.{At, After, Before, Between}
 use Rattle.bib_dates.specs.declared.date.Datetime.{Datetime}
-use Rattle.bib_dates.specs.Kept.{IsKeptDay, IsKeptDatetime, IsKeptValue, IsKept}
+use Rattle.bib_dates.specs.Kept.{IsKeptDay, IsKeptDatetime, IsKeptValue, IsKeptDate}
 use Rattle.bib_dates.specs.Parts.{lies}
-use Rattle.bib_dates.specs.Dates.{datetime, side, is_open, range, holds, date_value, last, is_uncertain, is_approximate, marked, date_of}
+use Rattle.bib_dates.specs.Dates.{datetime, side, is_open, range, holds, date_value, last, is_uncertain, is_approximate, marked_date, date_of}
 use Rattle.bib_dates.specs.Written.{padded, year_text, month_day_text, datetime_text, value_text, mark_text, date_text}
 use Rattle.bib_chunks.specs.Values.{text}
 use Rattle.bib_chunks.proofs.ValueFacts.{is_simple, simple_text}
 use Rattle.bib_dates.specs.Chunks.{date_read, date_written}
-use Rattle.bib_dates.specs.Readings.{value_of}
+use Rattle.bib_dates.specs.Readings.{readable_value}
 use Rattle.bib_dates.specs.Readings.Reading.{says}
 use Rattle.bib_dates.proofs.PlainTexts.{is_plain, plain, trim_start-plain, trim_end-plain, capitals-plain}
 use Rattle.bib_dates.proofs.PartsReread.{side_reads, not_negative, IsNumber, four_digits, two_digits, month_short}
@@ -114,12 +114,12 @@ closed d text is =
 points_open : is_open (codes "..") ≡ true
 points_open = rw (trim_start-plain (codes "..") refl, trim_end-plain (codes "..") refl) refl
 
-front_run : (p : ℕ → Bool) (xs rest : List ℕ) → list_all p xs ≡ true → prefix_len p (xs ++ rest) ≡ length xs + prefix_len p rest
-front_run p [] rest h = omega arith
-front_run p (x ∷ xs) rest h = let q = and_parts (p x) (list_all p xs) h in rw (q.0, front_run p xs rest q.1) (omega arith)
+prefix_run : (p : ℕ → Bool) (xs rest : List ℕ) → list_all p xs ≡ true → prefix_len p (xs ++ rest) ≡ length xs + prefix_len p rest
+prefix_run p [] rest h = omega arith
+prefix_run p (x ∷ xs) rest h = let q = and_parts (p x) (list_all p xs) h in rw (q.0, prefix_run p xs rest q.1) (omega arith)
 
 slash_at : (xs rest : List ℕ) → list_all is_date_byte xs ≡ true → position_or_len (λ b. b == 47) (xs ++ (47 ∷ rest)) ≡ length xs
-slash_at xs rest h = front_run (λ b. not (b == 47)) xs (47 ∷ rest) (all_more is_date_byte (λ b. not (b == 47)) passes_slash xs h) ∙ omega arith
+slash_at xs rest h = prefix_run (λ b. not (b == 47)) xs (47 ∷ rest) (all_more is_date_byte (λ b. not (b == 47)) passes_slash xs h) ∙ omega arith
 
 before_slash : (xs rest : List ℕ) → list_all is_date_byte xs ≡ true → before_first (λ b. b == 47) (xs ++ (47 ∷ rest)) ≡ xs
 before_slash xs rest h = take_at xs (47 ∷ rest) (position_or_len (λ b. b == 47) (xs ++ (47 ∷ rest))) (sym (slash_at xs rest h))
@@ -209,17 +209,17 @@ is_value (Between a b) k =
       read = between_reads a b (datetime_text a) (datetime_text b) is too;
     })
 
-mark_behind : (v : DateValue) (mark : List ℕ) → value_text v mark ≡ value_text v [] ++ mark
-mark_behind (At d) mark = rw append-nil refl
-mark_behind (After d) mark = sym (append_assoc (datetime_text d) (codes "/..") mark)
-mark_behind (Before d) mark = ap (λ text. codes "../" ++ (text ++ mark)) (sym (append-nil (datetime_text d)))
-mark_behind (Between a b) mark = rw append-nil (sym (append_assoc (datetime_text a) (47 ∷ datetime_text b) mark))
+mark_after : (v : DateValue) (mark : List ℕ) → value_text v mark ≡ value_text v [] ++ mark
+mark_after (At d) mark = rw append-nil refl
+mark_after (After d) mark = sym (append_assoc (datetime_text d) (codes "/..") mark)
+mark_after (Before d) mark = ap (λ text. codes "../" ++ (text ++ mark)) (sym (append-nil (datetime_text d)))
+mark_after (Between a b) mark = rw append-nil (sym (append_assoc (datetime_text a) (47 ∷ datetime_text b) mark))
 
 last_is : (text : List ℕ) (c : ℕ) → last (text ++ (c ∷ [])) ≡ c
 last_is text c = get_or_at text c [] 0 (length (text ++ (c ∷ [])) - 1) (omega (arith, length-append text (c ∷ [])))
 
-front_is : (text : List ℕ) (c : ℕ) → take (length (text ++ (c ∷ [])) - 1) (text ++ (c ∷ [])) ≡ text
-front_is text c = take_at text (c ∷ []) (length (text ++ (c ∷ [])) - 1) (omega (arith, length-append text (c ∷ [])))
+prefix_is : (text : List ℕ) (c : ℕ) → take (length (text ++ (c ∷ [])) - 1) (text ++ (c ∷ [])) ≡ text
+prefix_is text c = take_at text (c ∷ []) (length (text ++ (c ∷ [])) - 1) (omega (arith, length-append text (c ∷ [])))
 
 any_byte : (p : ℕ → Bool) → p 0 ≡ true → (text : List ℕ) → list_all p text ≡ true → (i : ℕ) → p (get_or text i 0) ≡ true
 any_byte p zeroth [] h i = zeroth
@@ -240,15 +240,15 @@ last_bare text h =
 abbrev date : DateValue → Bool → Bool → Date
 date v u a = record { value = v; uncertain = u; approximate = a }
 
-marked_bare : (v : DateValue) (text : List ℕ) → IsValue v text → marked text ≡ says (date v false false)
-unfolding marked
+marked_bare : (v : DateValue) (text : List ℕ) → IsValue v text → marked_date text ≡ says (date v false false)
+unfolding marked_date
 marked_bare v text is = let bare = last_bare text is.bytes in rw (bare.0, bare.1, is.read) refl
 
-marked_by : (v : DateValue) (text : List ℕ) (c : ℕ) → IsValue v text → (is_uncertain c || is_approximate c) ≡ true → marked (text ++ (c ∷ [])) ≡ says (date v (is_uncertain c) (is_approximate c))
-unfolding marked
-marked_by v text c is h = rw (last_is text c, h, front_is text c, is.read) refl
+marked_by : (v : DateValue) (text : List ℕ) (c : ℕ) → IsValue v text → (is_uncertain c || is_approximate c) ≡ true → marked_date (text ++ (c ∷ [])) ≡ says (date v (is_uncertain c) (is_approximate c))
+unfolding marked_date
+marked_by v text c is h = rw (last_is text c, h, prefix_is text c, is.read) refl
 
-marked_reads : (v : DateValue) (text : List ℕ) (u a : Bool) → IsValue v text → marked (text ++ mark_text u a) ≡ says (date v u a)
+marked_reads : (v : DateValue) (text : List ℕ) (u a : Bool) → IsValue v text → marked_date (text ++ mark_text u a) ≡ says (date v u a)
 marked_reads v text true true is = marked_by v text 37 is refl
 marked_reads v text true false is = marked_by v text 63 is refl
 marked_reads v text false true is = marked_by v text 126 is refl
@@ -263,25 +263,25 @@ mark_plain true false = refl
 mark_plain false true = refl
 mark_plain false false = refl
 
-written_is_plain : (d : Date) → IsKept d → plain (date_text d) ≡ true
+written_is_plain : (d : Date) → IsKeptDate d → plain (date_text d) ≡ true
 written_is_plain d kept =
     let is = is_value d.value kept in
     let mark = mark_text d.uncertain d.approximate in
-    rw (mark_behind d.value mark)
+    rw (mark_after d.value mark)
     (both is_plain (value_text d.value []) mark (all_more is_value_byte is_plain value_plain (value_text d.value []) is.bytes) (mark_plain d.uncertain d.approximate))
 
 -- the law on texts: each kept date is read back from what is written of it
-pub text_survives : (d : Date) → IsKept d → date_of (date_text d) ≡ says d
+pub text_survives : (d : Date) → IsKeptDate d → date_of (date_text d) ≡ says d
 text_survives d kept =
     let bytes = written_is_plain d kept in
-    rw (capitals-plain (date_text d) bytes, trim_end-plain (date_text d) bytes, mark_behind d.value (mark_text d.uncertain d.approximate))
+    rw (capitals-plain (date_text d) bytes, trim_end-plain (date_text d) bytes, mark_after d.value (mark_text d.uncertain d.approximate))
     (marked_reads d.value (value_text d.value []) d.uncertain d.approximate (is_value d.value kept))
 
 plain_simple : (b : ℕ) → is_plain b ≡ true → is_simple b ≡ true
 plain_simple b h = grind (arith, nat_tests)
 
 -- the law on chunks
-pub date_survives : (d : Date) → IsKept d → date_read (date_written d) ≡ Some d
+pub date_survives : (d : Date) → IsKeptDate d → date_read (date_written d) ≡ Some d
 date_survives d kept =
     let whole : text (date_written d) ≡ date_text d = simple_text (date_text d) (all_more is_plain is_simple plain_simple (date_text d) (written_is_plain d kept)) in
-    ap value_of (ap date_of whole ∙ text_survives d kept)
+    ap readable_value (ap date_of whole ∙ text_survives d kept)

@@ -5,27 +5,27 @@ use Rattle.std.specs.Str.{trim_start, trim_end, str_to_ascii_uppercase}
 use Rattle.bib_enums.specs.declared.type_error.TypeErrorKind.{TypeErrorKind}
 use Rattle.bib_enums.specs.declared.type_error.TypeErrorKind.TheVariants.{DayOutOfRange, MonthOutOfRange, InvalidNumber, InvalidFormat, YearZeroCE}
 use Rattle.bib_dates.specs.Readings.{Reading, ◌>>=◌, IsDateKind, MayRefuse}
-use Rattle.bib_dates.specs.Readings.Reading.{says, fault, unread}
-use Rattle.bib_dates.specs.Parts.{begins, number, small_number, behind_byte, behind_hyphens, year}
-use Rattle.bib_dates.specs.Times.{offset_minute, signed_offset, offset, behind_minute, behind_hour, behind_day}
-use Rattle.bib_dates.specs.Dates.{behind_month, behind_year, side, all_months, all_days, unknown_month, century, decade, unknown, range, date_value, without_mark, marked, date_of}
-use Rattle.bib_dates.specs.ThreeFields.{starts_word, stands, of_era, with_era, year_field, month_field, told_day, untold_day, day_behind, only_day, day_field, day_of, month_with_day, month_and_day, three_fields_of}
+use Rattle.bib_dates.specs.Readings.Reading.{says, error, unread}
+use Rattle.bib_dates.specs.Parts.{begins_with, number, small_number, after_byte, after_hyphens, year}
+use Rattle.bib_dates.specs.Times.{offset_minute, signed_offset, offset, after_minute, after_hour, after_day}
+use Rattle.bib_dates.specs.Dates.{after_month, after_year, side, all_months, all_days, unknown_month, century, decade, unknown, range, date_value, without_mark, marked_date, date_of}
+use Rattle.bib_dates.specs.ThreeFields.{starts_word, stands, of_era, with_era, year_field, month_field, reported_day, unreported_day, day_after, only_day, day_field, day_of, month_with_day, month_and_day, three_fields_of}
 
 -- an error's kind is one that dates have
 pub has_date_kind : {A : Type 0} (r : Reading A) (kind : TypeErrorKind) → MayRefuse r kind → IsDateKind kind
 has_date_kind (says a) kind never = absurd never
-has_date_kind (fault promised) kind may = may.1
+has_date_kind (error promised) kind may = may.1
 has_date_kind unread kind may = may
 
 -- a promised kind is one that dates have
 data Fine {A : Type 0} : Reading A → Type 0 where
   said : {a : A} → Fine (says a)
-  told : {kind : TypeErrorKind} → IsDateKind kind → Fine (fault kind)
+  reported : {kind : TypeErrorKind} → IsDateKind kind → Fine (error kind)
   not_read : Fine unread
 
 fine_then : {A B : Type 0} {r : Reading A} {next : A → Reading B} → Fine r → ((a : A) → Fine (next a)) → Fine (r >>= next)
 fine_then (Fine.said {a = a}) more = more a
-fine_then (Fine.told is) more = Fine.told is
+fine_then (Fine.reported is) more = Fine.reported is
 fine_then Fine.not_read more = Fine.not_read
 
 fine_if : {A : Type 0} (b : Bool) {r s : Reading A} → Fine r → Fine s → Fine (cond b r s)
@@ -34,11 +34,11 @@ fine_if false one other = other
 
 -- ---- parts
 
-fine_byte : (byte : ℕ) (text : List ℕ) → Fine (behind_byte byte text)
+fine_byte : (byte : ℕ) (text : List ℕ) → Fine (after_byte byte text)
 fine_byte byte text = fine_if _ Fine.said Fine.not_read
 
-fine_hyphens : (text : List ℕ) → Fine (behind_hyphens text)
-unfolding behind_hyphens
+fine_hyphens : (text : List ℕ) → Fine (after_hyphens text)
+unfolding after_hyphens
 fine_hyphens text = fine_then (fine_byte 45 (trim_start text)) (λ _. Fine.said)
 
 fine_number : (low high : ℕ) (text : List ℕ) → Fine (number low high text)
@@ -47,7 +47,7 @@ fine_number low high text = search (fine_if, Fine.said, Fine.not_read)
 
 fine_small : (low high : ℕ) (kind : TypeErrorKind) (text : List ℕ) → IsDateKind kind → Fine (small_number low high kind text)
 unfolding small_number
-fine_small low high kind text is = fine_then (fine_number 1 2 text) (λ n. fine_if _ Fine.said (Fine.told is))
+fine_small low high kind text is = fine_then (fine_number 1 2 text) (λ n. fine_if _ Fine.said (Fine.reported is))
 
 fine_year : (text : List ℕ) → Fine (year text)
 unfolding year
@@ -68,40 +68,40 @@ fine_offset : (text : List ℕ) → Fine (offset text)
 unfolding offset
 fine_offset text =
     fine_if (length text == 0) Fine.said
-    (fine_if (begins 90 text) Fine.said
-    (fine_if (begins 43 text) (fine_signed true (drop 1 text)) (fine_if (begins 45 text) (fine_signed false (drop 1 text)) Fine.not_read)))
+    (fine_if (begins_with 90 text) Fine.said
+    (fine_if (begins_with 43 text) (fine_signed true (drop 1 text)) (fine_if (begins_with 45 text) (fine_signed false (drop 1 text)) Fine.not_read)))
 
-fine_seconds : (hour minute : ℕ) (text : List ℕ) → Fine (behind_minute hour minute text)
-unfolding behind_minute
+fine_seconds : (hour minute : ℕ) (text : List ℕ) → Fine (after_minute hour minute text)
+unfolding after_minute
 fine_seconds hour minute [] = Fine.said
 fine_seconds hour minute (b ∷ text) =
     fine_then (fine_byte 58 (trim_start (b ∷ text)))
     (λ rest. fine_then (fine_small 0 59 InvalidNumber rest tt) (λ second. fine_then (fine_offset (trim_start second.1)) (λ _. Fine.said)))
 
-fine_hours : (hour : ℕ) (text : List ℕ) → Fine (behind_hour hour text)
-unfolding behind_hour
+fine_hours : (hour : ℕ) (text : List ℕ) → Fine (after_hour hour text)
+unfolding after_hour
 fine_hours hour [] = Fine.said
 fine_hours hour (b ∷ text) =
     fine_then (fine_byte 58 (trim_start (b ∷ text)))
     (λ rest. fine_then (fine_small 0 59 InvalidNumber rest tt) (λ minute. fine_seconds hour minute.0 (trim_start minute.1)))
 
-fine_time : (text : List ℕ) → Fine (behind_day text)
-unfolding behind_day
+fine_time : (text : List ℕ) → Fine (after_day text)
+unfolding after_day
 fine_time [] = Fine.said
 fine_time (b ∷ text) =
     fine_then (fine_byte 84 (b ∷ text)) (λ rest. fine_then (fine_small 0 23 InvalidNumber rest tt) (λ hour. fine_hours hour.0 (trim_start hour.1)))
 
 -- ---- a date in one text
 
-fine_day : (y : ℤ) (m : ℕ) (text : List ℕ) → Fine (behind_month y m text)
-unfolding behind_month
+fine_day : (y : ℤ) (m : ℕ) (text : List ℕ) → Fine (after_month y m text)
+unfolding after_month
 fine_day y m [] = Fine.said
 fine_day y m (b ∷ text) =
     fine_then (fine_hyphens (b ∷ text))
     (λ rest. fine_then (fine_small 1 _ DayOutOfRange rest tt) (λ day. fine_then (fine_time (trim_start day.1)) (λ _. Fine.said)))
 
-fine_month : (y : ℤ) (text : List ℕ) → Fine (behind_year y text)
-unfolding behind_year
+fine_month : (y : ℤ) (text : List ℕ) → Fine (after_year y text)
+unfolding after_year
 fine_month y [] = Fine.said
 fine_month y (b ∷ text) =
     fine_then (fine_hyphens (b ∷ text)) (λ rest. fine_then (fine_small 1 12 MonthOutOfRange rest tt) (λ month. fine_day y month.0 (trim_start month.1)))
@@ -118,7 +118,7 @@ fine_all_days : (y : ℕ) (text : List ℕ) → Fine (all_days y text)
 unfolding all_days
 fine_all_days y text =
     fine_then (fine_number 2 2 text)
-    (λ month. fine_if _ (Fine.told tt) (fine_then (fine_hyphens month.1) (λ rest. fine_if _ Fine.said Fine.not_read)))
+    (λ month. fine_if _ (Fine.reported tt) (fine_then (fine_hyphens month.1) (λ rest. fine_if _ Fine.said Fine.not_read)))
 
 fine_unknown_month : (y : ℕ) (text : List ℕ) → Fine (unknown_month y text)
 unfolding unknown_month
@@ -135,30 +135,30 @@ fine_decade n text = fine_if _ Fine.said Fine.not_read
 fine_unknown : (text : List ℕ) → Fine (unknown text)
 unfolding unknown
 fine_unknown text =
-    fine_if _ (Fine.told tt)
+    fine_if _ (Fine.reported tt)
     (fine_if _ (fine_century _ _)
-    (fine_if _ (fine_decade _ _) (fine_if _ (fine_then (fine_hyphens _) (λ behind. fine_unknown_month _ (trim_start behind))) Fine.not_read)))
+    (fine_if _ (fine_decade _ _) (fine_if _ (fine_then (fine_hyphens _) (λ following. fine_unknown_month _ (trim_start following))) Fine.not_read)))
 
 fine_range : (from to : List ℕ) → Fine (range from to)
 unfolding range
 fine_range from to =
-    fine_if _ (fine_if _ (Fine.told tt) (fine_then (fine_side to) (λ _. Fine.said)))
+    fine_if _ (fine_if _ (Fine.reported tt) (fine_then (fine_side to) (λ _. Fine.said)))
     (fine_then (fine_side from) (λ _. fine_if _ Fine.said (fine_then (fine_side to) (λ _. Fine.said))))
 
 fine_value : (text : List ℕ) → Fine (date_value text)
 unfolding date_value
 fine_value text = fine_if _ (fine_unknown text) (fine_if _ (fine_range _ _) (fine_then (fine_side text) (λ _. Fine.said)))
 
-fine_marked : (text : List ℕ) → Fine (marked text)
-unfolding marked
+fine_marked : (text : List ℕ) → Fine (marked_date text)
+unfolding marked_date
 fine_marked text = fine_then (fine_value (without_mark text)) (λ _. Fine.said)
 
 -- ---- a date in three fields
 
-fine_era : (has_sign : Bool) (n : ℕ) (y : ℤ) (behind : List ℕ) → Fine (of_era has_sign n y behind)
+fine_era : (has_sign : Bool) (n : ℕ) (y : ℤ) (following : List ℕ) → Fine (of_era has_sign n y following)
 unfolding of_era
-fine_era has_sign n y behind =
-    fine_if (starts_word behind) Fine.not_read (fine_if has_sign (Fine.told {kind = InvalidFormat} tt) (fine_if (n == 0) (Fine.told {kind = YearZeroCE} tt) Fine.said))
+fine_era has_sign n y following =
+    fine_if (starts_word following) Fine.not_read (fine_if has_sign (Fine.reported {kind = InvalidFormat} tt) (fine_if (n == 0) (Fine.reported {kind = YearZeroCE} tt) Fine.said))
 
 fine_with_era : (has_sign is_minus : Bool) (n : ℕ) (text : List ℕ) → Fine (with_era has_sign is_minus n text)
 unfolding with_era
@@ -169,35 +169,35 @@ fine_with_era has_sign is_minus n text =
 
 fine_year_field : (text : List ℕ) → Fine (year_field text)
 unfolding year_field
-fine_year_field text = fine_if _ (Fine.told tt) (fine_if _ (fine_with_era _ _ _ _) Fine.not_read)
+fine_year_field text = fine_if _ (Fine.reported tt) (fine_if _ (fine_with_era _ _ _ _) Fine.not_read)
 
 fine_month_field : (text : List ℕ) → Fine (month_field text)
 unfolding month_field
-fine_month_field text = fine_if _ (fine_if _ Fine.said (Fine.told tt)) Fine.said
+fine_month_field text = fine_if _ (fine_if _ Fine.said (Fine.reported tt)) Fine.said
 
-fine_told : (day : Option ℕ) → Fine (told_day day)
-fine_told (Some day) = Fine.said
-fine_told None = Fine.told tt
+fine_reported : (day : Option ℕ) → Fine (reported_day day)
+fine_reported (Some day) = Fine.said
+fine_reported None = Fine.reported tt
 
-fine_untold : (day : Option ℕ) → Fine (untold_day day)
-fine_untold (Some day) = Fine.said
-fine_untold None = Fine.not_read
+fine_unreported : (day : Option ℕ) → Fine (unreported_day day)
+fine_unreported (Some day) = Fine.said
+fine_unreported None = Fine.not_read
 
-fine_day_behind : (text : List ℕ) → Fine (day_behind text)
-unfolding day_behind
-fine_day_behind text = fine_if _ Fine.said (fine_if _ Fine.not_read (fine_told _))
+fine_day_after : (text : List ℕ) → Fine (day_after text)
+unfolding day_after
+fine_day_after text = fine_if _ Fine.said (fine_if _ Fine.not_read (fine_reported _))
 
 fine_only_day : (text : List ℕ) → Fine (only_day text)
 unfolding only_day
-fine_only_day text = fine_if _ (fine_untold _) Fine.not_read
+fine_only_day text = fine_if _ (fine_unreported _) Fine.not_read
 
 fine_day_field : (text : List ℕ) → Fine (day_field text)
 unfolding day_field
 fine_day_field text = fine_if _ (fine_only_day _) (fine_only_day _)
 
-fine_day_of : (day : Option (List ℕ)) (behind : List ℕ) → Fine (day_of day behind)
-fine_day_of None behind = fine_day_behind behind
-fine_day_of (Some text) behind = fine_day_field text
+fine_day_of : (day : Option (List ℕ)) (following : List ℕ) → Fine (day_of day following)
+fine_day_of None following = fine_day_after following
+fine_day_of (Some text) following = fine_day_field text
 
 fine_month_and_day : (month day : Option (List ℕ)) → Fine (month_and_day month day)
 unfolding month_with_day
@@ -210,13 +210,13 @@ fine_three_fields year month day = fine_then (fine_year_field year) (λ _. fine_
 
 -- ---- so is any that is promised
 
-promised : {A : Type 0} (r : Reading A) (kind : TypeErrorKind) → Fine r → r ≡ fault kind → IsDateKind kind
+promised : {A : Type 0} (r : Reading A) (kind : TypeErrorKind) → Fine r → r ≡ error kind → IsDateKind kind
 promised (says a) kind fine is = cc
 promised unread kind fine is = cc
-promised (fault promise) kind (Fine.told fine) is = let same : promise ≡ kind = cc in subst IsDateKind same fine
+promised (error promise) kind (Fine.reported fine) is = let same : promise ≡ kind = cc in subst IsDateKind same fine
 
-pub promised_date : (text : List ℕ) (kind : TypeErrorKind) → date_of text ≡ fault kind → IsDateKind kind
+pub promised_date : (text : List ℕ) (kind : TypeErrorKind) → date_of text ≡ error kind → IsDateKind kind
 promised_date text kind = promised (date_of text) kind (fine_marked (trim_end (str_to_ascii_uppercase text)))
 
-pub promised_three_fields : (year : List ℕ) (month day : Option (List ℕ)) (kind : TypeErrorKind) → three_fields_of year month day ≡ fault kind → IsDateKind kind
+pub promised_three_fields : (year : List ℕ) (month day : Option (List ℕ)) (kind : TypeErrorKind) → three_fields_of year month day ≡ error kind → IsDateKind kind
 promised_three_fields year month day kind = promised (three_fields_of year month day) kind (fine_three_fields year month day)

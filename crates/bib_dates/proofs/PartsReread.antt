@@ -18,9 +18,9 @@ use Rattle.bib_enums.specs.declared.type_error.TypeErrorKind.{TypeErrorKind}
 use Rattle.bib_enums.specs.declared.type_error.TypeErrorKind.TheVariants.{DayOutOfRange, MonthOutOfRange}
 use Rattle.bib_dates.specs.Kept.{IsKeptDay}
 use Rattle.bib_dates.proofs.PlainTexts.{is_plain, plain, trim_start-plain}
-use Rattle.bib_dates.specs.Parts.{run, behind_run, lies, number, small_number, begins, behind_hyphens, sign, year}
-use Rattle.bib_dates.specs.Times.{behind_day}
-use Rattle.bib_dates.specs.Dates.{datetime, behind_month, behind_year, side}
+use Rattle.bib_dates.specs.Parts.{run, after_run, lies, number, small_number, begins_with, after_hyphens, sign, year}
+use Rattle.bib_dates.specs.Times.{after_day}
+use Rattle.bib_dates.specs.Dates.{datetime, after_month, after_year, side}
 use Rattle.bib_dates.specs.Written.{zeros, padded, year_text, datetime_text}
 use Rattle.bib_dates.specs.Readings.Reading.{says}
 
@@ -54,7 +54,7 @@ padded_number width n some small fits =
       value = zeros_value (width - length (decimal n)) (decimal n) ∙ numeral.1;
     }
 
--- a text behind which a number ends
+-- a text after which a number ends
 pub record Ends (rest : List ℕ) : Type 0 where
   pub plain : plain rest ≡ true
   pub no_digit : prefix_len is_ascii_digit rest ≡ 0
@@ -73,15 +73,15 @@ whole_run : (p : ℕ → Bool) (xs rest : List ℕ) → list_all p xs ≡ true �
 whole_run p [] rest h = omega arith
 whole_run p (x ∷ xs) rest h = let q = and_parts (p x) (list_all p xs) h in rw (q.0, whole_run p xs rest q.1) (omega arith)
 
--- the digits in front, and what stands behind them
+-- the digits in start, and what stands after them
 run_len : (width n : ℕ) (xs rest : List ℕ) → IsNumber width n xs → Ends rest → prefix_len is_ascii_digit (xs ++ rest) ≡ width
 run_len width n xs rest is ends = let e = whole_run is_ascii_digit xs rest is.digits in let s = is.size in let z = ends.no_digit in omega arith
 
-front : (width n : ℕ) (xs rest : List ℕ) → IsNumber width n xs → Ends rest → run is_ascii_digit (xs ++ rest) ≡ xs
-front width n xs rest is ends = take_at xs rest (prefix_len is_ascii_digit (xs ++ rest)) (is.size ∙ sym (run_len width n xs rest is ends))
+leading_run : (width n : ℕ) (xs rest : List ℕ) → IsNumber width n xs → Ends rest → run is_ascii_digit (xs ++ rest) ≡ xs
+leading_run width n xs rest is ends = take_at xs rest (prefix_len is_ascii_digit (xs ++ rest)) (is.size ∙ sym (run_len width n xs rest is ends))
 
-behind : (width n : ℕ) (xs rest : List ℕ) → IsNumber width n xs → Ends rest → behind_run is_ascii_digit (xs ++ rest) ≡ rest
-behind width n xs rest is ends = drop_at xs rest (prefix_len is_ascii_digit (xs ++ rest)) (is.size ∙ sym (run_len width n xs rest is ends))
+following : (width n : ℕ) (xs rest : List ℕ) → IsNumber width n xs → Ends rest → after_run is_ascii_digit (xs ++ rest) ≡ rest
+following width n xs rest is ends = drop_at xs rest (prefix_len is_ascii_digit (xs ++ rest)) (is.size ∙ sym (run_len width n xs rest is ends))
 
 starts_plain : (width n : ℕ) (xs rest : List ℕ) → IsNumber width n xs → Ends rest → trim_start (xs ++ rest) ≡ xs ++ rest
 starts_plain width n xs rest is ends = trim_start-plain (xs ++ rest) (plain-append xs rest (digits_plain xs is.digits) ends.plain)
@@ -89,19 +89,19 @@ starts_plain width n xs rest is ends = trim_start-plain (xs ++ rest) (plain-appe
 pub number_reads : (low high width n : ℕ) (xs rest : List ℕ) → lies low high width ≡ true → IsNumber width n xs → Ends rest → number low high (xs ++ rest) ≡ says (n, rest)
 unfolding number
 number_reads low high width n xs rest fits is ends =
-    rw (starts_plain width n xs rest is ends, front width n xs rest is ends, behind width n xs rest is ends, run_len width n xs rest is ends, fits, is.value) refl
+    rw (starts_plain width n xs rest is ends, leading_run width n xs rest is ends, following width n xs rest is ends, run_len width n xs rest is ends, fits, is.value) refl
 
 pub small_number_reads : (low high n : ℕ) (kind : TypeErrorKind) (xs rest : List ℕ) → lies low high n ≡ true → IsNumber 2 n xs → Ends rest → small_number low high kind (xs ++ rest) ≡ says (n, rest)
 unfolding small_number
 small_number_reads low high n kind xs rest fits is ends = rw (number_reads 1 2 2 n xs rest refl is ends, fits) refl
 
-not_begun : (byte : ℕ) (xs rest : List ℕ) → list_all is_ascii_digit xs ≡ true → 0 < length xs → is_ascii_digit byte ≡ false → begins byte (xs ++ rest) ≡ false
+not_begun : (byte : ℕ) (xs rest : List ℕ) → list_all is_ascii_digit xs ≡ true → 0 < length xs → is_ascii_digit byte ≡ false → begins_with byte (xs ++ rest) ≡ false
 not_begun byte [] rest h some other = absurd (omega arith)
 not_begun byte (x ∷ xs) rest h some other =
     let p = and_parts _ _ h in
     ne_eqb x byte (λ e. let q : is_ascii_digit byte ≡ true = ap is_ascii_digit (sym e) ∙ p.0 in cc)
 
--- a year of four digits behind no sign, and behind a minus
+-- a year of four digits after no sign, and after a minus
 year_digits : (n : ℕ) (xs rest : List ℕ) → IsNumber 4 n xs → Ends rest → year (xs ++ rest) ≡ says (pos n, rest)
 unfolding year sign
 year_digits n xs rest is ends =
@@ -111,8 +111,8 @@ year_digits n xs rest is ends =
       not_begun 45 xs rest is.digits some refl,
       not_begun 43 xs rest is.digits some refl,
       starts_plain 4 n xs rest is ends,
-      front 4 n xs rest is ends,
-      behind 4 n xs rest is ends,
+      leading_run 4 n xs rest is ends,
+      following 4 n xs rest is ends,
       run_len 4 n xs rest is ends,
       is.value,
     ) refl
@@ -124,8 +124,8 @@ year_minus n xs rest is ends =
     rw (
       trim_start-plain (45 ∷ (xs ++ rest)) whole,
       starts_plain 4 n xs rest is ends,
-      front 4 n xs rest is ends,
-      behind 4 n xs rest is ends,
+      leading_run 4 n xs rest is ends,
+      following 4 n xs rest is ends,
       run_len 4 n xs rest is ends,
       is.value,
     ) refl
@@ -149,8 +149,8 @@ no_hyphen (x ∷ xs) rest h some =
     let p = and_parts _ _ h in
     let e : (x == 45) ≡ false = ne_eqb x 45 (λ e. let q : is_ascii_digit 45 ≡ true = ap is_ascii_digit (sym e) ∙ p.0 in cc) in rw e refl
 
-pub hyphens_read : (width n : ℕ) (xs rest : List ℕ) → 0 < width → IsNumber width n xs → Ends rest → behind_hyphens (45 ∷ (xs ++ rest)) ≡ says (xs ++ rest)
-unfolding behind_hyphens
+pub hyphens_read : (width n : ℕ) (xs rest : List ℕ) → 0 < width → IsNumber width n xs → Ends rest → after_hyphens (45 ∷ (xs ++ rest)) ≡ says (xs ++ rest)
+unfolding after_hyphens
 hyphens_read width n xs rest some is ends =
     let whole : plain (45 ∷ (xs ++ rest)) ≡ true = plain-append xs rest (digits_plain xs is.digits) ends.plain in
     let there : 0 < length xs = let s = is.size in omega arith in
@@ -159,8 +159,8 @@ hyphens_read width n xs rest some is ends =
 pub nothing : Ends []
 nothing = record { plain = refl; no_digit = refl }
 
-pub behind_hyphen : (width n : ℕ) (xs rest : List ℕ) → IsNumber width n xs → plain rest ≡ true → Ends (45 ∷ (xs ++ rest))
-behind_hyphen width n xs rest is h = record { plain = plain-append xs rest (digits_plain xs is.digits) h; no_digit = refl }
+pub after_hyphen : (width n : ℕ) (xs rest : List ℕ) → IsNumber width n xs → plain rest ≡ true → Ends (45 ∷ (xs ++ rest))
+after_hyphen width n xs rest is h = record { plain = plain-append xs rest (digits_plain xs is.digits) h; no_digit = refl }
 
 pub month_short : (y : ℤ) (m : ℕ) → days_in_month y m ≤ 31
 month_short y m = grind (arith, nat_tests)
@@ -172,13 +172,13 @@ within : (low high n : ℕ) → low ≤ n → n ≤ high → lies low high n ≡
 within low high n h k = grind (arith, nat_tests)
 
 pub side_reads : (y : ℤ) (m d : Option ℕ) → IsYear y → IsKeptDay y m d → side (datetime_text (datetime y m d None)) ≡ says (datetime y m d None)
-unfolding side behind_year behind_month behind_day
+unfolding side after_year after_month after_day
 side_reads y None None h k = rw (year_reads y [] h nothing, trim_start-plain [] refl) refl
 side_reads y None (Some d) h k = absurd k
 side_reads y (Some m) None h k =
     let p = padded 2 (m + 1) in
     let is : IsNumber 2 (m + 1) (padded 2 (m + 1)) = two_digits (m + 1) (omega arith) in
-    let ends = rw append-nil at (behind_hyphen 2 (m + 1) (padded 2 (m + 1)) [] is refl) in
+    let ends = rw append-nil at (after_hyphen 2 (m + 1) (padded 2 (m + 1)) [] is refl) in
     rw (
       year_reads y (45 ∷ padded 2 (m + 1)) h ends,
       trim_start-plain (45 ∷ padded 2 (m + 1)) ends.plain,
@@ -191,8 +191,8 @@ side_reads y (Some m) (Some d) h k =
     let few = month_short y (m + 1) in
     let is : IsNumber 2 (m + 1) (padded 2 (m + 1)) = two_digits (m + 1) (omega (arith, k.0)) in
     let day : IsNumber 2 (d + 1) (padded 2 (d + 1)) = two_digits (d + 1) (omega (arith, k.1)) in
-    let tail = rw append-nil at (behind_hyphen 2 (d + 1) (padded 2 (d + 1)) [] day refl) in
-    let ends = behind_hyphen 2 (m + 1) (padded 2 (m + 1)) (45 ∷ padded 2 (d + 1)) is tail.plain in
+    let tail = rw append-nil at (after_hyphen 2 (d + 1) (padded 2 (d + 1)) [] day refl) in
+    let ends = after_hyphen 2 (m + 1) (padded 2 (m + 1)) (45 ∷ padded 2 (d + 1)) is tail.plain in
     rw (
       year_reads y (45 ∷ (padded 2 (m + 1) ++ (45 ∷ padded 2 (d + 1)))) h ends,
       trim_start-plain (45 ∷ (padded 2 (m + 1) ++ (45 ∷ padded 2 (d + 1)))) ends.plain,

@@ -8,14 +8,14 @@ use Rattle.bib_chunks.specs.declared.chunk.Chunk.TheVariants.{Normal}
 use Rattle.bib_chunks.specs.Values.{Value, text, alone}
 use Rattle.bib_enums.specs.ReadAs.{IsReadAs}
 use Rattle.bib_dates.specs.declared.date.Date.{Date}
-use Rattle.bib_dates.specs.Readings.{Reading, value_of, MayRefuse}
+use Rattle.bib_dates.specs.Readings.{Reading, readable_value, MayRefuse}
 use Rattle.bib_dates.specs.Dates.{date_of}
 use Rattle.bib_dates.specs.ThreeFields.{three_fields_of}
 use Rattle.bib_dates.specs.Written.{date_text}
 
--- a result is the value that is read, or a fault that says so, of the promised kind if there is one; or no memory was left
-abbrev pub IsAnswer : {A : Type 0} → Reading A → Result A TypeError → Type 0
-IsAnswer reading result = IsReadAs (λ value. value) (value_of reading) (MayRefuse reading) result
+-- a result is the value that is read, or an error that says so, of the promised kind if there is one; or no memory was left
+abbrev pub AnswersReading : {A : Type 0} → Reading A → Result A TypeError → Type 0
+AnswersReading reading result = IsReadAs (λ value. value) (readable_value reading) (MayRefuse reading) result
 
 -- what the formatted text of chunks is read as
 abbrev pub date_reading : Value → Reading Date
@@ -23,7 +23,7 @@ date_reading chunks = date_of (text chunks)
 
 -- the date that the formatted text of chunks is read as, if it is one
 abbrev pub date_read : Value → Option Date
-date_read chunks = value_of (date_reading chunks)
+date_read chunks = readable_value (date_reading chunks)
 
 -- the kinds of errors that these chunks may be refused with as a date
 abbrev pub DateMayRefuse : Value → TypeErrorKind → Type 0

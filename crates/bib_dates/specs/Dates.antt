@@ -14,35 +14,36 @@ use Rattle.bib_dates.specs.declared.date.DateValue.TheVariants.{At, After, Befor
 use Rattle.bib_dates.specs.declared.date.Datetime.{Datetime}
 use Rattle.bib_dates.specs.declared.date.Time.{Time}
 use Rattle.bib_dates.specs.Readings.{Reading, ◌>>=◌}
-use Rattle.bib_dates.specs.Readings.Reading.{says, fault, unread}
-use Rattle.bib_dates.specs.Parts.{run, behind_run, lies, number, small_number, behind_hyphens, year}
-use Rattle.bib_dates.specs.Times.{behind_day}
+use Rattle.bib_dates.specs.Readings.Reading.{says, error, unread}
+use Rattle.bib_dates.specs.Parts.{run, after_run, lies, number, small_number, after_hyphens, year}
+use Rattle.bib_dates.specs.Times.{after_day}
+use Rattle.bib_text.specs.Characters as char
 
 abbrev pub datetime : ℤ → Option ℕ → Option ℕ → Option Time → Datetime
 datetime y m d t = record { year = y; month = m; day = d; time = t }
 
--- what stands behind a month, counted from 1: nothing, or a day of that month, and perhaps a time
-unfoldable pub behind_month : ℤ → ℕ → List ℕ → Reading Datetime
-behind_month y m [] = says (datetime y (Some (m - 1)) None None)
-behind_month y m text = do
-  rest ← behind_hyphens text
+-- what stands after a month, counted from 1: nothing, or a day of that month, and perhaps a time
+unfoldable pub after_month : ℤ → ℕ → List ℕ → Reading Datetime
+after_month y m [] = says (datetime y (Some (m - 1)) None None)
+after_month y m text = do
+  rest ← after_hyphens text
   day ← small_number 1 (days_in_month y m) DayOutOfRange rest
-  clock ← behind_day (trim_start day.1)
+  clock ← after_day (trim_start day.1)
   says (datetime y (Some (m - 1)) (Some (day.0 - 1)) clock)
 
--- what stands behind a year: nothing, or a month, and perhaps a day and a time
-unfoldable pub behind_year : ℤ → List ℕ → Reading Datetime
-behind_year y [] = says (datetime y None None None)
-behind_year y text = do
-  rest ← behind_hyphens text
+-- what stands after a year: nothing, or a month, and perhaps a day and a time
+unfoldable pub after_year : ℤ → List ℕ → Reading Datetime
+after_year y [] = says (datetime y None None None)
+after_year y text = do
+  rest ← after_hyphens text
   month ← small_number 1 12 MonthOutOfRange rest
-  behind_month y month.0 (trim_start month.1)
+  after_month y month.0 (trim_start month.1)
 
 -- one side of a range, or a date alone
 unfoldable pub side : List ℕ → Reading Datetime
 side text = do
   y ← year text
-  behind_year y.0 (trim_start y.1)
+  after_year y.0 (trim_start y.1)
 
 -- a stretch of years, of months of a year, of days of a month
 abbrev pub years : ℕ → ℕ → DateValue
@@ -54,35 +55,35 @@ months y = Between (datetime (pos y) (Some 0) None None) (datetime (pos y) (Some
 abbrev pub days : ℕ → ℕ → DateValue
 days y m = Between (datetime (pos y) (Some m) (Some 0) None) (datetime (pos y) (Some m) (Some 30) None)
 
--- how many `X` stand at the front, and what stands behind them
+-- how many `X` stand at the start, and what stands after them
 abbrev pub unknowns : List ℕ → ℕ
-unknowns text = prefix_len (λ b. b == 88) text
+unknowns text = prefix_len (λ b. b == char.upper_x) text
 
-abbrev pub behind_unknowns : List ℕ → List ℕ
-behind_unknowns text = behind_run (λ b. b == 88) text
+abbrev pub after_unknowns : List ℕ → List ℕ
+after_unknowns text = after_run (λ b. b == char.upper_x) text
 
--- all months of a year, behind `XX` for the month: nothing, or hyphens, `XX` and any text
+-- all months of a year, after `XX` for the month: nothing, or hyphens, `XX` and any text
 unfoldable pub all_months : ℕ → List ℕ → Reading DateValue
 all_months y text =
     if length (trim_start text) == 0 then says (months y)
-    else behind_hyphens text >>= (λ rest. if unknowns (trim_start rest) == 2 then says (months y) else unread)
+    else after_hyphens text >>= (λ rest. if unknowns (trim_start rest) == 2 then says (months y) else unread)
 
 -- all days of a month: a month of two digits, hyphens, `XX` and no more
 unfoldable pub all_days : ℕ → List ℕ → Reading DateValue
 all_days y text =
     number 2 2 text >>= (λ month.
-    if not (lies 1 12 month.0) then fault MonthOutOfRange
-    else behind_hyphens month.1 >>= (λ rest.
-    if unknowns (trim_start rest) == 2 && length (trim_start (behind_unknowns (trim_start rest))) == 0
+    if not (lies 1 12 month.0) then error MonthOutOfRange
+    else after_hyphens month.1 >>= (λ rest.
+    if unknowns (trim_start rest) == 2 && length (trim_start (after_unknowns (trim_start rest))) == 0
     then says (days y (month.0 - 1)) else unread))
 
--- behind four digits and hyphens: `XX`, alone or with more, or a month and `XX`
+-- after four digits and hyphens: `XX`, alone or with more, or a month and `XX`
 unfoldable pub unknown_month : ℕ → List ℕ → Reading DateValue
 unknown_month y text =
-    if unknowns text == 2 then all_months y (behind_unknowns text)
+    if unknowns text == 2 then all_months y (after_unknowns text)
     else if unknowns text == 0 then all_days y text else unread
 
--- the years of a century, behind two digits, and those of a decade, behind three
+-- the years of a century, after two digits, and those of a decade, after three
 unfoldable pub century : ℕ → List ℕ → Reading DateValue
 century n text = if unknowns text == 2 then says (years (100 * n) 99) else unread
 
@@ -96,13 +97,13 @@ unknown text =
     let here = trim_start text in
     let digits = prefix_len is_ascii_digit here in
     let n = digits_value 10 (run is_ascii_digit here) in
-    let rest = behind_run is_ascii_digit here in
-    if nat_lt 4 digits then fault WrongNumberOfDigits
+    let rest = after_run is_ascii_digit here in
+    if nat_lt 4 digits then error WrongNumberOfDigits
     else if digits == 2 then century n rest
     else if digits == 3 then decade n rest
     else if digits == 4 then (do
-      behind ← behind_hyphens rest
-      unknown_month n (trim_start behind))
+      following ← after_hyphens rest
+      unknown_month n (trim_start following))
     else unread
 
 -- a side is open where it is blank or two points
@@ -113,7 +114,7 @@ is_open text = (length (trim text) == 0) || bytes_eq text (codes "..")
 unfoldable pub range : List ℕ → List ℕ → Reading DateValue
 range from to =
     if is_open from then
-    (if is_open to then fault UndefinedRange else (do
+    (if is_open to then error UndefinedRange else (do
       end ← side to
       says (Before end)))
     else (do
@@ -129,8 +130,8 @@ holds byte text = list_any (λ b. b == byte) text
 -- a date without the mark at its end
 unfoldable pub date_value : List ℕ → Reading DateValue
 date_value text =
-    if holds 88 text then unknown text
-    else if holds 47 text then range (before_first (λ b. b == 47) text) (after_first (λ b. b == 47) text)
+    if holds char.upper_x text then unknown text
+    else if holds char.slash text then range (before_first (λ b. b == char.slash) text) (after_first (λ b. b == char.slash) text)
     else (do
       at ← side text
       says (At at))
@@ -141,20 +142,20 @@ last text = slice_index text (length text - 1)
 
 -- a mark at the end: `?` is not sure, `~` not exact, `%` neither
 abbrev pub is_uncertain : ℕ → Bool
-is_uncertain mark = mark == 37 || mark == 63
+is_uncertain mark = mark == char.percent || mark == char.question
 
 abbrev pub is_approximate : ℕ → Bool
-is_approximate mark = mark == 37 || mark == 126
+is_approximate mark = mark == char.percent || mark == char.tilde
 
 abbrev pub without_mark : List ℕ → List ℕ
 without_mark text = if is_uncertain (last text) || is_approximate (last text) then take (length text - 1) text else text
 
 -- a date with the mark at its end
-unfoldable pub marked : List ℕ → Reading Date
-marked text = do
+unfoldable pub marked_date : List ℕ → Reading Date
+marked_date text = do
   value ← date_value (without_mark text)
   says (record { value = value; uncertain = is_uncertain (last text); approximate = is_approximate (last text) })
 
--- what a text is read as, in capitals of ASCII and without the white space at its end
+-- what a text is read as, in uppercase letters of ASCII and without the white space at its end
 abbrev pub date_of : List ℕ → Reading Date
-date_of text = marked (trim_end (str_to_ascii_uppercase text))
+date_of text = marked_date (trim_end (str_to_ascii_uppercase text))

@@ -26,5 +26,6 @@ IsKeptValue (After d) = IsKeptDatetime d
 IsKeptValue (Before d) = IsKeptDatetime d
 IsKeptValue (Between a b) = IsKeptDatetime a × IsKeptDatetime b
 
-abbrev pub IsKept : Date → Type 0
-IsKept d = IsKeptValue d.value
+-- a date that is read back from what is written of it
+abbrev pub IsKeptDate : Date → Type 0
+IsKeptDate d = IsKeptValue d.value

@@ -1,4 +1,4 @@
-pub mod Anew
+pub mod Rewritten
 pub mod Chunks
 pub mod Code
 pub mod Dates

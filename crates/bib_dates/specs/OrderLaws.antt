@@ -16,27 +16,27 @@ use Rattle.bib_dates.specs.declared.date.Datetime.{Datetime}
 use Rattle.bib_dates.specs.declared.date.Time.{Time}
 use Rattle.bib_dates.specs.declared.date.TimeOffset.{TimeOffset}
 use Rattle.bib_dates.specs.declared.date.TimeOffset.TheVariants.{Utc, Offset}
-use Rattle.bib_dates.specs.Orders.{utc_seconds, alone, part_cmp, same_offset, same_time, time_cmp, datetime_cmp}
+use Rattle.bib_dates.specs.Orders.{utc_seconds, if_equal, part_cmp, same_offset, same_time, time_cmp, datetime_cmp}
 
-alone_back : (same : Bool) → alone same ≡ option_map ordering_reverse (alone same)
+alone_back : (same : Bool) → if_equal same ≡ option_map ordering_reverse (if_equal same)
 alone_back true = refl
 alone_back false = refl
 
-never_less : (same : Bool) → alone same ≡ Some Less → ⊥
+never_less : (same : Bool) → if_equal same ≡ Some Less → ⊥
 never_less true h = cc
 never_less false h = cc
 
-alone_equal : (same : Bool) → Decides same (alone same ≡ Some Equal)
+alone_equal : (same : Bool) → Decides same (if_equal same ≡ Some Equal)
 alone_equal true = (λ h. refl, λ h. refl)
 alone_equal false = (λ h. cc, λ h. cc)
 
 -- equal, or not to be compared, for an equality
-pub alone_po : {K : Type 0} (E : K → K → Bool) → IsEquivalence E → IsPartialOrder E (λ x y. alone (E x y))
+pub alone_po : {K : Type 0} (E : K → K → Bool) → IsEquivalence E → IsPartialOrder E (λ x y. if_equal (E x y))
 alone_po E e = record {
-  antisymm = λ x y. ap alone (e.symm x y) ∙ alone_back (E y x);
+  antisymm = λ x y. ap if_equal (e.symm x y) ∙ alone_back (E y x);
   trans = λ x y z h k. absurd (never_less (E x y) h);
   matches_eq = λ x y. alone_equal (E x y);
-  congr = λ x y z h. ap alone (e.congr x y z h);
+  congr = λ x y z h. ap if_equal (e.congr x y z h);
 }
 
 -- a part that one side alone has is not to be compared

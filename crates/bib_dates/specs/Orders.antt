@@ -36,13 +36,13 @@ shift (Some o) = offset_seconds o
 abbrev pub utc_seconds : Time → ℤ
 utc_seconds t = pos (3600 * t.hour + 60 * t.minute + t.second) -ℤ shift t.offset
 
--- the offset of so many hours ahead of UTC; of a number below zero, behind it
+-- the offset of so many hours ahead of UTC; of a number below zero, after it
 abbrev pub hours_ahead : ℤ → TimeOffset
 hours_ahead hours = Offset (not (is_negative hours)) (unsigned_abs hours) 0
 
 -- equal, or not to be compared
-abbrev pub alone : Bool → Option Ordering
-alone same = if same then Some Equal else None
+abbrev pub if_equal : Bool → Option Ordering
+if_equal same = if same then Some Equal else None
 
 -- by the part where both sides have it; where one alone has it, not to be compared
 abbrev pub part_cmp : {A : Type 0} → (A → A → Option Ordering) → Option A → Option A → Option Ordering
@@ -64,8 +64,8 @@ same_time a b = nat_eq a.hour b.hour && (nat_eq a.minute b.minute && (nat_eq a.s
 -- times go by their seconds where both have an offset or both lack it; those of equal seconds are equal, or not compared
 abbrev pub time_cmp : Time → Time → Option Ordering
 time_cmp a b =
-    partial_ordering_then (alone (beq (is_some a.offset) (is_some b.offset)))
-    (partial_ordering_then (Some (int_cmp (utc_seconds a) (utc_seconds b))) (alone (same_time a b)))
+    partial_ordering_then (if_equal (beq (is_some a.offset) (is_some b.offset)))
+    (partial_ordering_then (Some (int_cmp (utc_seconds a) (utc_seconds b))) (if_equal (same_time a b)))
 
 abbrev pub number_cmp : ℕ → ℕ → Option Ordering
 number_cmp x y = Some (nat_cmp x y)

@@ -8,55 +8,56 @@ use Rattle.std.specs.Str.{trim_start}
 use Rattle.std.specs.Str.Parse.{digits_value}
 use Rattle.std.specs.Ordering.{int_cmp, is_lt}
 use Rattle.bib_enums.specs.declared.type_error.TypeErrorKind.{TypeErrorKind}
-use Rattle.bib_dates.specs.Readings.{Reading, ◌>>=◌, Part}
-use Rattle.bib_dates.specs.Readings.Reading.{says, fault, unread}
+use Rattle.bib_dates.specs.Readings.{Reading, ◌>>=◌, Parsed}
+use Rattle.bib_dates.specs.Readings.Reading.{says, error, unread}
+use Rattle.bib_text.specs.Characters as char
 
--- the run of such bytes at the front of a text, and what stands behind it
+-- the run of such bytes at the prefix of a text, and what stands after it
 abbrev pub run : (ℕ → Bool) → List ℕ → List ℕ
 run test text = take (prefix_len test text) text
 
-abbrev pub behind_run : (ℕ → Bool) → List ℕ → List ℕ
-behind_run test text = drop (prefix_len test text) text
+abbrev pub after_run : (ℕ → Bool) → List ℕ → List ℕ
+after_run test text = drop (prefix_len test text) text
 
 -- whether a number lies from `low` to `high`
 abbrev pub lies : ℕ → ℕ → ℕ → Bool
 lies low high n = not (nat_lt n low) && not (nat_lt high n)
 
--- `low` to `high` digits behind white space, with no digit behind them
-unfoldable pub number : ℕ → ℕ → List ℕ → Part ℕ
+-- `low` to `high` digits after white space, with no digit after them
+unfoldable pub number : ℕ → ℕ → List ℕ → Parsed ℕ
 number low high text =
     let here = trim_start text in
     if lies low high (prefix_len is_ascii_digit here)
-    then says (digits_value 10 (run is_ascii_digit here), behind_run is_ascii_digit here)
+    then says (digits_value 10 (run is_ascii_digit here), after_run is_ascii_digit here)
     else unread
 
 -- one or two digits that are a number from `low` to `high`
-unfoldable pub small_number : ℕ → ℕ → TypeErrorKind → List ℕ → Part ℕ
+unfoldable pub small_number : ℕ → ℕ → TypeErrorKind → List ℕ → Parsed ℕ
 small_number low high kind text = do
   n ← number 1 2 text
-  if lies low high n.0 then says n else fault kind
+  if lies low high n.0 then says n else error kind
 
--- whether this byte, which is not 0, stands at the front
-abbrev pub begins : ℕ → List ℕ → Bool
-begins byte text = slice_index text 0 == byte
+-- whether this byte, which is not 0, stands at the start
+abbrev pub begins_with : ℕ → List ℕ → Bool
+begins_with byte text = slice_index text 0 == byte
 
--- what stands behind this byte at the front
-abbrev pub behind_byte : ℕ → List ℕ → Reading (List ℕ)
-behind_byte byte text = if begins byte text then says (drop 1 text) else unread
+-- what stands after this byte at the start
+abbrev pub after_byte : ℕ → List ℕ → Reading (List ℕ)
+after_byte byte text = if begins_with byte text then says (drop 1 text) else unread
 
--- what stands behind a colon, with white space before it
-abbrev pub behind_colon : List ℕ → Reading (List ℕ)
-behind_colon text = behind_byte 58 (trim_start text)
+-- what stands after a colon, with white space before it
+abbrev pub after_colon : List ℕ → Reading (List ℕ)
+after_colon text = after_byte char.colon (trim_start text)
 
--- what stands behind a run of hyphens, with white space before it
-unfoldable pub behind_hyphens : List ℕ → Reading (List ℕ)
-behind_hyphens text = do
-  rest ← behind_byte 45 (trim_start text)
-  says (behind_run (λ b. b == 45) rest)
+-- what stands after a run of hyphens, with white space before it
+unfoldable pub after_hyphens : List ℕ → Reading (List ℕ)
+after_hyphens text = do
+  rest ← after_byte char.hyphen (trim_start text)
+  says (after_run (λ b. b == char.hyphen) rest)
 
--- a sign at the front: whether it is a minus, and what stands behind it; without one, the text
+-- a sign at the start: whether it is a minus, and what stands after it; without one, the text
 unfoldable pub sign : List ℕ → Bool × List ℕ
-sign text = if begins 45 text then (true, drop 1 text) else if begins 43 text then (false, drop 1 text) else (false, text)
+sign text = if begins_with char.hyphen text then (true, drop 1 text) else if begins_with char.plus text then (false, drop 1 text) else (false, text)
 
 abbrev pub signed : Bool → ℕ → ℤ
 signed is_minus n = if is_minus then neg_ℤ (pos n) else pos n
@@ -65,11 +66,11 @@ signed is_minus n = if is_minus then neg_ℤ (pos n) else pos n
 abbrev pub of_century : ℤ → ℤ
 of_century y = if is_lt (int_cmp y (pos 50)) then y +ℤ pos 2000 else y +ℤ pos 1900
 
--- a year of two or four digits, with an optional sign behind which white space may stand
-unfoldable pub year : List ℕ → Part ℤ
+-- a year of two or four digits, with an optional sign after which white space may stand
+unfoldable pub year : List ℕ → Parsed ℤ
 year text =
     let here = sign (trim_start text) in
     let digits = trim_start here.1 in
     let y = signed here.0 (digits_value 10 (run is_ascii_digit digits)) in
-    if prefix_len is_ascii_digit digits == 2 then says (of_century y, behind_run is_ascii_digit digits)
-    else if prefix_len is_ascii_digit digits == 4 then says (y, behind_run is_ascii_digit digits) else unread
+    if prefix_len is_ascii_digit digits == 2 then says (of_century y, after_run is_ascii_digit digits)
+    else if prefix_len is_ascii_digit digits == 4 then says (y, after_run is_ascii_digit digits) else unread

@@ -1,34 +1,34 @@
 -- Meaning: words of public contracts.
--- What a text is read as where some kinds of faults are promised and others aren't, as for the dates of the Rust crate
+-- What a text is read as where some kinds of errors are promised and others aren't, as for the dates of the Rust crate
 -- `biblatex`.
 use Rattle.std.specs.Prelude.{◌≡◌, ℕ, List, Option, Some, None, ⊤}
 use Rattle.bib_enums.specs.declared.type_error.TypeErrorKind.{TypeErrorKind}
 use Rattle.bib_enums.specs.declared.type_error.TypeErrorKind.TheVariants.{UndefinedRange, DayOutOfRange, MonthOutOfRange, InvalidNumber, MissingNumber, WrongNumberOfDigits, InvalidFormat, YearZeroCE}
 
--- a value, a fault of this kind, or a fault of a kind that isn't promised
+-- a value, an error of this kind, or an error of a kind that isn't promised
 pub data Reading (A : Type 0) : Type 0 where
   says : A → Reading A
-  fault : TypeErrorKind → Reading A
+  error : TypeErrorKind → Reading A
   unread : Reading A
 
 -- what is read next, of what was read
 infixl 10 ◌>>=◌
 abbrev pub ◌>>=◌ : {A B : Type 0} → Reading A → (A → Reading B) → Reading B
 says a >>= next = next a
-fault kind >>= next = fault kind
+error kind >>= next = error kind
 unread >>= next = unread
 
--- a part that is read from the front of a text, and the text behind it
-abbrev pub Part : Type 0 → Type 0
-Part A = Reading (A × List ℕ)
+-- a part that is read from the prefix of a text, and the text after it
+abbrev pub Parsed : Type 0 → Type 0
+Parsed A = Reading (A × List ℕ)
 
 -- the value, if there is one
-abbrev pub value_of : {A : Type 0} → Reading A → Option A
-value_of (says a) = Some a
-value_of (fault kind) = None
-value_of unread = None
+abbrev pub readable_value : {A : Type 0} → Reading A → Option A
+readable_value (says a) = Some a
+readable_value (error kind) = None
+readable_value unread = None
 
--- the kinds that dates have: any error of a date is of one of these, want of memory aside
+-- the kinds that dates have: any error of a date is of one of these, out of memory aside
 abbrev pub IsDateKind : TypeErrorKind → Type 0
 IsDateKind UndefinedRange = ⊤
 IsDateKind DayOutOfRange = ⊤
@@ -40,8 +40,8 @@ IsDateKind InvalidFormat = ⊤
 IsDateKind YearZeroCE = ⊤
 IsDateKind other = ⊥
 
--- the kinds that a refusal may have, want of memory aside: of those that dates have, the promised one, or any
+-- the kinds that a refusal may have, out of memory aside: of those that dates have, the promised one, or any
 abbrev pub MayRefuse : {A : Type 0} → Reading A → TypeErrorKind → Type 0
 MayRefuse (says a) kind = ⊥
-MayRefuse (fault promised) kind = (kind ≡ promised) × IsDateKind kind
+MayRefuse (error promised) kind = (kind ≡ promised) × IsDateKind kind
 MayRefuse unread kind = IsDateKind kind

@@ -1,7 +1,7 @@
 -- Meaning: words of public contracts.
--- Dates in three fields: a year with an era, a month by number or name, and a day in a field of its own or behind the
+-- Dates in three fields: a year with an era, a month by number or name, and a day in a field of its own or after the
 -- month. After the manual of BibLaTeX and BibTeX's fields `year`, `month` and `day`, as the Rust crate `biblatex` reads them.
--- The eras and the names of months are ASCII; the texts are not put into capitals.
+-- The eras and the names of months are ASCII; the texts are not put into uppercase letters.
 use Rattle.std.specs.Prelude.{ℕ, ◌-◌, Bool, true, false, ◌&&◌, ◌||◌, ◌==◌, not, if◌then◌else◌, ℤ, pos, ◌-ℤ◌, List, [], ◌∷◌, length, drop, codes, encode_utf8_all, Option, Some, None}
 use Rattle.std.specs.List.{prefix_len}
 use Rattle.std.specs.Char.{is_ascii_digit, is_ascii_alphabetic, is_whitespace}
@@ -11,14 +11,15 @@ use Rattle.std.specs.Str.{chars, trim, trim_start, str_eq_ignore_ascii_case}
 use Rattle.std.specs.Str.Parse.{digits_value}
 use Rattle.bib_dates.specs.declared.date.Date.{Date}
 use Rattle.bib_dates.specs.declared.date.DateValue.TheVariants.{At}
-use Rattle.bib_text.specs.Runs.{behind}
+use Rattle.bib_text.specs.Runs.{rest_after}
 use Rattle.bib_enums.specs.declared.type_error.TypeErrorKind.TheVariants.{DayOutOfRange, MonthOutOfRange, InvalidFormat, YearZeroCE}
-use Rattle.bib_dates.specs.Readings.{Reading, ◌>>=◌, Part}
-use Rattle.bib_dates.specs.Readings.Reading.{says, fault, unread}
-use Rattle.bib_dates.specs.Parts.{run, behind_run, lies, begins, sign, signed}
+use Rattle.bib_dates.specs.Readings.{Reading, ◌>>=◌, Parsed}
+use Rattle.bib_dates.specs.Readings.Reading.{says, error, unread}
+use Rattle.bib_dates.specs.Parts.{run, after_run, lies, begins_with, sign, signed}
 use Rattle.bib_dates.specs.Dates.{datetime}
+use Rattle.bib_text.specs.Characters as char
 
--- whether white space stands at the front
+-- whether white space stands at the start
 abbrev pub starts_blank : List ℕ → Bool
 starts_blank text = not (length (trim_start text) == length text)
 
@@ -30,31 +31,31 @@ is_word_first (c ∷ cs) = is_alphabetic c || is_numeric c
 abbrev pub starts_word : List ℕ → Bool
 starts_word text = is_word_first (chars text)
 
--- whether this word stands at the front, and what stands behind as many bytes
+-- whether this word stands at the start, and what stands after as many bytes
 abbrev pub stands : List ℕ → List ℕ → Bool
 stands [] text = true
-stands (b ∷ []) text = begins b text
-stands (b ∷ c ∷ word) text = begins b text && stands (c ∷ word) (drop 1 text)
+stands (b ∷ []) text = begins_with b text
+stands (b ∷ c ∷ word) text = begins_with b text && stands (c ∷ word) (drop 1 text)
 
-abbrev pub behind_word : List ℕ → List ℕ → List ℕ
-behind_word [] text = text
-behind_word (b ∷ word) text = behind_word word (drop 1 text)
+abbrev pub after_word : List ℕ → List ℕ → List ℕ
+after_word [] text = text
+after_word (b ∷ word) text = after_word word (drop 1 text)
 
--- a year of an era, behind which no letter and no number stands: it has no sign, and there is no year 0
+-- a year of an era, after which no letter and no number stands: it has no sign, and there is no year 0
 unfoldable pub of_era : Bool → ℕ → ℤ → List ℕ → Reading ℤ
-of_era has_sign n year behind =
-    if starts_word behind then unread
-    else if has_sign then fault InvalidFormat
-    else if n == 0 then fault YearZeroCE
+of_era has_sign n year rest_after =
+    if starts_word rest_after then unread
+    else if has_sign then error InvalidFormat
+    else if n == 0 then error YearZeroCE
     else says year
 
--- a number of the common era or before it, or a year with its sign; other text may stand behind
+-- a number of the common era or before it, or a year with its sign; other text may stand after
 unfoldable pub with_era : Bool → Bool → ℕ → List ℕ → Reading ℤ
 with_era has_sign is_minus n text =
-    if stands (codes "AD") text then of_era has_sign n (pos n) (behind_word (codes "AD") text)
-    else if stands (codes "CE") text then of_era has_sign n (pos n) (behind_word (codes "CE") text)
-    else if stands (codes "BCE") text then of_era has_sign n (pos 1 -ℤ pos n) (behind_word (codes "BCE") text)
-    else if stands (codes "BC") text then of_era has_sign n (pos 1 -ℤ pos n) (behind_word (codes "BC") text)
+    if stands (codes "AD") text then of_era has_sign n (pos n) (after_word (codes "AD") text)
+    else if stands (codes "CE") text then of_era has_sign n (pos n) (after_word (codes "CE") text)
+    else if stands (codes "BCE") text then of_era has_sign n (pos 1 -ℤ pos n) (after_word (codes "BCE") text)
+    else if stands (codes "BC") text then of_era has_sign n (pos 1 -ℤ pos n) (after_word (codes "BC") text)
     else says (signed is_minus n)
 
 -- the year field: an optional sign, one to four digits, and perhaps an era
@@ -63,9 +64,9 @@ year_field text =
     let here = trim_start text in
     let digits = (sign here).1 in
     let has_sign = not (length digits == length here) in
-    if has_sign && starts_blank digits then fault InvalidFormat
+    if has_sign && starts_blank digits then error InvalidFormat
     else if lies 1 4 (prefix_len is_ascii_digit digits)
-    then with_era has_sign (sign here).0 (digits_value 10 (run is_ascii_digit digits)) (trim_start (behind_run is_ascii_digit digits))
+    then with_era has_sign (sign here).0 (digits_value 10 (run is_ascii_digit digits)) (trim_start (after_run is_ascii_digit digits))
     else unread
 
 -- whether a word is the name of a month or its first three letters, in any case
@@ -89,62 +90,62 @@ month_named word =
     else if names word (codes "december") (codes "dec") then Some 11
     else None
 
--- a month by its name, behind any digits; another word names no month
-abbrev pub named_month : List ℕ → Part (Option ℕ)
-named_month text = says (month_named (run is_ascii_alphabetic text), behind_run is_ascii_alphabetic text)
+-- a month by its name, after any digits; another word names no month
+abbrev pub named_month : List ℕ → Parsed (Option ℕ)
+named_month text = says (month_named (run is_ascii_alphabetic text), after_run is_ascii_alphabetic text)
 
--- the month field: one or two digits, or else a run of letters; and the text behind it
-unfoldable pub month_field : List ℕ → Part (Option ℕ)
+-- the month field: one or two digits, or else a run of letters; and the text after it
+unfoldable pub month_field : List ℕ → Parsed (Option ℕ)
 month_field text =
     let here = trim_start text in
     let n = digits_value 10 (run is_ascii_digit here) in
-    let behind = behind_run is_ascii_digit here in
-    if lies 1 2 (prefix_len is_ascii_digit here) then (if lies 1 12 n then says (Some (n - 1), behind) else fault MonthOutOfRange)
-    else named_month behind
+    let rest_after = after_run is_ascii_digit here in
+    if lies 1 2 (prefix_len is_ascii_digit here) then (if lies 1 12 n then says (Some (n - 1), rest_after) else error MonthOutOfRange)
+    else named_month rest_after
 
 -- white space, no-break spaces too, and hyphens
-abbrev pub is_gap : ℕ → Bool
-is_gap c = is_whitespace c || c == 45
+abbrev pub is_separator : ℕ → Bool
+is_separator c = is_whitespace c || c == char.hyphen
 
--- what stands behind the longest run of these
-abbrev pub behind_gap : List ℕ → List ℕ
-behind_gap text = encode_utf8_all (behind is_gap (chars text))
+-- what stands after the longest run of these
+abbrev pub after_gap : List ℕ → List ℕ
+after_gap text = encode_utf8_all (rest_after is_separator (chars text))
 
 -- a day from 1 to 31, counted from 0
 abbrev pub day_number : List ℕ → Option ℕ
 day_number digits = if lies 1 31 (digits_value 10 digits) then Some (digits_value 10 digits - 1) else None
 
-abbrev pub told_day : Option ℕ → Reading (Option ℕ)
-told_day (Some day) = says (Some day)
-told_day None = fault DayOutOfRange
+abbrev pub reported_day : Option ℕ → Reading (Option ℕ)
+reported_day (Some day) = says (Some day)
+reported_day None = error DayOutOfRange
 
-abbrev pub untold_day : Option ℕ → Reading (Option ℕ)
-untold_day (Some day) = says (Some day)
-untold_day None = unread
+abbrev pub unreported_day : Option ℕ → Reading (Option ℕ)
+unreported_day (Some day) = says (Some day)
+unreported_day None = unread
 
--- the day behind a month: digits behind a gap; without a gap there is no day
-unfoldable pub day_behind : List ℕ → Reading (Option ℕ)
-day_behind text =
-    let here = behind_gap text in
+-- the day after a month: digits after a gap; without a gap there is no day
+unfoldable pub day_after : List ℕ → Reading (Option ℕ)
+day_after text =
+    let here = after_gap text in
     if length here == length text then says None
     else if prefix_len is_ascii_digit here == 0 then unread
-    else told_day (day_number (run is_ascii_digit here))
+    else reported_day (day_number (run is_ascii_digit here))
 
 -- digits alone
 unfoldable pub only_day : List ℕ → Reading (Option ℕ)
 only_day text =
-    if length (behind_run is_ascii_digit text) == 0 then untold_day (day_number (run is_ascii_digit text)) else unread
+    if length (after_run is_ascii_digit text) == 0 then unreported_day (day_number (run is_ascii_digit text)) else unread
 
 -- the day field: a decimal from 1 to 31, with an optional plus
 unfoldable pub day_field : List ℕ → Reading (Option ℕ)
-day_field text = if begins 43 (trim text) then only_day (drop 1 (trim text)) else only_day (trim text)
+day_field text = if begins_with char.plus (trim text) then only_day (drop 1 (trim text)) else only_day (trim text)
 
 -- the day, in a field of its own if there is one
 abbrev pub day_of : Option (List ℕ) → List ℕ → Reading (Option ℕ)
-day_of None behind = day_behind behind
-day_of (Some text) behind = day_field text
+day_of None rest_after = day_after rest_after
+day_of (Some text) rest_after = day_field text
 
--- a month, and the day of its own field or behind the month
+-- a month, and the day of its own field or after the month
 unfoldable pub month_with_day : List ℕ → Option (List ℕ) → Reading (Option ℕ × Option ℕ)
 month_with_day text day = do
   month ← month_field text

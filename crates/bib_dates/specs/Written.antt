@@ -8,10 +8,11 @@ use Rattle.bib_dates.specs.declared.date.Date.{Date}
 use Rattle.bib_dates.specs.declared.date.DateValue.{DateValue}
 use Rattle.bib_dates.specs.declared.date.DateValue.TheVariants.{At, After, Before, Between}
 use Rattle.bib_dates.specs.declared.date.Datetime.{Datetime}
+use Rattle.bib_text.specs.Characters as char
 
--- zeros, so that the number behind them has at least so many digits
+-- zeros, so that the number after them has at least so many digits
 abbrev pub zeros : ℕ → ℕ → List ℕ
-zeros width n = replicate (width - length (decimal n)) 48
+zeros width n = replicate (width - length (decimal n)) char.zero
 
 -- a number in at least so many digits
 abbrev pub padded : ℕ → ℕ → List ℕ
@@ -19,17 +20,17 @@ padded width n = zeros width n ++ decimal n
 
 -- a year in at least four digits, with a sign if it is negative
 abbrev pub year_text : ℤ → List ℕ
-year_text y = if is_negative y then 45 ∷ padded 4 (unsigned_abs y) else padded 4 (unsigned_abs y)
+year_text y = if is_negative y then char.hyphen ∷ padded 4 (unsigned_abs y) else padded 4 (unsigned_abs y)
 
 -- a month or a day, which counts from 0, by its number in at least two digits
 abbrev pub count_text : ℕ → List ℕ
 count_text n = padded 2 (n + 1)
 
--- a month and a day, each behind a hyphen: a day without a month isn't written
+-- a month and a day, each after a hyphen: a day without a month isn't written
 abbrev pub month_day_text : Option ℕ → Option ℕ → List ℕ
 month_day_text None day = []
-month_day_text (Some m) None = 45 ∷ count_text m
-month_day_text (Some m) (Some d) = (45 ∷ count_text m) ++ (45 ∷ count_text d)
+month_day_text (Some m) None = char.hyphen ∷ count_text m
+month_day_text (Some m) (Some d) = (char.hyphen ∷ count_text m) ++ (char.hyphen ∷ count_text d)
 
 -- a date without its time
 abbrev pub datetime_text : Datetime → List ℕ
@@ -42,7 +43,7 @@ mark_text true false = codes "?"
 mark_text false true = codes "~"
 mark_text false false = []
 
--- a date or a range, and the mark behind it
+-- a date or a range, and the mark after it
 abbrev pub value_text : DateValue → List ℕ → List ℕ
 value_text (At d) mark = datetime_text d ++ mark
 value_text (After d) mark = datetime_text d ++ (codes "/.." ++ mark)

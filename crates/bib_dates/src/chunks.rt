@@ -5,11 +5,11 @@ ghost use Rattle.std.specs.Option.{option_map};
 ghost use Rattle.bib_chunks.specs.Values.{text};
 ghost use Rattle.bib_dates.specs.Code.{reading};
 ghost use Rattle.bib_dates.specs.ThreeFields as Fields;
-ghost use Rattle.bib_dates.specs.Chunks.{IsAnswer, date_reading, date_written, three_fields_reading};
+ghost use Rattle.bib_dates.specs.Chunks.{AnswersReading, date_reading, date_written, three_fields_reading};
 
 use crate::date::{Date, DateValue, Datetime};
-use crate::faults::{Fault, Why};
-use crate::fields::{day_behind, day_field, day_place, month_field, year_field};
+use crate::errors::{DateErrorKind, ReadError};
+use crate::fields::{day_after, day_field, day_place, month_field, year_field};
 use crate::read::marked;
 use crate::write;
 use bib_chunks::chunk::making::normal;
@@ -18,18 +18,18 @@ use bib_enums::type_error::TypeError;
 use std::alloc::{AllocError, Global};
 
 // What was read of the text of chunks, or their refusal.
-fn found<T: Drop>(read: Result<T, Fault>, span: Span) -> Result<T, TypeError>
-    ensures { IsAnswer (reading read) result }
+fn found<T: Drop>(read: Result<T, ReadError>, span: Span) -> Result<T, TypeError>
+    ensures { AnswersReading (reading read) result }
 {
     match read {
         Ok(value) => Ok(value),
-        Err(Fault::Told(why)) => Err(TypeError {
+        Err(ReadError::Specified(reason)) => Err(TypeError {
             span,
-            kind: why.kind(),
+            kind: reason.kind(),
         }),
-        Err(Fault::Untold(why)) => Err(TypeError {
+        Err(ReadError::Unspecified(reason)) => Err(TypeError {
             span,
-            kind: why.kind(),
+            kind: reason.kind(),
         }),
     }
 }
@@ -41,17 +41,17 @@ impl Date {
     /// a day has no such time, with `WrongNumberOfDigits` where more than four digits stand before an `X`, and else with
     /// a kind that isn't promised.
     pub fn parse(alloc: Global, chunks: ChunksRef<'_>) -> Result<Date, TypeError>
-        ensures { IsAnswer (date_reading chunks.now) result }
+        ensures { AnswersReading (date_reading chunks.now) result }
     {
         let mut text = format_verbatim(alloc, chunks)?;
         text.make_ascii_uppercase();
         found(marked(text.as_str().trim_end()), whole_span(chunks))
     }
 
-    /// The date that the formatted texts of a year, a month and a day are. The year may have an era behind it, and the
-    /// month may be a name; without a field of its own, the day may stand behind the month. Refused with
-    /// `MonthOutOfRange` where there is no such month, with `DayOutOfRange` where no month has the day behind the month,
-    /// with `YearZeroCE` where the year 0 has an era, with `InvalidFormat` where a sign has an era or is parted from its
+    /// The date that the formatted texts of a year, a month and a day are. The year may have an era after it, and the
+    /// month may be a name; without a field of its own, the day may stand after the month. Refused with
+    /// `MonthOutOfRange` where there is no such month, with `DayOutOfRange` where no month has the day after the month,
+    /// with `YearZeroCE` where the year 0 has an era, with `InvalidFormat` where a sign has an era or is separated from its
     /// digits, and else with a kind that isn't promised.
     pub fn parse_three_fields(
         alloc: Global,
@@ -59,7 +59,7 @@ impl Date {
         month: Option<ChunksRef<'_>>,
         day: Option<ChunksRef<'_>>,
     ) -> Result<Date, TypeError>
-        ensures { IsAnswer (three_fields_reading year.now
+        ensures { AnswersReading (three_fields_reading year.now
             (option_copied month.entry) (option_copied day.entry)) result }
     {
         let year = year_of(alloc, year)?;
@@ -80,7 +80,7 @@ impl Date {
 
 // The year that chunks are.
 fn year_of(alloc: Global, chunks: ChunksRef<'_>) -> Result<i32, TypeError>
-    ensures { IsAnswer (Fields.year_field (text chunks.now)) result }
+    ensures { AnswersReading (Fields.year_field (text chunks.now)) result }
 {
     let text = format_verbatim(alloc, chunks)?;
     found(year_field(text.as_str()), whole_span(chunks))
@@ -88,31 +88,31 @@ fn year_of(alloc: Global, chunks: ChunksRef<'_>) -> Result<i32, TypeError>
 
 // The day that chunks are.
 fn day_of(alloc: Global, chunks: ChunksRef<'_>) -> Result<Option<u8>, TypeError>
-    ensures { IsAnswer (Fields.day_field (text chunks.now)) result }
+    ensures { AnswersReading (Fields.day_field (text chunks.now)) result }
 {
     let text = format_verbatim(alloc, chunks)?;
     let span = whole_span(chunks);
-    let why = if span.start < span.end {
-        Why::InvalidNumber
+    let reason = if span.start < span.end {
+        DateErrorKind::InvalidNumber
     } else {
-        Why::MissingNumber
+        DateErrorKind::MissingNumber
     };
-    found(day_field(text.as_str(), why), span)
+    found(day_field(text.as_str(), reason), span)
 }
 
-// The month that chunks are, and the day in chunks of its own, or else behind the month.
+// The month that chunks are, and the day in chunks of its own, or else after the month.
 fn month_and_day_of(
     alloc: Global,
     month: ChunksRef<'_>,
     day: Option<ChunksRef<'_>>,
 ) -> Result<(Option<u8>, Option<u8>), TypeError>
-    ensures { IsAnswer (Fields.month_with_day (text month.now)
+    ensures { AnswersReading (Fields.month_with_day (text month.now)
         (option_map text (option_copied day.entry))) result }
 {
     let text = format_verbatim(alloc, month)?;
-    let (number, behind) = found(month_field(text.as_str()), whole_span(month))?;
+    let (number, following) = found(month_field(text.as_str()), whole_span(month))?;
     let Some(day) = day else {
-        let day = found(day_behind(behind), day_place(text.as_str(), behind))?;
+        let day = found(day_after(following), day_place(text.as_str(), following))?;
         return Ok((number, day));
     };
     let day = day_of(alloc, day)?;
@@ -125,7 +125,7 @@ fn month_and_day(
     month: Option<ChunksRef<'_>>,
     day: Option<ChunksRef<'_>>,
 ) -> Result<(Option<u8>, Option<u8>), TypeError>
-    ensures { IsAnswer (Fields.month_and_day (option_map text (option_copied month.entry))
+    ensures { AnswersReading (Fields.month_and_day (option_map text (option_copied month.entry))
         (option_map text (option_copied day.entry))) result }
 {
     let Some(month) = month else {

@@ -63,7 +63,7 @@ pub struct Time {
 pub enum TimeOffset {
     /// UTC.
     Utc,
-    /// Ahead of UTC or behind it.
+    /// Ahead of UTC or after it.
     Offset {
         /// Whether it is ahead.
         positive: bool,
@@ -104,7 +104,7 @@ impl Eq for TimeOffset {
 }
 
 impl TimeOffset {
-    /// The offset of so many hours and minutes ahead of UTC, or behind it.
+    /// The offset of so many hours and minutes ahead of UTC, or after it.
     pub fn offset(positive: bool, hours: u8, minutes: u8) -> TimeOffset
         ensures { result ≡ Offset positive hours minutes }
     {
@@ -115,7 +115,7 @@ impl TimeOffset {
         }
     }
 
-    /// The offset of so many hours ahead of UTC; of a number below zero, behind it.
+    /// The offset of so many hours ahead of UTC; of a number below zero, after it.
     pub fn offset_hour(hour: i32) -> TimeOffset
         requires low { neg_ℤ (pos 255) ≤ℤ hour }
         requires high { hour ≤ℤ pos 255 }

@@ -1,27 +1,27 @@
-// The reader of a date in three fields: each function reads a part from the front of a text, and gives it with the rest.
+// The reader of a date in three fields: each function reads a part from the prefix of a text, and gives it with the rest.
 
 ghost use Rattle.std.specs.Prelude.{◌≡◌, ◌<◌, ◌-◌, ◌&&◌, length, is_some, IfSome, drop, codes};
 ghost use Rattle.std.specs.List.{prefix_len};
 ghost use Rattle.std.specs.Char.{is_ascii_alphabetic};
 ghost use Rattle.std.specs.Str.Parse.{AllDigits};
-ghost use Rattle.bib_dates.specs.Code.{reading, part};
+ghost use Rattle.bib_dates.specs.Code.{reading, parsed};
 ghost use Rattle.bib_dates.specs.Parts;
 ghost use Rattle.bib_dates.specs.Readings.Reading.{says};
 ghost use Rattle.bib_dates.specs.ThreeFields as Spec;
 
-use crate::faults::{Fault, Why};
+use crate::errors::{DateErrorKind, ReadError};
 use crate::parts::{after, digits, sign, signed, value};
 use bib_chunks::chunk::Span;
 use bib_text::scanner::Scanner;
 
-// Whether white space stands at the front.
+// Whether white space stands at the start.
 fn starts_blank(text: &str) -> bool
     ensures { result ≡ Spec.starts_blank text.now }
 {
     text.trim_start().len() != text.len()
 }
 
-// Whether a letter or a number stands at the front.
+// Whether a letter or a number stands at the start.
 fn starts_word(text: &str) -> bool
     ensures { result ≡ Spec.starts_word text.now }
 {
@@ -31,82 +31,82 @@ fn starts_word(text: &str) -> bool
     first.is_alphabetic() || first.is_numeric()
 }
 
-// What stands behind these two bytes.
+// What stands after these two bytes.
 fn after_two(text: &str, first: u8, second: u8) -> Option<&str>
     requires some { 0 < first }
     requires ascii { first < 128 }
     requires other { 0 < second }
     requires low { second < 128 }
-    ensures stands { is_some result ≡ (Parts.begins first text.now && Parts.begins second (drop 1 text.now)) }
-    ensures behind { IfSome result (λ r. r.now ≡ drop 1 (drop 1 text.now)) }
+    ensures stands { is_some result ≡ (Parts.begins_with first text.now && Parts.begins_with second (drop 1 text.now)) }
+    ensures following { IfSome result (λ r. r.now ≡ drop 1 (drop 1 text.now)) }
 {
-    let behind = after(text, first)?;
-    after(behind, second)
+    let following = after(text, first)?;
+    after(following, second)
 }
 
-// What stands behind `BCE`.
+// What stands after `BCE`.
 fn after_bce(text: &str) -> Option<&str>
     ensures stands { is_some result ≡ Spec.stands (codes "BCE") text.now }
-    ensures behind { IfSome result (λ r. r.now ≡ Spec.behind_word (codes "BCE") text.now) }
+    ensures following { IfSome result (λ r. r.now ≡ Spec.after_word (codes "BCE") text.now) }
 {
-    let behind = after(text, b'B')?;
-    after_two(behind, b'C', b'E')
+    let following = after(text, b'B')?;
+    after_two(following, b'C', b'E')
 }
 
-// The year of an era, behind whose name this text stands.
+// The year of an era, after whose name this text stands.
 #[tactic(auto, unfolding(crate::specs::ThreeFields::of_era))]
-fn of_era(has_sign: bool, n: u16, year: i32, behind: &str) -> Result<i32, Fault>
-    ensures { reading result ≡ Spec.of_era has_sign n year behind.now }
+fn of_era(has_sign: bool, n: u16, year: i32, following: &str) -> Result<i32, ReadError>
+    ensures { reading result ≡ Spec.of_era has_sign n year following.now }
 {
-    if starts_word(behind) {
-        return Err(Fault::Untold(Why::InvalidFormat));
+    if starts_word(following) {
+        return Err(ReadError::Unspecified(DateErrorKind::InvalidFormat));
     }
     if has_sign {
-        return Err(Fault::Told(Why::InvalidFormat));
+        return Err(ReadError::Specified(DateErrorKind::InvalidFormat));
     }
     if n == 0 {
-        return Err(Fault::Told(Why::YearZeroCE));
+        return Err(ReadError::Specified(DateErrorKind::YearZeroCE));
     }
     Ok(year)
 }
 
-// The year of this number and sign, and of the era that may stand behind it.
+// The year of this number and sign, and of the era that may stand after it.
 #[tactic(auto, unfolding(crate::specs::ThreeFields::with_era))]
-fn with_era(has_sign: bool, is_minus: bool, n: u16, text: &str) -> Result<i32, Fault>
+fn with_era(has_sign: bool, is_minus: bool, n: u16, text: &str) -> Result<i32, ReadError>
     requires { n < 10000 }
     ensures { reading result ≡ Spec.with_era has_sign is_minus n text.now }
 {
-    if let Some(behind) = after_two(text, b'A', b'D') {
-        return of_era(has_sign, n, i32::from(n), behind);
+    if let Some(following) = after_two(text, b'A', b'D') {
+        return of_era(has_sign, n, i32::from(n), following);
     }
-    if let Some(behind) = after_two(text, b'C', b'E') {
-        return of_era(has_sign, n, i32::from(n), behind);
+    if let Some(following) = after_two(text, b'C', b'E') {
+        return of_era(has_sign, n, i32::from(n), following);
     }
-    if let Some(behind) = after_bce(text) {
-        return of_era(has_sign, n, 1 - i32::from(n), behind);
+    if let Some(following) = after_bce(text) {
+        return of_era(has_sign, n, 1 - i32::from(n), following);
     }
-    if let Some(behind) = after_two(text, b'B', b'C') {
-        return of_era(has_sign, n, 1 - i32::from(n), behind);
+    if let Some(following) = after_two(text, b'B', b'C') {
+        return of_era(has_sign, n, 1 - i32::from(n), following);
     }
     Ok(signed(is_minus, n))
 }
 
 // The year of a field.
 #[tactic(auto, unfolding(crate::specs::ThreeFields::year_field))]
-pub(crate) fn year_field(text: &str) -> Result<i32, Fault>
+pub(crate) fn year_field(text: &str) -> Result<i32, ReadError>
     ensures { reading result ≡ Spec.year_field text.now }
 {
     let here = text.trim_start();
-    let (is_minus, behind) = sign(here);
-    let has_sign = behind.len() != here.len();
-    if has_sign && starts_blank(behind) {
-        return Err(Fault::Told(Why::InvalidFormat));
+    let (is_minus, following) = sign(here);
+    let has_sign = following.len() != here.len();
+    if has_sign && starts_blank(following) {
+        return Err(ReadError::Specified(DateErrorKind::InvalidFormat));
     }
-    let (digits, behind) = digits(behind);
+    let (digits, following) = digits(following);
     if digits.len() < 1 || 4 < digits.len() {
-        return Err(Fault::Untold(Why::WrongNumberOfDigits));
+        return Err(ReadError::Unspecified(DateErrorKind::WrongNumberOfDigits));
     }
-    with_era(has_sign, is_minus, value(digits), behind.trim_start())
+    with_era(has_sign, is_minus, value(digits), following.trim_start())
 }
 
 // Whether a word is this name or its first letters, in any case.
@@ -150,7 +150,7 @@ fn month_named(word: &str) -> Option<u8>
     }
 }
 
-// How many letters stand at the front.
+// How many letters stand at the start.
 fn letters_len(text: &str) -> usize
     ensures { result ≡ prefix_len is_ascii_alphabetic text.now }
 {
@@ -160,41 +160,41 @@ fn letters_len(text: &str) -> usize
         .count()
 }
 
-// The letters at the front, and what stands behind them.
+// The letters at the start, and what stands after them.
 fn letters(text: &str) -> (&str, &str)
     ensures run { result.0.now ≡ Parts.run is_ascii_alphabetic text.now }
-    ensures behind { result.1.now ≡ Parts.behind_run is_ascii_alphabetic text.now }
+    ensures following { result.1.now ≡ Parts.after_run is_ascii_alphabetic text.now }
 {
     text.split_at(letters_len(text))
 }
 
-// The month that the letters at the front name, and what stands behind them.
+// The month that the letters at the start name, and what stands after them.
 fn named_month(text: &str) -> (Option<u8>, &str)
     ensures { says (result.0, result.1.now) ≡ Spec.named_month text.now }
 {
-    let (word, behind) = letters(text);
-    (month_named(word), behind)
+    let (word, following) = letters(text);
+    (month_named(word), following)
 }
 
-// The month of a field, and what stands behind it.
+// The month of a field, and what stands after it.
 #[tactic(auto, unfolding(crate::specs::ThreeFields::month_field))]
-pub(crate) fn month_field(text: &str) -> Result<(Option<u8>, &str), Fault>
-    ensures { part result ≡ Spec.month_field text.now }
+pub(crate) fn month_field(text: &str) -> Result<(Option<u8>, &str), ReadError>
+    ensures { parsed result ≡ Spec.month_field text.now }
 {
-    let (digits, behind) = digits(text.trim_start());
+    let (digits, following) = digits(text.trim_start());
     if digits.len() < 1 || 2 < digits.len() {
-        return Ok(named_month(behind));
+        return Ok(named_month(following));
     }
     let n = value(digits);
     if n < 1 || 12 < n {
-        return Err(Fault::Told(Why::MonthOutOfRange));
+        return Err(ReadError::Specified(DateErrorKind::MonthOutOfRange));
     }
-    Ok((Some(n as u8 - 1), behind))
+    Ok((Some(n as u8 - 1), following))
 }
 
-// What stands behind a run of white space and hyphens.
-fn behind_gap(text: &str) -> &str
-    ensures { result.now ≡ Spec.behind_gap text.now }
+// What stands after a run of white space and hyphens.
+fn after_gap(text: &str) -> &str
+    ensures { result.now ≡ Spec.after_gap text.now }
 {
     let mut scanner = Scanner::new(text);
     scanner.eat_while(|c| c.is_whitespace() || c == '-');
@@ -202,11 +202,11 @@ fn behind_gap(text: &str) -> &str
     &text[at..]
 }
 
-// Where the digits of a day behind a month stand, in bytes of the month's text.
-pub(crate) fn day_place(text: &str, behind: &str) -> Span
-    ensures { result.start ≡ length text.now - length (Spec.behind_gap behind.now) }
+// Where the digits of a day after a month stand, in bytes of the month's text.
+pub(crate) fn day_place(text: &str, following: &str) -> Span
+    ensures { result.start ≡ length text.now - length (Spec.after_gap following.now) }
 {
-    let here = behind_gap(behind);
+    let here = after_gap(following);
     let (digits, _) = digits(here);
     let start = text.len().saturating_sub(here.len());
     start..start.saturating_add(digits.len())
@@ -226,56 +226,56 @@ fn day_number(digits: &str) -> Option<u8>
     Some(day - 1)
 }
 
-// The day behind a month.
-#[tactic(auto, unfolding(crate::specs::ThreeFields::day_behind))]
-pub(crate) fn day_behind(text: &str) -> Result<Option<u8>, Fault>
-    ensures { reading result ≡ Spec.day_behind text.now }
+// The day after a month.
+#[tactic(auto, unfolding(crate::specs::ThreeFields::day_after))]
+pub(crate) fn day_after(text: &str) -> Result<Option<u8>, ReadError>
+    ensures { reading result ≡ Spec.day_after text.now }
 {
-    let here = behind_gap(text);
+    let here = after_gap(text);
     if here.len() == text.len() {
         return Ok(None);
     }
     let (digits, _) = digits(here);
     if digits.is_empty() {
-        return Err(Fault::Untold(Why::MissingNumber));
+        return Err(ReadError::Unspecified(DateErrorKind::MissingNumber));
     }
     let Some(day) = day_number(digits) else {
-        return Err(Fault::Told(Why::DayOutOfRange));
+        return Err(ReadError::Specified(DateErrorKind::DayOutOfRange));
     };
     Ok(Some(day))
 }
 
 // Why digits alone are no day: a number of eight bits is out of range, and another text is refused for this reason.
-fn no_day(digits: &str, why: Why) -> Why {
+fn no_day(digits: &str, reason: DateErrorKind) -> DateErrorKind {
     match digits.parse::<u8>() {
-        Ok(_) => Why::DayOutOfRange,
-        Err(_) => why,
+        Ok(_) => DateErrorKind::DayOutOfRange,
+        Err(_) => reason,
     }
 }
 
 // A day in digits alone; other texts are refused for this reason.
 #[tactic(auto, unfolding(crate::specs::ThreeFields::only_day))]
-fn only_day(text: &str, why: Why) -> Result<Option<u8>, Fault>
+fn only_day(text: &str, reason: DateErrorKind) -> Result<Option<u8>, ReadError>
     ensures { reading result ≡ Spec.only_day text.now }
 {
-    let (digits, behind) = digits(text);
-    if !behind.is_empty() {
-        return Err(Fault::Untold(why));
+    let (digits, following) = digits(text);
+    if !following.is_empty() {
+        return Err(ReadError::Unspecified(reason));
     }
     let Some(day) = day_number(digits) else {
-        return Err(Fault::Untold(no_day(digits, why)));
+        return Err(ReadError::Unspecified(no_day(digits, reason)));
     };
     Ok(Some(day))
 }
 
 // The day of a field of its own; what is no number is refused for this reason.
 #[tactic(auto, unfolding(crate::specs::ThreeFields::day_field))]
-pub(crate) fn day_field(text: &str, why: Why) -> Result<Option<u8>, Fault>
+pub(crate) fn day_field(text: &str, reason: DateErrorKind) -> Result<Option<u8>, ReadError>
     ensures { reading result ≡ Spec.day_field text.now }
 {
     let here = text.trim();
-    if let Some(behind) = after(here, b'+') {
-        return only_day(behind, why);
+    if let Some(following) = after(here, b'+') {
+        return only_day(following, reason);
     }
-    only_day(here, why)
+    only_day(here, reason)
 }

@@ -4,12 +4,12 @@ ghost use Rattle.std.specs.Prelude.{◌≡◌, ◌↔◌, ◌≢◌, ◌<ℤ◌,
 ghost use Rattle.std.specs.declared.cmp.Ordering.TheVariants.{Less, Equal};
 ghost use Rattle.bib_enums.specs.declared.type_error.TypeErrorKind.{TypeErrorKind as AKind};
 ghost use Rattle.bib_dates.specs.Readings.{Reading, IsDateKind, MayRefuse};
-ghost use Rattle.bib_dates.specs.Readings.Reading.{says, fault};
+ghost use Rattle.bib_dates.specs.Readings.Reading.{says, error};
 ghost use Rattle.bib_dates.specs.Dates.{date_of};
 ghost use Rattle.bib_dates.specs.ThreeFields.{three_fields_of};
 ghost use Rattle.bib_dates.specs.Written.{date_text};
-ghost use Rattle.bib_dates.specs.Anew.{date_anew};
-ghost use Rattle.bib_dates.specs.Kept.{IsKept};
+ghost use Rattle.bib_dates.specs.Rewritten.{rewritten_date};
+ghost use Rattle.bib_dates.specs.Kept.{IsKeptDate};
 ghost use Rattle.bib_dates.specs.Orders.{utc_seconds, time_cmp, datetime_cmp};
 ghost use Rattle.bib_dates.specs.declared.date.Date.{Date as ADate};
 ghost use Rattle.bib_dates.specs.declared.date.Datetime.{Datetime as ADatetime};
@@ -18,16 +18,16 @@ ghost use Rattle.bib_dates.specs.declared.date.Time.{Time as ATime};
 /// Each date that is kept is read back from its text, and its text is written anew as it stands. The dates of years from
 /// -9999 to 9999 are kept whose months and days exist, where no day lacks its month, and that have no time.
 pub fn dates_survive()
-    ensures read { (d : ADate) → IsKept d → date_of (date_text d) ≡ says d }
-    ensures written { (d : ADate) → IsKept d → date_anew (date_text d) ≡ Some (date_text d) }
+    ensures read { (d : ADate) → IsKeptDate d → date_of (date_text d) ≡ says d }
+    ensures written { (d : ADate) → IsKeptDate d → rewritten_date (date_text d) ≡ Some (date_text d) }
 {}
 
-/// Each error of a date, want of memory aside, is of a kind that dates have; so each kind that is promised is one.
+/// Each error of a date, out of memory aside, is of a kind that dates have; so each kind that is promised is one.
 pub fn dates_have_few_kinds()
     ensures error { (reading : Reading ADate) (kind : AKind) → MayRefuse reading kind → IsDateKind kind }
-    ensures date { (text : List ℕ) (kind : AKind) → date_of text ≡ fault kind → IsDateKind kind }
+    ensures date { (text : List ℕ) (kind : AKind) → date_of text ≡ error kind → IsDateKind kind }
     ensures three_fields { (year : List ℕ) (month day : Option (List ℕ)) (kind : AKind) →
-        three_fields_of year month day ≡ fault kind → IsDateKind kind }
+        three_fields_of year month day ≡ error kind → IsDateKind kind }
 {}
 
 /// Of two times that both have an offset or both lack it, the one is earlier whose seconds are fewer; where one alone has

@@ -1,21 +1,21 @@
-// The parts of dates: each function reads one from the front of a text, and gives it with the rest.
+// The parts of dates: each function reads one from the prefix of a text, and gives it with the rest.
 
 ghost use Rattle.std.specs.Prelude.{◌≡◌, ◌<◌, ◌≤◌, pos, neg_ℤ, ◌≤ℤ◌, ◌==◌, IfOk, IfSome, is_some, length, drop};
 ghost use Rattle.std.specs.List.{prefix_len};
 ghost use Rattle.std.specs.Char.{is_ascii_digit};
 ghost use Rattle.std.specs.Str.Parse.{digits_value, AllDigits};
 ghost use Rattle.jiff_core.specs.Calendar.{IsYear};
-ghost use Rattle.bib_dates.specs.Code.{part, rest, kind_of};
+ghost use Rattle.bib_dates.specs.Code.{parsed, rest, error_kind_of};
 ghost use Rattle.bib_dates.specs.Parts as Spec;
 
-use crate::faults::{Fault, Why};
+use crate::errors::{DateErrorKind, ReadError};
 
-// What stands behind this byte, if it stands at the front.
+// What stands after this byte, if it stands at the start.
 pub(crate) fn after(text: &str, byte: u8) -> Option<&str>
     requires some { 0 < byte }
     requires ascii { byte < 128 }
-    ensures begins { is_some result ≡ Spec.begins byte text.now }
-    ensures behind { IfSome result (λ r. r.now ≡ drop 1 text.now) }
+    ensures begins { is_some result ≡ Spec.begins_with byte text.now }
+    ensures following { IfSome result (λ r. r.now ≡ drop 1 text.now) }
 {
     match text.as_bytes() {
         [first, ..] if *first == byte => Some(text.split_at(1).1),
@@ -23,7 +23,7 @@ pub(crate) fn after(text: &str, byte: u8) -> Option<&str>
     }
 }
 
-// How many digits stand at the front.
+// How many digits stand at the start.
 fn digits_len(text: &str) -> usize
     ensures { result ≡ prefix_len is_ascii_digit text.now }
 {
@@ -33,32 +33,32 @@ fn digits_len(text: &str) -> usize
         .count()
 }
 
-// The digits at the front, and what stands behind them.
+// The digits at the start, and what stands after them.
 pub(crate) fn digits(text: &str) -> (&str, &str)
     ensures run { result.0.now ≡ Spec.run is_ascii_digit text.now }
     ensures len { length result.0.now ≡ prefix_len is_ascii_digit text.now }
     ensures digits { AllDigits 10 result.0.now }
-    ensures behind { result.1.now ≡ Spec.behind_run is_ascii_digit text.now }
+    ensures following { result.1.now ≡ Spec.after_run is_ascii_digit text.now }
 {
     text.split_at(digits_len(text))
 }
 
-// How often this byte stands at the front.
+// How often this byte stands at the start.
 fn byte_run_len(text: &str, byte: u8) -> usize
     ensures { result ≡ prefix_len (λ b. b == byte) text.now }
 {
     text.as_bytes().iter().take_while(|b| **b == byte).count()
 }
 
-// How often this byte stands at the front, and what stands behind.
+// How often this byte stands at the start, and what stands after.
 pub(crate) fn byte_run(text: &str, byte: u8) -> (usize, &str)
     requires { byte < 128 }
     ensures len { result.0 ≡ prefix_len (λ b. b == byte) text.now }
-    ensures behind { result.1.now ≡ Spec.behind_run (λ b. b == byte) text.now }
+    ensures following { result.1.now ≡ Spec.after_run (λ b. b == byte) text.now }
 {
     let len = byte_run_len(text, byte);
-    let (_, behind) = text.split_at(len);
-    (len, behind)
+    let (_, following) = text.split_at(len);
+    (len, following)
 }
 
 // The number that at most four digits are.
@@ -76,72 +76,82 @@ pub(crate) fn value(digits: &str) -> u16
 
 // A number of so many digits; of another count, it is refused for this reason.
 #[tactic(auto, unfolding(crate::specs::Parts::number))]
-pub(crate) fn number(low: usize, high: usize, why: Why, text: &str) -> Result<(u16, &str), Fault>
+pub(crate) fn number(
+    low: usize,
+    high: usize,
+    reason: DateErrorKind,
+    text: &str,
+) -> Result<(u16, &str), ReadError>
     requires some { 0 < low }
     requires few { high ≤ 4 }
-    ensures value { part result ≡ Spec.number low high text.now }
+    ensures value { parsed result ≡ Spec.number low high text.now }
     ensures short { high ≤ 2 → IfOk result (λ p. p.0 < 100) }
 {
-    let (digits, behind) = digits(text.trim_start());
+    let (digits, following) = digits(text.trim_start());
     if digits.len() < low || high < digits.len() {
-        return Err(Fault::Untold(why));
+        return Err(ReadError::Unspecified(reason));
     }
-    Ok((value(digits), behind))
+    Ok((value(digits), following))
 }
 
 // A number of one or two digits, in these bounds; another is refused for this reason.
 #[tactic(auto, unfolding(crate::specs::Parts::small_number))]
-pub(crate) fn small_number(low: u8, high: u8, why: Why, text: &str) -> Result<(u8, &str), Fault>
-    ensures value { part result ≡ Spec.small_number low high (kind_of why) text.now }
+pub(crate) fn small_number(
+    low: u8,
+    high: u8,
+    reason: DateErrorKind,
+    text: &str,
+) -> Result<(u8, &str), ReadError>
+    ensures value { parsed result ≡ Spec.small_number low high (error_kind_of reason) text.now }
     ensures within { IfOk result (λ p. (low ≤ p.0) × (p.0 ≤ high)) }
 {
-    let (n, behind) = number(1, 2, Why::InvalidFormat, text)?;
+    let (n, following) = number(1, 2, DateErrorKind::InvalidFormat, text)?;
     if n < u16::from(low) || u16::from(high) < n {
-        return Err(Fault::Told(why));
+        return Err(ReadError::Specified(reason));
     }
-    Ok((n as u8, behind))
+    Ok((n as u8, following))
 }
 
-// What stands behind this byte at the front.
-pub(crate) fn behind_byte(text: &str, byte: u8, why: Why) -> Result<&str, Fault>
+// What stands after this byte at the start.
+pub(crate) fn after_byte(text: &str, byte: u8, reason: DateErrorKind) -> Result<&str, ReadError>
     requires some { 0 < byte }
     requires ascii { byte < 128 }
-    ensures { rest result ≡ Spec.behind_byte byte text.now }
+    ensures { rest result ≡ Spec.after_byte byte text.now }
 {
     match after(text, byte) {
-        Some(behind) => Ok(behind),
-        None => Err(Fault::Untold(why)),
+        Some(following) => Ok(following),
+        None => Err(ReadError::Unspecified(reason)),
     }
 }
 
-// What stands behind a colon, with white space before it.
-pub(crate) fn behind_colon(text: &str) -> Result<&str, Fault>
-    ensures { rest result ≡ Spec.behind_colon text.now }
+// What stands after a colon, with white space before it.
+pub(crate) fn after_colon(text: &str) -> Result<&str, ReadError>
+    ensures { rest result ≡ Spec.after_colon text.now }
 {
-    behind_byte(text.trim_start(), b':', Why::InvalidFormat)
+    after_byte(text.trim_start(), b':', DateErrorKind::InvalidFormat)
 }
 
-// What stands behind a run of hyphens, with white space before it; without hyphens, it is refused for this reason.
-#[tactic(auto, unfolding(crate::specs::Parts::behind_hyphens))]
-pub(crate) fn behind_hyphens(text: &str, why: Why) -> Result<&str, Fault>
-    ensures { rest result ≡ Spec.behind_hyphens text.now }
+// What stands after a run of hyphens, with white space before it; without hyphens, it is refused for this reason.
+#[tactic(auto, unfolding(crate::specs::Parts::after_hyphens))]
+pub(crate) fn after_hyphens(text: &str, reason: DateErrorKind) -> Result<&str, ReadError>
+    ensures { rest result ≡ Spec.after_hyphens text.now }
 {
-    let behind = behind_byte(text.trim_start(), b'-', why)?;
-    let (_, behind) = byte_run(behind, b'-');
-    Ok(behind)
+    let following = after_byte(text.trim_start(), b'-', reason)?;
+    let (_, following) = byte_run(following, b'-');
+    Ok(following)
 }
 
-// Whether a minus stands at the front, and what stands behind a sign.
+// Whether a minus stands at the start, and what stands after a sign.
 #[tactic(auto, unfolding(crate::specs::Parts::sign))]
 pub(crate) fn sign(text: &str) -> (bool, &str)
     ensures minus { result.0 ≡ (Spec.sign text.now).0 }
-    ensures behind { result.1.now ≡ (Spec.sign text.now).1 }
+    ensures following { result.1.now ≡ (Spec.sign text.now).1 }
 {
-    if let Some(behind) = after(text, b'-') {
-        return (true, behind);
+    if let Some(following) = after(text, b'-') {
+        return (true, following);
     }
-    if let Some(behind) = after(text, b'+') {
-        return (false, behind);
+    if let Some(following) = after(text, b'+') {
+        return (false, following);
     }
     (false, text)
 }
@@ -158,20 +168,20 @@ fn of_century(year: i32) -> i32
 
 // A year of two or four digits, with an optional sign.
 #[tactic(auto, unfolding(crate::specs::Parts::year))]
-pub(crate) fn year(text: &str) -> Result<(i32, &str), Fault>
-    ensures value { part result ≡ Spec.year text.now }
+pub(crate) fn year(text: &str) -> Result<(i32, &str), ReadError>
+    ensures value { parsed result ≡ Spec.year text.now }
     ensures within { IfOk result (λ p. IsYear p.0) }
 {
-    let (is_minus, behind) = sign(text.trim_start());
-    let (digits, behind) = digits(behind.trim_start());
+    let (is_minus, following) = sign(text.trim_start());
+    let (digits, following) = digits(following.trim_start());
     if digits.len() != 2 && digits.len() != 4 {
-        return Err(Fault::Untold(Why::InvalidFormat));
+        return Err(ReadError::Unspecified(DateErrorKind::InvalidFormat));
     }
     let year = signed(is_minus, value(digits));
     if digits.len() == 2 {
-        return Ok((of_century(year), behind));
+        return Ok((of_century(year), following));
     }
-    Ok((year, behind))
+    Ok((year, following))
 }
 
 // The number with its sign.

@@ -4,14 +4,14 @@ ghost use Rattle.std.specs.Prelude.{◌≡◌, ◌+◌, ◌^◌, ◌<◌, ◌≤
 ghost use Rattle.std.specs.List.{before_first, after_first};
 ghost use Rattle.jiff_core.specs.Calendar.{IsDate, IsYear, days_in_month};
 ghost use Rattle.bib_enums.specs.declared.type_error.TypeErrorKind.TheVariants.{DayOutOfRange};
-ghost use Rattle.bib_dates.specs.Code.{reading, part};
+ghost use Rattle.bib_dates.specs.Code.{reading, parsed};
 ghost use Rattle.bib_dates.specs.Parts;
 ghost use Rattle.bib_dates.specs.Dates as Spec;
 
 use crate::date::{Date, DateValue, Datetime};
-use crate::faults::{Fault, Why};
-use crate::parts::{after, behind_hyphens, byte_run, digits, number, small_number, value, year};
-use crate::times::behind_day;
+use crate::errors::{DateErrorKind, ReadError};
+use crate::parts::{after, after_hyphens, byte_run, digits, number, small_number, value, year};
+use crate::times::after_day;
 use jiff::civil;
 
 // Whether the calendar has this day: the month and the day count from 1.
@@ -31,28 +31,28 @@ pub(crate) fn day_exists(year: i32, month: u8, day: u8) -> bool
 
 // A day of this month.
 #[tactic(auto, unfolding(crate::specs::Parts::small_number))]
-fn day(year: i32, month: u8, text: &str) -> Result<(u8, &str), Fault>
+fn day(year: i32, month: u8, text: &str) -> Result<(u8, &str), ReadError>
     requires year { IsYear year }
     requires low { 1 ≤ month }
     requires high { month ≤ 12 }
-    ensures value { part result ≡ Parts.small_number 1 (days_in_month year month) DayOutOfRange text.now }
+    ensures value { parsed result ≡ Parts.small_number 1 (days_in_month year month) DayOutOfRange text.now }
     ensures some { IfOk result (λ p. 1 ≤ p.0) }
 {
-    let (n, behind) = number(1, 2, Why::InvalidFormat, text)?;
+    let (n, following) = number(1, 2, DateErrorKind::InvalidFormat, text)?;
     let day = n as u8;
     if !day_exists(year, month, day) {
-        return Err(Fault::Told(Why::DayOutOfRange));
+        return Err(ReadError::Specified(DateErrorKind::DayOutOfRange));
     }
-    Ok((day, behind))
+    Ok((day, following))
 }
 
-// The date of this year and month, which counts from 1, and of the day and the time that may stand behind them.
-#[tactic(auto, unfolding(crate::specs::Dates::behind_month))]
-fn behind_month(year: i32, month: u8, text: &str) -> Result<Datetime, Fault>
+// The date of this year and month, which counts from 1, and of the day and the time that may stand after them.
+#[tactic(auto, unfolding(crate::specs::Dates::after_month))]
+fn after_month(year: i32, month: u8, text: &str) -> Result<Datetime, ReadError>
     requires year { IsYear year }
     requires low { 1 ≤ month }
     requires high { month ≤ 12 }
-    ensures { reading result ≡ Spec.behind_month year month text.now }
+    ensures { reading result ≡ Spec.after_month year month text.now }
 {
     if text.is_empty() {
         return Ok(Datetime {
@@ -62,9 +62,9 @@ fn behind_month(year: i32, month: u8, text: &str) -> Result<Datetime, Fault>
             time: None,
         });
     }
-    let behind = behind_hyphens(text, Why::InvalidFormat)?;
-    let (day, behind) = day(year, month, behind)?;
-    let time = behind_day(behind.trim_start())?;
+    let following = after_hyphens(text, DateErrorKind::InvalidFormat)?;
+    let (day, following) = day(year, month, following)?;
+    let time = after_day(following.trim_start())?;
     Ok(Datetime {
         year,
         month: Some(month - 1),
@@ -73,11 +73,11 @@ fn behind_month(year: i32, month: u8, text: &str) -> Result<Datetime, Fault>
     })
 }
 
-// The date of this year, and of the month, the day and the time that may stand behind it.
-#[tactic(auto, unfolding(crate::specs::Dates::behind_year))]
-fn behind_year(year: i32, text: &str) -> Result<Datetime, Fault>
+// The date of this year, and of the month, the day and the time that may stand after it.
+#[tactic(auto, unfolding(crate::specs::Dates::after_year))]
+fn after_year(year: i32, text: &str) -> Result<Datetime, ReadError>
     requires { IsYear year }
-    ensures { reading result ≡ Spec.behind_year year text.now }
+    ensures { reading result ≡ Spec.after_year year text.now }
 {
     if text.is_empty() {
         return Ok(Datetime {
@@ -87,18 +87,18 @@ fn behind_year(year: i32, text: &str) -> Result<Datetime, Fault>
             time: None,
         });
     }
-    let behind = behind_hyphens(text, Why::InvalidFormat)?;
-    let (month, behind) = small_number(1, 12, Why::MonthOutOfRange, behind)?;
-    behind_month(year, month, behind.trim_start())
+    let following = after_hyphens(text, DateErrorKind::InvalidFormat)?;
+    let (month, following) = small_number(1, 12, DateErrorKind::MonthOutOfRange, following)?;
+    after_month(year, month, following.trim_start())
 }
 
 // One side of a range, or a date alone.
 #[tactic(auto, unfolding(crate::specs::Dates::side))]
-fn side(text: &str) -> Result<Datetime, Fault>
+fn side(text: &str) -> Result<Datetime, ReadError>
     ensures { reading result ≡ Spec.side text.now }
 {
-    let (year, behind) = year(text)?;
-    behind_year(year, behind.trim_start())
+    let (year, following) = year(text)?;
+    after_year(year, following.trim_start())
 }
 
 // A year and perhaps a month and a day, without a time.
@@ -144,109 +144,109 @@ fn years(year: u16, more: u16) -> DateValue
     )
 }
 
-// The months of a year, behind `XX` for the month.
+// The months of a year, after `XX` for the month.
 #[tactic(auto, unfolding(crate::specs::Dates::all_months))]
-fn all_months(year: u16, text: &str) -> Result<DateValue, Fault>
+fn all_months(year: u16, text: &str) -> Result<DateValue, ReadError>
     ensures { reading result ≡ Spec.all_months year text.now }
 {
     if text.trim_start().is_empty() {
         return Ok(months(year));
     }
-    let behind = behind_hyphens(text, Why::InvalidFormat)?;
-    let (count, _) = byte_run(behind.trim_start(), b'X');
+    let following = after_hyphens(text, DateErrorKind::InvalidFormat)?;
+    let (count, _) = byte_run(following.trim_start(), b'X');
     if count != 2 {
-        return Err(Fault::Untold(Why::InvalidFormat));
+        return Err(ReadError::Unspecified(DateErrorKind::InvalidFormat));
     }
     Ok(months(year))
 }
 
-// The days of a month, behind a year and hyphens.
+// The days of a month, after a year and hyphens.
 #[tactic(auto, unfolding(crate::specs::Dates::all_days))]
-fn all_days(year: u16, text: &str) -> Result<DateValue, Fault>
+fn all_days(year: u16, text: &str) -> Result<DateValue, ReadError>
     ensures { reading result ≡ Spec.all_days year text.now }
 {
-    let (month, behind) = number(2, 2, Why::WrongNumberOfDigits, text)?;
+    let (month, following) = number(2, 2, DateErrorKind::WrongNumberOfDigits, text)?;
     if month < 1 || 12 < month {
-        return Err(Fault::Told(Why::MonthOutOfRange));
+        return Err(ReadError::Specified(DateErrorKind::MonthOutOfRange));
     }
-    let behind = behind_hyphens(behind, Why::InvalidFormat)?;
-    let (count, behind) = byte_run(behind.trim_start(), b'X');
-    if count != 2 || !behind.trim_start().is_empty() {
-        return Err(Fault::Untold(Why::InvalidFormat));
+    let following = after_hyphens(following, DateErrorKind::InvalidFormat)?;
+    let (count, following) = byte_run(following.trim_start(), b'X');
+    if count != 2 || !following.trim_start().is_empty() {
+        return Err(ReadError::Unspecified(DateErrorKind::InvalidFormat));
     }
     Ok(days(year, month as u8 - 1))
 }
 
-// The months of a year or the days of a month, behind the year and hyphens.
+// The months of a year or the days of a month, after the year and hyphens.
 #[tactic(auto, unfolding(crate::specs::Dates::unknown_month))]
-fn unknown_month(year: u16, text: &str) -> Result<DateValue, Fault>
+fn unknown_month(year: u16, text: &str) -> Result<DateValue, ReadError>
     ensures { reading result ≡ Spec.unknown_month year text.now }
 {
-    let (count, behind) = byte_run(text, b'X');
+    let (count, following) = byte_run(text, b'X');
     if count == 2 {
-        return all_months(year, behind);
+        return all_months(year, following);
     }
     if count == 0 {
         return all_days(year, text);
     }
-    Err(Fault::Untold(Why::WrongNumberOfDigits))
+    Err(ReadError::Unspecified(DateErrorKind::WrongNumberOfDigits))
 }
 
-// The years of a century, behind its two digits.
+// The years of a century, after its two digits.
 #[tactic(auto, unfolding(crate::specs::Dates::century))]
-fn century(n: u16, text: &str) -> Result<DateValue, Fault>
+fn century(n: u16, text: &str) -> Result<DateValue, ReadError>
     requires { n < 100 }
     ensures { reading result ≡ Spec.century n text.now }
 {
     let (count, _) = byte_run(text, b'X');
     if count != 2 {
-        return Err(Fault::Untold(Why::WrongNumberOfDigits));
+        return Err(ReadError::Unspecified(DateErrorKind::WrongNumberOfDigits));
     }
     Ok(years(100 * n, 99))
 }
 
-// The years of a decade, behind its three digits.
+// The years of a decade, after its three digits.
 #[tactic(auto, unfolding(crate::specs::Dates::decade))]
-fn decade(n: u16, text: &str) -> Result<DateValue, Fault>
+fn decade(n: u16, text: &str) -> Result<DateValue, ReadError>
     requires { n < 1000 }
     ensures { reading result ≡ Spec.decade n text.now }
 {
     let (count, _) = byte_run(text, b'X');
     if count != 1 {
-        return Err(Fault::Untold(Why::WrongNumberOfDigits));
+        return Err(ReadError::Unspecified(DateErrorKind::WrongNumberOfDigits));
     }
     Ok(years(10 * n, 9))
 }
 
-// Why no hyphens stand behind four digits: an `X` would be a fifth.
-fn no_hyphen(text: &str) -> Why {
+// Why no hyphens stand after four digits: an `X` would be a fifth.
+fn no_hyphen(text: &str) -> DateErrorKind {
     match after(text, b'X') {
-        Some(_) => Why::WrongNumberOfDigits,
-        None => Why::InvalidFormat,
+        Some(_) => DateErrorKind::WrongNumberOfDigits,
+        None => DateErrorKind::InvalidFormat,
     }
 }
 
 // A date with digits that are not known.
 #[tactic(auto, unfolding(crate::specs::Dates::unknown))]
-fn unknown(text: &str) -> Result<DateValue, Fault>
+fn unknown(text: &str) -> Result<DateValue, ReadError>
     ensures { reading result ≡ Spec.unknown text.now }
 {
-    let (digits, behind) = digits(text.trim_start());
+    let (digits, following) = digits(text.trim_start());
     if digits.len() > 4 {
-        return Err(Fault::Told(Why::WrongNumberOfDigits));
+        return Err(ReadError::Specified(DateErrorKind::WrongNumberOfDigits));
     }
     if digits.len() < 2 {
-        return Err(Fault::Untold(Why::WrongNumberOfDigits));
+        return Err(ReadError::Unspecified(DateErrorKind::WrongNumberOfDigits));
     }
     let n = value(digits);
     if digits.len() == 4 {
-        let behind = behind_hyphens(behind, no_hyphen(behind))?;
-        return unknown_month(n, behind.trim_start());
+        let following = after_hyphens(following, no_hyphen(following))?;
+        return unknown_month(n, following.trim_start());
     }
     if digits.len() == 2 {
-        return century(n, behind);
+        return century(n, following);
     }
-    decade(n, behind)
+    decade(n, following)
 }
 
 // Whether a side of a range is open.
@@ -258,12 +258,12 @@ fn is_open(text: &str) -> bool
 
 // A range of these sides.
 #[tactic(auto, unfolding(crate::specs::Dates::range))]
-fn range(from: &str, to: &str) -> Result<DateValue, Fault>
+fn range(from: &str, to: &str) -> Result<DateValue, ReadError>
     ensures { reading result ≡ Spec.range from.now to.now }
 {
     if is_open(from) {
         if is_open(to) {
-            return Err(Fault::Told(Why::UndefinedRange));
+            return Err(ReadError::Specified(DateErrorKind::UndefinedRange));
         }
         let end = side(to)?;
         return Ok(DateValue::Before(end));
@@ -287,7 +287,7 @@ fn sides(text: &str) -> Option<(&str, &str)>
 
 // A date without the mark at its end.
 #[tactic(auto, unfolding(crate::specs::Dates::date_value))]
-fn date_value(text: &str) -> Result<DateValue, Fault>
+fn date_value(text: &str) -> Result<DateValue, ReadError>
     ensures { reading result ≡ Spec.date_value text.now }
 {
     if text.as_bytes().contains(&b'X') {
@@ -333,8 +333,8 @@ fn without_mark(text: &str) -> &str
 
 // A date with the mark at its end.
 #[tactic(auto, unfolding(crate::specs::Dates::marked))]
-pub(crate) fn marked(text: &str) -> Result<Date, Fault>
-    ensures { reading result ≡ Spec.marked text.now }
+pub(crate) fn marked(text: &str) -> Result<Date, ReadError>
+    ensures { reading result ≡ Spec.marked_date text.now }
 {
     let value = date_value(without_mark(text))?;
     let mark = last(text);

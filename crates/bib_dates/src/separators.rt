@@ -6,7 +6,7 @@ ghost use Rattle.bib_dates.specs.Separators.{IsHyphens, IsColon, IsWithout, no_s
 use bib_enums::type_error::{TypeError, TypeErrorKind};
 use bib_text::scanner::Scanner;
 
-// The fault that no such sign stands behind the white space that was eaten from here on.
+// The error that no such sign stands after the white space that was eaten from here on.
 fn no_sign(s: &Scanner<'_>, start: usize) -> TypeError
     ensures { result ≡ no_sign (record { text = s.now.text; at = start }) s.now }
 {
@@ -16,7 +16,7 @@ fn no_sign(s: &Scanner<'_>, start: usize) -> TypeError
     }
 }
 
-/// Eats white space and the hyphens behind it, of which there must be one. A refusal is of the kind `InvalidFormat`, at the
+/// Eats white space and the hyphens after it, of which there must be one. A refusal is of the kind `InvalidFormat`, at the
 /// white space; that alone was eaten then.
 pub fn parse_hyphen(s: &mut Scanner<'_>) -> Result<(), TypeError>
     ensures { MatchResult result
@@ -32,7 +32,7 @@ pub fn parse_hyphen(s: &mut Scanner<'_>) -> Result<(), TypeError>
     Ok(())
 }
 
-/// Eats white space and the colon behind it, which must be there. A refusal is of the kind `InvalidFormat`, at the white
+/// Eats white space and the colon after it, which must be there. A refusal is of the kind `InvalidFormat`, at the white
 /// space; that alone was eaten then.
 pub fn parse_colon(s: &mut Scanner<'_>) -> Result<(), TypeError>
     ensures { MatchResult result

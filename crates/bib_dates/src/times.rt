@@ -1,33 +1,33 @@
-// The time behind a day.
+// The time after a day.
 
 ghost use Rattle.std.specs.Prelude.{◌≡◌};
 ghost use Rattle.bib_dates.specs.Code.{reading};
 ghost use Rattle.bib_dates.specs.Times as Spec;
 
 use crate::date::{Time, TimeOffset};
-use crate::faults::{Fault, Why};
-use crate::parts::{after, behind_byte, behind_colon, small_number};
+use crate::errors::{DateErrorKind, ReadError};
+use crate::parts::{after, after_byte, after_colon, small_number};
 
-// The minutes of an offset, behind its hours, if there are any.
+// The minutes of an offset, after its hours, if there are any.
 #[tactic(auto, unfolding(crate::specs::Times::offset_minute))]
-fn offset_minute(text: &str) -> Result<u8, Fault>
+fn offset_minute(text: &str) -> Result<u8, ReadError>
     ensures { reading result ≡ Spec.offset_minute text.now }
 {
     if text.is_empty() {
         return Ok(0);
     }
-    let behind = behind_colon(text)?;
-    let (minute, _) = small_number(0, 59, Why::InvalidNumber, behind)?;
+    let following = after_colon(text)?;
+    let (minute, _) = small_number(0, 59, DateErrorKind::InvalidNumber, following)?;
     Ok(minute)
 }
 
-// An offset behind its sign.
+// An offset after its sign.
 #[tactic(auto, unfolding(crate::specs::Times::signed_offset))]
-fn signed_offset(positive: bool, text: &str) -> Result<Option<TimeOffset>, Fault>
+fn signed_offset(positive: bool, text: &str) -> Result<Option<TimeOffset>, ReadError>
     ensures { reading result ≡ Spec.signed_offset positive text.now }
 {
-    let (hours, behind) = small_number(0, 23, Why::InvalidNumber, text)?;
-    let minutes = offset_minute(behind.trim_start())?;
+    let (hours, following) = small_number(0, 23, DateErrorKind::InvalidNumber, text)?;
+    let minutes = offset_minute(following.trim_start())?;
     Ok(Some(TimeOffset::Offset {
         positive,
         hours,
@@ -35,9 +35,9 @@ fn signed_offset(positive: bool, text: &str) -> Result<Option<TimeOffset>, Fault
     }))
 }
 
-// The offset behind a second, if there is one.
+// The offset after a second, if there is one.
 #[tactic(auto, unfolding(crate::specs::Times::offset))]
-fn offset(text: &str) -> Result<Option<TimeOffset>, Fault>
+fn offset(text: &str) -> Result<Option<TimeOffset>, ReadError>
     ensures { reading result ≡ Spec.offset text.now }
 {
     if text.is_empty() {
@@ -46,19 +46,19 @@ fn offset(text: &str) -> Result<Option<TimeOffset>, Fault>
     if after(text, b'Z').is_some() {
         return Ok(Some(TimeOffset::Utc));
     }
-    if let Some(behind) = after(text, b'+') {
-        return signed_offset(true, behind);
+    if let Some(following) = after(text, b'+') {
+        return signed_offset(true, following);
     }
-    if let Some(behind) = after(text, b'-') {
-        return signed_offset(false, behind);
+    if let Some(following) = after(text, b'-') {
+        return signed_offset(false, following);
     }
-    Err(Fault::Untold(Why::InvalidFormat))
+    Err(ReadError::Unspecified(DateErrorKind::InvalidFormat))
 }
 
-// The time of this hour and minute, and of the second and the offset that may stand behind them.
-#[tactic(auto, unfolding(crate::specs::Times::behind_minute))]
-fn behind_minute(hour: u8, minute: u8, text: &str) -> Result<Option<Time>, Fault>
-    ensures { reading result ≡ Spec.behind_minute hour minute text.now }
+// The time of this hour and minute, and of the second and the offset that may stand after them.
+#[tactic(auto, unfolding(crate::specs::Times::after_minute))]
+fn after_minute(hour: u8, minute: u8, text: &str) -> Result<Option<Time>, ReadError>
+    ensures { reading result ≡ Spec.after_minute hour minute text.now }
 {
     if text.is_empty() {
         return Ok(Some(Time {
@@ -68,9 +68,9 @@ fn behind_minute(hour: u8, minute: u8, text: &str) -> Result<Option<Time>, Fault
             offset: None,
         }));
     }
-    let behind = behind_colon(text)?;
-    let (second, behind) = small_number(0, 59, Why::InvalidNumber, behind)?;
-    let offset = offset(behind.trim_start())?;
+    let following = after_colon(text)?;
+    let (second, following) = small_number(0, 59, DateErrorKind::InvalidNumber, following)?;
+    let offset = offset(following.trim_start())?;
     Ok(Some(Time {
         hour,
         minute,
@@ -79,10 +79,10 @@ fn behind_minute(hour: u8, minute: u8, text: &str) -> Result<Option<Time>, Fault
     }))
 }
 
-// The time of this hour, and of what may stand behind it.
-#[tactic(auto, unfolding(crate::specs::Times::behind_hour))]
-fn behind_hour(hour: u8, text: &str) -> Result<Option<Time>, Fault>
-    ensures { reading result ≡ Spec.behind_hour hour text.now }
+// The time of this hour, and of what may stand after it.
+#[tactic(auto, unfolding(crate::specs::Times::after_hour))]
+fn after_hour(hour: u8, text: &str) -> Result<Option<Time>, ReadError>
+    ensures { reading result ≡ Spec.after_hour hour text.now }
 {
     if text.is_empty() {
         return Ok(Some(Time {
@@ -92,20 +92,20 @@ fn behind_hour(hour: u8, text: &str) -> Result<Option<Time>, Fault>
             offset: None,
         }));
     }
-    let behind = behind_colon(text)?;
-    let (minute, behind) = small_number(0, 59, Why::InvalidNumber, behind)?;
-    behind_minute(hour, minute, behind.trim_start())
+    let following = after_colon(text)?;
+    let (minute, following) = small_number(0, 59, DateErrorKind::InvalidNumber, following)?;
+    after_minute(hour, minute, following.trim_start())
 }
 
-// The time behind a day, if there is one.
-#[tactic(auto, unfolding(crate::specs::Times::behind_day))]
-pub(crate) fn behind_day(text: &str) -> Result<Option<Time>, Fault>
-    ensures { reading result ≡ Spec.behind_day text.now }
+// The time after a day, if there is one.
+#[tactic(auto, unfolding(crate::specs::Times::after_day))]
+pub(crate) fn after_day(text: &str) -> Result<Option<Time>, ReadError>
+    ensures { reading result ≡ Spec.after_day text.now }
 {
     if text.is_empty() {
         return Ok(None);
     }
-    let behind = behind_byte(text, b'T', Why::InvalidFormat)?;
-    let (hour, behind) = small_number(0, 23, Why::InvalidNumber, behind)?;
-    behind_hour(hour, behind.trim_start())
+    let following = after_byte(text, b'T', DateErrorKind::InvalidFormat)?;
+    let (hour, following) = small_number(0, 23, DateErrorKind::InvalidNumber, following)?;
+    after_hour(hour, following.trim_start())
 }

@@ -43,7 +43,7 @@ fn four_wide<W: fmt::Write>(f: &mut fmt::Formatter<W>, n: u32) -> fmt::Result
     write!(f, "{n:04}")
 }
 
-// A month or a day, which counts from 0, behind a hyphen.
+// A month or a day, which counts from 0, after a hyphen.
 fn count<W: fmt::Write>(f: &mut fmt::Formatter<W>, n: u8) -> fmt::Result
     ensures { WritesOnOk W.write_str_gives f.old result (45 ∷ count_text n) f.new }
 {
@@ -67,7 +67,7 @@ fn count_text(alloc: Global, n: u8) -> Result<String, AllocError>
 }
 
 impl Datetime {
-    /// The year in at least four digits, behind a minus where it is below zero.
+    /// The year in at least four digits, after a minus where it is below zero.
     pub fn year_text(&self, alloc: Global) -> Result<String, AllocError>
         ensures { IfOk result (λ text. string_bytes text ≡ year_text self.now.year) }
     {

@@ -10,35 +10,35 @@ use Rattle.bib_dates.specs.declared.date.Date.{Date}
 use Rattle.bib_maps.specs.Sorted.{ByText, by_bytes}
 use Rattle.bib_typed.specs.declared.typed.PermissiveType.{PermissiveType}
 use Rattle.bib_typed.specs.declared.typed.Type.{Ghosts}
-use Rattle.bib_entry.specs.DateFields.{without_part, IsSetDate}
+use Rattle.bib_entry.specs.DateFields.{without_part, SetsDate}
 use Rattle.bib_entry.specs.Fields.{with_field}
 use Rattle.bib_fields.specs.Retrieved.{field_as}
-use Rattle.bib_entry.specs.Prefixes.{prefix_text}
+use Rattle.bib_entry.specs.Prefixes.{date_prefix}
 use Rattle.bib_entry.specs.declared.dates.Prefix.{Prefix}
 use Rattle.bib_entry.specs.declared.dates.Prefix.TheVariants.{Plain, Event, Orig, Url}
 use Rattle.bib_entry.specs.declared.entry.Entry.{Entry}
 
--- a name of a date is in small letters
-lowered : (p : Prefix) → map to_ascii_lowercase (prefix_text p ++ codes "date") ≡ prefix_text p ++ codes "date"
+-- a name of a date is in lowercase letters
+lowered : (p : Prefix) → map to_ascii_lowercase (date_prefix p ++ codes "date") ≡ date_prefix p ++ codes "date"
 lowered Plain = refl
 lowered Event = refl
 lowered Orig = refl
 lowered Url = refl
 
 -- and no name of a part
-apart_year : (p : Prefix) → eq_by_cmp by_bytes (prefix_text p ++ codes "date") (prefix_text p ++ codes "year") ≡ false
+apart_year : (p : Prefix) → eq_by_cmp by_bytes (date_prefix p ++ codes "date") (date_prefix p ++ codes "year") ≡ false
 apart_year Plain = refl
 apart_year Event = refl
 apart_year Orig = refl
 apart_year Url = refl
 
-apart_month : (p : Prefix) → eq_by_cmp by_bytes (prefix_text p ++ codes "date") (prefix_text p ++ codes "month") ≡ false
+apart_month : (p : Prefix) → eq_by_cmp by_bytes (date_prefix p ++ codes "date") (date_prefix p ++ codes "month") ≡ false
 apart_month Plain = refl
 apart_month Event = refl
 apart_month Orig = refl
 apart_month Url = refl
 
-apart_day : (p : Prefix) → eq_by_cmp by_bytes (prefix_text p ++ codes "date") (prefix_text p ++ codes "day") ≡ false
+apart_day : (p : Prefix) → eq_by_cmp by_bytes (date_prefix p ++ codes "date") (date_prefix p ++ codes "day") ≡ false
 apart_day Plain = refl
 apart_day Event = refl
 apart_day Orig = refl
@@ -51,11 +51,11 @@ stays m name other apart = get-remove nat_list_cmp_total m other name ∙ ap (λ
 -- what a setter of a date does
 pub is_set_date : (type : Ghosts (PermissiveType Date)) (m : type.Meaning) (p : Prefix) (old mid two three new : Entry) (date year month day : List ℕ)
     → mid ≡ with_field old (map to_ascii_lowercase date) (type.writes m) → (type.kept m → field_as type.reads (by_name.get mid.fields (map to_ascii_lowercase date)) ≡ Some m)
-    → date ≡ prefix_text p ++ codes "date" → year ≡ prefix_text p ++ codes "year" → month ≡ prefix_text p ++ codes "month" → day ≡ prefix_text p ++ codes "day"
+    → date ≡ date_prefix p ++ codes "date" → year ≡ date_prefix p ++ codes "year" → month ≡ date_prefix p ++ codes "month" → day ≡ date_prefix p ++ codes "day"
     → two ≡ record mid { fields = by_name.remove mid.fields year } → three ≡ record two { fields = by_name.remove two.fields month } → new ≡ record three { fields = by_name.remove three.fields day }
-    → IsSetDate type m (prefix_text p) old new (Ok (tt {0}))
+    → SetsDate type m (date_prefix p) old new (Ok (tt {0}))
 is_set_date type m p old mid two three new date year month day set kept date_is year_is month_is day_is no_year no_month no_day =
-    let prefix = prefix_text p in
+    let prefix = date_prefix p in
     let name = prefix ++ codes "date" in
     let small : map to_ascii_lowercase date ≡ name = ap (map to_ascii_lowercase) date_is ∙ lowered p in
     let first : mid ≡ with_field old name (type.writes m) = set ∙ ap (λ n. with_field old n (type.writes m)) small in

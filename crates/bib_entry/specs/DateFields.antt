@@ -6,7 +6,7 @@ use Rattle.std.specs.declared.alloc.AllocError.{AllocError}
 use Rattle.std.specs.FinMap as by_name
 use Rattle.bib_enums.specs.declared.type_error.TypeErrorKind.TheVariants as kind
 use Rattle.bib_dates.specs.Chunks.{three_fields_reading}
-use Rattle.bib_dates.specs.Readings.{Reading, value_of, MayRefuse}
+use Rattle.bib_dates.specs.Readings.{Reading, readable_value, MayRefuse}
 use Rattle.bib_dates.specs.declared.date.Date.{Date}
 use Rattle.bib_typed.specs.declared.typed.PermissiveType.{PermissiveType}
 use Rattle.bib_typed.specs.declared.typed.PermissiveType.TheVariants.{Typed, Chunks}
@@ -18,7 +18,7 @@ use Rattle.bib_entry.specs.declared.entry.Entry.{Entry}
 use Rattle.bib_fields.specs.declared.retrieval.RetrievalError.{RetrievalError}
 use Rattle.bib_fields.specs.declared.retrieval.RetrievalError.TheVariants.{Missing, TypeError, OutOfMemory}
 
--- the field of a part of a date, behind a prefix
+-- the field of a part of a date, after a prefix
 abbrev pub date_part : List ℕ → Entry → List ℕ → Option Value
 date_part prefix entry part = by_name.get entry.fields (prefix ++ part)
 
@@ -26,18 +26,18 @@ date_part prefix entry part = by_name.get entry.fields (prefix ++ part)
 abbrev pub three_parts : List ℕ → Entry → Value → Reading Date
 three_parts prefix entry year = three_fields_reading year (date_part prefix entry (codes "month")) (date_part prefix entry (codes "day"))
 
--- a result is the date that is read, or a fault that it may be refused with, or memory was refused
+-- a result is the date that is read, or an error that it may be refused with, or memory was refused
 abbrev pub IsDateRead : Reading Date → Result (PermissiveType Date) RetrievalError → Type 0
-IsDateRead reading (Ok (Typed date)) = value_of reading ≡ Some date
+IsDateRead reading (Ok (Typed date)) = readable_value reading ≡ Some date
 IsDateRead reading (Ok (Chunks chunks)) = ⊥
-IsDateRead reading (Err (Missing told)) = ⊥
-IsDateRead reading (Err (TypeError e)) = (e.kind ≢ kind.OutOfMemory) × (value_of reading ≡ None) × MayRefuse reading e.kind
+IsDateRead reading (Err (Missing reported)) = ⊥
+IsDateRead reading (Err (TypeError e)) = (e.kind ≢ kind.OutOfMemory) × (readable_value reading ≡ None) × MayRefuse reading e.kind
 IsDateRead reading (Err OutOfMemory) = ⊤
 
 -- a result says that there is no year, or memory was refused
 abbrev pub IsNoYear : Result (PermissiveType Date) RetrievalError → Type 0
 IsNoYear (Ok date) = ⊥
-IsNoYear (Err (Missing told)) = told ≡ codes "year"
+IsNoYear (Err (Missing reported)) = reported ≡ codes "year"
 IsNoYear (Err (TypeError e)) = ⊥
 IsNoYear (Err OutOfMemory) = ⊤
 
@@ -48,8 +48,8 @@ IsDateOf type prefix entry (Some chunks) year result = IsRetrieved type (Some ch
 IsDateOf type prefix entry None (Some year) result = IsDateRead (three_parts prefix entry year) result
 IsDateOf type prefix entry None None result = IsNoYear result
 
--- a result is what the date behind a prefix is read as
-pub record IsGetDate (type : Ghosts (PermissiveType Date)) (prefix : List ℕ) (entry : Entry) (result : Result (PermissiveType Date) RetrievalError) : Type 0 where
+-- a result is what the date after a prefix is read as
+pub record GetsDate (type : Ghosts (PermissiveType Date)) (prefix : List ℕ) (entry : Entry) (result : Result (PermissiveType Date) RetrievalError) : Type 0 where
   pub date : IsDateOf type prefix entry (date_part prefix entry (codes "date")) (date_part prefix entry (codes "year")) result
 
 -- an entry without the field of a part of a date
@@ -63,7 +63,7 @@ with_date prefix entry chunks =
 
 -- the date is set to what a value of this meaning is written as, its year, month and day are taken out, and no other field is
 -- changed; if the type keeps the value, the field is read as that value from then on; a refusal changes nothing
-pub record IsSetDate (type : Ghosts (PermissiveType Date)) (m : type.Meaning) (prefix : List ℕ) (old new : Entry) (result : Result (Unit {0}) AllocError) : Type 0 where
+pub record SetsDate (type : Ghosts (PermissiveType Date)) (m : type.Meaning) (prefix : List ℕ) (old new : Entry) (result : Result (Unit {0}) AllocError) : Type 0 where
   pub set : OnOk result (new ≡ with_date prefix old (type.writes m))
   pub kept : OnOk result (type.kept m → field_as type.reads (date_part prefix new (codes "date")) ≡ Some m)
   pub refused : OnErr result (new ≡ old)

@@ -12,23 +12,23 @@ use Rattle.bib_fields.specs.declared.retrieval.RetrievalError.{RetrievalError}
 use Rattle.bib_fields.specs.declared.setting.SetError.{SetError}
 
 -- a result is what the field of this name is read as
-pub record IsGet {V : Type 0} (type : Ghosts V) (entry : Entry) (name : List ℕ) (result : Result V RetrievalError) : Type 0 where
+pub record GetsValue {V : Type 0} (type : Ghosts V) (entry : Entry) (name : List ℕ) (result : Result V RetrievalError) : Type 0 where
   pub retrieved : IsRetrieved type (by_name.get entry.fields name) name result
 
 -- the field of this name, or else of the other
 abbrev pub field_or : Entry → List ℕ → List ℕ → Option Value
 field_or entry name other = one_or_other entry.fields name other
 
--- a result is what the field of this name is read as, or else that of the other; where neither is there, the fault has the first name
-pub record IsGetOr {V : Type 0} (type : Ghosts V) (entry : Entry) (name other : List ℕ) (result : Result V RetrievalError) : Type 0 where
+-- a result is what the field of this name is read as, or else that of the other; where neither is there, the error has the first name
+pub record GetsEitherValue {V : Type 0} (type : Ghosts V) (entry : Entry) (name other : List ℕ) (result : Result V RetrievalError) : Type 0 where
   pub retrieved : IsRetrieved type (field_or entry name other) name result
 
 -- a result is the chunks of the field of this name
-pub record IsGot (entry : Entry) (name : List ℕ) (result : Result (Bor Value) RetrievalError) : Type 0 where
+pub record GetsChunks (entry : Entry) (name : List ℕ) (result : Result (Bor Value) RetrievalError) : Type 0 where
   pub chunks : AreChunksOf (by_name.get entry.fields name) name result
 
 -- a result is the chunks of the field of this name, or else of the other
-pub record IsGotOr (entry : Entry) (name other : List ℕ) (result : Result (Bor Value) RetrievalError) : Type 0 where
+pub record GetsEitherChunks (entry : Entry) (name other : List ℕ) (result : Result (Bor Value) RetrievalError) : Type 0 where
   pub chunks : AreChunksOf (field_or entry name other) name result
 
 -- an entry with the field of this name set to these chunks
@@ -37,7 +37,7 @@ with_field entry name chunks = record entry { fields = by_name.insert entry.fiel
 
 -- the field of this name is set to these chunks, and no other is changed; the result hands back what it held; a refusal
 -- changes nothing, and gives the chunks back
-pub record IsPut (chunks : Value) (name : List ℕ) (old new : Entry) (result : Result (Option Value) SetError) : Type 0 where
+pub record SetsChunks (chunks : Value) (name : List ℕ) (old new : Entry) (result : Result (Option Value) SetError) : Type 0 where
   pub had : IfOk result (λ had. had ≡ by_name.get old.fields name)
   pub put : OnOk result (new ≡ with_field old name chunks)
   pub refused : OnErr result (new ≡ old)
@@ -45,7 +45,7 @@ pub record IsPut (chunks : Value) (name : List ℕ) (old new : Entry) (result : 
 
 -- the field of this name is set to what a value of this meaning is written as, and no other is changed; if the type keeps the
 -- value, the field is read as that value from then on; a refusal changes nothing
-pub record IsSet {V : Type 0} (type : Ghosts V) (m : type.Meaning) (name : List ℕ) (old new : Entry) (result : Result (Unit {0}) AllocError) : Type 0 where
+pub record SetsValue {V : Type 0} (type : Ghosts V) (m : type.Meaning) (name : List ℕ) (old new : Entry) (result : Result (Unit {0}) AllocError) : Type 0 where
   pub set : OnOk result (new ≡ with_field old name (type.writes m))
   pub kept : OnOk result (type.kept m → field_as type.reads (by_name.get new.fields name) ≡ Some m)
   pub refused : OnErr result (new ≡ old)

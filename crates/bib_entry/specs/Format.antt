@@ -14,9 +14,9 @@ abbrev pub kind_in : Format → EntryType → EntryType
 kind_in Biblatex kind = biblatex_type kind
 kind_in Bibtex kind = bibtex_type kind
 
-abbrev pub field_in : Format → EntryType → List ℕ × List (Spanned Chunk) → List ℕ
-field_in Biblatex kind f = biblatex_field f
-field_in Bibtex kind f = bibtex_field kind f
+abbrev pub written_field : Format → EntryType → List ℕ × List (Spanned Chunk) → List ℕ
+written_field Biblatex kind f = biblatex_field f
+written_field Bibtex kind f = bibtex_field kind f
 
 -- an entry in the types and fields of BibLaTeX or of BibTeX
 abbrev pub entry_in : Format → Entry → List ℕ

@@ -1,6 +1,6 @@
 pub mod Fields
 pub mod Editors
-pub mod Judging
+pub mod Verdicts
 pub mod Reports
 pub mod Format
 pub mod Parents

@@ -4,8 +4,8 @@ use Rattle.std.specs.Prelude.{ℕ, List, codes}
 use Rattle.bib_entry.specs.declared.dates.Prefix.{Prefix}
 use Rattle.bib_entry.specs.declared.dates.Prefix.TheVariants.{Plain, Event, Orig, Url}
 
-abbrev pub prefix_text : Prefix → List ℕ
-prefix_text Plain = codes ""
-prefix_text Event = codes "event"
-prefix_text Orig = codes "orig"
-prefix_text Url = codes "url"
+abbrev pub date_prefix : Prefix → List ℕ
+date_prefix Plain = codes ""
+date_prefix Event = codes "event"
+date_prefix Orig = codes "orig"
+date_prefix Url = codes "url"

@@ -1,5 +1,5 @@
 -- Meaning: words of public contracts.
--- What a report on an entry tells: the fields that its type requires and that it lacks, those that it must not have, and
+-- What a report on an entry says: the fields that its type requires and that it lacks, those that it must not have, and
 -- those whose chunks aren't read. The rules are those by which the Rust crate `biblatex` verifies entries.
 use Rattle.std.specs.Prelude.{◌≡◌, ℕ, Bool, true, false, not, ◌&&◌, ◌||◌, List, [], ◌∷◌, ◌++◌, codes, Option, Some, None, is_some}
 use Rattle.std.specs.List.{filter, AllZip}
@@ -13,14 +13,14 @@ use Rattle.bib_entry_types.specs.declared.mechanics.requirements.AuthorMode.TheV
 use Rattle.bib_entry_types.specs.declared.mechanics.requirements.PagesChapterMode.{PagesChapterMode}
 use Rattle.bib_entry_types.specs.declared.mechanics.requirements.PagesChapterMode.TheVariants as pages
 use Rattle.bib_text.specs.Enums.{named}
-use Rattle.bib_typed.specs.Typed.{number_fault}
+use Rattle.bib_typed.specs.Typed.{number_error}
 use Rattle.bib_values.specs.Enumerations.{pagination_read, gender_read}
 use Rattle.bib_values.specs.Numbers.{number_read}
 use Rattle.bib_values.specs.Ranges.{ranges_read}
 use Rattle.bib_chunks.specs.Values.{Value}
 use Rattle.bib_dates.specs.Chunks.{three_fields_reading}
 use Rattle.bib_dates.specs.Readings.{Reading, IsDateKind}
-use Rattle.bib_dates.specs.Readings.Reading.{says, fault, unread as not_read}
+use Rattle.bib_dates.specs.Readings.Reading.{says, error, unread as not_read}
 use Rattle.bib_entry.specs.declared.entry.Entry.{Entry}
 
 -- whether an entry has a field of this name
@@ -37,8 +37,8 @@ abbrev pub has_chunks : Entry → List ℕ → Bool
 has_chunks entry name = is_filled (by_name.get entry.fields name)
 
 -- another name by which a required field is known
-abbrev pub other_names : List (List ℕ × List ℕ)
-other_names = (codes "journaltitle", codes "journal") ∷ (codes "location", codes "address") ∷ (codes "school", codes "institution") ∷ []
+abbrev pub other_required_names : List (List ℕ × List ℕ)
+other_required_names = (codes "journaltitle", codes "journal") ∷ (codes "location", codes "address") ∷ (codes "school", codes "institution") ∷ []
 
 -- whether there are chunks by this name, if there is one
 abbrev pub has_other : Entry → Option (List ℕ) → Bool
@@ -47,14 +47,14 @@ has_other entry (Some name) = has_chunks entry name
 
 -- whether an entry has no chunks in the field of this name or, where it has one, of its other name
 abbrev pub lacks : Entry → List ℕ → Bool
-lacks entry name = not (has_chunks entry name || has_other entry (named other_names name))
+lacks entry name = not (has_chunks entry name || has_other entry (named other_required_names name))
 
 -- whether an entry has editors in any role
 abbrev pub has_editor : Entry → Bool
 has_editor entry =
     has_field entry (codes "editor") || (has_field entry (codes "editora") || (has_field entry (codes "editorb") || has_field entry (codes "editorc")))
 
--- a name, where it is told
+-- a name, where it is reported
 abbrev pub only_if : Bool → List ℕ → Names
 only_if true name = name ∷ []
 only_if false name = []
@@ -116,8 +116,8 @@ read_or None kind = refused kind
 
 -- what is said of a field that is read so, and else is refused with this kind
 abbrev pub verdict : {M : Type 0} → (Value → Option M) → (Value → TypeErrorKind) → Option Value → Verdict
-verdict reads why None = fine
-verdict reads why (Some chunks) = read_or (reads chunks) (why chunks)
+verdict reads reason None = fine
+verdict reads reason (Some chunks) = read_or (reads chunks) (reason chunks)
 
 -- the fields that have to be read as values of their types, in the order of their bytes, and what is said of each
 abbrev pub field_verdicts : Entry → List (List ℕ × Verdict)
@@ -126,13 +126,13 @@ field_verdicts entry =
     (codes "gender", verdict gender_read (λ _. UnknownGender) (by_name.get entry.fields (codes "gender"))) ∷
     (codes "pages", verdict ranges_read (λ _. InvalidNumber) (by_name.get entry.fields (codes "pages"))) ∷
     (codes "pagination", verdict pagination_read (λ _. UnknownPagination) (by_name.get entry.fields (codes "pagination"))) ∷
-    (codes "volume", verdict number_read number_fault (by_name.get entry.fields (codes "volume"))) ∷
-    (codes "volumes", verdict number_read number_fault (by_name.get entry.fields (codes "volumes"))) ∷ []
+    (codes "volume", verdict number_read number_error (by_name.get entry.fields (codes "volume"))) ∷
+    (codes "volumes", verdict number_read number_error (by_name.get entry.fields (codes "volumes"))) ∷ []
 
 -- what is said of a date that is read so
 abbrev pub date_verdict : {A : Type 0} → Reading A → Verdict
 date_verdict (says a) = fine
-date_verdict (fault kind) = refused kind
+date_verdict (error kind) = refused kind
 date_verdict not_read = unread
 
 -- what is said of the date of four fields: one that holds it whole, or else the year, the month and the day
@@ -154,22 +154,22 @@ abbrev pub date_verdicts : Entry → List (List ℕ × Verdict)
 date_verdicts entry =
     prefix_verdict entry [] ∷ prefix_verdict entry (codes "url") ∷ prefix_verdict entry (codes "orig") ∷ prefix_verdict entry (codes "event") ∷ []
 
--- whether a verdict tells of a fault
-abbrev pub is_fault : List ℕ × Verdict → Bool
-is_fault (name, fine) = false
-is_fault (name, refused kind) = true
-is_fault (name, unread) = true
+-- whether a verdict reports an error
+abbrev pub is_error : List ℕ × Verdict → Bool
+is_error (name, fine) = false
+is_error (name, refused kind) = true
+is_error (name, unread) = true
 
--- the kinds of faults that a verdict allows: where no kind is told, those that dates have
+-- the kinds of errors that a verdict allows: where no kind is reported, those that dates have
 abbrev pub Allows : Verdict → TypeErrorKind → Type 0
 Allows fine kind = ⊥
-Allows (refused told) kind = kind ≡ told
+Allows (refused reported) kind = kind ≡ reported
 Allows unread kind = IsDateKind kind
 
--- a field's fault is the one that a verdict tells of
-abbrev pub IsFault : List ℕ × Verdict → List ℕ × TypeError → Type 0
-IsFault said told = (told.0 ≡ said.0) × Allows said.1 told.1.kind
+-- a field's error is the one that a verdict reports
+abbrev pub IsErrorOfField : List ℕ × Verdict → List ℕ × TypeError → Type 0
+IsErrorOfField said reported = (reported.0 ≡ said.0) × Allows said.1 reported.1.kind
 
--- faults are those that the verdicts on an entry tell of, in this order: of the fields, then of the dates
+-- errors are those that the verdicts on an entry tell of, in this order: of the fields, then of the dates
 abbrev pub AreMalformed : Entry → List (List ℕ × TypeError) → Type 0
-AreMalformed entry told = AllZip IsFault (filter is_fault (field_verdicts entry ++ date_verdicts entry)) told
+AreMalformed entry reported = AllZip IsErrorOfField (filter is_error (field_verdicts entry ++ date_verdicts entry)) reported

@@ -23,8 +23,8 @@ abbrev pub value_bytes : List ℕ → List (Spanned Chunk) → List ℕ
 value_bytes name chunks = encode_utf8_all (written_value chunks (is_verbatim_field name))
 
 -- a field's line: the name that it is written with, and its value
-abbrev pub line : List ℕ → List ℕ → List ℕ
-line name value = name ++ (codes " = " ++ (value ++ codes ",\n"))
+abbrev pub written_line : List ℕ → List ℕ → List ℕ
+written_line name value = name ++ (codes " = " ++ (value ++ codes ",\n"))
 
 -- an entry, by the name of its type, its key and the lines of its fields
 abbrev pub entry_text : List ℕ → List ℕ → List ℕ → List ℕ
@@ -39,7 +39,7 @@ biblatex_name name = unwrap_or (named biblatex_names name) name
 
 -- a field as BibLaTeX has it
 abbrev pub biblatex_field : List ℕ × List (Spanned Chunk) → List ℕ
-biblatex_field f = line (biblatex_name f.0) (value_bytes f.0 f.1)
+biblatex_field f = written_line (biblatex_name f.0) (value_bytes f.0 f.1)
 
 -- an entry as BibLaTeX has it: its fields in the order of their own names' bytes
 abbrev pub biblatex_entry : Entry → List ℕ
@@ -66,7 +66,7 @@ bibtex_name kind name = unwrap_or (named (names_in kind) name) name
 -- the line of a part of a date, if it is there
 abbrev pub part_line : List ℕ → Option (List ℕ) → List ℕ
 part_line name None = []
-part_line name (Some text) = line name (codes "{" ++ (text ++ codes "}"))
+part_line name (Some text) = written_line name (codes "{" ++ (text ++ codes "}"))
 
 -- the lines of one side of a date: a year, and if they are there a month and its day, with this before their names
 abbrev pub side_lines : List ℕ → Datetime → List ℕ
@@ -91,14 +91,14 @@ date_or text (Some d) = date_lines d
 -- a field of an entry of this type as BibTeX has it
 abbrev pub bibtex_field : EntryType → List ℕ × List (Spanned Chunk) → List ℕ
 bibtex_field kind f =
-    if bytes_eq (codes "date") f.0 then date_or (line (codes "date") (value_bytes f.0 f.1)) (date_read f.1)
-    else line (bibtex_name kind f.0) (value_bytes f.0 f.1)
+    if bytes_eq (codes "date") f.0 then date_or (written_line (codes "date") (value_bytes f.0 f.1)) (date_read f.1)
+    else written_line (bibtex_name kind f.0) (value_bytes f.0 f.1)
 
 -- an entry as BibTeX has it: its fields in the order of their own names' bytes
 abbrev pub bibtex_entry : Entry → List ℕ
 bibtex_entry e = entry_text (entry_type_name (bibtex_type e.entry_type)) e.key (flat_map (bibtex_field e.entry_type) (entries e.fields))
 
--- entries one behind another, given how each is written: a line feed stands behind each, and an empty line before the
+-- entries one after another, given how each is written: a line feed stands after each, and an empty line before the
 -- next; no entry, no text
 abbrev pub entries_text : (Entry → List ℕ) → List Entry → List ℕ
 entries_text written [] = []

@@ -1,8 +1,8 @@
 //! Dates of an entry: read from a field or from three, and set.
 
 ghost use Rattle.std.specs.Prelude.{◌≡◌, ◌++◌, codes};
-ghost use Rattle.bib_entry.specs.DateFields.{IsDateRead, IsGetDate, IsSetDate, three_parts};
-ghost use Rattle.bib_entry.specs.Prefixes.{prefix_text};
+ghost use Rattle.bib_entry.specs.DateFields.{IsDateRead, GetsDate, SetsDate, three_parts};
+ghost use Rattle.bib_entry.specs.Prefixes.{date_prefix};
 
 use crate::entry::Entry;
 use bib_chunks::chunk::ChunksRef;
@@ -24,7 +24,7 @@ enum Prefix {
 impl Prefix {
     // The name of the field of the date.
     fn date(self) -> &'static str
-        ensures { result.now ≡ prefix_text self ++ codes "date" }
+        ensures { result.now ≡ date_prefix self ++ codes "date" }
     {
         match self {
             Prefix::Plain => "date",
@@ -36,7 +36,7 @@ impl Prefix {
 
     // The name of the field of the year.
     fn year(self) -> &'static str
-        ensures { result.now ≡ prefix_text self ++ codes "year" }
+        ensures { result.now ≡ date_prefix self ++ codes "year" }
     {
         match self {
             Prefix::Plain => "year",
@@ -48,7 +48,7 @@ impl Prefix {
 
     // The name of the field of the month.
     fn month(self) -> &'static str
-        ensures { result.now ≡ prefix_text self ++ codes "month" }
+        ensures { result.now ≡ date_prefix self ++ codes "month" }
     {
         match self {
             Prefix::Plain => "month",
@@ -60,7 +60,7 @@ impl Prefix {
 
     // The name of the field of the day.
     fn day(self) -> &'static str
-        ensures { result.now ≡ prefix_text self ++ codes "day" }
+        ensures { result.now ≡ date_prefix self ++ codes "day" }
     {
         match self {
             Prefix::Plain => "day",
@@ -72,14 +72,14 @@ impl Prefix {
 }
 
 impl Entry {
-    // The date that the three fields behind a prefix are, given the year.
+    // The date that the three fields after a prefix are, given the year.
     fn three_parts(
         &self,
         alloc: Global,
         prefix: Prefix,
         year: ChunksRef<'_>,
     ) -> Result<PermissiveType<Date>, RetrievalError>
-        ensures { IsDateRead (three_parts (prefix_text prefix) self.now year.now) result }
+        ensures { IsDateRead (three_parts (date_prefix prefix) self.now year.now) result }
     {
         let month = self.get(prefix.month());
         let day = self.get(prefix.day());
@@ -89,13 +89,13 @@ impl Entry {
         }
     }
 
-    // The date behind a prefix.
-    fn date_behind(
+    // The date after a prefix.
+    fn date_with_prefix(
         &self,
         alloc: Global,
         prefix: Prefix,
     ) -> Result<PermissiveType<Date>, RetrievalError>
-        ensures { IsGetDate ⟦<PermissiveType<Date> as Type>⟧ (prefix_text prefix) self.now result }
+        ensures { GetsDate ⟦<PermissiveType<Date> as Type>⟧ (date_prefix prefix) self.now result }
     {
         if self.get(prefix.date()).is_some() {
             return self.get_as(alloc, prefix.date());
@@ -106,14 +106,14 @@ impl Entry {
         }
     }
 
-    // Sets the date behind a prefix.
-    fn set_date_behind(
+    // Sets the date after a prefix.
+    fn set_date_with_prefix(
         &mut self,
         prefix: Prefix,
         value: &PermissiveType<Date>,
     ) -> Result<(), AllocError>
-        ensures { IsSetDate ⟦<PermissiveType<Date> as Type>⟧
-            (⟦<PermissiveType<Date> as Type>⟧.meaning value.now) (prefix_text prefix)
+        ensures { SetsDate ⟦<PermissiveType<Date> as Type>⟧
+            (⟦<PermissiveType<Date> as Type>⟧.meaning value.now) (date_prefix prefix)
             self.old self.new result }
     {
         self.set_as(prefix.date(), value)?;
@@ -125,73 +125,73 @@ impl Entry {
 
     /// The field `date`, or else the fields `year`, `month` and `day`: the date of publication. A date that can't be
     /// read is answered as its chunks where it is one field, and refused where it is three. Without a year the field
-    /// `year` is told as missing.
+    /// `year` is reported as missing.
     pub fn date(&self, alloc: Global) -> Result<PermissiveType<Date>, RetrievalError>
-        ensures { IsGetDate ⟦<PermissiveType<Date> as Type>⟧ (codes "") self.now result }
+        ensures { GetsDate ⟦<PermissiveType<Date> as Type>⟧ (codes "") self.now result }
     {
-        self.date_behind(alloc, Prefix::Plain)
+        self.date_with_prefix(alloc, Prefix::Plain)
     }
 
     /// Sets the field `date`, and takes `year`, `month` and `day` out. A refusal changes nothing.
     pub fn set_date(&mut self, value: &PermissiveType<Date>) -> Result<(), AllocError>
-        ensures { IsSetDate ⟦<PermissiveType<Date> as Type>⟧
+        ensures { SetsDate ⟦<PermissiveType<Date> as Type>⟧
             (⟦<PermissiveType<Date> as Type>⟧.meaning value.now) (codes "")
             self.old self.new result }
     {
-        self.set_date_behind(Prefix::Plain, value)
+        self.set_date_with_prefix(Prefix::Plain, value)
     }
 
     /// The field `eventdate`, or else the fields `eventyear`, `eventmonth` and `eventday`: the date of the conference. A date that can't be
     /// read is answered as its chunks where it is one field, and refused where it is three. Without a year the field
-    /// `year` is told as missing.
+    /// `year` is reported as missing.
     pub fn event_date(&self, alloc: Global) -> Result<PermissiveType<Date>, RetrievalError>
-        ensures { IsGetDate ⟦<PermissiveType<Date> as Type>⟧ (codes "event") self.now result }
+        ensures { GetsDate ⟦<PermissiveType<Date> as Type>⟧ (codes "event") self.now result }
     {
-        self.date_behind(alloc, Prefix::Event)
+        self.date_with_prefix(alloc, Prefix::Event)
     }
 
     /// Sets the field `eventdate`, and takes `eventyear`, `eventmonth` and `eventday` out. A refusal changes nothing.
     pub fn set_event_date(&mut self, value: &PermissiveType<Date>) -> Result<(), AllocError>
-        ensures { IsSetDate ⟦<PermissiveType<Date> as Type>⟧
+        ensures { SetsDate ⟦<PermissiveType<Date> as Type>⟧
             (⟦<PermissiveType<Date> as Type>⟧.meaning value.now) (codes "event")
             self.old self.new result }
     {
-        self.set_date_behind(Prefix::Event, value)
+        self.set_date_with_prefix(Prefix::Event, value)
     }
 
     /// The field `origdate`, or else the fields `origyear`, `origmonth` and `origday`: the date of the original. A date that can't be
     /// read is answered as its chunks where it is one field, and refused where it is three. Without a year the field
-    /// `year` is told as missing.
+    /// `year` is reported as missing.
     pub fn orig_date(&self, alloc: Global) -> Result<PermissiveType<Date>, RetrievalError>
-        ensures { IsGetDate ⟦<PermissiveType<Date> as Type>⟧ (codes "orig") self.now result }
+        ensures { GetsDate ⟦<PermissiveType<Date> as Type>⟧ (codes "orig") self.now result }
     {
-        self.date_behind(alloc, Prefix::Orig)
+        self.date_with_prefix(alloc, Prefix::Orig)
     }
 
     /// Sets the field `origdate`, and takes `origyear`, `origmonth` and `origday` out. A refusal changes nothing.
     pub fn set_orig_date(&mut self, value: &PermissiveType<Date>) -> Result<(), AllocError>
-        ensures { IsSetDate ⟦<PermissiveType<Date> as Type>⟧
+        ensures { SetsDate ⟦<PermissiveType<Date> as Type>⟧
             (⟦<PermissiveType<Date> as Type>⟧.meaning value.now) (codes "orig")
             self.old self.new result }
     {
-        self.set_date_behind(Prefix::Orig, value)
+        self.set_date_with_prefix(Prefix::Orig, value)
     }
 
     /// The field `urldate`, or else the fields `urlyear`, `urlmonth` and `urlday`: the date when the address was visited. A date that can't be
     /// read is answered as its chunks where it is one field, and refused where it is three. Without a year the field
-    /// `year` is told as missing.
+    /// `year` is reported as missing.
     pub fn url_date(&self, alloc: Global) -> Result<PermissiveType<Date>, RetrievalError>
-        ensures { IsGetDate ⟦<PermissiveType<Date> as Type>⟧ (codes "url") self.now result }
+        ensures { GetsDate ⟦<PermissiveType<Date> as Type>⟧ (codes "url") self.now result }
     {
-        self.date_behind(alloc, Prefix::Url)
+        self.date_with_prefix(alloc, Prefix::Url)
     }
 
     /// Sets the field `urldate`, and takes `urlyear`, `urlmonth` and `urlday` out. A refusal changes nothing.
     pub fn set_url_date(&mut self, value: &PermissiveType<Date>) -> Result<(), AllocError>
-        ensures { IsSetDate ⟦<PermissiveType<Date> as Type>⟧
+        ensures { SetsDate ⟦<PermissiveType<Date> as Type>⟧
             (⟦<PermissiveType<Date> as Type>⟧.meaning value.now) (codes "url")
             self.old self.new result }
     {
-        self.set_date_behind(Prefix::Url, value)
+        self.set_date_with_prefix(Prefix::Url, value)
     }
 }

@@ -15,7 +15,7 @@ use std::alloc::Global;
 impl Entry {
     /// The people of the fields `editor`, `editora`, `editorb` and `editorc`, those that are there, each with the role
     /// that `editortype`, `editoratype`, `editorbtype` or `editorctype` names, and without that field as editors. The
-    /// only fault is want of memory.
+    /// only error is out of memory.
     pub fn editors(&self, alloc: Global) -> Result<Vec<(Vec<Person>, EditorType)>, TypeError>
         ensures editors { IfOk result (λ editors. contents editors.items ≡ editors_of self.now) }
         ensures refused { IfErr result (λ e. e ≡ no_memory) }

@@ -25,7 +25,7 @@ pub struct Entry {
 }
 
 impl Entry {
-    /// An entry without fields. Takes no memory.
+    /// An entry without fields. Does not allocate.
     pub fn new(alloc: Global, key: Text, entry_type: EntryType) -> Self
         ensures { result ≡ record { key = key; entry_type = entry_type; fields = by_name.empty } }
     {
@@ -56,7 +56,7 @@ impl Entry {
         setting::set(&mut self.fields, name, chunks)
     }
 
-    /// Takes the field of this very name out. Takes no memory.
+    /// Takes the field of this very name out. Does not allocate.
     pub fn remove(&mut self, name: &str) -> Option<Chunks>
         ensures had { result ≡ by_name.get self.old.fields name.now }
         ensures removed { self.new ≡

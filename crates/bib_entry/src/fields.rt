@@ -2,7 +2,7 @@
 
 ghost use Rattle.std.specs.Prelude.{◌≡◌, map};
 ghost use Rattle.std.specs.Char.{to_ascii_lowercase};
-ghost use Rattle.bib_entry.specs.Fields.{IsGet, IsGetOr, IsGot, IsGotOr, IsSet};
+ghost use Rattle.bib_entry.specs.Fields.{GetsValue, GetsEitherValue, GetsChunks, GetsEitherChunks, SetsValue};
 
 mod aliases;
 mod bibtex;
@@ -18,10 +18,10 @@ use bib_typed::typed::Type;
 use std::alloc::{AllocError, Global};
 
 impl Entry {
-    /// The value that the field of this very name is read as. A fault says that there is no such field, or why its chunks
+    /// The value that the field of this very name is read as. An error says that there is no such field, or why its chunks
     /// are not read as the type, or that memory was refused.
     pub fn get_as<T: Type>(&self, alloc: Global, name: &str) -> Result<T, RetrievalError>
-        ensures { IsGet T.Type self.now name.now result }
+        ensures { GetsValue T.Type self.now name.now result }
     {
         reading::get_as(&self.fields, alloc, name)
     }
@@ -33,33 +33,37 @@ impl Entry {
         name: &str,
         other: &str,
     ) -> Result<T, RetrievalError>
-        ensures { IsGetOr T.Type self.now name.now other.now result }
+        ensures { GetsEitherValue T.Type self.now name.now other.now result }
     {
         reading::get_as_or(&self.fields, alloc, name, other)
     }
 
     // The chunks of the field of this very name.
-    pub(crate) fn got(&self, alloc: Global, name: &str) -> Result<ChunksRef<'_>, RetrievalError>
-        ensures { IsGot self.now name.now result }
+    pub(crate) fn chunks_of_field(
+        &self,
+        alloc: Global,
+        name: &str,
+    ) -> Result<ChunksRef<'_>, RetrievalError>
+        ensures { GetsChunks self.now name.now result }
     {
-        reading::got(&self.fields, alloc, name)
+        reading::chunks_of_field(&self.fields, alloc, name)
     }
 
     // The chunks of the field of this very name, or else of the other.
-    pub(crate) fn got_or(
+    pub(crate) fn chunks_of_either(
         &self,
         alloc: Global,
         name: &str,
         other: &str,
     ) -> Result<ChunksRef<'_>, RetrievalError>
-        ensures { IsGotOr self.now name.now other.now result }
+        ensures { GetsEitherChunks self.now name.now other.now result }
     {
-        reading::got_or(&self.fields, alloc, name, other)
+        reading::chunks_of_either(&self.fields, alloc, name, other)
     }
 
     /// Sets the field of the name in lower case to the chunks that a value is written as. A refusal changes nothing.
     pub fn set_as<T: Type>(&mut self, name: &str, value: &T) -> Result<(), AllocError>
-        ensures { IsSet T.Type (T.meaning value.now) (map to_ascii_lowercase name.now)
+        ensures { SetsValue T.Type (T.meaning value.now) (map to_ascii_lowercase name.now)
             self.old self.new result }
     {
         setting::set_as(&mut self.fields, name, value)

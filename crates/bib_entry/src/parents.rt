@@ -25,7 +25,7 @@ fn parents_of(alloc: Global, entry: &Entry) -> Result<Vec<String>, AllocError>
 
 impl Entry {
     /// The names of the entries that this one belongs to: the text of `crossref`, and then the parts of the comma list
-    /// `xref`. Refused only for want of memory.
+    /// `xref`. Refused only when out of memory.
     pub fn parents(&self, alloc: Global) -> Result<Vec<String>, TypeError>
         ensures parents { IfOk result (λ names.
             map (λ s. string_bytes s) names.items ≡ parents_of self.now) }

@@ -4,7 +4,7 @@ ghost use Rattle.std.specs.Prelude.{◌≡◌, ◌==◌, ◌&&◌, IfOk, length}
 ghost use Rattle.bib_entry_types.specs.Requirements.{texts};
 ghost use Rattle.bib_entry.specs.Reports.{missing_of, superfluous_of, AreMalformed};
 
-mod faults;
+mod errors;
 mod fields;
 
 use crate::entry::Entry;
@@ -24,7 +24,7 @@ pub struct Report {
 }
 
 impl Report {
-    /// Whether nothing is wrong. Takes no memory.
+    /// Whether nothing is wrong. Does not allocate.
     pub fn is_ok(&self) -> bool
         ensures { result ≡ (length self.now.missing.items == 0
             && (length self.now.superfluous.items == 0

@@ -5,10 +5,10 @@ ghost use Rattle.std.specs.FinMap.{entries};
 ghost use Rattle.std.specs.List.{flat_map};
 ghost use Rattle.bib_entry_types.specs.EntryType.{entry_type_name};
 ghost use Rattle.bib_text.specs.Enums.{named};
-ghost use Rattle.bib_entry.specs.Format.{entry_in, field_in, kind_in};
+ghost use Rattle.bib_entry.specs.Format.{entry_in, written_field, kind_in};
 ghost use Rattle.std.specs.Option.{option_map};
 ghost use Rattle.bib_dates.specs.Chunks.{date_read};
-ghost use Rattle.bib_entry.specs.WrittenEntries.{biblatex_entry, biblatex_name, bibtex_entry, bibtex_field, bibtex_name, bibtex_names, date_lines, date_or, line, part_line, side_lines, thesis_names, value_bytes};
+ghost use Rattle.bib_entry.specs.WrittenEntries.{biblatex_entry, biblatex_name, bibtex_entry, bibtex_field, bibtex_name, bibtex_names, date_lines, date_or, written_line, part_line, side_lines, thesis_names, value_bytes};
 
 use crate::entry::Entry;
 use bib_chunks::chunk::{ChunksRef, write_value};
@@ -59,7 +59,7 @@ fn write_line(
     chunks: ChunksRef<'_>,
 ) -> Result<(), AllocError>
     ensures { OnOk result (string_bytes out.new ≡ string_bytes out.old ++
-        line written.now (value_bytes name.now chunks.now)) }
+        written_line written.now (value_bytes name.now chunks.now)) }
 {
     out.push_str(written)?;
     out.push_str(" = ")?;
@@ -153,7 +153,7 @@ fn write_date_field(
     chunks: ChunksRef<'_>,
 ) -> Result<(), AllocError>
     ensures { OnOk result (string_bytes out.new ≡ string_bytes out.old ++
-        date_or (line (codes "date") (value_bytes (codes "date") chunks.now)) (date_read chunks.now)) }
+        date_or (written_line (codes "date") (value_bytes (codes "date") chunks.now)) (date_read chunks.now)) }
 {
     match Date::from_chunks(alloc, chunks) {
         Ok(date) => write_date(alloc, out, &date),
@@ -191,7 +191,7 @@ fn write_field(
     format: Format,
 ) -> Result<(), AllocError>
     ensures { OnOk result (string_bytes out.new ≡ string_bytes out.old ++
-        field_in format kind.now (name.now, chunks.now)) }
+        written_field format kind.now (name.now, chunks.now)) }
 {
     match format {
         Format::Biblatex => write_line(out, biblatex_name(name), name, chunks),
@@ -220,7 +220,7 @@ fn write_fields(
     format: Format,
 ) -> Result<(), AllocError>
     ensures { OnOk result (string_bytes out.new ≡ string_bytes out.old ++
-        flat_map (field_in format entry.now.entry_type) (entries entry.now.fields)) }
+        flat_map (written_field format entry.now.entry_type) (entries entry.now.fields)) }
 {
     'fields: for (name, chunks) in &entry.fields {
         write_field(

@@ -1,4 +1,4 @@
--- How the name in a file is read: as it is written, or in small letters.
+-- How the name in a file is read: as it is written, or in lowercase letters.
 use Rattle.std.proofs.Common.{◌≡◌, ℕ, Bool, true, false, inl, inr, subst, List, [], ◌∷◌, Option, None, Some, refl, sym, ap, ◌∙◌, map, cond}
 use Rattle.std.specs.Prelude.{bytes_eq, unwrap_or}
 use Rattle.std.specs.Char.{to_ascii_lowercase}
@@ -11,11 +11,11 @@ use Rattle.bib_entry_types.specs.declared.mechanics.EntryType.{EntryType}
 use Rattle.bib_entry_types.specs.declared.mechanics.EntryType.TheVariants.{Article, Book, Booklet, InBook, InCollection, InProceedings, Manual, MastersThesis, PhdThesis, Misc, Proceedings, TechReport, Unpublished, MvBook, BookInBook, SuppBook, Periodical, SuppPeriodical, Collection, MvCollection, SuppCollection, Reference, MvReference, InReference, MvProceedings, Report, Patent, Thesis, Online, Software, Dataset, Set, XData, Unknown}
 use Rattle.bib_entry_types.specs.EntryType.{entry_type_named, named_or_alias, entry_type_of, type_names, alias_names, entry_type_name, biblatex_type}
 
--- a table's names are all in small letters
+-- a table's names are all in lowercase letters
 abbrev pub is_lowered : {A : Type 0} → List (List ℕ × A) → Bool
 is_lowered = list_all (λ row. bytes_eq (map to_ascii_lowercase row.0) row.0)
 
--- a text that such a table names is in small letters
+-- a text that such a table names is in lowercase letters
 pub named_is_lowered : {A : Type 0} (rows : List (List ℕ × A)) (text : List ℕ) (value : A) → is_lowered rows ≡ true → named rows text ≡ Some value → map to_ascii_lowercase text ≡ text
 named_is_lowered [] text value lowered found = cc
 named_is_lowered (row ∷ rows) text value lowered found =
@@ -29,7 +29,7 @@ named_is_lowered (row ∷ rows) text value lowered found =
     later true rest this here found = cc
     later false rest this here found = found
 
--- a name or alias in small letters
+-- a name or alias in lowercase letters
 pub type_as_lowered : (name lowered : List ℕ) (type : EntryType) → lowered ≡ map to_ascii_lowercase name → named_or_alias lowered ≡ Some type → entry_type_of name ≡ type
 unfolding entry_type_of
 type_as_lowered name lowered type is found = ap (λ found'. unwrap_or found' (Unknown (map to_ascii_lowercase name))) (ap named_or_alias (sym is) ∙ found)

@@ -6,7 +6,7 @@ use Rattle.bib_text.specs.Enums.{named, by_name}
 use Rattle.bib_entry_types.specs.declared.mechanics.EntryType.{EntryType}
 use Rattle.bib_entry_types.specs.declared.mechanics.EntryType.TheVariants.{Article, Book, Booklet, InBook, InCollection, InProceedings, Manual, MastersThesis, PhdThesis, Misc, Proceedings, TechReport, Unpublished, MvBook, BookInBook, SuppBook, Periodical, SuppPeriodical, Collection, MvCollection, SuppCollection, Reference, MvReference, InReference, MvProceedings, Report, Patent, Thesis, Online, Software, Dataset, Set, XData, Unknown}
 
--- the name by which a type is written, its own in small letters; an unknown one's is not kept
+-- the name by which a type is written, its own in lowercase letters; an unknown one's is not kept
 abbrev pub entry_type_name : EntryType → List ℕ
 entry_type_name Article = codes "article"
 entry_type_name Book = codes "book"

@@ -83,7 +83,7 @@ pub enum EntryType {
     Set,
     /// A container of fields that other entries inherit.
     XData,
-    /// Any other, by its name in small letters.
+    /// Any other, by its name in lowercase letters.
     Unknown(Text),
 }
 
@@ -160,7 +160,7 @@ macro_rules! known_or_misc {
 
 impl EntryType {
     /// The type with this name in any ASCII case, where `conference`, `electronic` and `www` are names too. Any
-    /// other name is kept in small letters. A name that is written as this crate writes it takes no memory.
+    /// other name is kept in lowercase letters. A name that is written as this crate writes it does not allocate.
     pub fn new(alloc: Global, name: &str) -> Result<Self, AllocError>
         ensures ok { IfOk result (λ type. type ≡ entry_type_of name.now) }
         ensures no_memory_needed { IsSome (entry_type_named name.now) → IsOk result }

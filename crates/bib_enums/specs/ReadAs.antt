@@ -6,7 +6,7 @@ use Rattle.bib_enums.specs.declared.type_error.TypeError.{TypeError}
 use Rattle.bib_enums.specs.declared.type_error.TypeErrorKind.{TypeErrorKind}
 use Rattle.bib_enums.specs.declared.type_error.TypeErrorKind.TheVariants.{OutOfMemory}
 
--- a fault says that memory was refused, or that nothing is read, with a kind that a refusal may have
+-- an error says that memory was refused, or that nothing is read, with a kind that a refusal may have
 abbrev pub IsRefusal : {M : Type 0} → Option M → (TypeErrorKind → Type 0) → TypeError → Type 0
 IsRefusal read may_refuse e = (e ≡ no_memory) ⊎ ((e.kind ≢ OutOfMemory) × (read ≡ None) × may_refuse e.kind)
 

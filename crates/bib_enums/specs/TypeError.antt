@@ -1,5 +1,5 @@
 -- Meaning: words of public contracts.
--- Faults of typed values, and how they are printed, as the Rust crate `biblatex` prints them.
+-- Errors of typed values, and how they are printed, as the Rust crate `biblatex` prints them.
 use Rattle.std.specs.Prelude.{ℕ, List, ◌++◌, codes}
 use Rattle.std.specs.Fmt.{decimal}
 use Rattle.bib_enums.specs.declared.type_error.TypeErrorKind.{TypeErrorKind}
@@ -23,10 +23,10 @@ type_kind_text UnknownLangId = codes "unknown language id"
 type_kind_text YearZeroCE = codes "year 0 CE or BCE does not exist"
 type_kind_text OutOfMemory = codes "out of memory"
 
--- the kind, and the bytes at fault
+-- the kind, and the bytes at error
 abbrev pub type_error_text : TypeError → List ℕ
 type_error_text e = type_kind_text e.kind ++ codes ": " ++ decimal e.span.start ++ codes "-" ++ decimal e.span.end
 
--- the fault that is no fault of the chunks
+-- the error that is no error of the chunks
 abbrev pub no_memory : TypeError
 no_memory = record { span = record { start = 0; end = 0 }; kind = OutOfMemory }

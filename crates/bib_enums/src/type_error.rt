@@ -12,7 +12,7 @@ use std::fmt;
 /// Why chunks are not read as a value, and where.
 #[derive(Debug, Clone, PartialEq, Eq, Drop)]
 pub struct TypeError {
-    /// The bytes of the chunks at fault. At the kind `OutOfMemory` it is `0..0`.
+    /// The bytes of the chunks at error. At the kind `OutOfMemory` it is `0..0`.
     pub span: Span,
     /// What is wrong.
     pub kind: TypeErrorKind,

@@ -54,7 +54,7 @@ pub enum Pagination {
 }
 
 impl Pagination {
-    /// The name by which the scheme is written and read: the variant's in small letters.
+    /// The name by which the scheme is written and read: the variant's in lowercase letters.
     pub fn as_ref(&self) -> &'static str
         ensures { result.now ≡ pagination_name self.now }
     {
@@ -132,7 +132,7 @@ pub enum EditorType {
 
 impl EditorType {
     /// The named type whose name this text is, exactly as it is written, and any other text as it stands. The only
-    /// fault is want of memory for that text.
+    /// error is out of memory for that text.
     pub fn from_str(alloc: Global, text: &str) -> Result<Self, NameError>
         ensures ok { IfOk result (λ role. role ≡ editor_type_of text.now) }
         ensures refused { IsOkUnless result NameError.OutOfMemory }
@@ -157,7 +157,7 @@ impl EditorType {
         }
     }
 
-    /// The name by which the type is written: the variant's in small letters, and the text of an unknown one.
+    /// The name by which the type is written: the variant's in lowercase letters, and the text of an unknown one.
     pub fn as_ref(&self) -> &str
         ensures { result.now ≡ editor_type_name self.now }
     {

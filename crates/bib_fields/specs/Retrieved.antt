@@ -1,5 +1,5 @@
 -- Meaning: words of public contracts.
--- Fields of a map read as values of a type, and why they are not, as the Rust crate `biblatex` tells it.
+-- Fields of a map read as values of a type, and why they are not, as the Rust crate `biblatex` says it.
 use Rattle.std.specs.Prelude.{◌≡◌, ◌≢◌, ℕ, List, ◌++◌, codes, Option, Some, None, Result, Ok, Err, IsSomeAnd, option_and_then, ⊤}
 use Rattle.std.specs.Borrow.{Bor}
 use Rattle.std.specs.Option.{option_or}
@@ -14,33 +14,33 @@ use Rattle.bib_chunks.specs.Values.{Value}
 use Rattle.bib_fields.specs.declared.retrieval.RetrievalError.{RetrievalError}
 use Rattle.bib_fields.specs.declared.retrieval.RetrievalError.TheVariants.{Missing, TypeError, OutOfMemory}
 
--- what is printed of a fault: the name of the field that isn't there, or what is printed of the chunks' fault
+-- what is printed of an error: the name of the field that isn't there, or what is printed of the chunks' error
 abbrev pub retrieval_text : RetrievalError → List ℕ
 retrieval_text (Missing name) = codes "field " ++ name ++ codes " is missing"
 retrieval_text (TypeError e) = type_error_text e
 retrieval_text OutOfMemory = codes "out of memory"
 
--- the fault of a field whose chunks have a fault of this kind: want of memory is none of the field
-abbrev pub retrieval_fault : TypeErrorKind → ATypeError → RetrievalError
-retrieval_fault kind.OutOfMemory e = OutOfMemory
-retrieval_fault _ e = TypeError e
+-- the error of a field whose chunks have an error of this kind: out of memory is none of the field
+abbrev pub retrieval_error : TypeErrorKind → ATypeError → RetrievalError
+retrieval_error kind.OutOfMemory e = OutOfMemory
+retrieval_error _ e = TypeError e
 
 -- what a field, if it is there, is read as
 abbrev pub field_as : {M : Type 0} → (Value → Option M) → Option Value → Option M
 field_as reads field = option_and_then reads field
 
--- a result is what a field is read as: a value that means it; else there is no field, and the fault has this name, or its
+-- a result is what a field is read as: a value that means it; else there is no field, and the error has this name, or its
 -- chunks are refused with a kind that they may be refused with, or memory was
 abbrev pub IsRetrieved : {V : Type 0} → Ghosts V → Option Value → List ℕ → Result V RetrievalError → Type 0
 IsRetrieved type field name (Ok v) = field_as type.reads field ≡ Some (type.meaning v)
-IsRetrieved type field name (Err (Missing told)) = (field ≡ None) × (told ≡ name)
+IsRetrieved type field name (Err (Missing reported)) = (field ≡ None) × (reported ≡ name)
 IsRetrieved type field name (Err (TypeError e)) = IsSomeAnd field (λ chunks. (e.kind ≢ kind.OutOfMemory) × (type.reads chunks ≡ None) × type.may_refuse chunks e.kind)
 IsRetrieved type field name (Err OutOfMemory) = ⊤
 
--- a result is the chunks of a field; else there is none, and the fault has this name, or memory was refused for the name
+-- a result is the chunks of a field; else there is none, and the error has this name, or memory was refused for the name
 abbrev pub AreChunksOf : Option Value → List ℕ → Result (Bor Value) RetrievalError → Type 0
 AreChunksOf field name (Ok chunks) = field ≡ Some chunks.now
-AreChunksOf field name (Err (Missing told)) = (field ≡ None) × (told ≡ name)
+AreChunksOf field name (Err (Missing reported)) = (field ≡ None) × (reported ≡ name)
 AreChunksOf field name (Err (TypeError e)) = ⊥
 AreChunksOf field name (Err OutOfMemory) = field ≡ None
 

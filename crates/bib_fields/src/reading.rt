@@ -12,7 +12,7 @@ use bib_text::text::Text;
 use bib_typed::typed::Type;
 use std::alloc::Global;
 
-/// The chunks of the field of this very name, if it is there. Takes no memory.
+/// The chunks of the field of this very name, if it is there. Does not allocate.
 pub fn get<'f>(fields: &'f TextMap<Chunks>, name: &str) -> Option<ChunksRef<'f>>
     ensures { option_copied result ≡ by_name.get fields.now name.now }
 {
@@ -20,7 +20,7 @@ pub fn get<'f>(fields: &'f TextMap<Chunks>, name: &str) -> Option<ChunksRef<'f>>
     Some(chunks.as_slice())
 }
 
-/// The value that the field of this very name is read as. A fault says that there is no such field, or why its chunks
+/// The value that the field of this very name is read as. An error says that there is no such field, or why its chunks
 /// are not read as the type, or that memory was refused.
 pub fn get_as<T: Type>(
     fields: &TextMap<Chunks>,
@@ -33,7 +33,7 @@ pub fn get_as<T: Type>(
 }
 
 /// The value that the field of this very name is read as, or else that of the other name. Where neither is there, the
-/// fault has the first name; the others are those of `get_as`.
+/// error has the first name; the others are those of `get_as`.
 pub fn get_as_or<T: Type>(
     fields: &TextMap<Chunks>,
     alloc: Global,
@@ -45,9 +45,9 @@ pub fn get_as_or<T: Type>(
     read(alloc, name, get_or(fields, name, other))
 }
 
-/// The chunks of the field of this very name. A fault says that there is no such field, or that memory was refused for
+/// The chunks of the field of this very name. An error says that there is no such field, or that memory was refused for
 /// its name.
-pub fn got<'f>(
+pub fn chunks_of_field<'f>(
     fields: &'f TextMap<Chunks>,
     alloc: Global,
     name: &str,
@@ -57,9 +57,9 @@ pub fn got<'f>(
     found(alloc, name, get(fields, name))
 }
 
-/// The chunks of the field of this very name, or else of the other. Where neither is there, the fault has the first
+/// The chunks of the field of this very name, or else of the other. Where neither is there, the error has the first
 /// name, unless memory was refused for it.
-pub fn got_or<'f>(
+pub fn chunks_of_either<'f>(
     fields: &'f TextMap<Chunks>,
     alloc: Global,
     name: &str,
@@ -80,7 +80,7 @@ fn get_or<'f>(fields: &'f TextMap<Chunks>, name: &str, other: &str) -> Option<Ch
     }
 }
 
-// What a field is read as, if it is there; a missing one is told by this name.
+// What a field is read as, if it is there; a missing one is reported by this name.
 fn read<T: Type>(
     alloc: Global,
     name: &str,
@@ -97,7 +97,7 @@ fn read<T: Type>(
     }
 }
 
-// The chunks of a field, if it is there; a missing one is told by this name.
+// The chunks of a field, if it is there; a missing one is reported by this name.
 fn found<'a>(
     alloc: Global,
     name: &str,

@@ -1,7 +1,7 @@
 //! Why a field was not read.
 
 ghost use Rattle.std.specs.Prelude.{◌≡◌, Some};
-ghost use Rattle.bib_fields.specs.Retrieved.{retrieval_text, retrieval_fault};
+ghost use Rattle.bib_fields.specs.Retrieved.{retrieval_text, retrieval_error};
 
 use bib_enums::type_error::TypeError;
 use bib_text::text::Text;
@@ -34,9 +34,9 @@ impl fmt::Display for RetrievalError {
 
 impl Error for RetrievalError {}
 
-/// Want of memory is no fault of the field.
+/// Out of memory is no error of the field.
 impl From<TypeError> for RetrievalError {
-    ghost from_gives = { λ e error. error ≡ retrieval_fault e.kind e };
+    ghost from_gives = { λ e error. error ≡ retrieval_error e.kind e };
 
     fn from(e: TypeError) -> RetrievalError {
         match e.unless_out_of_memory() {

@@ -13,7 +13,7 @@ use std::alloc::{AllocError, AllocFailed};
 use std::error::Error;
 use std::fmt;
 
-/// A field that was not set for want of memory.
+/// A field that was not set when out of memory.
 #[derive(Debug, Drop)]
 pub struct SetError {
     /// What the field would have held.

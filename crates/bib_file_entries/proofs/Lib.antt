@@ -1,4 +1,4 @@
-pub mod LibraryFacts
+pub mod BibliographyFacts
 pub mod LoadedFacts
 pub mod LoadingFacts
 pub mod RawFacts

@@ -18,17 +18,17 @@ use Rattle.bib_abbreviations.specs.Abbreviations.{Definitions}
 use Rattle.bib_syntax.specs.Reading.{FieldReading, EntryReading}
 use Rattle.bib_abbreviations.proofs.LawFacts.{evaluates_same}
 use Rattle.bib_entry.specs.declared.entry.Entry.{Entry}
-use Rattle.bib_file_entries.specs.Library.{Library, claims, aliases, appended, nothing}
+use Rattle.bib_file_entries.specs.Bibliography.{Bibliography, claims, aliases, appended, empty_bibliography}
 use Rattle.bib_styled.specs.Lists.{comma_texts}
-use Rattle.bib_file_entries.specs.Loaded.{AllCanBeRead, IsEntry, AreEntries, IsFaultOfFields, IsFaultOfEntries, Says, field_in, is_claimed, loaded_behind}
-use Rattle.bib_maps.specs.Names.{ArePlacesBelow, claimed, claims_for}
+use Rattle.bib_file_entries.specs.Loaded.{AllCanBeRead, IsEntry, AreEntries, IsFirstErrorOfFields, IsFirstErrorOfEntries, FieldSays, field_in, is_claimed, loaded_after}
+use Rattle.bib_maps.specs.Names.{AreIndicesBelow, claimed, claims_for}
 use Rattle.bib_maps.specs.Sorted.{ByText, by_bytes}
-use Rattle.bib_file_entries.proofs.LibraryFacts.{below_empty, below_claimed, below_more}
+use Rattle.bib_file_entries.proofs.BibliographyFacts.{below_empty, below_claimed, below_more}
 
 -- what a field `ids` of two entries claims
 aliases_found : (definitions : Definitions) (found : Option FieldReading) (one two : Option (List (Spanned Chunk)))
-    → MatchOption found (one ≡ None) (λ f. (chunks : List (Spanned Chunk)) × (one ≡ Some chunks) × Says definitions f chunks)
-    → MatchOption found (two ≡ None) (λ f. (chunks : List (Spanned Chunk)) × (two ≡ Some chunks) × Says definitions f chunks)
+    → MatchOption found (one ≡ None) (λ f. (chunks : List (Spanned Chunk)) × (one ≡ Some chunks) × FieldSays definitions f chunks)
+    → MatchOption found (two ≡ None) (λ f. (chunks : List (Spanned Chunk)) × (two ≡ Some chunks) × FieldSays definitions f chunks)
     → option_map_or (λ chunks. comma_texts (styled chunks)) one [] ≡ option_map_or (λ chunks. comma_texts (styled chunks)) two []
 aliases_found definitions None one two first second = rw (first, second) refl
 aliases_found definitions (Some f) one two first second = rw (first.1, second.1) (ap comma_texts (evaluates_same first.2.says second.2.says))
@@ -39,58 +39,58 @@ claims_same {definitions} {said} one two first second =
     ap (λ key. key ∷ aliases one) (first.key ∙ sym second.key)
     ∙ ap (λ names. two.key ∷ names) (aliases_found definitions (field_in said.fields (codes "ids")) (by_name.get one.fields (codes "ids")) (by_name.get two.fields (codes "ids")) (first.fields (codes "ids")) (second.fields (codes "ids")))
 
--- where there is a fault, not all fields can be read
-pub fields_unread : {definitions : Definitions} {fields : List FieldReading} {e : ParseError} → IsFaultOfFields definitions fields e → AllCanBeRead definitions fields → ⊥
-fields_unread (IsFaultOfFields.here fault unread) all = unread all.0
-fields_unread (IsFaultOfFields.behind read fault) all = fields_unread fault all.1
+-- where there is an error, not all fields can be read
+pub fields_unread : {definitions : Definitions} {fields : List FieldReading} {e : ParseError} → IsFirstErrorOfFields definitions fields e → AllCanBeRead definitions fields → ⊥
+fields_unread (IsFirstErrorOfFields.here error unread) all = unread all.0
+fields_unread (IsFirstErrorOfFields.following read error) all = fields_unread error all.1
 
--- where there is a fault, there are no such entries
-pub no_entries : {definitions : Definitions} {claimed : List (List ℕ)} {said : List EntryReading} {e : ParseError} {found : List Entry} → IsFaultOfEntries definitions claimed said e → AreEntries definitions claimed said found → ⊥
-no_entries (IsFaultOfEntries.duplicate was is) (AreEntries.next fresh read rest) = both_ways _ fresh was
-no_entries (IsFaultOfEntries.unreadable fresh fault) (AreEntries.next fresh' read rest) = fields_unread fault read.readable
-no_entries {definitions} {claimed} (IsFaultOfEntries.behind {rest = more} {entry = one} fresh read fault) (AreEntries.next {entry = two} {entries = others} fresh' read' rest) =
-    no_entries fault (subst (λ names. AreEntries definitions (claimed ++ names) more others) (claims_same two one read' read) rest)
+-- where there is an error, there are no such entries
+pub no_entries : {definitions : Definitions} {claimed : List (List ℕ)} {said : List EntryReading} {e : ParseError} {found : List Entry} → IsFirstErrorOfEntries definitions claimed said e → AreEntries definitions claimed said found → ⊥
+no_entries (IsFirstErrorOfEntries.duplicate was is) (AreEntries.next fresh read rest) = both_ways _ fresh was
+no_entries (IsFirstErrorOfEntries.unreadable fresh error) (AreEntries.next fresh' read rest) = fields_unread error read.readable
+no_entries {definitions} {claimed} (IsFirstErrorOfEntries.following {rest = more} {entry = one} fresh read error) (AreEntries.next {entry = two} {entries = others} fresh' read' rest) =
+    no_entries error (subst (λ names. AreEntries definitions (claimed ++ names) more others) (claims_same two one read' read) rest)
 
--- entries behind others
-pub loaded_more : (library : Library) (first second : List Entry) → loaded_behind library (first ++ second) ≡ loaded_behind (loaded_behind library first) second
-loaded_more library [] second = refl
-loaded_more library (entry ∷ first) second = loaded_more (appended library entry) first second
+-- entries after others
+pub loaded_more : (bibliography : Bibliography) (first second : List Entry) → loaded_after bibliography (first ++ second) ≡ loaded_after (loaded_after bibliography first) second
+loaded_more bibliography [] second = refl
+loaded_more bibliography (entry ∷ first) second = loaded_more (appended bibliography entry) first second
 
 or_false : (b : Bool) → (b || false) ≡ b
 or_false true = refl
 or_false false = refl
 
-one_more : (test : Bool) (place : ℕ) (had : Option ℕ) (later : Bool) → (is_some (cond test (Some place) had) || later) ≡ (is_some had || (test || later))
-one_more true place None later = refl
-one_more true place (Some p) later = refl
-one_more false place had later = refl
+one_more : (test : Bool) (index : ℕ) (had : Option ℕ) (later : Bool) → (is_some (cond test (Some index) had) || later) ≡ (is_some had || (test || later))
+one_more true index None later = refl
+one_more true index (Some p) later = refl
+one_more false index had later = refl
 
--- a name is there once names were claimed for a place if it was there, or is one of them
-pub names_claimed : (place : ℕ) (more : List (List ℕ)) (names : ByText ℕ) (name : List ℕ)
-    → is_some (by_name.get (claimed names (claims_for more place)) name) ≡ (is_some (by_name.get names name) || is_claimed more name)
-names_claimed place [] names name = sym (or_false (is_some (by_name.get names name)))
-names_claimed place (one ∷ more) names name =
-    names_claimed place more (by_name.insert names one place) name
-    ∙ ap (λ o. is_some o || is_claimed more name) (get-insert nat_list_cmp_total names one place name ∙ ap (λ b. cond b (Some place) (by_name.get names name)) (is_eq-slice_cmp name one))
-    ∙ one_more (bytes_eq name one) place (by_name.get names name) (is_claimed more name)
+-- a name is there once names were claimed for an index if it was there, or is one of them
+pub names_claimed : (index : ℕ) (more : List (List ℕ)) (names : ByText ℕ) (name : List ℕ)
+    → is_some (by_name.get (claimed names (claims_for more index)) name) ≡ (is_some (by_name.get names name) || is_claimed more name)
+names_claimed index [] names name = sym (or_false (is_some (by_name.get names name)))
+names_claimed index (one ∷ more) names name =
+    names_claimed index more (by_name.insert names one index) name
+    ∙ ap (λ o. is_some o || is_claimed more name) (get-insert nat_list_cmp_total names one index name ∙ ap (λ b. cond b (Some index) (by_name.get names name)) (is_eq-slice_cmp name one))
+    ∙ one_more (bytes_eq name one) index (by_name.get names name) (is_claimed more name)
 
--- entries were read so far, which claimed these names: what is read of the rest is read of the whole behind them, and a
--- fault of the rest is one of the whole
+-- entries were read so far, which claimed these names: what is read of the rest is read of the whole after them, and a
+-- error of the rest is one of the whole
 pub record LoadedSoFar (definitions : Definitions) (said rest : List EntryReading) (found : List Entry) (names : ByText ℕ) : Type 0 where
   pub earlier : List (List ℕ)
   pub same : (name : List ℕ) → is_some (by_name.get names name) ≡ is_claimed earlier name
   pub onward : (more : List Entry) → AreEntries definitions earlier rest more → AreEntries definitions [] said (found ++ more)
-  pub faulty : (e : ParseError) → IsFaultOfEntries definitions earlier rest e → IsFaultOfEntries definitions [] said e
-  pub library : loaded_behind nothing found ≡ record { entries = found; names = names }
-  pub below : ArePlacesBelow (length found) names
+  pub faulty : (e : ParseError) → IsFirstErrorOfEntries definitions earlier rest e → IsFirstErrorOfEntries definitions [] said e
+  pub bibliography : loaded_after empty_bibliography found ≡ record { entries = found; names = names }
+  pub below : AreIndicesBelow (length found) names
 
 pub loaded_none : (definitions : Definitions) (said : List EntryReading) → LoadedSoFar definitions said said [] by_name.empty
 loaded_none definitions said = record {
   earlier = [];
   same = λ name. ap is_some (get-empty by_bytes name);
   onward = λ more read. read;
-  faulty = λ e fault. fault;
-  library = refl;
+  faulty = λ e error. error;
+  bibliography = refl;
   below = below_empty 0;
 }
 
@@ -106,9 +106,9 @@ loaded_next {definitions} {said} {one} {rest} {found} {names} entry loaded absen
           names_claimed (length found) (claims entry) names name
           ∙ ap (λ b. b || is_claimed (claims entry) name) (loaded.same name)
           ∙ sym (list_any-append (bytes_eq name) loaded.earlier (claims entry));
-      onward = λ others behind. subst (AreEntries definitions [] said) (sym (append_assoc found (entry ∷ []) others)) (loaded.onward (entry ∷ others) (AreEntries.next fresh read behind));
-      faulty = λ e fault. loaded.faulty e (IsFaultOfEntries.behind fresh read fault);
-      library = loaded_more nothing found (entry ∷ []) ∙ ap (λ library. appended library entry) loaded.library;
+      onward = λ others following. subst (AreEntries definitions [] said) (sym (append_assoc found (entry ∷ []) others)) (loaded.onward (entry ∷ others) (AreEntries.next fresh read following));
+      faulty = λ e error. loaded.faulty e (IsFirstErrorOfEntries.following fresh read error);
+      bibliography = loaded_more empty_bibliography found (entry ∷ []) ∙ ap (λ bibliography. appended bibliography entry) loaded.bibliography;
       below =
           below_claimed (length (found ++ entry ∷ [])) (claims entry) names (length found)
           (below_more (length found) (length (found ++ entry ∷ [])) names loaded.below (omega (arith, count))) (omega (arith, count));
@@ -118,14 +118,14 @@ loaded_next {definitions} {said} {one} {rest} {found} {names} entry loaded absen
 pub loaded_all : {definitions : Definitions} {said : List EntryReading} {found : List Entry} {names : ByText ℕ} → LoadedSoFar definitions said [] found names → AreEntries definitions [] said found
 loaded_all {definitions} {said} {found} loaded = subst (AreEntries definitions [] said) (append-nil found) (loaded.onward [] AreEntries.none)
 
--- a key that was claimed is the first fault
-pub fault_duplicate : {definitions : Definitions} {said : List EntryReading} {one : EntryReading} {rest : List EntryReading} {found : List Entry} {names : ByText ℕ} (e : ParseError)
+-- a key that was claimed is the first error
+pub error_duplicate : {definitions : Definitions} {said : List EntryReading} {one : EntryReading} {rest : List EntryReading} {found : List Entry} {names : ByText ℕ} (e : ParseError)
     → LoadedSoFar definitions said (one ∷ rest) found names → is_some (by_name.get names one.key.text) ≡ true
-    → e ≡ record { span = record { start = one.start; end = one.end }; kind = DuplicateKey one.key.text } → IsFaultOfEntries definitions [] said e
-fault_duplicate {one = one} e loaded had is = loaded.faulty e (IsFaultOfEntries.duplicate (sym (loaded.same one.key.text) ∙ had) is)
+    → e ≡ record { span = record { start = one.start; end = one.end }; kind = DuplicateKey one.key.text } → IsFirstErrorOfEntries definitions [] said e
+error_duplicate {one = one} e loaded had is = loaded.faulty e (IsFirstErrorOfEntries.duplicate (sym (loaded.same one.key.text) ∙ had) is)
 
 -- and else a field that can't be read
-pub fault_unreadable : {definitions : Definitions} {said : List EntryReading} {one : EntryReading} {rest : List EntryReading} {found : List Entry} {names : ByText ℕ} (e : ParseError)
-    → LoadedSoFar definitions said (one ∷ rest) found names → is_some (by_name.get names one.key.text) ≡ false → IsFaultOfFields definitions one.fields e
-    → IsFaultOfEntries definitions [] said e
-fault_unreadable {one = one} e loaded absent fault = loaded.faulty e (IsFaultOfEntries.unreadable (sym (loaded.same one.key.text) ∙ absent) fault)
+pub error_unreadable : {definitions : Definitions} {said : List EntryReading} {one : EntryReading} {rest : List EntryReading} {found : List Entry} {names : ByText ℕ} (e : ParseError)
+    → LoadedSoFar definitions said (one ∷ rest) found names → is_some (by_name.get names one.key.text) ≡ false → IsFirstErrorOfFields definitions one.fields e
+    → IsFirstErrorOfEntries definitions [] said e
+error_unreadable {one = one} e loaded absent error = loaded.faulty e (IsFirstErrorOfEntries.unreadable (sym (loaded.same one.key.text) ∙ absent) error)

@@ -14,15 +14,15 @@ use Rattle.std.proofs.lemmas.Map.Text.{is_eq-slice_cmp}
 use Rattle.bib_chunks.specs.declared.chunk.Chunk.{Chunk}
 use Rattle.bib_text.specs.declared.spanned.Spanned.{Spanned}
 use Rattle.bib_abbreviations.specs.Abbreviations.{Definitions}
-use Rattle.bib_syntax.specs.Faults.{out_of_memory}
+use Rattle.bib_syntax.specs.Errors.{out_of_memory}
 use Rattle.bib_syntax.specs.Reading.{Piece}
 use Rattle.bib_syntax.specs.declared.raw.Pair.{Pair}
 use Rattle.bib_syntax.specs.declared.raw.ParseError.{ParseError}
-use Rattle.bib_file_entries.specs.Loading.{AreReadable, IsFieldOf, IsFieldReadable, IsFieldsFault, field_name, last_definition, last_field, pieces_of}
-use Rattle.bib_file_entries.specs.Reading.{IsFieldFault}
+use Rattle.bib_file_entries.specs.Loading.{AreReadable, IsFieldOf, IsFieldReadable, IsFieldsError, field_name, last_definition, last_field, pieces_of}
+use Rattle.bib_file_entries.specs.Reading.{IsFieldError}
 use Rattle.bib_maps.specs.Sorted.{by_bytes}
 
--- of definitions with one more behind them, that one stands for its name
+-- of definitions with one more after them, that one stands for its name
 pub last_definition-push : (pairs : List Pair) (p : Pair) (name : List ℕ)
     → last_definition (pairs ++ p ∷ []) name ≡ cond (bytes_eq name p.key.v.now) (Some (pieces_of p)) (last_definition pairs name)
 last_definition-push pairs p name =
@@ -78,26 +78,26 @@ module _ (definitions : Definitions) where
   are_readable (p ∷ ps) [] all = absurd all
   are_readable (p ∷ ps) (pair ∷ pairs) all = (all.0.readable, are_readable ps pairs all.1)
 
-  -- a fault behind fields that are read is the first
-  pub fault_behind : (ps : List Pair) (pairs : List (List ℕ × List (Spanned Chunk))) (rest : List Pair) (e : ParseError)
-      → AllZip (IsRead definitions) ps pairs → IsFieldsFault definitions rest e → IsFieldsFault definitions (ps ++ rest) e
-  fault_behind [] [] rest e all fault = fault
-  fault_behind [] (pair ∷ pairs) rest e all fault = absurd all
-  fault_behind (p ∷ ps) [] rest e all fault = absurd all
-  fault_behind (p ∷ ps) (pair ∷ pairs) rest e all fault = IsFieldsFault.behind all.0.readable (fault_behind ps pairs rest e all.1 fault)
+  -- an error after fields that are read is the first
+  pub error_after : (ps : List Pair) (pairs : List (List ℕ × List (Spanned Chunk))) (rest : List Pair) (e : ParseError)
+      → AllZip (IsRead definitions) ps pairs → IsFieldsError definitions rest e → IsFieldsError definitions (ps ++ rest) e
+  error_after [] [] rest e all error = error
+  error_after [] (pair ∷ pairs) rest e all error = absurd all
+  error_after (p ∷ ps) [] rest e all error = absurd all
+  error_after (p ∷ ps) (pair ∷ pairs) rest e all error = IsFieldsError.following all.0.readable (error_after ps pairs rest e all.1 error)
 
-  -- the fault of a field behind fields that are read is the first
-  pub fault_at_field : (fields : List Pair) (i : ℕ) (d : Pair) (pairs : List (List ℕ × List (Spanned Chunk))) (e : ParseError) → i < length fields
-      → AllZip (IsRead definitions) (take i fields) pairs → IsFieldFault definitions (get_or fields i d) e → IsFieldsFault definitions fields e
-  fault_at_field fields i d pairs e within all fault =
-      subst (λ l. IsFieldsFault definitions l e) (ap (λ l. take i fields ++ l) (sym (drop-cons fields i d within)) ∙ take-append-drop i fields)
-      (fault_behind (take i fields) pairs (get_or fields i d ∷ drop (suc i) fields) e all (IsFieldsFault.here fault.0 fault.1))
+  -- the error of a field after fields that are read is the first
+  pub error_at_field : (fields : List Pair) (i : ℕ) (d : Pair) (pairs : List (List ℕ × List (Spanned Chunk))) (e : ParseError) → i < length fields
+      → AllZip (IsRead definitions) (take i fields) pairs → IsFieldError definitions (get_or fields i d) e → IsFieldsError definitions fields e
+  error_at_field fields i d pairs e within all error =
+      subst (λ l. IsFieldsError definitions l e) (ap (λ l. take i fields ++ l) (sym (drop-cons fields i d within)) ∙ take-append-drop i fields)
+      (error_after (take i fields) pairs (get_or fields i d ∷ drop (suc i) fields) e all (IsFieldsError.here error.0 error.1))
 
-  -- the refusal of a field behind fields that are read
+  -- the refusal of a field after fields that are read
   pub refused_at : (fields : List Pair) (i : ℕ) (p : Pair) (pairs : List (List ℕ × List (Spanned Chunk))) (e : ParseError) → i < length fields → p ≡ get_or fields i p
-      → AllZip (IsRead definitions) (take i fields) pairs → (e ≡ out_of_memory) ⊎ IsFieldFault definitions p e → (e ≡ out_of_memory) ⊎ IsFieldsFault definitions fields e
+      → AllZip (IsRead definitions) (take i fields) pairs → (e ≡ out_of_memory) ⊎ IsFieldError definitions p e → (e ≡ out_of_memory) ⊎ IsFieldsError definitions fields e
   refused_at fields i p pairs e within here all (inl memory) = inl memory
-  refused_at fields i p pairs e within here all (inr fault) = inr (fault_at_field fields i p pairs e within all (subst (λ q. IsFieldFault definitions q e) here fault))
+  refused_at fields i p pairs e within here all (inr error) = inr (error_at_field fields i p pairs e within all (subst (λ q. IsFieldError definitions q e) here error))
 
   -- one more field that is read
   pub read_more : (fields : List Pair) (i : ℕ) (p : Pair) (pairs more : List (List ℕ × List (Spanned Chunk))) (pair : List ℕ × List (Spanned Chunk)) → i < length fields → p ≡ get_or fields i p

@@ -8,13 +8,13 @@ use Rattle.bib_chunks.specs.declared.chunk.Chunk.{Chunk}
 use Rattle.bib_text.specs.declared.spanned.Spanned.{Spanned}
 use Rattle.bib_abbreviations.specs.Abbreviations.{Definitions}
 use Rattle.bib_syntax.specs.Reading.{FieldReading}
-use Rattle.bib_syntax.specs.Views.{field_of, entry_of}
+use Rattle.bib_syntax.specs.Views.{field_of, entry_reading_of}
 use Rattle.bib_syntax.specs.declared.raw.Pair.{Pair}
 use Rattle.bib_syntax.specs.declared.raw.RawEntry.{RawEntry}
 use Rattle.bib_syntax.specs.declared.raw.ParseError.{ParseError}
 use Rattle.bib_entry.specs.declared.entry.Entry.{Entry}
-use Rattle.bib_file_entries.specs.Loading.{IsEntryOf, IsFieldsFault, AreReadable, IsFieldOf, last_definition, last_field}
-use Rattle.bib_file_entries.specs.Loaded.{IsEntry, IsFaultOfFields, AllCanBeRead, Says, definition_in, field_in, name_of}
+use Rattle.bib_file_entries.specs.Loading.{IsEntryOf, IsFieldsError, AreReadable, IsFieldOf, last_definition, last_field}
+use Rattle.bib_file_entries.specs.Loaded.{IsEntry, IsFirstErrorOfFields, AllCanBeRead, FieldSays, definition_in, field_in, name_of}
 
 -- finding goes through what each element is taken for
 find_map : {A B : Type 0} (test : B → Bool) (f : A → B) (xs : List A) → find test (map f xs) ≡ option_map f (find (λ x. test (f x)) xs)
@@ -53,25 +53,25 @@ readable_same : (definitions : Definitions) (pairs : List Pair) → AreReadable 
 readable_same definitions [] all = tt
 readable_same definitions (p ∷ rest) all = (all.0, readable_same definitions rest all.1)
 
-pub fault_same : {definitions : Definitions} {pairs : List Pair} {e : ParseError} → IsFieldsFault definitions pairs e → IsFaultOfFields definitions (map field_of pairs) e
-fault_same (IsFieldsFault.here fault unread) = IsFaultOfFields.here fault unread
-fault_same (IsFieldsFault.behind read fault) = IsFaultOfFields.behind read (fault_same fault)
+pub error_same : {definitions : Definitions} {pairs : List Pair} {e : ParseError} → IsFieldsError definitions pairs e → IsFirstErrorOfFields definitions (map field_of pairs) e
+error_same (IsFieldsError.here error unread) = IsFirstErrorOfFields.here error unread
+error_same (IsFieldsError.following read error) = IsFirstErrorOfFields.following read (error_same error)
 
 field_same : (definitions : Definitions) (o : Option Pair) (at : Option (List (Spanned Chunk)))
     → MatchOption o (at ≡ None) (λ p. (chunks : List (Spanned Chunk)) × (at ≡ Some chunks) × IsFieldOf definitions p chunks)
-    → MatchOption (option_map field_of o) (at ≡ None) (λ f. (chunks : List (Spanned Chunk)) × (at ≡ Some chunks) × Says definitions f chunks)
+    → MatchOption (option_map field_of o) (at ≡ None) (λ f. (chunks : List (Spanned Chunk)) × (at ≡ Some chunks) × FieldSays definitions f chunks)
 field_same definitions None at found = found
 field_same definitions (Some p) at found = found
 
 -- an entry
-pub entry_same : {definitions : Definitions} {raw : Spanned RawEntry} {entry : Entry} → IsEntryOf definitions raw.v entry → IsEntry definitions (entry_of raw) entry
+pub entry_same : {definitions : Definitions} {raw : Spanned RawEntry} {entry : Entry} → IsEntryOf definitions raw.v entry → IsEntry definitions (entry_reading_of raw) entry
 entry_same {definitions} {raw} {entry} read = record {
   key = read.key;
   kind = read.kind;
   fields = λ name.
       let found : field_in (map field_of raw.v.fields.items) name ≡ option_map field_of (last_field raw.v.fields.items name) =
       ap (find (λ f. bytes_eq name (name_of f))) (reverse_map field_of raw.v.fields.items) ∙ find_map (λ f. bytes_eq name (name_of f)) field_of (reverse raw.v.fields.items) in
-      subst (λ o. MatchOption o (by_name.get entry.fields name ≡ None) (λ f. (chunks : List (Spanned Chunk)) × (by_name.get entry.fields name ≡ Some chunks) × Says definitions f chunks)) (sym found)
+      subst (λ o. MatchOption o (by_name.get entry.fields name ≡ None) (λ f. (chunks : List (Spanned Chunk)) × (by_name.get entry.fields name ≡ Some chunks) × FieldSays definitions f chunks)) (sym found)
       (field_same definitions (last_field raw.v.fields.items name) (by_name.get entry.fields name) (read.fields name));
   readable = readable_same definitions raw.v.fields.items read.readable;
 }

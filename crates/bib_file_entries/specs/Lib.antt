@@ -1,5 +1,5 @@
 pub mod Claiming
-pub mod Library
+pub mod Bibliography
 pub mod Loaded
 pub mod Loading
 pub mod Reading

@@ -1,5 +1,5 @@
 -- Meaning: words of public contracts.
--- What a file says of the entries of a bibliography: each with its own fields read, and the first fault if they can't be.
+-- What a file says of the entries of a bibliography: each with its own fields read, and the first error if they can't be.
 use Rattle.std.specs.Prelude.{◌≡◌, ◌+◌, length, ℕ, Bool, true, false, List, [], ◌∷◌, ◌++◌, map, reverse, find, bytes_eq, option_map, Option, Some, None, MatchOption}
 use Rattle.std.specs.Char.{to_ascii_lowercase}
 use Rattle.std.specs.FinMap as by_name
@@ -7,7 +7,7 @@ use Rattle.std.specs.List.{list_any}
 use Rattle.bib_chunks.specs.Styled.{styled}
 use Rattle.bib_chunks.specs.declared.chunk.Chunk.{Chunk}
 use Rattle.bib_text.specs.declared.spanned.Spanned.{Spanned}
-use Rattle.bib_abbreviations.specs.Abbreviations.{Definitions, Evaluates, IsFirstFault, IsReadable}
+use Rattle.bib_abbreviations.specs.Abbreviations.{Definitions, Evaluates, IsFirstError, IsReadable}
 use Rattle.bib_entry_types.specs.VerbatimFields.{is_verbatim_field}
 use Rattle.bib_styled.specs.Joined.{AreJoined, ArePlaced}
 use Rattle.bib_syntax.specs.Reading.{Part, Piece, FieldReading, EntryReading}
@@ -16,13 +16,13 @@ use Rattle.bib_syntax.specs.declared.raw.ParseError.{ParseError}
 use Rattle.bib_syntax.specs.declared.raw.ParseErrorKind.TheVariants.{DuplicateKey}
 use Rattle.bib_entry_types.specs.EntryType.{entry_type_of}
 use Rattle.bib_entry.specs.declared.entry.Entry.{Entry}
-use Rattle.bib_file_entries.specs.Library.{Library, claims, appended}
+use Rattle.bib_file_entries.specs.Bibliography.{Bibliography, claims, appended}
 
 -- the definition of an abbreviation is its last one in the file, wherever it stands
 abbrev pub definition_in : List FieldReading → Definitions
 definition_in abbreviations name = option_map (λ f. f.value.pieces) (find (λ f. bytes_eq name f.name.text) (reverse abbreviations))
 
--- the name of a field, in small letters
+-- the name of a field, in lowercase letters
 abbrev pub name_of : FieldReading → List ℕ
 name_of f = map to_ascii_lowercase f.name.text
 
@@ -31,15 +31,15 @@ abbrev pub field_in : List FieldReading → List ℕ → Option FieldReading
 field_in fields name = find (λ f. bytes_eq name (name_of f)) (reverse fields)
 
 -- chunks are the contents of a field: their styled text is what its elements say, no two neighbours are both normal or
--- both verbatim, and where the field is one text, in a place as long as the text, they stand in that place, in order
+-- both verbatim, and where the field is one text, in an index as long as the text, they stand in that index, in order
 pub record AreContents (definitions : Definitions) (is_verbatim : Bool) (pieces : List Piece) (chunks : List (Spanned Chunk)) : Type 0 where
   pub says : Evaluates definitions is_verbatim pieces (styled chunks)
   pub joined : AreJoined chunks
   pub placed : (p : Part) → pieces ≡ literal p ∷ [] → p.end ≡ p.start + length p.text → ArePlaced p.start p.end chunks
 
 -- chunks are what a field says
-abbrev pub Says : Definitions → FieldReading → List (Spanned Chunk) → Type 0
-Says definitions f chunks = AreContents definitions (is_verbatim_field (name_of f)) f.value.pieces chunks
+abbrev pub FieldSays : Definitions → FieldReading → List (Spanned Chunk) → Type 0
+FieldSays definitions f chunks = AreContents definitions (is_verbatim_field (name_of f)) f.value.pieces chunks
 
 -- a field can be read
 abbrev pub CanBeRead : Definitions → FieldReading → Type 0
@@ -56,14 +56,14 @@ pub record IsEntry (definitions : Definitions) (said : EntryReading) (entry : En
   pub key : entry.key ≡ said.key.text
   pub kind : entry.entry_type ≡ entry_type_of said.kind.text
   pub fields : (name : List ℕ)
-      → MatchOption (field_in said.fields name) (by_name.get entry.fields name ≡ None) (λ f. (chunks : List (Spanned Chunk)) × (by_name.get entry.fields name ≡ Some chunks) × Says definitions f chunks)
+      → MatchOption (field_in said.fields name) (by_name.get entry.fields name ≡ None) (λ f. (chunks : List (Spanned Chunk)) × (by_name.get entry.fields name ≡ Some chunks) × FieldSays definitions f chunks)
   pub readable : AllCanBeRead definitions said.fields
 
 -- whether a name is among those that were claimed
 abbrev pub is_claimed : List (List ℕ) → List ℕ → Bool
 is_claimed claimed name = list_any (bytes_eq name) claimed
 
--- entries are what a file says, in order, behind claims of earlier ones: no key is a name that was claimed before
+-- entries are what a file says, in order, after claims of earlier ones: no key is a name that was claimed before
 pub data AreEntries (definitions : Definitions) : List (List ℕ) → List EntryReading → List Entry → Type 0 where
   none : {claimed : List (List ℕ)} → AreEntries definitions claimed [] []
   next : {claimed : List (List ℕ)} {said : EntryReading} {rest : List EntryReading} {entry : Entry} {entries : List Entry}
@@ -71,26 +71,26 @@ pub data AreEntries (definitions : Definitions) : List (List ℕ) → List Entry
       → AreEntries definitions (claimed ++ claims entry) rest entries
       → AreEntries definitions claimed (said ∷ rest) (entry ∷ entries)
 
--- the first fault of fields, in order
-pub data IsFaultOfFields (definitions : Definitions) : List FieldReading → ParseError → Type 0 where
-  here : {f : FieldReading} {rest : List FieldReading} {e : ParseError} → IsFirstFault definitions (is_verbatim_field (name_of f)) [] f.value.pieces e
-      → (CanBeRead definitions f → ⊥) → IsFaultOfFields definitions (f ∷ rest) e
-  behind : {f : FieldReading} {rest : List FieldReading} {e : ParseError} → CanBeRead definitions f → IsFaultOfFields definitions rest e
-      → IsFaultOfFields definitions (f ∷ rest) e
+-- the first error of fields, in order
+pub data IsFirstErrorOfFields (definitions : Definitions) : List FieldReading → ParseError → Type 0 where
+  here : {f : FieldReading} {rest : List FieldReading} {e : ParseError} → IsFirstError definitions (is_verbatim_field (name_of f)) [] f.value.pieces e
+      → (CanBeRead definitions f → ⊥) → IsFirstErrorOfFields definitions (f ∷ rest) e
+  following : {f : FieldReading} {rest : List FieldReading} {e : ParseError} → CanBeRead definitions f → IsFirstErrorOfFields definitions rest e
+      → IsFirstErrorOfFields definitions (f ∷ rest) e
 
--- the first fault of entries, in order, behind claims of earlier ones: a key that was claimed before, and then a field
+-- the first error of entries, in order, after claims of earlier ones: a key that was claimed before, and then a field
 -- that can't be read
-pub data IsFaultOfEntries (definitions : Definitions) : List (List ℕ) → List EntryReading → ParseError → Type 0 where
+pub data IsFirstErrorOfEntries (definitions : Definitions) : List (List ℕ) → List EntryReading → ParseError → Type 0 where
   duplicate : {claimed : List (List ℕ)} {said : EntryReading} {rest : List EntryReading} {e : ParseError} → is_claimed claimed said.key.text ≡ true
       → e ≡ record { span = record { start = said.start; end = said.end }; kind = DuplicateKey said.key.text }
-      → IsFaultOfEntries definitions claimed (said ∷ rest) e
+      → IsFirstErrorOfEntries definitions claimed (said ∷ rest) e
   unreadable : {claimed : List (List ℕ)} {said : EntryReading} {rest : List EntryReading} {e : ParseError} → is_claimed claimed said.key.text ≡ false
-      → IsFaultOfFields definitions said.fields e → IsFaultOfEntries definitions claimed (said ∷ rest) e
-  behind : {claimed : List (List ℕ)} {said : EntryReading} {rest : List EntryReading} {entry : Entry} {e : ParseError} → is_claimed claimed said.key.text ≡ false
-      → IsEntry definitions said entry → IsFaultOfEntries definitions (claimed ++ claims entry) rest e
-      → IsFaultOfEntries definitions claimed (said ∷ rest) e
+      → IsFirstErrorOfFields definitions said.fields e → IsFirstErrorOfEntries definitions claimed (said ∷ rest) e
+  following : {claimed : List (List ℕ)} {said : EntryReading} {rest : List EntryReading} {entry : Entry} {e : ParseError} → is_claimed claimed said.key.text ≡ false
+      → IsEntry definitions said entry → IsFirstErrorOfEntries definitions (claimed ++ claims entry) rest e
+      → IsFirstErrorOfEntries definitions claimed (said ∷ rest) e
 
--- entries one behind another, each with the names that it claims
-abbrev pub loaded_behind : Library → List Entry → Library
-loaded_behind library [] = library
-loaded_behind library (entry ∷ entries) = loaded_behind (appended library entry) entries
+-- entries one after another, each with the names that it claims
+abbrev pub loaded_after : Bibliography → List Entry → Bibliography
+loaded_after bibliography [] = bibliography
+loaded_after bibliography (entry ∷ entries) = loaded_after (appended bibliography entry) entries

@@ -1,11 +1,11 @@
 -- Machinery: words of private contracts.
--- What a file's entries are as entries of a bibliography, and the first fault if they can't be.
+-- What a file's entries are as entries of a bibliography, and the first error if they can't be.
 use Rattle.std.specs.Prelude.{◌≡◌, ℕ, List, [], ◌∷◌, map, reverse, find, bytes_eq, option_map, Option, Some, None, MatchOption}
 use Rattle.std.specs.Char.{to_ascii_lowercase}
 use Rattle.std.specs.FinMap as by_name
 use Rattle.bib_chunks.specs.declared.chunk.Chunk.{Chunk}
 use Rattle.bib_text.specs.declared.spanned.Spanned.{Spanned}
-use Rattle.bib_abbreviations.specs.Abbreviations.{Definitions, IsFirstFault, IsReadable}
+use Rattle.bib_abbreviations.specs.Abbreviations.{Definitions, IsFirstError, IsReadable}
 use Rattle.bib_entry_types.specs.VerbatimFields.{is_verbatim_field}
 use Rattle.bib_syntax.specs.Reading.{Piece}
 use Rattle.bib_syntax.specs.Views.{piece_of}
@@ -24,7 +24,7 @@ pieces_of p = map piece_of p.value.v.items
 abbrev pub last_definition : List Pair → Definitions
 last_definition pairs name = option_map pieces_of (find (λ p. bytes_eq name p.key.v.now) (reverse pairs))
 
--- the name of a field, in small letters
+-- the name of a field, in lowercase letters
 abbrev pub field_name : Pair → List ℕ
 field_name p = map to_ascii_lowercase p.key.v.now
 
@@ -53,9 +53,9 @@ pub record IsEntryOf (definitions : Definitions) (raw : RawEntry) (entry : Entry
       → MatchOption (last_field raw.fields.items name) (by_name.get entry.fields name ≡ None) (λ p. (chunks : List (Spanned Chunk)) × (by_name.get entry.fields name ≡ Some chunks) × IsFieldOf definitions p chunks)
   pub readable : AreReadable definitions raw.fields.items
 
--- the first fault of fields in order
-pub data IsFieldsFault (definitions : Definitions) : List Pair → ParseError → Type 0 where
-  here : {p : Pair} {rest : List Pair} {e : ParseError} → IsFirstFault definitions (is_verbatim_field (field_name p)) [] (pieces_of p) e
-      → (IsFieldReadable definitions p → ⊥) → IsFieldsFault definitions (p ∷ rest) e
-  behind : {p : Pair} {rest : List Pair} {e : ParseError} → IsFieldReadable definitions p → IsFieldsFault definitions rest e
-      → IsFieldsFault definitions (p ∷ rest) e
+-- the first error of fields in order
+pub data IsFieldsError (definitions : Definitions) : List Pair → ParseError → Type 0 where
+  here : {p : Pair} {rest : List Pair} {e : ParseError} → IsFirstError definitions (is_verbatim_field (field_name p)) [] (pieces_of p) e
+      → (IsFieldReadable definitions p → ⊥) → IsFieldsError definitions (p ∷ rest) e
+  following : {p : Pair} {rest : List Pair} {e : ParseError} → IsFieldReadable definitions p → IsFieldsError definitions rest e
+      → IsFieldsError definitions (p ∷ rest) e

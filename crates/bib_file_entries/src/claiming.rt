@@ -1,14 +1,14 @@
 //! The names that an entry claims.
 
 ghost use Rattle.std.specs.Prelude.{◌≡◌, IfOk};
-ghost use Rattle.bib_file_entries.specs.Library.{claims};
+ghost use Rattle.bib_file_entries.specs.Bibliography.{claims};
 
 use bib_entry::entry::Entry;
 use bib_styled::lists::comma_texts;
 use bib_text::text::Text;
 use std::alloc::{AllocError, Global};
 
-/// The names that an entry claims: its key, then the parts of its field `ids`. Refused only for want of memory.
+/// The names that an entry claims: its key, then the parts of its field `ids`. Refused only when out of memory.
 pub fn claims(alloc: Global, entry: &Entry) -> Result<Vec<Text>, AllocError>
     ensures { IfOk result (λ names. names.items ≡ claims entry.now) }
 {

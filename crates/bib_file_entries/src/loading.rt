@@ -2,9 +2,9 @@
 
 ghost use Rattle.std.specs.Prelude.{◌≡◌, ◌⊎◌, OnOk, IfOk, IfErr, List, ℕ};
 ghost use Rattle.bib_abbreviations.specs.Abbreviations.{given_by, sorted_in};
-ghost use Rattle.bib_syntax.specs.Faults.{out_of_memory};
-ghost use Rattle.bib_file_entries.specs.Loading.{IsEntryOf, IsFieldOf, IsFieldReadable, IsFieldsFault, field_name, last_definition};
-ghost use Rattle.bib_file_entries.specs.Reading.{IsFieldFault};
+ghost use Rattle.bib_syntax.specs.Errors.{out_of_memory};
+ghost use Rattle.bib_file_entries.specs.Loading.{IsEntryOf, IsFieldOf, IsFieldReadable, IsFieldsError, field_name, last_definition};
+ghost use Rattle.bib_file_entries.specs.Reading.{IsFieldError};
 
 use bib_abbreviations::resolve::FieldReader;
 use bib_chunks::chunk::Chunks;
@@ -32,7 +32,7 @@ pub(crate) fn definitions<'f, 's>(
     Ok(definitions)
 }
 
-// Reads an entry: its fields in order, with names in small letters; of two with one name the last stands.
+// Reads an entry: its fields in order, with names in lowercase letters; of two with one name the last stands.
 pub(crate) fn read_entry<'f, 's>(
     alloc: Global,
     raw: &RawEntry<'s>,
@@ -41,7 +41,7 @@ pub(crate) fn read_entry<'f, 's>(
     ensures same { reader.new ≡ reader.old }
     ensures read { IfOk result (λ entry. IsEntryOf (given_by reader.old) raw.now entry) }
     ensures refused { IfErr result (λ e. (e ≡ out_of_memory) ⊎
-        IsFieldsFault (given_by reader.old) raw.now.fields.items e) }
+        IsFieldsError (given_by reader.old) raw.now.fields.items e) }
 {
     let mut pairs = Vec::with_capacity(alloc, raw.fields.len())?;
     'fields: for field in &raw.fields {
@@ -57,7 +57,7 @@ pub(crate) fn read_entry<'f, 's>(
     })
 }
 
-// Reads a field: its name in small letters, and what its value says.
+// Reads a field: its name in lowercase letters, and what its value says.
 fn read_field<'f, 's>(
     alloc: Global,
     field: &Pair<'s>,
@@ -68,7 +68,7 @@ fn read_field<'f, 's>(
     ensures value { IfOk result (λ read. IsFieldOf (given_by reader.old) field.now read.1) }
     ensures readable { OnOk result (IsFieldReadable (given_by reader.old) field.now) }
     ensures refused { IfErr result (λ e. (e ≡ out_of_memory) ⊎
-        IsFieldFault (given_by reader.old) field.now e) }
+        IsFieldError (given_by reader.old) field.now e) }
 {
     let name = field.key.v.to_ascii_lowercase(alloc)?;
     let chunks = reader.read(name.as_str(), &field.value.v)?;

@@ -2,12 +2,12 @@
 
 ghost use Rattle.std.specs.Prelude.{◌≡◌, ◌⊎◌, [], map, length, IfOk, IfErr};
 ghost use Rattle.bib_abbreviations.specs.Abbreviations.{sorted_in};
-ghost use Rattle.bib_syntax.specs.Faults.{out_of_memory};
-ghost use Rattle.bib_syntax.specs.Views.{entry_of, file_of};
+ghost use Rattle.bib_syntax.specs.Errors.{out_of_memory};
+ghost use Rattle.bib_syntax.specs.Views.{entry_reading_of, file_of};
 ghost use Rattle.bib_syntax.specs.declared.raw.ParseErrorKind.TheVariants.{DuplicateKey};
 ghost use Rattle.bib_file_entries.specs.Claiming.{IsLoadedSoFar};
-ghost use Rattle.bib_file_entries.specs.Loaded.{IsFaultOfEntries, definition_in};
-ghost use Rattle.bib_maps.specs.Names.{ArePlacesBelow};
+ghost use Rattle.bib_file_entries.specs.Loaded.{IsFirstErrorOfEntries, definition_in};
+ghost use Rattle.bib_maps.specs.Names.{AreIndicesBelow};
 
 use crate::claiming::claims;
 use crate::loading::{definitions, read_entry};
@@ -21,7 +21,7 @@ use bib_text::text::Text;
 use std::alloc::{AllocError, Global};
 use std::collections::BTreeMap;
 
-// The fault of a key that an earlier entry claimed.
+// The error of a key that an earlier entry claimed.
 fn duplicate(alloc: Global, raw: &Spanned<RawEntry<'_>>) -> Result<ParseError, AllocError>
     ensures { IfOk result (λ e. e ≡
         record { span = raw.now.span; kind = DuplicateKey raw.now.v.key.v.now }) }
@@ -41,10 +41,10 @@ fn load_entries<'f, 's>(
     definitions: BTreeMap<&'s str, &'f Field<'s>>,
 ) -> Result<(Vec<Entry>, Names), ParseError>
     ensures loaded { IfOk result (λ all. IsLoadedSoFar (sorted_in definitions.entry)
-        (map entry_of raw.entry.items) all.0.items all.1) }
-    ensures below { IfOk result (λ all. ArePlacesBelow (length all.0.items) all.1) }
+        (map entry_reading_of raw.entry.items) all.0.items all.1) }
+    ensures below { IfOk result (λ all. AreIndicesBelow (length all.0.items) all.1) }
     ensures refused { IfErr result (λ e. (e ≡ out_of_memory) ⊎
-        IsFaultOfEntries (sorted_in definitions.entry) [] (map entry_of raw.entry.items) e) }
+        IsFirstErrorOfEntries (sorted_in definitions.entry) [] (map entry_reading_of raw.entry.items) e) }
 {
     let mut reader = FieldReader::new(alloc, definitions);
     let mut entries = Vec::with_capacity(alloc, raw.len())?;
@@ -60,7 +60,7 @@ fn load_entries<'f, 's>(
     Ok((entries, names.into_names(alloc)?))
 }
 
-/// Where each entry stands in the file. Refused only for want of memory.
+/// Where each entry stands in the file. Refused only when out of memory.
 pub fn spans(alloc: Global, raw: &[Spanned<RawEntry<'_>>]) -> Result<Vec<Span>, AllocError>
     ensures { IfOk result (λ spans. spans.items ≡ map (λ said. said.span) raw.now) }
 {
@@ -78,8 +78,8 @@ pub fn load(alloc: Global, raw: RawBibliography<'_>) -> Result<(Vec<Entry>, Name
     ensures loaded { IfOk result (λ all. IsLoadedSoFar
         (definition_in (file_of raw.entry).abbreviations)
         (file_of raw.entry).entries all.0.items all.1) }
-    ensures below { IfOk result (λ all. ArePlacesBelow (length all.0.items) all.1) }
-    ensures refused { IfErr result (λ e. (e ≡ out_of_memory) ⊎ IsFaultOfEntries
+    ensures below { IfOk result (λ all. AreIndicesBelow (length all.0.items) all.1) }
+    ensures refused { IfErr result (λ e. (e ≡ out_of_memory) ⊎ IsFirstErrorOfEntries
         (definition_in (file_of raw.entry).abbreviations) [] (file_of raw.entry).entries e) }
 {
     let RawBibliography {

@@ -7,5 +7,5 @@
 //! look of their own. All of it is linear in the references, and nothing calls itself.
 #![tactic(auto)]
 
-mod circles;
+mod cycles;
 pub mod worklist;

@@ -2,86 +2,86 @@
 
 ghost use Rattle.std.specs.Prelude.{◌≡◌, ◌+◌, ◌<◌, ◌≤◌, ◌==◌, ℕ, length, sum, OnOk, OnErr, IfOk, IfErr, map, vec_len, if◌then◌else◌};
 ghost use Rattle.std.specs.List.{All};
-ghost use Rattle.bib_graph.specs.Graph.{IsInRange, HasNoCircle, AreTurns};
-ghost use Rattle.bib_graph.specs.Rows.{rows, IsFault};
+ghost use Rattle.bib_graph.specs.Graph.{IsInRange, HasNoCycle, IsTopologicalOrder};
+ghost use Rattle.bib_graph.specs.Rows.{rows, IsOrderError};
 ghost use Rattle.bib_graph.specs.Work.{times, missing_at, AreWaiting};
-ghost use Rattle.bib_graph.specs.declared.worklist.TurnsError.TheVariants.{Circle, OutOfMemory};
+ghost use Rattle.bib_graph.specs.declared.worklist.OrderError.TheVariants.{Cycle, OutOfMemory};
 
-use crate::circles::first_on_circle;
+use crate::cycles::first_on_cycle;
 use std::alloc::{AllocError, AllocFailed, Global};
 
 /// Why there are no turns.
 #[derive(Debug, Drop)]
-pub enum TurnsError {
+pub enum OrderError {
     OutOfMemory,
-    /// The first place that leads to itself.
-    Circle(usize),
+    /// The first index that leads to itself.
+    Cycle(usize),
 }
 
-impl From<AllocError> for TurnsError {
-    ghost use Rattle.bib_graph.specs.declared.worklist.TurnsError.TheVariants.{OutOfMemory};
+impl From<AllocError> for OrderError {
+    ghost use Rattle.bib_graph.specs.declared.worklist.OrderError.TheVariants.{OutOfMemory};
 
     ghost from_gives = { λ e r. r ≡ OutOfMemory };
 
-    fn from(_error: AllocError) -> TurnsError {
-        TurnsError::OutOfMemory
+    fn from(_error: AllocError) -> OrderError {
+        OrderError::OutOfMemory
     }
 }
 
-impl<T: Drop> From<AllocFailed<T>> for TurnsError {
-    ghost use Rattle.bib_graph.specs.declared.worklist.TurnsError.TheVariants.{OutOfMemory};
+impl<T: Drop> From<AllocFailed<T>> for OrderError {
+    ghost use Rattle.bib_graph.specs.declared.worklist.OrderError.TheVariants.{OutOfMemory};
 
     ghost from_gives = { λ e r. r ≡ OutOfMemory };
 
-    fn from(failed: AllocFailed<T>) -> TurnsError {
-        TurnsError::from(AllocError::from(failed))
+    fn from(failed: AllocFailed<T>) -> OrderError {
+        OrderError::from(AllocError::from(failed))
     }
 }
 
-impl TurnsError {
-    /// The first place that leads to itself; out of memory is passed on as such.
+impl OrderError {
+    /// The first index that leads to itself; out of memory is passed on as such.
     pub fn unless_out_of_memory(self) -> Result<usize, AllocError>
-        ensures ok { IfOk result (λ place. self ≡ Circle place) }
+        ensures ok { IfOk result (λ index. self ≡ Cycle index) }
         ensures err { OnErr result (self ≡ OutOfMemory) }
     {
         match self {
-            TurnsError::Circle(place) => Ok(place),
-            TurnsError::OutOfMemory => Err(AllocError),
+            OrderError::Cycle(index) => Ok(index),
+            OrderError::OutOfMemory => Err(AllocError),
         }
     }
 }
 
-/// Each place once, behind all that it refers to.
-pub fn turns(alloc: Global, refs: &[Vec<usize>]) -> Result<Vec<usize>, TurnsError>
+/// Each index once, after all that it refers to.
+pub fn topological_order(alloc: Global, refs: &[Vec<usize>]) -> Result<Vec<usize>, OrderError>
     requires in_range { IsInRange (rows refs.now) }
-    ensures turns { IfOk result (λ turns. AreTurns (rows refs.now) turns.items) }
-    ensures no_circle { OnOk result (HasNoCircle (rows refs.now)) }
-    ensures fault { IfErr result (IsFault (rows refs.now)) }
+    ensures order { IfOk result (λ order. IsTopologicalOrder (rows refs.now) order.items) }
+    ensures no_cycle { OnOk result (HasNoCycle (rows refs.now)) }
+    ensures error { IfErr result (IsOrderError (rows refs.now)) }
 {
     let waiting = waiting_lists(alloc, refs)?;
     let mut missing = missing_counts(alloc, refs)?;
-    let mut ready = ready_places(alloc, &missing)?;
-    let mut turns = Vec::new(alloc);
-    while let Some(place) = ready.pop() {
-        turns.push(place)?;
-        release(&mut missing, &mut ready, &waiting[place])?;
+    let mut ready = ready_indices(alloc, &missing)?;
+    let mut order = Vec::new(alloc);
+    while let Some(index) = ready.pop() {
+        order.push(index)?;
+        release(&mut missing, &mut ready, &waiting[index])?;
     }
-    for place in 0..refs.len() {
-        if missing[place] != 0 {
-            let first = first_on_circle(alloc, refs, &waiting)?;
-            return Err(TurnsError::Circle(first));
+    for index in 0..refs.len() {
+        if missing[index] != 0 {
+            let first = first_on_cycle(alloc, refs, &waiting)?;
+            return Err(OrderError::Cycle(first));
         }
     }
-    Ok(turns)
+    Ok(order)
 }
 
-// For each place, the entries that refer to it.
+// For each index, the entries that refer to it.
 fn waiting_lists(alloc: Global, refs: &[Vec<usize>]) -> Result<Vec<Vec<usize>>, AllocError>
     requires in_range { IsInRange (rows refs.now) }
     ensures { IfOk result (λ waiting. AreWaiting (rows refs.now) (rows waiting.items)) }
 {
     let mut waiting = Vec::new(alloc);
-    for _place in 0..refs.len() {
+    for _index in 0..refs.len() {
         waiting.push(Vec::new(alloc))?;
     }
     for entry in 0..refs.len() {
@@ -99,20 +99,20 @@ fn missing_counts(alloc: Global, refs: &[Vec<usize>]) -> Result<Vec<usize>, Allo
     refs.iter().map(|row| row.len()).collect(alloc)
 }
 
-// The places at which nothing is missing.
-fn ready_places(alloc: Global, missing: &[usize]) -> Result<Vec<usize>, AllocError>
+// The indices at which nothing is missing.
+fn ready_indices(alloc: Global, missing: &[usize]) -> Result<Vec<usize>, AllocError>
     ensures { IfOk result (λ ready. (p : ℕ) → times p ready.items ≡ (if missing_at missing.now p == 0 then 1 else 0)) }
 {
     let mut ready = Vec::new(alloc);
-    for place in 0..missing.len() {
-        if missing[place] == 0 {
-            ready.push(place)?;
+    for index in 0..missing.len() {
+        if missing[index] == 0 {
+            ready.push(index)?;
         }
     }
     Ok(ready)
 }
 
-// One reference fewer is missing at each place that waited; where none is left, the place is ready.
+// One reference fewer is missing at each index that waited; where none is left, the index is ready.
 fn release(
     missing: &mut [usize],
     ready: &mut Vec<usize>,

@@ -9,10 +9,10 @@ use Rattle.bib_chunks.specs.Styled.{Atom, styled}
 use Rattle.bib_maps.specs.Sorted.{ByText, by_bytes}
 use Rattle.bib_entry_types.specs.Requirements.{is_one_of}
 use Rattle.bib_entry_types.specs.declared.mechanics.EntryType.{EntryType}
-use Rattle.bib_inheritance.specs.Dating.{date_for}
-use Rattle.bib_inheritance.specs.Inherited.{date_parts, field_by, inherited, plain_field, taken}
-use Rattle.bib_inheritance.specs.Sources.{Fields, Source, fields_of, first_named, first_some, source_of}
-use Rattle.bib_inheritance.proofs.LentFacts.{Value, bytes_turned, first_behind}
+use Rattle.bib_inheritance.specs.InheritableDate.{date_for}
+use Rattle.bib_inheritance.specs.Inherited.{date_parts, field_by, inherited, plain_field, inherited_field}
+use Rattle.bib_inheritance.specs.Sources.{FieldTexts, Source, fields_of, first_named, first_some, source_of}
+use Rattle.bib_inheritance.proofs.GatheredFacts.{Value, bytes_turned, first_after}
 
 abbrev pub Map : Type 0
 Map = ByText Value
@@ -30,7 +30,7 @@ field_gathered own given gone q =
     ∙ ap (cond (bytes_eq q gone) None)
     (get-from_entries nat_list_cmp_total (reverse (reverse (entries own ++ given))) q
     ∙ ap (find by_bytes q) (reverse-reverse (entries own ++ given))
-    ∙ first_behind q (entries own) given
+    ∙ first_after q (entries own) given
     ∙ ap (λ o. first_some o (first_named given q)) (sym (get-entries own q)))
 
 three : {A : Type 0} (a b c : Bool) (x : Option A) → cond c None (cond b None (cond a None x)) ≡ cond (a || (b || (c || false))) None x
@@ -83,21 +83,21 @@ plain_lacked : {A : Type 0} (own given : Option A) → first_some own (cond (is_
 plain_lacked None given = refl
 plain_lacked (Some x) given = refl
 
-by_lacked : (date : Option (List Atom)) (own given : Fields) (name : List ℕ) → field_by date own (λ n. cond (is_some (own n)) None (given n)) name ≡ field_by date own given name
+by_lacked : (date : Option (List Atom)) (own given : FieldTexts) (name : List ℕ) → field_by date own (λ n. cond (is_some (own n)) None (given n)) name ≡ field_by date own given name
 by_lacked None own given name = ap (cond (bytes_eq name (codes "xdata")) None) (plain_lacked (own name) (given name))
 by_lacked (Some date) own given name =
     ap (λ o. cond (bytes_eq name (codes "date")) (Some date) (cond (is_one_of date_parts name) None (cond (bytes_eq name (codes "xdata")) None o))) (plain_lacked (own name) (given name))
 
 -- an entry with what it takes over is what the rule says
 pub inherits : (kind : EntryType) (own fields : Map) (refs : List Source) (given : List (List ℕ × Value)) (date : Option Value)
-    → ((name : List ℕ) → option_map styled (first_named given name) ≡ cond (is_some (fields_of own name)) None (taken kind name refs))
+    → ((name : List ℕ) → option_map styled (first_named given name) ≡ cond (is_some (fields_of own name)) None (inherited_field kind name refs))
     → option_map styled date ≡ date_for (source_of kind own) refs → ((name : List ℕ) → get fields name ≡ field_by date (get own) (first_named given) name)
     → source_of kind fields ≡ inherited (source_of kind own) refs
 inherits kind own fields refs given date gives dated h =
-    let same : (name : List ℕ) → fields_of fields name ≡ field_by (date_for (source_of kind own) refs) (fields_of own) (λ n. taken kind n refs) name =
+    let same : (name : List ℕ) → fields_of fields name ≡ field_by (date_for (source_of kind own) refs) (fields_of own) (λ n. inherited_field kind n refs) name =
     λ name. ap (option_map styled) (h name) ∙ styled_by date (get own) (first_named given) name
     ∙ ap (λ d. field_by d (fields_of own) (λ n. option_map styled (first_named given n)) name) dated
-    ∙ ap (λ (f : Fields). field_by (date_for (source_of kind own) refs) (fields_of own) f name) (λ i n. gives n i)
-    ∙ by_lacked (date_for (source_of kind own) refs) (fields_of own) (λ n. taken kind n refs) name
+    ∙ ap (λ (f : FieldTexts). field_by (date_for (source_of kind own) refs) (fields_of own) f name) (λ i n. gives n i)
+    ∙ by_lacked (date_for (source_of kind own) refs) (fields_of own) (λ n. inherited_field kind n refs) name
     in
     λ i. record { kind = kind; fields = λ name. same name i }

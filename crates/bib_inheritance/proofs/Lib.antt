@@ -1,3 +1,3 @@
 pub mod FieldFacts
-pub mod LentFacts
+pub mod GatheredFacts
 pub mod OfferFacts

@@ -8,8 +8,8 @@ use Rattle.bib_entry_types.specs.EntryType.{is_collection, is_multi_volume}
 use Rattle.bib_entry_types.specs.Requirements.{Names, fields, inherits, is_container, is_one_of}
 use Rattle.bib_entry_types.specs.declared.mechanics.EntryType.{EntryType}
 use Rattle.bib_entry_types.specs.declared.mechanics.EntryType.TheVariants.{Periodical}
-use Rattle.bib_inheritance.specs.Dating.{date_for}
-use Rattle.bib_inheritance.specs.Sources.{Fields, Source, first_some, has}
+use Rattle.bib_inheritance.specs.InheritableDate.{date_for}
+use Rattle.bib_inheritance.specs.Sources.{FieldTexts, Source, first_some, has}
 
 -- Offers
 
@@ -32,8 +32,8 @@ main_titles =
     ∷ (codes "maintitleaddon", fields "titleaddon") ∷ []
 
 -- names for which any entry offers another field of the same meaning where it lacks them
-abbrev pub other_names : List (List ℕ × Names)
-other_names =
+abbrev pub same_meaning : List (List ℕ × Names)
+same_meaning =
     (codes "address", fields "address location") ∷ (codes "institution", fields "institution school")
     ∷ (codes "school", fields "school institution") ∷ (codes "journaltitle", fields "journaltitle journal") ∷ []
 
@@ -45,27 +45,27 @@ title_for kind name =
 
 -- the fields that an entry of a type offers for a name, of which the first that it has counts
 abbrev pub offered_from : EntryType → List ℕ → Names
-offered_from kind name = unwrap_or (first_some (title_for kind name) (named other_names name)) (name ∷ [])
+offered_from kind name = unwrap_or (first_some (title_for kind name) (named same_meaning name)) (name ∷ [])
 
-abbrev pub first_of : Fields → Names → Option (List Atom)
-first_of fields [] = None
-first_of fields (name ∷ names) = first_some (fields name) (first_of fields names)
+abbrev pub first_offer : FieldTexts → Names → Option (List Atom)
+first_offer fields [] = None
+first_offer fields (name ∷ names) = first_some (fields name) (first_offer fields names)
 
 -- what an entry offers for a name
 abbrev pub offer : Source → List ℕ → Option (List Atom)
-offer reference name = first_of reference.fields (offered_from reference.kind name)
+offer reference name = first_offer reference.fields (offered_from reference.kind name)
 
 -- whether an entry of a type takes a field of this name over: a container takes over what the other entry has itself
 abbrev pub wants : EntryType → Source → List ℕ → Bool
 wants kind reference name = inherits kind name && (not (is_container kind) || has reference name)
 
-abbrev pub given : EntryType → Source → List ℕ → Option (List Atom)
-given kind reference name = if wants kind reference name then offer reference name else None
+abbrev pub offered_field : EntryType → Source → List ℕ → Option (List Atom)
+offered_field kind reference name = if wants kind reference name then offer reference name else None
 
 -- what the first entry gives that gives a field of this name
-abbrev pub taken : EntryType → List ℕ → List Source → Option (List Atom)
-taken kind name [] = None
-taken kind name (r ∷ rest) = first_some (given kind r name) (taken kind name rest)
+abbrev pub inherited_field : EntryType → List ℕ → List Source → Option (List Atom)
+inherited_field kind name [] = None
+inherited_field kind name (r ∷ rest) = first_some (offered_field kind r name) (inherited_field kind name rest)
 
 -- The rule
 
@@ -75,19 +75,19 @@ date_parts = fields "year month day"
 
 -- a field: one's own, or what is given; `xdata` has done its work
 abbrev pub plain_field : {A : Type 0} → (List ℕ → Option A) → (List ℕ → Option A) → List ℕ → Option A
-plain_field own given name = if bytes_eq name (codes "xdata") then None else first_some (own name) (given name)
+plain_field own offered_field name = if bytes_eq name (codes "xdata") then None else first_some (own name) (offered_field name)
 
 -- a field; where a date is taken over, it stands for all that the entry says of dates
 abbrev pub field_by : {A : Type 0} → Option A → (List ℕ → Option A) → (List ℕ → Option A) → List ℕ → Option A
-field_by None own given name = plain_field own given name
-field_by (Some date) own given name =
+field_by None own offered_field name = plain_field own offered_field name
+field_by (Some date) own offered_field name =
     if bytes_eq name (codes "date") then Some date
     else if is_one_of date_parts name then None
-    else plain_field own given name
+    else plain_field own offered_field name
 
 -- an entry with what it takes over from those that it refers to, which have done so themselves
 abbrev pub inherited : Source → List Source → Source
 inherited own references = record {
   kind = own.kind;
-  fields = λ name. field_by (date_for own references) own.fields (λ name. taken own.kind name references) name;
+  fields = λ name. field_by (date_for own references) own.fields (λ name. inherited_field own.kind name references) name;
 }

@@ -1,5 +1,5 @@
-pub mod Dating
+pub mod InheritableDate
 pub mod Inherited
-pub mod Lent
+pub mod Gathering
 pub mod References
 pub mod Sources

@@ -12,20 +12,20 @@ use Rattle.bib_entry_types.specs.declared.mechanics.EntryType.TheVariants.{Misc}
 use Rattle.bib_inheritance.specs.declared.offers.Reference.{Reference}
 
 -- the styled text of each field, by its name
-abbrev pub Fields : Type 0
-Fields = List ℕ → Option (List Atom)
+abbrev pub FieldTexts : Type 0
+FieldTexts = List ℕ → Option (List Atom)
 
 -- an entry's type and fields
 pub record Source : Type 0 where
   pub kind : EntryType
-  pub fields : Fields
+  pub fields : FieldTexts
 
 -- where no entry is
-abbrev pub nowhere : Source
-nowhere = record { kind = Misc; fields = λ name. None }
+abbrev pub no_entry : Source
+no_entry = record { kind = Misc; fields = λ name. None }
 
 -- the styled text of the fields of a map
-abbrev pub fields_of : ByText (List (Spanned Chunk)) → Fields
+abbrev pub fields_of : ByText (List (Spanned Chunk)) → FieldTexts
 fields_of fields name = option_map styled (by_name.get fields name)
 
 -- an entry's type with the fields of a map

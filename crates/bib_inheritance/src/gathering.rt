@@ -5,8 +5,8 @@ ghost use Rattle.std.specs.FinMap as by_name;
 ghost use Rattle.std.specs.List.{flat_map};
 ghost use Rattle.bib_chunks.specs.Styled.{styled};
 ghost use Rattle.bib_entry_types.specs.Requirements.{texts, inheritable, is_container, is_one_of, never_inherited};
-ghost use Rattle.bib_inheritance.specs.Inherited.{given, taken};
-ghost use Rattle.bib_inheritance.specs.Lent.{lent, offered_among};
+ghost use Rattle.bib_inheritance.specs.Inherited.{offered_field, inherited_field};
+ghost use Rattle.bib_inheritance.specs.Gathering.{gathered_text, offered_among};
 ghost use Rattle.bib_inheritance.specs.Sources.{fields_of, first_named, first_some, source_at, sources};
 
 use crate::offers::{Reference, offer};
@@ -18,7 +18,7 @@ use std::alloc::{AllocError, Global};
 use std::collections::BTreeMap;
 
 // Fields by name. The field that is lent last for a name stands.
-type Loans<'a> = BTreeMap<&'a str, &'a Chunks>;
+type Gathered<'a> = BTreeMap<&'a str, &'a Chunks>;
 
 fn is_kept_back(name: &str) -> bool
     ensures { result ≡ is_one_of never_inherited name.now }
@@ -33,57 +33,57 @@ fn is_container(kind: &EntryType) -> bool
 }
 
 // Lends what a reference offers for some names.
-fn lend_offers<'a>(
+fn gather_offers<'a>(
     reference: &Reference<'a>,
     names: &[&'a str],
-    loans: &mut Loans<'a>,
+    gathered: &mut Gathered<'a>,
 ) -> Result<(), AllocError>
-    ensures { OnOk result ((name : List ℕ) → lent loans.new name ≡
+    ensures { OnOk result ((name : List ℕ) → gathered_text gathered.new name ≡
         first_some (offered_among (texts names.now) (source_at reference.now) name)
-        (lent loans.old name)) }
+        (gathered_text gathered.old name)) }
 {
     'names: for name in names {
         if is_kept_back(name) {
             continue 'names;
         }
         if let Some(chunks) = offer(reference, name) {
-            loans.insert(*name, chunks)?;
+            gathered.insert(*name, chunks)?;
         }
     }
     Ok(())
 }
 
 // Lends what a reference offers for the names of some groups.
-fn lend_groups<'a>(
+fn gather_groups<'a>(
     reference: &Reference<'a>,
     groups: &[&'static [&'static str]],
-    loans: &mut Loans<'a>,
+    gathered: &mut Gathered<'a>,
 ) -> Result<(), AllocError>
-    ensures { OnOk result ((name : List ℕ) → lent loans.new name ≡
+    ensures { OnOk result ((name : List ℕ) → gathered_text gathered.new name ≡
         first_some (offered_among (flat_map (λ group. texts group.now) groups.now)
-        (source_at reference.now) name) (lent loans.old name)) }
+        (source_at reference.now) name) (gathered_text gathered.old name)) }
 {
     'groups: for group in groups {
-        lend_offers(reference, group, loans)?;
+        gather_offers(reference, group, gathered)?;
     }
     Ok(())
 }
 
 // Lends what a reference offers for the names that an entry of a type inherits.
-fn lend_inheritable<'a>(
+fn gather_inheritable<'a>(
     kind: &EntryType,
     reference: &Reference<'a>,
-    loans: &mut Loans<'a>,
+    gathered: &mut Gathered<'a>,
 ) -> Result<(), AllocError>
-    ensures { OnOk result ((name : List ℕ) → lent loans.new name ≡
+    ensures { OnOk result ((name : List ℕ) → gathered_text gathered.new name ≡
         first_some (offered_among (inheritable kind.now) (source_at reference.now) name)
-        (lent loans.old name)) }
+        (gathered_text gathered.old name)) }
 {
     let row = kind.row();
-    lend_offers(reference, row.required, loans)?;
-    lend_groups(reference, row.optional, loans)?;
-    lend_offers(reference, row.pages.possible(), loans)?;
-    lend_offers(reference, row.author.possible(), loans)?;
+    gather_offers(reference, row.required, gathered)?;
+    gather_groups(reference, row.optional, gathered)?;
+    gather_offers(reference, row.pages.possible(), gathered)?;
+    gather_offers(reference, row.author.possible(), gathered)?;
     Ok(())
 }
 
@@ -99,54 +99,54 @@ fn names_of<'a>(alloc: Global, fields: &'a TextMap<Chunks>) -> Result<Vec<&'a st
 }
 
 // Lends what a reference gives to an entry of a type.
-fn lend_given<'a>(
+fn gather_reference<'a>(
     alloc: Global,
     kind: &EntryType,
     reference: &Reference<'a>,
-    loans: &mut Loans<'a>,
+    gathered: &mut Gathered<'a>,
 ) -> Result<(), AllocError>
-    ensures { OnOk result ((name : List ℕ) → lent loans.new name ≡
-        first_some (given kind.now (source_at reference.now) name) (lent loans.old name)) }
+    ensures { OnOk result ((name : List ℕ) → gathered_text gathered.new name ≡
+        first_some (offered_field kind.now (source_at reference.now) name) (gathered_text gathered.old name)) }
 {
     if is_container(kind) {
         let names = names_of(alloc, reference.fields)?;
-        lend_offers(reference, &names, loans)?;
+        gather_offers(reference, &names, gathered)?;
         return Ok(());
     }
-    lend_inheritable(kind, reference, loans)?;
+    gather_inheritable(kind, reference, gathered)?;
     Ok(())
 }
 
 // What references give to an entry of a type: for each name what the first one gives, which is lent last.
-fn loans<'a>(
+fn gathered<'a>(
     alloc: Global,
     kind: &EntryType,
     references: &[Reference<'a>],
-) -> Result<Loans<'a>, AllocError>
-    ensures { IfOk result (λ loans. (name : List ℕ) →
-        lent loans name ≡ taken kind.now name (sources references.now)) }
+) -> Result<Gathered<'a>, AllocError>
+    ensures { IfOk result (λ gathered. (name : List ℕ) →
+        gathered_text gathered name ≡ inherited_field kind.now name (sources references.now)) }
 {
-    let mut loans = BTreeMap::new(alloc);
+    let mut gathered = BTreeMap::new(alloc);
     let count = references.len();
     'references: for done in 0..count {
-        lend_given(alloc, kind, &references[count - 1 - done], &mut loans)?;
+        gather_reference(alloc, kind, &references[count - 1 - done], &mut gathered)?;
     }
-    Ok(loans)
+    Ok(gathered)
 }
 
 // Copies of the fields that are lent and that an entry lacks.
 fn copies(
     alloc: Global,
     own: &TextMap<Chunks>,
-    loans: Loans<'_>,
+    gathered: Gathered<'_>,
 ) -> Result<Vec<(Text, Chunks)>, AllocError>
     ensures { IfOk result (λ copies. (name : List ℕ) → option_map styled (first_named copies.items name) ≡
-        (if is_some (fields_of own.now name) then None else lent loans.entry name)) }
+        (if is_some (fields_of own.now name) then None else gathered_text gathered.entry name)) }
 {
-    let mut copies = Vec::with_capacity(alloc, loans.len())?;
-    'loans: for (name, chunks) in loans {
+    let mut copies = Vec::with_capacity(alloc, gathered.len())?;
+    'gathered: for (name, chunks) in gathered {
         if own.get(name).is_some() {
-            continue 'loans;
+            continue 'gathered;
         }
         copies.push((Text::from_str(alloc, name)?, chunks.clone()?))?;
     }
@@ -155,15 +155,15 @@ fn copies(
 
 /// Copies of the fields that an entry of a type lacks and that its references give: of each name what the first gives
 /// that gives one.
-pub fn gathered(
+pub fn gathered_fields(
     alloc: Global,
     kind: &EntryType,
     own: &TextMap<Chunks>,
     references: &[Reference<'_>],
 ) -> Result<Vec<(Text, Chunks)>, AllocError>
     ensures { IfOk result (λ copies. (name : List ℕ) → option_map styled (first_named copies.items name) ≡
-        (if is_some (fields_of own.now name) then None else taken kind.now name (sources references.now))) }
+        (if is_some (fields_of own.now name) then None else inherited_field kind.now name (sources references.now))) }
 {
-    let loans = loans(alloc, kind, references)?;
-    copies(alloc, own, loans)
+    let gathered = gathered(alloc, kind, references)?;
+    copies(alloc, own, gathered)
 }

@@ -6,8 +6,8 @@
 //! is copied from it; references that are named twice lend once.
 #![tactic(auto)]
 
-pub mod dating;
 pub mod gathering;
+pub mod inheritable_date;
 pub mod inheriting;
 pub mod offers;
 pub mod references;

@@ -5,7 +5,7 @@ ghost use Rattle.std.specs.Option.{option_copied};
 ghost use Rattle.bib_text.specs.Enums.{named};
 ghost use Rattle.bib_chunks.specs.Styled.{styled};
 ghost use Rattle.bib_entry_types.specs.Requirements.{texts};
-ghost use Rattle.bib_inheritance.specs.Inherited.{is_periodical, journal_titles, book_titles, main_titles, title_for, other_names, first_of, offer};
+ghost use Rattle.bib_inheritance.specs.Inherited.{is_periodical, journal_titles, book_titles, main_titles, title_for, same_meaning, first_offer, offer};
 ghost use Rattle.bib_inheritance.specs.Sources.{fields_of, source_at};
 
 use bib_chunks::chunk::Chunks;
@@ -81,7 +81,7 @@ fn title_for(kind: &EntryType, name: &str) -> Option<&'static [&'static str]>
 
 // The fields that an entry offers for one of the same meaning: the first that it has.
 fn same_meaning(name: &str) -> Option<&'static [&'static str]>
-    ensures { option_map (λ names. texts names.now) result ≡ named other_names name.now }
+    ensures { option_map (λ names. texts names.now) result ≡ named same_meaning name.now }
 {
     match name {
         "address" => Some(&["address", "location"]),
@@ -94,8 +94,8 @@ fn same_meaning(name: &str) -> Option<&'static [&'static str]>
 
 // The first of some fields that is there.
 #[tactic(auto, using(crate::proofs::OfferFacts::first_of_more, crate::proofs::OfferFacts::first_of_none))]
-fn first_of<'a>(fields: &'a TextMap<Chunks>, names: &[&str]) -> Option<&'a Chunks>
-    ensures { option_map styled (option_copied result) ≡ first_of (fields_of fields.now) (texts names.now) }
+fn first_offer<'a>(fields: &'a TextMap<Chunks>, names: &[&str]) -> Option<&'a Chunks>
+    ensures { option_map styled (option_copied result) ≡ first_offer (fields_of fields.now) (texts names.now) }
 {
     'names: for name in names {
         if let Some(chunks) = fields.get(name) {
@@ -110,10 +110,10 @@ pub fn offer<'a>(reference: &Reference<'a>, name: &str) -> Option<&'a Chunks>
     ensures { option_map styled (option_copied result) ≡ offer (source_at reference.now) name.now }
 {
     if let Some(names) = title_for(reference.entry_type, name) {
-        return first_of(reference.fields, names);
+        return first_offer(reference.fields, names);
     }
     if let Some(names) = same_meaning(name) {
-        return first_of(reference.fields, names);
+        return first_offer(reference.fields, names);
     }
     reference.fields.get(name)
 }

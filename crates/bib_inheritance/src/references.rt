@@ -28,14 +28,14 @@ fn referred(alloc: Global, fields: &TextMap<Chunks>) -> Result<Vec<Text>, AllocE
     Ok(names)
 }
 
-/// The places that an entry with these fields refers to: that of the name in `crossref`, and then those of the names in
-/// the comma list `xdata`. A name that points nowhere is passed over; a place may stand there more than once.
+/// The indices that an entry with these fields refers to: that of the name in `crossref`, and then those of the names in
+/// the comma list `xdata`. A name that points nowhere is passed over; an index may stand there more than once.
 pub fn references(
     alloc: Global,
     fields: &TextMap<Chunks>,
     names: &Names,
 ) -> Result<Vec<usize>, AllocError>
-    ensures { IfOk result (λ places. places.items ≡ references names.now (fields_of fields.now)) }
+    ensures { IfOk result (λ indices. indices.items ≡ references names.now (fields_of fields.now)) }
 {
     let written = referred(alloc, fields)?;
     written

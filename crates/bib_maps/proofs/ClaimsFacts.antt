@@ -13,44 +13,44 @@ use Rattle.std.specs.FinMap as by_text
 use Rattle.std.specs.FinMap.{find, is_sorted, get-from_entries, get-from_sorted, get-insert, same_map}
 use Rattle.std.specs.FinMap.Entries.{below_all}
 use Rattle.bib_maps.specs.Sorted.{by_bytes, IsSorted, map_of}
-use Rattle.bib_maps.specs.Claims.{texts}
+use Rattle.bib_maps.specs.Claims.{text_pairs}
 use Rattle.bib_maps.proofs.SortedFacts.{both, is_true, by_bytes-IsAntisymmetric}
 
-find-texts : (q : List ℕ) (es : List (String Global × ℕ)) → find by_bytes q (texts es) ≡ lookup (tree.is_at (text_cmp q)) es
-find-texts q [] = refl
-find-texts q (e ∷ es) = ap (cond (eq_by_cmp by_bytes q (string_bytes e.0)) (Some e.1)) (find-texts q es)
+find-text_pairs : (q : List ℕ) (es : List (String Global × ℕ)) → find by_bytes q (text_pairs es) ≡ lookup (tree.is_at (text_cmp q)) es
+find-text_pairs q [] = refl
+find-text_pairs q (e ∷ es) = ap (cond (eq_by_cmp by_bytes q (string_bytes e.0)) (Some e.1)) (find-text_pairs q es)
 
 -- what a map finds at a text
-pub get-texts : (m : BTreeMap (String Global) ℕ) (q : List ℕ) → by_text.get (by_text.from_entries {R = by_bytes} (texts m.entries)) q ≡ tree.get_by_text m q
-get-texts m q = get-from_entries nat_list_cmp_total (texts m.entries) q ∙ find-texts q m.entries
+pub get-text_pairs : (m : BTreeMap (String Global) ℕ) (q : List ℕ) → by_text.get (by_text.from_entries {R = by_bytes} (text_pairs m.entries)) q ≡ tree.get_by_text m q
+get-text_pairs m q = get-from_entries nat_list_cmp_total (text_pairs m.entries) q ∙ find-text_pairs q m.entries
 
 -- it, after a name was set
 pub inserted_text : (m n : BTreeMap (String Global) ℕ) (name : List ℕ) (v : ℕ) → tree.UpdatesBy string_cmp (λ k. slice_cmp nat_cmp name (string_bytes k)) m n (Some v)
-    → by_text.from_entries {R = by_bytes} (texts n.entries) ≡ by_text.insert (by_text.from_entries (texts m.entries)) name v
+    → by_text.from_entries {R = by_bytes} (text_pairs n.entries) ≡ by_text.insert (by_text.from_entries (text_pairs m.entries)) name v
 inserted_text m n name v updates = same_map nat_list_cmp_total by_bytes-IsAntisymmetric _ _ (λ q.
-    get-texts n q
+    get-text_pairs n q
     ∙ btree_map_updates_text name m n (Some v) updates q
-    ∙ ap₂ (λ b o. cond b (Some v) o) (sym (is_eq-slice_cmp name q) ∙ (eq_by_cmp_equiv nat_list_cmp_total).symm name q) (sym (get-texts m q))
+    ∙ ap₂ (λ b o. cond b (Some v) o) (sym (is_eq-slice_cmp name q) ∙ (eq_by_cmp_equiv nat_list_cmp_total).symm name q) (sym (get-text_pairs m q))
     ∙ sym (get-insert nat_list_cmp_total _ name v q))
 
-below_texts : (k : String Global) (es : List (String Global × ℕ)) → AllByRecursion (λ y. string_cmp k y ≡ Less) (map (λ e. e.0) es) → T (below_all by_bytes (string_bytes k) (texts es))
+below_texts : (k : String Global) (es : List (String Global × ℕ)) → AllByRecursion (λ y. string_cmp k y ≡ Less) (map (λ e. e.0) es) → T (below_all by_bytes (string_bytes k) (text_pairs es))
 below_texts k [] all = tt
 below_texts k (e ∷ es) all = both _ _ (subst (λ r. T (is_lt r)) (sym all.0) tt) (below_texts k es all.1)
 
-rising_texts : (es : List (String Global × ℕ)) → IsStrictlySortedBy string_cmp (map (λ e. e.0) es) → T (is_sorted by_bytes (texts es))
+rising_texts : (es : List (String Global × ℕ)) → IsStrictlySortedBy string_cmp (map (λ e. e.0) es) → T (is_sorted by_bytes (text_pairs es))
 unfolding IsStrictlySortedBy
 rising_texts [] rising = tt
 rising_texts (e ∷ es) rising = both _ _ (below_texts e.0 es rising.0) (rising_texts es rising.1)
 
 -- the pairs of a map in order are sorted
-pub sorted_texts : (m : BTreeMap (String Global) ℕ) → tree.IsOrdered string_cmp m → IsSorted (texts m.entries)
+pub sorted_texts : (m : BTreeMap (String Global) ℕ) → tree.IsOrdered string_cmp m → IsSorted (text_pairs m.entries)
 sorted_texts m ordered = is_true _ (rising_texts m.entries ordered)
 
 -- and are that map
-pub map_of_texts : (m : BTreeMap (String Global) ℕ) → tree.IsOrdered string_cmp m → map_of (texts m.entries) ≡ by_text.from_entries (texts m.entries)
+pub map_of_texts : (m : BTreeMap (String Global) ℕ) → tree.IsOrdered string_cmp m → map_of (text_pairs m.entries) ≡ by_text.from_entries (text_pairs m.entries)
 map_of_texts m ordered = same_map nat_list_cmp_total by_bytes-IsAntisymmetric _ _ (λ q.
-    get-from_sorted by_bytes (texts m.entries) q (rising_texts m.entries ordered) ∙ sym (get-from_entries nat_list_cmp_total (texts m.entries) q))
+    get-from_sorted by_bytes (text_pairs m.entries) q (rising_texts m.entries ordered) ∙ sym (get-from_entries nat_list_cmp_total (text_pairs m.entries) q))
 
 -- a map of no names
-pub no_texts : (m : BTreeMap (String Global) ℕ) → tree.IsEmpty m → by_text.from_entries {R = by_bytes} (texts m.entries) ≡ by_text.empty
-no_texts m none = ap (λ es. by_text.from_entries {R = by_bytes} (texts es)) none
+pub no_texts : (m : BTreeMap (String Global) ℕ) → tree.IsEmpty m → by_text.from_entries {R = by_bytes} (text_pairs m.entries) ≡ by_text.empty
+no_texts m none = ap (λ es. by_text.from_entries {R = by_bytes} (text_pairs es)) none

@@ -23,6 +23,6 @@ module _ {V : Type 0} (name : List ℕ) (pairs : List (List ℕ × V)) (i : ℕ)
   pub passed : (p : List ℕ × V) → i < length pairs → p ≡ get_or pairs i p → bytes_eq name p.0 ≡ false → map.find by_bytes name (drop i pairs) ≡ map.find by_bytes name (drop (i + 1) pairs)
   passed p h here is = at_pair p h here false is
 
-  -- behind all pairs there is none
+  -- after all pairs there is none
   pub nowhere : length pairs ≤ i → map.find by_bytes name (drop i pairs) ≡ None
   nowhere h = at_drop_all (λ l. map.find by_bytes name l) pairs i h

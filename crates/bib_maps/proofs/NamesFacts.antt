@@ -1,4 +1,4 @@
--- Facts on names and the places that they point to.
+-- Facts on names and the indices that they point to.
 use Rattle.std.proofs.Common.{◌≡◌, ℕ, Bool, true, false, cond, T, List, [], ◌∷◌, ◌++◌, Option, Some, None, refl, sym, ap, subst, ◌∙◌, MatchBool, Equal, Ordering, is_eq, option_map, option_and_then, filter_map}
 use Rattle.std.specs.List.{cons_option}
 use Rattle.std.specs.List.Retain.{RetainsInTurn}
@@ -9,13 +9,13 @@ use Rattle.std.specs.FinMap as map
 use Rattle.std.specs.FinMap.{find, is_sorted, get-from_sorted, get-entries, entries_sorted}
 use Rattle.std.specs.FinMap.Entries.{below_all}
 use Rattle.bib_maps.specs.Sorted.{ByText, by_bytes, IsSorted, map_of}
-use Rattle.bib_maps.specs.Names.{claimed, claims_for, moved, moved_pair, without_place}
+use Rattle.bib_maps.specs.Names.{claimed, claims_for, moved, moved_pair, without_index}
 use Rattle.bib_maps.proofs.SortedFacts.{first, second, both, less, tied, holds, is_true, entries_are}
 
--- one more name is claimed behind others
-pub claimed_next : (names : ByText ℕ) (place : ℕ) (done : List (List ℕ)) (name : List ℕ) → claimed names (claims_for (done ++ name ∷ []) place) ≡ map.insert (claimed names (claims_for done place)) name place
-claimed_next names place [] name = refl
-claimed_next names place (d ∷ done) name = claimed_next (map.insert names d place) place done name
+-- one more name is claimed after others
+pub claimed_next : (names : ByText ℕ) (index : ℕ) (done : List (List ℕ)) (name : List ℕ) → claimed names (claims_for (done ++ name ∷ []) index) ≡ map.insert (claimed names (claims_for done index)) name index
+claimed_next names index [] name = refl
+claimed_next names index (d ∷ done) name = claimed_next (map.insert names d index) index done name
 
 kept_or_dropped : {X : Type 0} (b : Bool) (o : Option X) (y : X) (zs : List X) → MatchBool b (o ≡ Some y) (o ≡ None) → cond b (y ∷ zs) zs ≡ cons_option o zs
 kept_or_dropped true o y zs is = ap (λ p. cons_option p zs) (sym is)
@@ -68,17 +68,17 @@ module _ {K X Y : Type 0} (R : K → K → Ordering) (f : X → Option Y) where
           ]
         ] refl
 
--- pairs without a place are sorted
+-- pairs without an index are sorted
 pub moved_sorted : (taken : ℕ) (es : List (List ℕ × ℕ)) → IsSorted es → IsSorted (filter_map (moved_pair taken) es)
 moved_sorted taken es sorted = is_true _ (sorted-revalued by_bytes (moved taken) es (holds _ sorted))
 
--- they are the names without that place
-pub moved_names : (taken : ℕ) (m : ByText ℕ) (es : List (List ℕ × ℕ)) → map_of es ≡ m → IsSorted es → map_of (filter_map (moved_pair taken) es) ≡ without_place m taken
+-- they are the names without that index
+pub moved_names : (taken : ℕ) (m : ByText ℕ) (es : List (List ℕ × ℕ)) → map_of es ≡ m → IsSorted es → map_of (filter_map (moved_pair taken) es) ≡ without_index m taken
 moved_names taken m es is sorted = ap (λ l. map_of (filter_map (moved_pair taken) l)) (sym (entries_are m es is sorted))
 
--- where a name points once a place is taken out
-pub get-without_place : (taken : ℕ) (m : ByText ℕ) (q : List ℕ) → map.get (without_place m taken) q ≡ option_and_then (moved taken) (map.get m q)
-get-without_place taken m q =
+-- where a name points once an index is taken out
+pub get-without_index : (taken : ℕ) (m : ByText ℕ) (q : List ℕ) → map.get (without_index m taken) q ≡ option_and_then (moved taken) (map.get m q)
+get-without_index taken m q =
     get-from_sorted by_bytes _ q (sorted-revalued by_bytes (moved taken) (map.entries m) (entries_sorted m))
     ∙ find-revalued by_bytes (moved taken) nat_list_cmp_total q (map.entries m) (entries_sorted m)
     ∙ ap (option_and_then (moved taken)) (sym (get-entries m q))

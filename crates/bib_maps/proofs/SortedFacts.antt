@@ -13,7 +13,7 @@ use Rattle.std.proofs.lemmas.Bool.{false≢true}
 use Rattle.std.proofs.Common.{IsSome, ◌⊎◌, inl}
 use Rattle.std.specs.FinMap.{find, put, is_sorted, IsAntisymmetric, from_sorted, entries-from_sorted, get-from_sorted, same_entries_map, entries-insert, same_map, get-remove, slice_cmp-IsAntisymmetric, nat_cmp-IsAntisymmetric}
 use Rattle.std.specs.FinMap.Entries.{by_order, where_key, below_all, is_sorted-put, is_sorted-where_key, find-where_key}
-use Rattle.bib_maps.specs.Sorted.{ByText, by_bytes, map_of, IsSorted, IsPlaceOf, IsGapFor}
+use Rattle.bib_maps.specs.Sorted.{ByText, by_bytes, map_of, IsSorted, IsIndexOf, IsGapFor}
 
 pub first : (a b : Bool) → T (a && b) → T a
 first true b p = tt
@@ -91,28 +91,28 @@ module _ {K V : Type 0} {R : K → K → Ordering} (o : IsTotalOrder R) where
       ap (λ r. by_order r ((k, v) ∷ e ∷ es) ((e.0, v) ∷ es) (e ∷ put R k v es)) (gap_later k e es i smaller)
       ∙ ap (λ l. e ∷ l) (gap_put k v es i (omega arith) (λ j d a b. smaller (suc j) d (omega arith) (omega arith)) (λ j d a b. greater (suc j) d (omega arith) (omega arith)))
 
-  place_first : (k : K) (e : K × V) (es : List (K × V)) → HoldsAt (λ p. R p.0 k ≡ Equal) (e ∷ es) 0 → R k e.0 ≡ Equal
-  place_first k e es here = o.antisymm k e.0 ∙ ap ordering_reverse (here e)
+  index_first : (k : K) (e : K × V) (es : List (K × V)) → HoldsAt (λ p. R p.0 k ≡ Equal) (e ∷ es) 0 → R k e.0 ≡ Equal
+  index_first k e es here = o.antisymm k e.0 ∙ ap ordering_reverse (here e)
 
-  place_later : (k : K) (e : K × V) (es : List (K × V)) (i : ℕ) → T (below_all R e.0 es) → i < length es → HoldsAt (λ p. R p.0 k ≡ Equal) es i → R k e.0 ≡ Greater
-  place_later k e es i below lt here =
+  index_later : (k : K) (e : K × V) (es : List (K × V)) (i : ℕ) → T (below_all R e.0 es) → i < length es → HoldsAt (λ p. R p.0 k ≡ Equal) es i → R k e.0 ≡ Greater
+  index_later k e es i below lt here =
       sym (o.congr (get_or es i e).0 k e.0 (here e)) ∙ o.antisymm _ _ ∙ ap ordering_reverse (below_at e.0 es below i e lt)
 
-  -- a key is found at its place
-  pub place_find : (k : K) (es : List (K × V)) (i : ℕ) → T (is_sorted R es) → i < length es → HoldsAt (λ p. R p.0 k ≡ Equal) es i → (d : K × V) → find R k es ≡ Some (get_or es i d).1
-  place_find k [] i sorted lt here d = absurd (omega arith)
-  place_find k (e ∷ es) zero sorted lt here d = ap (λ r. cond (is_eq r) (Some e.1) (find R k es)) (place_first k e es here)
-  place_find k (e ∷ es) (suc i) sorted lt here d =
-      ap (λ r. cond (is_eq r) (Some e.1) (find R k es)) (place_later k e es i (first _ _ sorted) (omega arith) here)
-      ∙ place_find k es i (second _ _ sorted) (omega arith) here d
+  -- a key is found at its index
+  pub index_find : (k : K) (es : List (K × V)) (i : ℕ) → T (is_sorted R es) → i < length es → HoldsAt (λ p. R p.0 k ≡ Equal) es i → (d : K × V) → find R k es ≡ Some (get_or es i d).1
+  index_find k [] i sorted lt here d = absurd (omega arith)
+  index_find k (e ∷ es) zero sorted lt here d = ap (λ r. cond (is_eq r) (Some e.1) (find R k es)) (index_first k e es here)
+  index_find k (e ∷ es) (suc i) sorted lt here d =
+      ap (λ r. cond (is_eq r) (Some e.1) (find R k es)) (index_later k e es i (first _ _ sorted) (omega arith) here)
+      ∙ index_find k es i (second _ _ sorted) (omega arith) here d
 
-  -- a value that is put at a key that has a place is written there
-  pub place_put : (k : K) (v : V) (es : List (K × V)) (i : ℕ) → T (is_sorted R es) → i < length es → HoldsAt (λ p. R p.0 k ≡ Equal) es i → (d : K × V) → put R k v es ≡ set es i ((get_or es i d).0, v)
-  place_put k v [] i sorted lt here d = absurd (omega arith)
-  place_put k v (e ∷ es) zero sorted lt here d = ap (λ r. by_order r ((k, v) ∷ e ∷ es) ((e.0, v) ∷ es) (e ∷ put R k v es)) (place_first k e es here)
-  place_put k v (e ∷ es) (suc i) sorted lt here d =
-      ap (λ r. by_order r ((k, v) ∷ e ∷ es) ((e.0, v) ∷ es) (e ∷ put R k v es)) (place_later k e es i (first _ _ sorted) (omega arith) here)
-      ∙ ap (λ l. e ∷ l) (place_put k v es i (second _ _ sorted) (omega arith) here d)
+  -- a value that is put at a key that has an index is written there
+  pub index_put : (k : K) (v : V) (es : List (K × V)) (i : ℕ) → T (is_sorted R es) → i < length es → HoldsAt (λ p. R p.0 k ≡ Equal) es i → (d : K × V) → put R k v es ≡ set es i ((get_or es i d).0, v)
+  index_put k v [] i sorted lt here d = absurd (omega arith)
+  index_put k v (e ∷ es) zero sorted lt here d = ap (λ r. by_order r ((k, v) ∷ e ∷ es) ((e.0, v) ∷ es) (e ∷ put R k v es)) (index_first k e es here)
+  index_put k v (e ∷ es) (suc i) sorted lt here d =
+      ap (λ r. by_order r ((k, v) ∷ e ∷ es) ((e.0, v) ∷ es) (e ∷ put R k v es)) (index_later k e es i (first _ _ sorted) (omega arith) here)
+      ∙ ap (λ l. e ∷ l) (index_put k v es i (second _ _ sorted) (omega arith) here d)
 
   -- the pairs of other keys
   pub others : K → List (K × V) → List (K × V)
@@ -125,16 +125,16 @@ module _ {K V : Type 0} {R : K → K → Ordering} (o : IsTotalOrder R) where
       ap (λ r. cond (not (is_eq r)) (e ∷ others k es) (others k es)) (sym (o.congr x k e.0 same) ∙ less _ (first _ _ below))
       ∙ ap (λ l. e ∷ l) (below_others x k es same (second _ _ below))
 
-  -- without the pair at its place
-  pub place_others : (k : K) (es : List (K × V)) (i : ℕ) → T (is_sorted R es) → i < length es → HoldsAt (λ p. R p.0 k ≡ Equal) es i → others k es ≡ remove es i
+  -- without the pair at its index
+  pub index_others : (k : K) (es : List (K × V)) (i : ℕ) → T (is_sorted R es) → i < length es → HoldsAt (λ p. R p.0 k ≡ Equal) es i → others k es ≡ remove es i
   unfolding others
-  place_others k [] i sorted lt here = absurd (omega arith)
-  place_others k (e ∷ es) zero sorted lt here =
-      ap (λ r. cond (not (is_eq r)) (e ∷ others k es) (others k es)) (place_first k e es here)
+  index_others k [] i sorted lt here = absurd (omega arith)
+  index_others k (e ∷ es) zero sorted lt here =
+      ap (λ r. cond (not (is_eq r)) (e ∷ others k es) (others k es)) (index_first k e es here)
       ∙ below_others e.0 k es (here e) (first _ _ sorted)
-  place_others k (e ∷ es) (suc i) sorted lt here =
-      ap (λ r. cond (not (is_eq r)) (e ∷ others k es) (others k es)) (place_later k e es i (first _ _ sorted) (omega arith) here)
-      ∙ ap (λ l. e ∷ l) (place_others k es i (second _ _ sorted) (omega arith) here)
+  index_others k (e ∷ es) (suc i) sorted lt here =
+      ap (λ r. cond (not (is_eq r)) (e ∷ others k es) (others k es)) (index_later k e es i (first _ _ sorted) (omega arith) here)
+      ∙ ap (λ l. e ∷ l) (index_others k es i (second _ _ sorted) (omega arith) here)
 
   -- where a key has a gap, all pairs are of other keys
   pub gap_others : (k : K) (es : List (K × V)) (i : ℕ) → i ≤ length es → AllWithin (λ p. R p.0 k ≡ Less) es 0 i → AllWithin (λ p. R p.0 k ≡ Greater) es i (length es) → others k es ≡ es
@@ -195,7 +195,7 @@ module _ {V : Type 0} (m : ByText V) (es : List (List ℕ × V)) (is : from_sort
   pub len_is : map.len m ≡ length es
   len_is = len-entries m ∙ ap length entries_are
 
--- what a search of a name in the pairs of a map finds, and what an edit at that place makes of the map
+-- what a search of a name in the pairs of a map finds, and what an edit at that index makes of the map
 module _ {V : Type 0} (m : ByText V) (es : List (List ℕ × V)) (is : from_sorted es ≡ m) (sorted : IsSorted es) (k : List ℕ) where
   h : T (is_sorted by_bytes es)
   h = holds _ sorted
@@ -205,19 +205,19 @@ module _ {V : Type 0} (m : ByText V) (es : List (List ℕ × V)) (is : from_sort
   unfolding h
   get_found = subst (λ n. map.get n k ≡ find by_bytes k es) is (get-from_sorted by_bytes es k h)
 
-  module _ (i : ℕ) (at : IsPlaceOf es k i) where
+  module _ (i : ℕ) (at : IsIndexOf es k i) where
     pub get_at : (d : List ℕ × V) → map.get m k ≡ Some (get_or es i d).1
     unfolding h
-    get_at d = subst (λ n. map.get n k ≡ Some (get_or es i d).1) is (get-from_sorted by_bytes es k h ∙ place_find nat_list_cmp_total k es i h at.in_range at.has_name d)
+    get_at d = subst (λ n. map.get n k ≡ Some (get_or es i d).1) is (get-from_sorted by_bytes es k h ∙ index_find nat_list_cmp_total k es i h at.in_range at.has_name d)
 
     pub set_sorted : (v : V) (d : List ℕ × V) → IsSorted (set es i ((get_or es i d).0, v))
     unfolding h
-    set_sorted v d = subst IsSorted (place_put nat_list_cmp_total k v es i h at.in_range at.has_name d) (is_true _ (is_sorted-put by_bytes nat_list_cmp_total k v es h))
+    set_sorted v d = subst IsSorted (index_put nat_list_cmp_total k v es i h at.in_range at.has_name d) (is_true _ (is_sorted-put by_bytes nat_list_cmp_total k v es h))
 
     pub set_at : (v : V) (d : List ℕ × V) → from_sorted (set es i ((get_or es i d).0, v)) ≡ map.insert m k v
     unfolding h
     set_at v d = subst (λ n. from_sorted (set es i ((get_or es i d).0, v)) ≡ map.insert n k v) is
-        (ap from_sorted (sym (place_put nat_list_cmp_total k v es i h at.in_range at.has_name d)) ∙ sym (insert-from_sorted nat_list_cmp_total es k v h))
+        (ap from_sorted (sym (index_put nat_list_cmp_total k v es i h at.in_range at.has_name d)) ∙ sym (insert-from_sorted nat_list_cmp_total es k v h))
 
     -- the pair that stands there, with another value
     pub set_written : (x : List ℕ × V) → x ≡ get_or es i x → (v : V) → map_of (set es i (x.0, v)) ≡ map.insert m k v
@@ -225,12 +225,12 @@ module _ {V : Type 0} (m : ByText V) (es : List (List ℕ × V)) (is : from_sort
 
     pub remove_sorted : IsSorted (remove es i)
     unfolding h
-    remove_sorted = subst IsSorted (place_others nat_list_cmp_total k es i h at.in_range at.has_name) (is_true _ (is_sorted-others nat_list_cmp_total es k h))
+    remove_sorted = subst IsSorted (index_others nat_list_cmp_total k es i h at.in_range at.has_name) (is_true _ (is_sorted-others nat_list_cmp_total es k h))
 
     pub remove_at : from_sorted (remove es i) ≡ map.remove m k
     unfolding h
     remove_at = subst (λ n. from_sorted (remove es i) ≡ map.remove n k) is
-        (ap from_sorted (sym (place_others nat_list_cmp_total k es i h at.in_range at.has_name)) ∙ sym (remove-from_sorted nat_list_cmp_total by_bytes-IsAntisymmetric es k h))
+        (ap from_sorted (sym (index_others nat_list_cmp_total k es i h at.in_range at.has_name)) ∙ sym (remove-from_sorted nat_list_cmp_total by_bytes-IsAntisymmetric es k h))
 
   module _ (i : ℕ) (gap : IsGapFor es k i) where
     pub get_gap : map.get m k ≡ None
@@ -251,8 +251,8 @@ module _ {V : Type 0} (m : ByText V) (es : List (List ℕ × V)) (is : from_sort
     remove_gap = subst (λ n. n ≡ map.remove n k) is
         (ap from_sorted (sym (gap_others nat_list_cmp_total k es i gap.in_range gap.smaller gap.greater)) ∙ sym (remove-from_sorted nat_list_cmp_total by_bytes-IsAntisymmetric es k h))
 
--- a search by halving ends at the place of a name, or at the gap for it
-pub searched : {V : Type 0} (es : List (List ℕ × V)) → IsSorted es → (k : List ℕ) (r : Result ℕ ℕ) → IsSearchInRange r (length es) → IsBinarySearchResult (λ pair. by_bytes pair.0 k) es r → MatchResult r (IsPlaceOf es k) (IsGapFor es k)
+-- a binary search ends at the index of a name, or at the gap for it
+pub searched : {V : Type 0} (es : List (List ℕ × V)) → IsSorted es → (k : List ℕ) (r : Result ℕ ℕ) → IsSearchInRange r (length es) → IsBinarySearchResult (λ pair. by_bytes pair.0 k) es r → MatchResult r (IsIndexOf es k) (IsGapFor es k)
 searched es sorted k (Ok i) lt here = record { in_range = lt; has_name = here }
 searched es sorted k (Err i) le parted =
     let apart = parted (searchable_from_sorted nat_list_cmp_total (λ pair. pair.0) es k (ascends nat_list_cmp_total es (holds _ sorted))) in

@@ -4,5 +4,5 @@ use Rattle.std.specs.Prelude.{ℕ, List, map, String, string_bytes}
 use Rattle.std.specs.Global.{Global}
 
 -- pairs with the texts of their strings
-abbrev pub texts : List (String Global × ℕ) → List (List ℕ × ℕ)
-texts = map (λ e. (string_bytes e.0, e.1))
+abbrev pub text_pairs : List (String Global × ℕ) → List (List ℕ × ℕ)
+text_pairs = map (λ e. (string_bytes e.0, e.1))

@@ -1,5 +1,5 @@
 -- Meaning: words of public contracts.
--- The names of a bibliography: each points to the place of an entry.
+-- The names of a bibliography: each points to the index of an entry.
 use Rattle.std.specs.Prelude.{◌≡◌, ℕ, ◌-◌, ◌<◌, ◌==◌, nat_lt, List, [], ◌∷◌, map, Option, Some, None, option_map, if◌then◌else◌, Bool, MatchBool}
 use Rattle.std.specs.List.{filter_map}
 use Rattle.std.specs.FinMap.{get, insert, entries, from_sorted}
@@ -10,26 +10,26 @@ abbrev pub claimed : ByText ℕ → List (List ℕ × ℕ) → ByText ℕ
 claimed names [] = names
 claimed names (claim ∷ claims) = claimed (insert names claim.0 claim.1) claims
 
--- claims of all these names for one place
+-- claims of all these names for one index
 abbrev pub claims_for : List (List ℕ) → ℕ → List (List ℕ × ℕ)
-claims_for names place = map (λ name. (name, place)) names
+claims_for names index = map (λ name. (name, index)) names
 
--- where a name points once a place is taken out: nowhere if it pointed there, and one lower if it pointed behind it
+-- where a name points once an index is taken out: nowhere if it pointed there, and one lower if it pointed after it
 abbrev pub moved : ℕ → ℕ → Option ℕ
-moved taken place = if place == taken then None else Some (if nat_lt taken place then place - 1 else place)
+moved taken index = if index == taken then None else Some (if nat_lt taken index then index - 1 else index)
 
 -- the same, with the name
 abbrev pub moved_pair : ℕ → List ℕ × ℕ → Option (List ℕ × ℕ)
-moved_pair taken pair = option_map (λ place. (pair.0, place)) (moved taken pair.1)
+moved_pair taken pair = option_map (λ index. (pair.0, index)) (moved taken pair.1)
 
--- a pair of a name and a place was kept, as it is once a place is taken out, or dropped
+-- a pair of a name and an index was kept, as it is once an index is taken out, or dropped
 abbrev pub IsMoved : ℕ → List ℕ × ℕ → Bool → List ℕ × ℕ → Type 0
 IsMoved taken old kept new = MatchBool kept (moved_pair taken old ≡ Some new) (moved_pair taken old ≡ None)
 
--- the names once a place is taken out
-abbrev pub without_place : ByText ℕ → ℕ → ByText ℕ
-without_place names taken = from_sorted (filter_map (moved_pair taken) (entries names))
+-- the names once an index is taken out
+abbrev pub without_index : ByText ℕ → ℕ → ByText ℕ
+without_index names taken = from_sorted (filter_map (moved_pair taken) (entries names))
 
 -- every name points below this
-abbrev pub ArePlacesBelow : ℕ → ByText ℕ → Type 0
-ArePlacesBelow count names = (name : List ℕ) (place : ℕ) → get names name ≡ Some place → place < count
+abbrev pub AreIndicesBelow : ℕ → ByText ℕ → Type 0
+AreIndicesBelow count names = (name : List ℕ) (index : ℕ) → get names name ≡ Some index → index < count

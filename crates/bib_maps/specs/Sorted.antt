@@ -24,13 +24,13 @@ IsSorted pairs = IsTrue (is_sorted by_bytes pairs)
 abbrev pub map_of : {V : Type 0} → List (List ℕ × V) → ByText V
 map_of pairs = from_sorted pairs
 
--- the pair at this place has this name
-pub record IsPlaceOf {V : Type 0} (pairs : List (List ℕ × V)) (name : List ℕ) (place : ℕ) : Type 0 where
-  pub in_range : place < length pairs
-  pub has_name : HoldsAt (λ pair. by_bytes pair.0 name ≡ Equal) pairs place
+-- the pair at this index has this name
+pub record IsIndexOf {V : Type 0} (pairs : List (List ℕ × V)) (name : List ℕ) (index : ℕ) : Type 0 where
+  pub in_range : index < length pairs
+  pub has_name : HoldsAt (λ pair. by_bytes pair.0 name ≡ Equal) pairs index
 
--- a pair of this name would stand at this place: smaller names stand before it, and greater ones from it on
-pub record IsGapFor {V : Type 0} (pairs : List (List ℕ × V)) (name : List ℕ) (place : ℕ) : Type 0 where
-  pub in_range : place ≤ length pairs
-  pub smaller : AllWithin (λ pair. by_bytes pair.0 name ≡ Less) pairs 0 place
-  pub greater : AllWithin (λ pair. by_bytes pair.0 name ≡ Greater) pairs place (length pairs)
+-- a pair of this name would stand at this index: smaller names stand before it, and greater ones from it on
+pub record IsGapFor {V : Type 0} (pairs : List (List ℕ × V)) (name : List ℕ) (index : ℕ) : Type 0 where
+  pub in_range : index ≤ length pairs
+  pub smaller : AllWithin (λ pair. by_bytes pair.0 name ≡ Less) pairs 0 index
+  pub greater : AllWithin (λ pair. by_bytes pair.0 name ≡ Greater) pairs index (length pairs)

@@ -6,6 +6,6 @@ use Rattle.std.specs.FinMap.{insert}
 use Rattle.bib_maps.specs.Sorted.{ByText}
 use Rattle.bib_maps.specs.contracts.text_map.TextMap.{the_row}
 
--- the map ends with what is left behind the reference as the value of the name; without that name, it stays as it is
+-- the map ends with what is left after the reference as the value of the name; without that name, it stays as it is
 abbrev pub LendsValue : (V : RattleType) → MutBor (ByText V.Denot) → List ℕ → Option (MutBor V.Denot) → Fml
 LendsValue V map name value = LendsIf (the_row V) V map value (insert map.now name) map.now

@@ -10,11 +10,11 @@ use std::alloc::{AllocError, Global};
 use std::collections::BTreeMap;
 use std::marker::Model;
 
-/// Names and the places that they point to so far. Claiming a name takes little time, however many there are.
+/// Names and the indices that they point to so far. Claiming a name takes little time, however many there are.
 /// Contracts see the finite map.
 #[derive(Drop)]
 pub struct Claims {
-    places: BTreeMap<String, usize>,
+    indices: BTreeMap<String, usize>,
 }
 
 impl Model for Claims {
@@ -22,49 +22,49 @@ impl Model for Claims {
     ghost use Rattle.std.specs.FinMap as map;
     ghost use Rattle.std.specs.Coded.{coded_list, coded_ℕ};
     ghost use Rattle.bib_maps.specs.Sorted.{ByText};
-    ghost use Rattle.bib_maps.specs.Claims.{texts};
+    ghost use Rattle.bib_maps.specs.Claims.{text_pairs};
 
     ghost Value = { ByText ℕ };
 
     ghost coded = { map.code (coded_list coded_ℕ) coded_ℕ };
 
-    ghost view = { λ a. map.from_entries (texts a.places.entries) };
+    ghost view = { λ a. map.from_entries (text_pairs a.indices.entries) };
 }
 
 impl Claims {
-    /// No name. Takes no memory.
+    /// No name. Does not allocate.
     pub fn new(alloc: Global) -> Self
         ensures { result ≡ map.empty }
     {
         Claims {
-            places: BTreeMap::new(alloc),
+            indices: BTreeMap::new(alloc),
         }
     }
 
-    /// The place that a name points to.
+    /// The index that a name points to.
     pub fn get(&self, name: &str) -> Option<usize>
         ensures { result ≡ map.get self.now name.now }
     {
-        self.places.get(name).copied()
+        self.indices.get(name).copied()
     }
 
-    /// Lets a name point to a place. A refusal changes nothing.
-    pub fn claim(&mut self, name: Text, place: usize) -> Result<(), AllocError>
-        ensures claimed { OnOk result (self.new ≡ map.insert self.old name place) }
+    /// Lets a name point to an index. A refusal changes nothing.
+    pub fn claim(&mut self, name: Text, index: usize) -> Result<(), AllocError>
+        ensures claimed { OnOk result (self.new ≡ map.insert self.old name index) }
         ensures refused { OnErr result (self.new ≡ self.old) }
     {
-        self.places.insert(name.into_string(), place)?;
+        self.indices.insert(name.into_string(), index)?;
         Ok(())
     }
 
-    /// Lets names point to a place, one after another. A refusal leaves some first ones of them claimed.
-    pub fn claim_all(&mut self, names: Vec<Text>, place: usize) -> Result<(), AllocError>
-        ensures claimed { OnOk result (self.new ≡ claimed self.old (claims_for names.items place)) }
+    /// Lets names point to an index, one after another. A refusal leaves some first ones of them claimed.
+    pub fn claim_all(&mut self, names: Vec<Text>, index: usize) -> Result<(), AllocError>
+        ensures claimed { OnOk result (self.new ≡ claimed self.old (claims_for names.items index)) }
         ensures refused { OnErr result ((n : ℕ) ×
-            (self.new ≡ claimed self.old (claims_for (take n names.items) place))) }
+            (self.new ≡ claimed self.old (claims_for (take n names.items) index))) }
     {
         'names: for name in names {
-            self.claim(name, place)?;
+            self.claim(name, index)?;
         }
         Ok(())
     }
@@ -73,9 +73,9 @@ impl Claims {
     pub fn into_names(self, alloc: Global) -> Result<Names, AllocError>
         ensures { IfOk result (λ names. names ≡ self) }
     {
-        let mut pairs = Vec::with_capacity(alloc, self.places.len())?;
-        'places: for (name, place) in self.places {
-            pairs.push((Text::from_string(name), place))?;
+        let mut pairs = Vec::with_capacity(alloc, self.indices.len())?;
+        'indices: for (name, index) in self.indices {
+            pairs.push((Text::from_string(name), index))?;
         }
         Ok(Names::from_sorted(pairs))
     }

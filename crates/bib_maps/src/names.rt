@@ -1,18 +1,18 @@
-//! The names of a bibliography, each pointing to the place of an entry.
+//! The names of a bibliography, each pointing to the index of an entry.
 
 ghost use Rattle.std.specs.Prelude.{nat_eq, ◌≡◌, ◌+◌, ◌<◌, ◌≤◌, ◌∷◌, [], OnOk, OnErr, vec_len, vec_capacity};
 ghost use Rattle.std.specs.FinMap as map;
 ghost use Rattle.std.specs.Cmp.{nat_eq_equiv, partial_equiv_from_equiv};
 ghost use Rattle.bib_maps.specs.Sorted.{IsSorted, map_of};
 ghost use Rattle.bib_maps.specs.TextMap.{same_pairs, same_pairs_per, same_pairs_equiv};
-ghost use Rattle.bib_maps.specs.Names.{claimed, claims_for, moved_pair, without_place, IsMoved};
+ghost use Rattle.bib_maps.specs.Names.{claimed, claims_for, moved_pair, without_index, IsMoved};
 
-use crate::sorted::search;
+use crate::sorted::find_binary;
 use bib_text::text::Text;
 use std::alloc::{AllocError, Global};
 use std::marker::Model;
 
-/// Names and the places that they point to, sorted by the names' bytes. Contracts see the finite map.
+/// Names and the indices that they point to, sorted by the names' bytes. Contracts see the finite map.
 #[derive(Debug, Drop)]
 pub struct Names {
     pairs: Vec<(Text, usize)>,
@@ -33,26 +33,26 @@ impl Model for Names {
     ghost invariant = { λ a. IsSorted a.pairs.items };
 }
 
-// Lets a name point to a place. There is room for one more pair.
-fn point(pairs: &mut Vec<(Text, usize)>, name: Text, place: usize)
+// Lets a name point to an index. There is room for one more pair.
+fn point(pairs: &mut Vec<(Text, usize)>, name: Text, index: usize)
     requires was_sorted { IsSorted pairs.old.items }
     requires room { vec_len pairs.old < vec_capacity pairs.old }
     ensures sorted { IsSorted pairs.new.items }
-    ensures claimed { map_of pairs.new.items ≡ map.insert (map_of pairs.old.items) name place }
+    ensures claimed { map_of pairs.new.items ≡ map.insert (map_of pairs.old.items) name index }
     ensures at_most_one_more { vec_len pairs.new ≤ vec_len pairs.old + 1 }
     ensures capacity { vec_capacity pairs.old ≤ vec_capacity pairs.new }
 {
-    match search(pairs.as_slice(), name.as_str()) {
-        Ok(at) => pairs[at].1 = place,
+    match find_binary(pairs.as_slice(), name.as_str()) {
+        Ok(at) => pairs[at].1 = index,
         Err(at) => {
-            let inserted: Result<_, _> = pairs.insert(at, (name, place));
+            let inserted: Result<_, _> = pairs.insert(at, (name, index));
             inserted.unwrap();
         }
     }
 }
 
 impl Names {
-    /// No name. Takes no memory.
+    /// No name. Does not allocate.
     pub fn new(alloc: Global) -> Self
         ensures { result ≡ map.empty }
     {
@@ -69,50 +69,50 @@ impl Names {
         Names { pairs }
     }
 
-    /// The place that a name points to, found by halving.
+    /// The index that a name points to, found by binary search.
     pub fn get(&self, name: &str) -> Option<usize>
         ensures { result ≡ map.get self.now name.now }
     {
-        match search(self.pairs.as_slice(), name) {
+        match find_binary(self.pairs.as_slice(), name) {
             Ok(at) => Some(self.pairs[at].1),
             Err(_) => None,
         }
     }
 
-    /// Lets a name point to a place. A refusal changes nothing.
-    pub fn claim(&mut self, name: Text, place: usize) -> Result<(), AllocError>
-        ensures claimed { OnOk result (self.new ≡ map.insert self.old name place) }
+    /// Lets a name point to an index. A refusal changes nothing.
+    pub fn claim(&mut self, name: Text, index: usize) -> Result<(), AllocError>
+        ensures claimed { OnOk result (self.new ≡ map.insert self.old name index) }
         ensures refused { OnErr result (self.new ≡ self.old) }
     {
         self.pairs.reserve(1)?;
-        point(&mut self.pairs, name, place);
+        point(&mut self.pairs, name, index);
         Ok(())
     }
 
-    /// Lets names point to a place, all of them or, at a refusal, none.
-    pub fn claim_all(&mut self, names: Vec<Text>, place: usize) -> Result<(), AllocError>
-        ensures claimed { OnOk result (self.new ≡ claimed self.old (claims_for names.items place)) }
+    /// Lets names point to an index, all of them or, at a refusal, none.
+    pub fn claim_all(&mut self, names: Vec<Text>, index: usize) -> Result<(), AllocError>
+        ensures claimed { OnOk result (self.new ≡ claimed self.old (claims_for names.items index)) }
         ensures refused { OnErr result (self.new ≡ self.old) }
     {
         self.pairs.reserve(names.len())?;
         'names: for name in names {
-            point(&mut self.pairs, name, place);
+            point(&mut self.pairs, name, index);
         }
         Ok(())
     }
 
-    /// Takes a place out: drops the names that point to it, and lowers the places behind it. Takes no memory.
-    pub fn close_gap(&mut self, place: usize)
-        ensures { self.new ≡ without_place self.old place }
+    /// Takes an index out: drops the names that point to it, and lowers the indices after it. Does not allocate.
+    pub fn close_gap(&mut self, index: usize)
+        ensures { self.new ≡ without_index self.old index }
     {
         self.pairs.retain_mut(
             |pair: &mut (Text, usize)| -> bool
-                ensures { IsMoved place pair.old result pair.new }
+                ensures { IsMoved index pair.old result pair.new }
             {
-                if pair.1 == place {
+                if pair.1 == index {
                     return false;
                 }
-                if pair.1 > place {
+                if pair.1 > index {
                     pair.1 -= 1;
                 }
                 true

@@ -3,22 +3,22 @@
 ghost use Rattle.std.specs.Prelude.{◌≡◌, MatchResult, IfOk, reverse};
 ghost use Rattle.std.specs.Option.{option_copied};
 ghost use Rattle.std.specs.FinMap as map;
-ghost use Rattle.bib_maps.specs.Sorted.{IsSorted, IsPlaceOf, IsGapFor, by_bytes, map_of};
+ghost use Rattle.bib_maps.specs.Sorted.{IsSorted, IsIndexOf, IsGapFor, by_bytes, map_of};
 
 use bib_text::text::Text;
 use std::alloc::AllocError;
 
-// Where the pair of a name stands, or where it would; found by halving.
-pub(crate) fn search<V>(pairs: &[(Text, V)], name: &str) -> Result<usize, usize>
+// Where the pair of a name stands, or where it would; found by binary search.
+pub(crate) fn find_binary<V>(pairs: &[(Text, V)], name: &str) -> Result<usize, usize>
     requires { IsSorted pairs.now }
-    ensures { MatchResult result (IsPlaceOf pairs.now name.now) (IsGapFor pairs.now name.now) }
+    ensures { MatchResult result (IsIndexOf pairs.now name.now) (IsGapFor pairs.now name.now) }
 {
     pairs.binary_search_by(|pair| pair.0.as_str().cmp(name))
 }
 
 // The value of the first pair of a name, for which the pairs are gone through.
 #[tactic(auto, using(crate::proofs::LookingFacts::nowhere))]
-pub(crate) fn look<'a, V>(pairs: &'a [(Text, V)], name: &str) -> Option<&'a V>
+pub(crate) fn find_linear<'a, V>(pairs: &'a [(Text, V)], name: &str) -> Option<&'a V>
     ensures { option_copied result ≡ map.find by_bytes name.now pairs.now }
 {
     'pairs: for pair in pairs {

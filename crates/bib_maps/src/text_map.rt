@@ -8,7 +8,7 @@ ghost use Rattle.std.specs.Slice.Iter.{iter_rest};
 ghost use Rattle.bib_maps.specs.TextMapLending.{LendsValue};
 ghost use Rattle.bib_maps.specs.TextMap.{AreClones, same_pairs, same_pairs_per, same_pairs_equiv};
 
-use crate::sorted::{look, search, sorted};
+use crate::sorted::{find_binary, find_linear, sorted};
 use bib_text::text::Text;
 use std::alloc::{AllocError, AllocFailed, Global};
 use std::marker::Model;
@@ -39,7 +39,7 @@ impl<V> Model for TextMap<V> {
 }
 
 impl<V> TextMap<V> {
-    /// The empty map. Takes no memory.
+    /// The empty map. Does not allocate.
     pub fn new(alloc: Global) -> Self
         ensures { result ≡ map.empty }
     {
@@ -48,7 +48,7 @@ impl<V> TextMap<V> {
         }
     }
 
-    /// The pairs of a name and its value, in the order of the names' bytes. Takes no memory.
+    /// The pairs of a name and its value, in the order of the names' bytes. Does not allocate.
     pub fn into_pairs(self) -> Vec<(Text, V)>
         ensures { result.items ≡ map.entries self }
     {
@@ -77,15 +77,15 @@ impl<V> TextMap<V> {
         self.pairs.is_empty()
     }
 
-    /// The value of a name, if it has one. It is found by halving, where the names are more than a few.
+    /// The value of a name, if it has one. It is found by binary search, where the names are more than a few.
     pub fn get(&self, name: &str) -> Option<&V>
         ensures { option_copied result ≡ map.get self.now name.now }
     {
         if self.pairs.len() <= FEW {
-            return look(self.pairs.as_slice(), name);
+            return find_linear(self.pairs.as_slice(), name);
         }
-        match search(self.pairs.as_slice(), name) {
-            Ok(place) => Some(&self.pairs[place].1),
+        match find_binary(self.pairs.as_slice(), name) {
+            Ok(index) => Some(&self.pairs[index].1),
             Err(_) => None,
         }
     }
@@ -95,8 +95,8 @@ impl<V> TextMap<V> {
         ensures* writes_back { sem 𝓛 (LendsValue V.row self.entry name.now result) }
         ensures value { option_copied_mut result ≡ map.get self.old name.now }
     {
-        match search(self.pairs.as_slice(), name) {
-            Ok(place) => Some(&mut self.pairs[place].1),
+        match find_binary(self.pairs.as_slice(), name) {
+            Ok(index) => Some(&mut self.pairs[index].1),
             Err(_) => None,
         }
     }
@@ -116,25 +116,25 @@ impl<V> TextMap<V> {
         ensures returned { IfErr result (λ e. e.value ≡ (name, value)) }
         ensures present { IsSome (map.get self.old name) → IsOk result }
     {
-        match search(self.pairs.as_slice(), name.as_str()) {
-            Ok(place) => Ok(Some(mem::replace(&mut self.pairs[place].1, value))),
-            Err(place) => {
-                self.pairs.insert(place, (name, value))?;
+        match find_binary(self.pairs.as_slice(), name.as_str()) {
+            Ok(index) => Ok(Some(mem::replace(&mut self.pairs[index].1, value))),
+            Err(index) => {
+                self.pairs.insert(index, (name, value))?;
                 Ok(None)
             }
         }
     }
 
-    /// Takes a name out, and hands back its value. Takes no memory.
+    /// Takes a name out, and hands back its value. Does not allocate.
     pub fn remove(&mut self, name: &str) -> Option<V>
         ensures had { result ≡ map.get self.old name.now }
         ensures removed { self.new ≡ map.remove self.old name.now }
     {
         // most names that are taken out aren't there, and a few are looked through faster
         self.get(name)?;
-        match search(self.pairs.as_slice(), name) {
-            Ok(place) => {
-                let (_, value) = self.pairs.remove(place);
+        match find_binary(self.pairs.as_slice(), name) {
+            Ok(index) => {
+                let (_, value) = self.pairs.remove(index);
                 Some(value)
             }
             Err(_) => None,

@@ -7,8 +7,8 @@ use Rattle.std.specs.declared.ops.Range.{Range}
 use Rattle.bib_chunks.specs.declared.chunk.Chunk.{Chunk}
 use Rattle.bib_chunks.specs.declared.chunk.Chunk.TheVariants.{Normal}
 use Rattle.bib_text.specs.declared.spanned.Spanned.{Spanned}
-use Rattle.bib_chunks.specs.Cuts.{placed, piece, part_of, pieces, pieces_between, onto, joined, list_parts, between_ands, trimmed, trimmed_from, trimmed_ends, and_list}
-use Rattle.bib_chunks.specs.Formatted.{formatted_behind}
+use Rattle.bib_chunks.specs.Cuts.{placed, piece, chunk_part, pieces, pieces_between, onto, joined_parts, list_parts, between_ands, trimmed, trimmed_from, trimmed_ends, and_list}
+use Rattle.bib_chunks.specs.Formatted.{formatted_after}
 use Rattle.bib_chunks.specs.Values.{Value, nowhere, alone}
 use Rattle.bib_chunks.proofs.SeparatedFacts.{no_place}
 use Rattle.bib_chunks.proofs.AndListFacts.{and_separates}
@@ -26,8 +26,8 @@ AllParts [] = Unit {0}
 AllParts (chunk ∷ chunks) = IsPart chunk × AllParts chunks
 
 -- a piece that is the whole text stands where the text does
-whole_part : (text left : List ℕ) (at : ℕ) → left ≡ text → part_of text no_place at left ≡ normal text
-whole_part text left at same = ap (part_of text no_place at) same ∙ (rw (eq-eqb (length text) (length text) refl) refl)
+whole_part : (text left : List ℕ) (at : ℕ) → left ≡ text → chunk_part text no_place at left ≡ normal text
+whole_part text left at same = ap (chunk_part text no_place at) same ∙ (rw (eq-eqb (length text) (length text) refl) refl)
 
 untouched : (text : List ℕ) → piece text no_place 0 false false text ≡ normal text
 untouched text = whole_part text _ _ refl
@@ -46,25 +46,25 @@ normal_part text one spelt start end = record {
 }
 
 -- chunks that are written as a list: what follows the first one
-abbrev pub written_behind : List Chunk → Value
-written_behind [] = []
-written_behind (chunk ∷ chunks) = normal (codes " and ") ∷ nowhere chunk ∷ written_behind chunks
+abbrev pub written_after : List Chunk → Value
+written_after [] = []
+written_after (chunk ∷ chunks) = normal (codes " and ") ∷ nowhere chunk ∷ written_after chunks
 
 -- an empty chunk in these bytes, or none
 abbrev pub empties : Range ℕ → Bool → Value
 empties span false = []
 empties span true = placed (Normal []) span.start span.end ∷ []
 
--- what is left of a separator before and behind it
+-- what is left of a separator before and after it
 abbrev pub before_and : Range ℕ
 before_and = and_separates.before
 
-abbrev pub behind_and : Range ℕ
-behind_and = and_separates.after
+abbrev pub after_and : Range ℕ
+after_and = and_separates.after
 
 -- a part as it is read
 abbrev pub padded : Bool → Bool → Chunk → Value
-padded before behind chunk = empties behind_and before ++ (nowhere chunk ∷ empties before_and behind)
+padded before following chunk = empties after_and before ++ (nowhere chunk ∷ empties before_and following)
 
 abbrev pub padded_parts : Bool → Chunk → List Chunk → List Value
 padded_parts before chunk [] = padded before false chunk ∷ []
@@ -72,49 +72,49 @@ padded_parts before chunk (next ∷ more) = padded before true chunk ∷ padded_
 
 -- the ends of the list
 
-trimmed_behind : (chunk : Chunk) (chunks : List Chunk) → IsPart chunk → AllParts chunks → trimmed_from false (written_behind (chunk ∷ chunks)) ≡ written_behind (chunk ∷ chunks)
-trimmed_behind chunk [] part all = ap (λ c. trimmed false false (Normal (codes " and ")) no_place ∷ c ∷ []) (part.ends false true) ∙ ap (λ c. c ∷ nowhere chunk ∷ []) (untouched (codes " and "))
-trimmed_behind chunk (next ∷ more) part all =
-    ap (λ c. trimmed false false (Normal (codes " and ")) no_place ∷ c ∷ trimmed_from false (written_behind (next ∷ more))) (part.ends false false)
-    ∙ ap (λ l. trimmed false false (Normal (codes " and ")) no_place ∷ nowhere chunk ∷ l) (trimmed_behind next more all.0 all.1)
-    ∙ ap (λ c. c ∷ nowhere chunk ∷ written_behind (next ∷ more)) (untouched (codes " and "))
+trimmed_after : (chunk : Chunk) (chunks : List Chunk) → IsPart chunk → AllParts chunks → trimmed_from false (written_after (chunk ∷ chunks)) ≡ written_after (chunk ∷ chunks)
+trimmed_after chunk [] part all = ap (λ c. trimmed false false (Normal (codes " and ")) no_place ∷ c ∷ []) (part.ends false true) ∙ ap (λ c. c ∷ nowhere chunk ∷ []) (untouched (codes " and "))
+trimmed_after chunk (next ∷ more) part all =
+    ap (λ c. trimmed false false (Normal (codes " and ")) no_place ∷ c ∷ trimmed_from false (written_after (next ∷ more))) (part.ends false false)
+    ∙ ap (λ l. trimmed false false (Normal (codes " and ")) no_place ∷ nowhere chunk ∷ l) (trimmed_after next more all.0 all.1)
+    ∙ ap (λ c. c ∷ nowhere chunk ∷ written_after (next ∷ more)) (untouched (codes " and "))
 
-trimmed_whole : (chunk : Chunk) (chunks : List Chunk) → IsPart chunk → AllParts chunks → trimmed_ends (nowhere chunk ∷ written_behind chunks) ≡ nowhere chunk ∷ written_behind chunks
+trimmed_whole : (chunk : Chunk) (chunks : List Chunk) → IsPart chunk → AllParts chunks → trimmed_ends (nowhere chunk ∷ written_after chunks) ≡ nowhere chunk ∷ written_after chunks
 trimmed_whole chunk [] part all = ap (λ c. c ∷ []) (part.ends true true)
-trimmed_whole chunk (next ∷ more) part all = ap (λ c. c ∷ trimmed_from false (written_behind (next ∷ more))) (part.ends true false) ∙ ap (λ l. nowhere chunk ∷ l) (trimmed_behind next more all.0 all.1)
+trimmed_whole chunk (next ∷ more) part all = ap (λ c. c ∷ trimmed_from false (written_after (next ∷ more))) (part.ends true false) ∙ ap (λ l. nowhere chunk ∷ l) (trimmed_after next more all.0 all.1)
 
 -- its parts
 
 abbrev parts : Value → List Value
 parts = list_parts 3 (between_ands false)
 
-cut_behind : (next : Chunk) (more : List Chunk) → IsPart next → parts (written_behind (next ∷ more)) ≡ empties before_and true ∷ onto (empties behind_and true) (onto (alone next) (parts (written_behind more)))
-cut_behind next more part =
-    ap (λ ps. joined ps (joined (pieces 3 (between_ands false) next no_place) (parts (written_behind more)))) and_separates.cut
-    ∙ ap (λ ps. joined (empties before_and true ++ empties behind_and true) (joined ps (parts (written_behind more)))) part.one
+cut_after : (next : Chunk) (more : List Chunk) → IsPart next → parts (written_after (next ∷ more)) ≡ empties before_and true ∷ onto (empties after_and true) (onto (alone next) (parts (written_after more)))
+cut_after next more part =
+    ap (λ ps. joined_parts ps (joined_parts (pieces 3 (between_ands false) next no_place) (parts (written_after more)))) and_separates.cut
+    ∙ ap (λ ps. joined_parts (empties before_and true ++ empties after_and true) (joined_parts ps (parts (written_after more)))) part.one
 
-onto_one : (before : Bool) (chunk : Chunk) (chunks : List Chunk) → AllParts chunks → onto (empties behind_and before) (onto (alone chunk) (parts (written_behind chunks))) ≡ padded_parts before chunk chunks
+onto_one : (before : Bool) (chunk : Chunk) (chunks : List Chunk) → AllParts chunks → onto (empties after_and before) (onto (alone chunk) (parts (written_after chunks))) ≡ padded_parts before chunk chunks
 onto_one false chunk [] all = refl
 onto_one true chunk [] all = refl
 onto_one false chunk (next ∷ more) all =
-    ap (λ ps. onto [] (onto (alone chunk) ps)) (cut_behind next more all.0) ∙ ap (λ ps. padded false true chunk ∷ ps) (onto_one true next more all.1)
+    ap (λ ps. onto [] (onto (alone chunk) ps)) (cut_after next more all.0) ∙ ap (λ ps. padded false true chunk ∷ ps) (onto_one true next more all.1)
 onto_one true chunk (next ∷ more) all =
-    ap (λ ps. onto (empties behind_and true) (onto (alone chunk) ps)) (cut_behind next more all.0) ∙ ap (λ ps. padded true true chunk ∷ ps) (onto_one true next more all.1)
+    ap (λ ps. onto (empties after_and true) (onto (alone chunk) ps)) (cut_after next more all.0) ∙ ap (λ ps. padded true true chunk ∷ ps) (onto_one true next more all.1)
 
 onto_nothing : (chunk : Chunk) (ps : List Value) → onto [] (onto (alone chunk) ps) ≡ onto (alone chunk) ps
 onto_nothing chunk [] = refl
 onto_nothing chunk (p ∷ ps) = refl
 
 -- what was written is read
-pub and_list_written : (chunk : Chunk) (chunks : List Chunk) → IsPart chunk → AllParts chunks → and_list (nowhere chunk ∷ written_behind chunks) ≡ padded_parts false chunk chunks
+pub and_list_written : (chunk : Chunk) (chunks : List Chunk) → IsPart chunk → AllParts chunks → and_list (nowhere chunk ∷ written_after chunks) ≡ padded_parts false chunk chunks
 and_list_written chunk chunks part all =
     ap parts (trimmed_whole chunk chunks part all)
-    ∙ ap (λ ps. joined ps (parts (written_behind chunks))) part.one
-    ∙ sym (onto_nothing chunk (parts (written_behind chunks)))
+    ∙ ap (λ ps. joined_parts ps (parts (written_after chunks))) part.one
+    ∙ sym (onto_nothing chunk (parts (written_after chunks)))
     ∙ onto_one false chunk chunks all
 
 -- the empty chunks change nothing that is formatted
-pub formatted_empties : (span : Range ℕ) (space behind : Bool) → formatted_behind space (empties span behind) ≡ []
+pub formatted_empties : (span : Range ℕ) (space following : Bool) → formatted_after space (empties span following) ≡ []
 unfolding chars
 formatted_empties span space true = refl
 formatted_empties span space false = refl

@@ -10,7 +10,7 @@ use Rattle.std.proofs.lemmas.Str.{chars-nil}
 use Rattle.bib_chunks.specs.declared.chunk.Chunk.{Chunk}
 use Rattle.bib_chunks.specs.declared.chunk.Chunk.TheVariants.{Normal}
 use Rattle.bib_text.specs.declared.spanned.Spanned.{Spanned}
-use Rattle.bib_chunks.specs.Cuts.{placed, part_of, piece, halves, both_pieces, cut_characters, cut_first, cut_behind, cut_at}
+use Rattle.bib_chunks.specs.Cuts.{placed, chunk_part, piece, halves, both_pieces, cut_characters, cut_first, cut_after, cut_at}
 use Rattle.bib_people.proofs.AndLists.{empties}
 
 abbrev pub is_comma : ℕ → Bool
@@ -20,12 +20,12 @@ is_comma b = b == 44
 abbrev pub stands : Range ℕ → List ℕ → Spanned Chunk
 stands span text = placed (Normal text) span.start span.end
 
-cut_front : (front rest : List ℕ) → list_any is_comma front ≡ false → cut_characters 44 (front ++ (44 ∷ rest)) ≡ Some (front, rest)
-cut_front [] rest none = refl
-cut_front (b ∷ bs) rest none =
+cut_prefix : (leading_run rest : List ℕ) → list_any is_comma leading_run ≡ false → cut_characters 44 (leading_run ++ (44 ∷ rest)) ≡ Some (leading_run, rest)
+cut_prefix [] rest none = refl
+cut_prefix (b ∷ bs) rest none =
     let both = or_parts (is_comma b) (list_any is_comma bs) none in
     let here = both.0 in
-    rw here (ap (option_map (λ cut. (b ∷ cut.0, cut.1))) (cut_front bs rest both.1))
+    rw here (ap (option_map (λ cut. (b ∷ cut.0, cut.1))) (cut_prefix bs rest both.1))
 
 cut_none : (text : List ℕ) → list_any is_comma text ≡ false → cut_characters 44 text ≡ None
 cut_none [] none = refl
@@ -35,35 +35,35 @@ cut_none (b ∷ bs) none =
     rw here (ap (option_map (λ cut. (b ∷ cut.0, cut.1))) (cut_none bs both.1))
 
 -- a part of a text is normal, wherever it stands
-part_is : (whole : List ℕ) (span : Range ℕ) (at : ℕ) (text : List ℕ) → (part_of whole span at text).v ≡ Normal text
+part_is : (whole : List ℕ) (span : Range ℕ) (at : ℕ) (text : List ℕ) → (chunk_part whole span at text).v ≡ Normal text
 part_is whole span at text = ⊎_elim (λ yes. rw yes refl) (λ other. rw other refl) (cases_Bool (length text == length whole))
 
 piece_is : (whole : List ℕ) (span : Range ℕ) (at : ℕ) (first last : Bool) (text left : List ℕ) → (piece whole span at first last text).v ≡ Normal left → piece whole span at first last text ≡ stands (piece whole span at first last text).span left
 piece_is whole span at first last text left is = ap (λ v. placed v (piece whole span at first last text).span.start (piece whole span at first last text).span.end) is
 
 -- the halves of a chunk, wherever they stand
-pub record AreHalves (front rest : List ℕ) (span : Range ℕ) : Type 0 where
+pub record AreHalves (leading_run rest : List ℕ) (span : Range ℕ) : Type 0 where
   pub left : Range ℕ
   pub right : Range ℕ
-  pub cut : halves (Normal (front ++ (44 ∷ rest))) span 44 ≡ Some (stands left (trim_end front), stands right (trim_start rest))
+  pub cut : halves (Normal (leading_run ++ (44 ∷ rest))) span 44 ≡ Some (stands left (trim_end leading_run), stands right (trim_start rest))
 
-pub halves_at : (front rest : List ℕ) (span : Range ℕ) → list_any is_comma front ≡ false
-    → chars (front ++ (44 ∷ rest)) ≡ front ++ (44 ∷ rest) → encode_utf8_all front ≡ front → encode_utf8_all rest ≡ rest → AreHalves front rest span
-halves_at front rest span none same spelt spells =
-    let whole = front ++ (44 ∷ rest) in
-    let at = length (encode_utf8_all front) + len_utf8 44 in
-    let one = piece whole span 0 false true (encode_utf8_all front) in
+pub halves_at : (leading_run rest : List ℕ) (span : Range ℕ) → list_any is_comma leading_run ≡ false
+    → chars (leading_run ++ (44 ∷ rest)) ≡ leading_run ++ (44 ∷ rest) → encode_utf8_all leading_run ≡ leading_run → encode_utf8_all rest ≡ rest → AreHalves leading_run rest span
+halves_at leading_run rest span none same spelt spells =
+    let whole = leading_run ++ (44 ∷ rest) in
+    let at = length (encode_utf8_all leading_run) + len_utf8 44 in
+    let one = piece whole span 0 false true (encode_utf8_all leading_run) in
     let two = piece whole span at true false (encode_utf8_all rest) in
-    let one_is : one ≡ stands one.span (trim_end front) = piece_is whole span 0 false true (encode_utf8_all front) (trim_end front) (part_is whole span _ _ ∙ ap (λ t. Normal (trim_end t)) spelt) in
+    let one_is : one ≡ stands one.span (trim_end leading_run) = piece_is whole span 0 false true (encode_utf8_all leading_run) (trim_end leading_run) (part_is whole span _ _ ∙ ap (λ t. Normal (trim_end t)) spelt) in
     let two_is : two ≡ stands two.span (trim_start rest) = piece_is whole span at true false (encode_utf8_all rest) (trim_start rest) (part_is whole span _ _ ∙ ap (λ t. Normal (trim_start t)) spells) in
     record {
       left = one.span;
       right = two.span;
       cut =
           ap (λ cs. option_map (both_pieces (len_utf8 44) whole span) (cut_characters 44 cs)) same
-          ∙ ap (option_map (both_pieces (len_utf8 44) whole span)) (cut_front front rest none)
+          ∙ ap (option_map (both_pieces (len_utf8 44) whole span)) (cut_prefix leading_run rest none)
           ∙ ap (λ c. Some (c, two)) one_is
-          ∙ ap (λ c. Some (stands one.span (trim_end front), c)) two_is;
+          ∙ ap (λ c. Some (stands one.span (trim_end leading_run), c)) two_is;
     }
 
 halves_none : (text : List ℕ) (span : Range ℕ) → list_any is_comma text ≡ false → chars text ≡ text → halves (Normal text) span 44 ≡ None
@@ -71,21 +71,21 @@ halves_none text span none same =
     ap (λ cs. option_map (both_pieces (len_utf8 44) text span) (cut_characters 44 cs)) same ∙ ap (option_map (both_pieces (len_utf8 44) text span)) (cut_none text none)
 
 -- no comma stands in empty chunks
-empties_none : (span : Range ℕ) (behind : Bool) → cut_at (empties span behind) 44 ≡ None
+empties_none : (span : Range ℕ) (following : Bool) → cut_at (empties span following) 44 ≡ None
 unfolding chars
 empties_none span true = refl
 empties_none span false = refl
 
 -- the cut of a chunk, with an empty one before it or not
-pub cut_first_comma : (at : Range ℕ) (before : Bool) (front rest : List ℕ) (span : Range ℕ) (more : List (Spanned Chunk)) (cut : AreHalves front rest span)
-    → cut_at (empties at before ++ (stands span (front ++ (44 ∷ rest)) ∷ more)) 44
-    ≡ Some (empties at before ++ (stands cut.left (trim_end front) ∷ []), stands cut.right (trim_start rest) ∷ more)
-cut_first_comma at false front rest span more cut = ap (λ h. cut_first (stands span (front ++ (44 ∷ rest))) more h (cut_at more 44)) cut.cut
-cut_first_comma at true front rest span more cut =
-    ap (λ h. cut_first (stands at []) (stands span (front ++ (44 ∷ rest)) ∷ more) h (cut_at (stands span (front ++ (44 ∷ rest)) ∷ more) 44)) (halves_none [] at refl chars-nil)
-    ∙ ap (cut_behind (stands at [] ∷ [])) (ap (λ h. cut_first (stands span (front ++ (44 ∷ rest))) more h (cut_at more 44)) cut.cut)
+pub cut_first_comma : (at : Range ℕ) (before : Bool) (leading_run rest : List ℕ) (span : Range ℕ) (more : List (Spanned Chunk)) (cut : AreHalves leading_run rest span)
+    → cut_at (empties at before ++ (stands span (leading_run ++ (44 ∷ rest)) ∷ more)) 44
+    ≡ Some (empties at before ++ (stands cut.left (trim_end leading_run) ∷ []), stands cut.right (trim_start rest) ∷ more)
+cut_first_comma at false leading_run rest span more cut = ap (λ h. cut_first (stands span (leading_run ++ (44 ∷ rest))) more h (cut_at more 44)) cut.cut
+cut_first_comma at true leading_run rest span more cut =
+    ap (λ h. cut_first (stands at []) (stands span (leading_run ++ (44 ∷ rest)) ∷ more) h (cut_at (stands span (leading_run ++ (44 ∷ rest)) ∷ more) 44)) (halves_none [] at refl chars-nil)
+    ∙ ap (cut_after (stands at [] ∷ [])) (ap (λ h. cut_first (stands span (leading_run ++ (44 ∷ rest))) more h (cut_at more 44)) cut.cut)
 
-pub cut_no_comma : (text : List ℕ) (span at : Range ℕ) (behind : Bool) → list_any is_comma text ≡ false → chars text ≡ text → cut_at (stands span text ∷ empties at behind) 44 ≡ None
-cut_no_comma text span at behind none same =
-    ap (λ h. cut_first (stands span text) (empties at behind) h (cut_at (empties at behind) 44)) (halves_none text span none same)
-    ∙ ap (cut_behind (stands span text ∷ [])) (empties_none at behind)
+pub cut_no_comma : (text : List ℕ) (span at : Range ℕ) (following : Bool) → list_any is_comma text ≡ false → chars text ≡ text → cut_at (stands span text ∷ empties at following) 44 ≡ None
+cut_no_comma text span at following none same =
+    ap (λ h. cut_first (stands span text) (empties at following) h (cut_at (empties at following) 44)) (halves_none text span none same)
+    ∙ ap (cut_after (stands span text ∷ [])) (empties_none at following)

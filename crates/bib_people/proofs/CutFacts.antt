@@ -11,8 +11,8 @@ use Rattle.std.proofs.lemmas.List.Sums.{suffix_len_is}
 use Rattle.std.proofs.lemmas.Bool.{cases_Bool, ne_eqb}
 use Rattle.std.proofs.lemmas.Str.{IsCharBoundary-after_ascii}
 use Rattle.bib_people.specs.Letters.{Word}
-use Rattle.bib_people.specs.Names.{through_last, is_space}
-use Rattle.bib_people.specs.Told.{IsLastSpace}
+use Rattle.bib_people.specs.Names.{through_last, is_space_byte}
+use Rattle.bib_people.specs.WordKinds.{IsLastSpace}
 
 -- the last word that passes is among those to come, or is the last one before `end`
 pub record Through (test : Word → Bool) (words : List Word) (i end : ℕ) : Type 0 where
@@ -59,28 +59,28 @@ through_no test words i end word within is fails so_far =
     record { is = step_no (through_last test words) i (through_last test (drop (i + 1) words)) end (list_any test (drop (i + 1) words)) more; within = omega arith }
 
 -- the last space
-pub no_space : (text : List ℕ) → ((i : ℕ) → i < length text → get_or text i 0 ≢ 32) → list_any is_space text ≡ false
+pub no_space : (text : List ℕ) → ((i : ℕ) → i < length text → get_or text i 0 ≢ 32) → list_any is_space_byte text ≡ false
 no_space [] none = refl
 no_space (b ∷ bs) none = rw (ne_eqb b 32 (none 0 (omega arith)), no_space bs (λ i within. none (suc i) (omega arith))) refl
 
 last_at : (text : List ℕ) (at : ℕ) → IsUtf8 text → IsCharBoundary text at → at < length text → get_or text at 0 ≡ 32 → ((i : ℕ) → at < i → i < length text → get_or text i 0 ≢ 32) → IsLastSpace text at
 last_at text at utf8 boundary within here later =
-    let passes : is_space (get_or text at 0) ≡ true = rw here refl in
+    let passes : is_space_byte (get_or text at 0) ≡ true = rw here refl in
     let fails : (at + 1 - 1 ≡ at) = omega arith in
-    let behind : suffix_len (λ b. not (is_space b)) text ≡ length text - (at + 1) =
-    suffix_len_is (λ b. not (is_space b)) text (at + 1) 0 (omega arith)
+    let following : suffix_len (λ b. not (is_space_byte b)) text ≡ length text - (at + 1) =
+    suffix_len_is (λ b. not (is_space_byte b)) text (at + 1) 0 (omega arith)
     (λ k past less. rw (ne_eqb (get_or text k 0) 32 (later k (omega arith) less)) refl)
     (λ some. rw (fails, passes) refl) in
     record {
-      some = list_any_at is_space text at 0 within passes;
+      some = list_any_at is_space_byte text at 0 within passes;
       within = within;
-      before = ap (λ n. take n text) (let e : length text - suffix_len (λ b. not (is_space b)) text - 1 ≡ at = omega arith in e);
-      after = ap (λ n. drop n text) (let e : length text - suffix_len (λ b. not (is_space b)) text ≡ at + 1 = omega arith in e);
+      before = ap (λ n. take n text) (let e : length text - suffix_len (λ b. not (is_space_byte b)) text - 1 ≡ at = omega arith in e);
+      after = ap (λ n. drop n text) (let e : length text - suffix_len (λ b. not (is_space_byte b)) text ≡ at + 1 = omega arith in e);
       boundary = boundary;
       next = IsCharBoundary-after_ascii text at utf8 within (omega arith);
     }
 
-pub last_space_found : (text : List ℕ) (r : Option ℕ) → IsUtf8 text → MatchOption r (RFindsChar 32 text None) (λ i. (j : ℕ) × RFindsChar 32 text (Some (i, j)) × (i ≤ j) × IsCharBoundary text i × IsCharBoundary text j) → MatchOption r (list_any is_space text ≡ false) (IsLastSpace text)
+pub last_space_found : (text : List ℕ) (r : Option ℕ) → IsUtf8 text → MatchOption r (RFindsChar 32 text None) (λ i. (j : ℕ) × RFindsChar 32 text (Some (i, j)) × (i ≤ j) × IsCharBoundary text i × IsCharBoundary text j) → MatchOption r (list_any is_space_byte text ≡ false) (IsLastSpace text)
 last_space_found text None utf8 found = no_space text (rfind_char 32 text None found (omega arith))
 last_space_found text (Some at) utf8 found =
     let is = rfind_char 32 text (Some at) found (omega arith) in

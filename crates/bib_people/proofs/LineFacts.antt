@@ -13,8 +13,8 @@ use Rattle.std.proofs.lemmas.Str.{chars-IsAscii, encodes-IsAscii}
 use Rattle.bib_chunks.specs.declared.chunk.Chunk.TheVariants.{Normal}
 use Rattle.bib_chunks.specs.Cuts.{between_ands}
 use Rattle.bib_people.specs.Names.{person}
-use Rattle.bib_people.specs.People.{suffix_text, begins_capital, plain_chunks, behind_prefix}
-use Rattle.bib_people.specs.Kept.{is_small_letter, is_name_byte, is_word_and, is_kept_word, behind_words, spaced}
+use Rattle.bib_people.specs.People.{suffix_text, begins_capital, plain_chunks, after_prefix}
+use Rattle.bib_people.specs.Kept.{is_small_letter, is_name_byte, is_word_and, is_kept_word, after_words, spaced}
 use Rattle.bib_people.proofs.ByteFacts.{name_plain, name_line, is_line_byte, line_small, all_follow, ascii_of, small_low, skip_none, start_none, end_none}
 use Rattle.bib_people.proofs.SpacedFacts.{is_solid, is_item, spaced_ends, spaced_begins, spaced_all, spaced_one}
 use Rattle.bib_people.proofs.AndLists.{IsPart, normal, normal_part}
@@ -37,7 +37,7 @@ all_any test words all = all_follow (is_kept_word test) (is_kept_word is_name_by
 pub name_no_space : (b : ℕ) → is_name_byte b ≡ true → not (is_whitespace b) ≡ true
 name_no_space b name = (and_parts (not (is_whitespace b)) _ (name_plain b name)).0
 
--- a word, perhaps with a comma behind it
+-- a word, perhaps with a comma after it
 abbrev pub is_line_item : List ℕ → Bool
 is_line_item word = is_item word && list_all is_line_byte word
 
@@ -80,21 +80,21 @@ items_part items all =
     normal_part (spaced items) (ap (between_ands false) same ∙ one ∙ ap (λ t. t ∷ []) (sym same)) (ap encode_utf8_all same ∙ encodes-IsAscii (spaced items) ascii)
     (start_none (spaced items) ascii (skip_none (spaced items) (spaced_begins items solid))) (end_none (spaced items) ascii (spaced_ends items solid))
 
--- commas behind words
+-- commas after words
 
--- words with a comma behind the last
+-- words with a comma after the last
 abbrev pub comma : List (List ℕ) → List (List ℕ)
 comma [] = []
 comma (word ∷ []) = (word ++ 44 ∷ []) ∷ []
 comma (word ∷ next ∷ more) = word ∷ comma (next ∷ more)
 
-comma_behind : (word : List ℕ) (words : List (List ℕ)) → behind_words (comma (word ∷ words)) ≡ behind_words (word ∷ words) ++ 44 ∷ []
-comma_behind word [] = ap (λ l. 32 ∷ l) (append-nil (word ++ 44 ∷ []) ∙ ap (λ l. l ++ 44 ∷ []) (sym (append-nil word)))
-comma_behind word (next ∷ more) = ap (λ l. 32 ∷ (word ++ l)) (comma_behind next more) ∙ ap (λ l. 32 ∷ l) (sym (append_assoc word (behind_words (next ∷ more)) (44 ∷ [])))
+comma_after : (word : List ℕ) (words : List (List ℕ)) → after_words (comma (word ∷ words)) ≡ after_words (word ∷ words) ++ 44 ∷ []
+comma_after word [] = ap (λ l. 32 ∷ l) (append-nil (word ++ 44 ∷ []) ∙ ap (λ l. l ++ 44 ∷ []) (sym (append-nil word)))
+comma_after word (next ∷ more) = ap (λ l. 32 ∷ (word ++ l)) (comma_after next more) ∙ ap (λ l. 32 ∷ l) (sym (append_assoc word (after_words (next ∷ more)) (44 ∷ [])))
 
 comma_spaced : (word : List ℕ) (words : List (List ℕ)) → spaced (comma (word ∷ words)) ≡ spaced (word ∷ words) ++ 44 ∷ []
 comma_spaced word [] = append-nil (word ++ 44 ∷ []) ∙ ap (λ l. l ++ 44 ∷ []) (sym (append-nil word))
-comma_spaced word (next ∷ more) = ap (λ l. word ++ l) (comma_behind next more) ∙ sym (append_assoc word (behind_words (next ∷ more)) (44 ∷ []))
+comma_spaced word (next ∷ more) = ap (λ l. word ++ l) (comma_after next more) ∙ sym (append_assoc word (after_words (next ∷ more)) (44 ∷ []))
 
 comma_some : (word : List ℕ) (words : List (List ℕ)) → 0 < length (comma (word ∷ words))
 comma_some word [] = omega arith
@@ -129,28 +129,28 @@ comma_items (word ∷ next ∷ more) all =
 
 -- a person
 
-behind_append : (xs ys : List (List ℕ)) → behind_words (xs ++ ys) ≡ behind_words xs ++ behind_words ys
-behind_append [] ys = refl
-behind_append (x ∷ xs) ys = ap (λ l. 32 ∷ (x ++ l)) (behind_append xs ys) ∙ ap (λ l. 32 ∷ l) (sym (append_assoc x (behind_words xs) (behind_words ys)))
+after_append : (xs ys : List (List ℕ)) → after_words (xs ++ ys) ≡ after_words xs ++ after_words ys
+after_append [] ys = refl
+after_append (x ∷ xs) ys = ap (λ l. 32 ∷ (x ++ l)) (after_append xs ys) ∙ ap (λ l. 32 ∷ l) (sym (append_assoc x (after_words xs) (after_words ys)))
 
 pub spaced_then : (xs ys : List (List ℕ)) → 0 < length xs → 0 < length ys → spaced (xs ++ ys) ≡ spaced xs ++ (32 ∷ spaced ys)
 spaced_then [] ys some more = absurd (omega arith)
 spaced_then (x ∷ xs) [] some more = absurd (omega arith)
-spaced_then (x ∷ xs) (y ∷ ys) some more = ap (λ l. x ++ l) (behind_append xs (y ∷ ys)) ∙ sym (append_assoc x (behind_words xs) (behind_words (y ∷ ys)))
+spaced_then (x ∷ xs) (y ∷ ys) some more = ap (λ l. x ++ l) (after_append xs (y ∷ ys)) ∙ sym (append_assoc x (after_words xs) (after_words (y ∷ ys)))
 
--- the words of a suffix, with a comma behind the last
+-- the words of a suffix, with a comma after the last
 abbrev pub line_items : List (List ℕ) → List (List ℕ) → List (List ℕ) → List (List ℕ)
-line_items front suffix given = comma front ++ (comma suffix ++ given)
+line_items leading_run suffix given = comma leading_run ++ (comma suffix ++ given)
 
-pub line_all : (front suffix given : List (List ℕ)) → AllWords is_name_byte front → AllWords is_name_byte suffix → AllWords is_name_byte given → list_all is_line_item (line_items front suffix given) ≡ true
-line_all front suffix given one two three =
-    list_all-append is_line_item (comma front) (comma suffix ++ given)
-    ∙ and_from _ _ (comma_items front (all_line front one))
+pub line_all : (leading_run suffix given : List (List ℕ)) → AllWords is_name_byte leading_run → AllWords is_name_byte suffix → AllWords is_name_byte given → list_all is_line_item (line_items leading_run suffix given) ≡ true
+line_all leading_run suffix given one two three =
+    list_all-append is_line_item (comma leading_run) (comma suffix ++ given)
+    ∙ and_from _ _ (comma_items leading_run (all_line leading_run one))
     (list_all-append is_line_item (comma suffix) given ∙ and_from _ _ (comma_items suffix (all_line suffix two)) (all_line given three))
 
 first_some : (word : List ℕ) (words : List (List ℕ)) → AllWords is_name_byte (word ∷ words) → (length (spaced (word ∷ words)) == 0) ≡ false
 first_some [] words all = absurd (false≢true all)
-first_some (b ∷ bs) words all = ne_eqb (suc (length (bs ++ behind_words words))) 0 (λ none. omega arith)
+first_some (b ∷ bs) words all = ne_eqb (suc (length (bs ++ after_words words))) 0 (λ none. omega arith)
 
 pub suffix_line : (suffix given : List (List ℕ)) → AllWords is_name_byte suffix → 0 < length given → suffix_text (spaced suffix) ++ spaced given ≡ spaced (comma suffix ++ given)
 suffix_line [] given all some = refl
@@ -166,8 +166,8 @@ pub more_some : (xs ys : List (List ℕ)) → 0 < length ys → 0 < length (xs +
 more_some [] ys some = some
 more_some (x ∷ xs) ys some = omega arith
 
-pub line_spelt : (front suffix given : List (List ℕ)) → 0 < length front → AllWords is_name_byte suffix → 0 < length given
-    → spaced (line_items front suffix given) ≡ spaced front ++ (44 ∷ 32 ∷ (suffix_text (spaced suffix) ++ spaced given))
+pub line_spelt : (leading_run suffix given : List (List ℕ)) → 0 < length leading_run → AllWords is_name_byte suffix → 0 < length given
+    → spaced (line_items leading_run suffix given) ≡ spaced leading_run ++ (44 ∷ 32 ∷ (suffix_text (spaced suffix) ++ spaced given))
 line_spelt [] suffix given none all some = absurd (omega arith)
 line_spelt (f ∷ fs) suffix given first all some =
     spaced_then (comma (f ∷ fs)) (comma suffix ++ given) (comma_some f fs) (more_some (comma suffix) given some)
@@ -190,7 +190,7 @@ plain_line ((b ∷ bs) ∷ xs) name suffix given small has_name all has_given =
     let no_capital : begins_capital (chars (spaced words)) ≡ false = ap begins_capital same ∙ low in
     let some : (length (spaced words) == 0) ≡ false = first_some (b ∷ bs) xs any in
     let p = person (spaced name) (spaced given) (spaced words) (spaced suffix) in
-    let text : spaced words ++ (32 ∷ behind_prefix p) ≡ spaced (line_items (words ++ name) suffix given) =
+    let text : spaced words ++ (32 ∷ after_prefix p) ≡ spaced (line_items (words ++ name) suffix given) =
     sym (append_assoc (spaced words) (32 ∷ spaced name) (44 ∷ 32 ∷ (suffix_text (spaced suffix) ++ spaced given)))
     ∙ ap (λ l. l ++ (44 ∷ 32 ∷ (suffix_text (spaced suffix) ++ spaced given))) (sym (spaced_then words name (omega arith) has_name))
     ∙ sym (line_spelt (words ++ name) suffix given (omega arith) all has_given) in

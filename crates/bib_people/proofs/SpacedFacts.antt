@@ -1,4 +1,4 @@
--- Facts on words parted by single spaces.
+-- Facts on words separated by single spaces.
 use Rattle.std.proofs.Common.{◌≡◌, ℕ, Bool, true, false, List, [], ◌∷◌, ◌++◌, map, take, refl, sym, ap, ◌∙◌, cond, append_assoc}
 use Rattle.std.specs.Prelude.{not, ◌&&◌, ◌==◌}
 use Rattle.std.specs.List.{list_all}
@@ -11,12 +11,12 @@ use Rattle.bib_chunks.proofs.FormattedFacts.{ends-append}
 use Rattle.bib_chunks.specs.Cuts.{between_ands, prepend, begins_with_space, is_and}
 use Rattle.bib_people.specs.declared.person.words.Letter.{Letter}
 use Rattle.bib_people.specs.Letters.{is_gap, Word, a_word, words_of, word_letters}
-use Rattle.bib_people.specs.Kept.{begins, is_word_and, behind_words, spaced}
+use Rattle.bib_people.specs.Kept.{name_begins, is_word_and, after_words, spaced}
 use Rattle.bib_people.proofs.WordFacts.{letter, words_gap, words_word, apart_end, apart_gap, stand_apart}
 
 -- a word that white space does not stand in
 abbrev pub is_solid : List ℕ → Bool
-is_solid word = begins (λ b. true) word && list_all (λ b. not (is_whitespace b)) word
+is_solid word = name_begins (λ b. true) word && list_all (λ b. not (is_whitespace b)) word
 
 abbrev pub is_item : List ℕ → Bool
 is_item word = is_solid word && not (is_word_and word)
@@ -31,17 +31,17 @@ word_ends : (empty : Bool) (word : List ℕ) → is_solid word ≡ true → ends
 word_ends empty [] solid = absurd (false≢true solid)
 word_ends empty (b ∷ bs) solid = solid_ends empty b bs solid
 
-behind_ends : (words : List (List ℕ)) → list_all is_solid words ≡ true → ends_in_space false (behind_words words) ≡ false
-behind_ends [] all = refl
-behind_ends (word ∷ words) all =
+after_ends : (words : List (List ℕ)) → list_all is_solid words ≡ true → ends_in_space false (after_words words) ≡ false
+after_ends [] all = refl
+after_ends (word ∷ words) all =
     let both = and_parts (is_solid word) (list_all is_solid words) all in
-    ends-append true word (behind_words words) ∙ ap (λ e. ends_in_space e (behind_words words)) (word_ends true word both.0) ∙ behind_ends words both.1
+    ends-append true word (after_words words) ∙ ap (λ e. ends_in_space e (after_words words)) (word_ends true word both.0) ∙ after_ends words both.1
 
 pub spaced_ends : (words : List (List ℕ)) → list_all is_solid words ≡ true → ends_in_space false (spaced words) ≡ false
 spaced_ends [] all = refl
 spaced_ends (word ∷ words) all =
     let both = and_parts (is_solid word) (list_all is_solid words) all in
-    ends-append false word (behind_words words) ∙ ap (λ e. ends_in_space e (behind_words words)) (word_ends false word both.0) ∙ behind_ends words both.1
+    ends-append false word (after_words words) ∙ ap (λ e. ends_in_space e (after_words words)) (word_ends false word both.0) ∙ after_ends words both.1
 
 pub spaced_begins : (words : List (List ℕ)) → list_all is_solid words ≡ true → list_all (λ b. not (is_whitespace b)) (take 1 (spaced words)) ≡ true
 spaced_begins [] all = refl
@@ -52,25 +52,25 @@ spaced_begins ((b ∷ bs) ∷ words) all =
 
 -- two lists of words
 
-behind_append : (xs ys : List (List ℕ)) → behind_words (xs ++ ys) ≡ behind_words xs ++ behind_words ys
-behind_append [] ys = refl
-behind_append (x ∷ xs) ys = ap (λ l. 32 ∷ (x ++ l)) (behind_append xs ys) ∙ ap (λ l. 32 ∷ l) (sym (append_assoc x (behind_words xs) (behind_words ys)))
+after_append : (xs ys : List (List ℕ)) → after_words (xs ++ ys) ≡ after_words xs ++ after_words ys
+after_append [] ys = refl
+after_append (x ∷ xs) ys = ap (λ l. 32 ∷ (x ++ l)) (after_append xs ys) ∙ ap (λ l. 32 ∷ l) (sym (append_assoc x (after_words xs) (after_words ys)))
 
 pub spaced_append : (x : List ℕ) (xs : List (List ℕ)) (y : List ℕ) (ys : List (List ℕ)) → spaced ((x ∷ xs) ++ (y ∷ ys)) ≡ spaced (x ∷ xs) ++ (32 ∷ spaced (y ∷ ys))
-spaced_append x xs y ys = ap (λ l. x ++ l) (behind_append xs (y ∷ ys)) ∙ sym (append_assoc x (behind_words xs) (behind_words (y ∷ ys)))
+spaced_append x xs y ys = ap (λ l. x ++ l) (after_append xs (y ∷ ys)) ∙ sym (append_assoc x (after_words xs) (after_words (y ∷ ys)))
 
 -- a test that passes in each word, and at a space
-behind_all : (test : ℕ → Bool) → test 32 ≡ true → (words : List (List ℕ)) → list_all (λ w. list_all test w) words ≡ true → list_all test (behind_words words) ≡ true
-behind_all test space [] all = refl
-behind_all test space (word ∷ words) all =
+after_all : (test : ℕ → Bool) → test 32 ≡ true → (words : List (List ℕ)) → list_all (λ w. list_all test w) words ≡ true → list_all test (after_words words) ≡ true
+after_all test space [] all = refl
+after_all test space (word ∷ words) all =
     let both = and_parts (list_all test word) (list_all (λ w. list_all test w) words) all in
-    and_from (test 32) (list_all test (word ++ behind_words words)) space (list_all-append test word (behind_words words) ∙ and_from (list_all test word) (list_all test (behind_words words)) both.0 (behind_all test space words both.1))
+    and_from (test 32) (list_all test (word ++ after_words words)) space (list_all-append test word (after_words words) ∙ and_from (list_all test word) (list_all test (after_words words)) both.0 (after_all test space words both.1))
 
 pub spaced_all : (test : ℕ → Bool) → test 32 ≡ true → (words : List (List ℕ)) → list_all (λ w. list_all test w) words ≡ true → list_all test (spaced words) ≡ true
 spaced_all test space [] all = refl
 spaced_all test space (word ∷ words) all =
     let both = and_parts (list_all test word) (list_all (λ w. list_all test w) words) all in
-    list_all-append test word (behind_words words) ∙ and_from (list_all test word) (list_all test (behind_words words)) both.0 (behind_all test space words both.1)
+    list_all-append test word (after_words words) ∙ and_from (list_all test word) (list_all test (after_words words)) both.0 (after_all test space words both.1)
 
 -- the word `and`
 
@@ -110,19 +110,19 @@ run (b ∷ bs) rest all more =
     let both = and_parts (not (is_whitespace b)) (list_all (λ x. not (is_whitespace x)) bs) all in
     step false b (bs ++ rest) (not_spaced (b ∷ (bs ++ rest))) (ap (λ s. between_ands s (bs ++ rest)) (not-true (is_whitespace b) both.0) ∙ run bs rest both.1 more)
 
--- the word does not stand where another word begins, behind which a space follows, or nothing
+-- the word does not stand where another word begins, after which a space follows, or nothing
 no_space : (a d s : Bool) → (((a && false) && d) && s) ≡ false
 no_space true d s = refl
 no_space false d s = refl
 
-no_and : (b : ℕ) (bs : List ℕ) (words : List (List ℕ)) → list_all (λ x. not (is_whitespace x)) (b ∷ bs) ≡ true → is_word_and (b ∷ bs) ≡ false → word_here true (b ∷ (bs ++ behind_words words)) ≡ false
+no_and : (b : ℕ) (bs : List ℕ) (words : List (List ℕ)) → list_all (λ x. not (is_whitespace x)) (b ∷ bs) ≡ true → is_word_and (b ∷ bs) ≡ false → word_here true (b ∷ (bs ++ after_words words)) ≡ false
 unfolding word_here
 no_and b [] [] all other = refl
 no_and b [] ([] ∷ []) all other = refl
-no_and b [] ([] ∷ w ∷ words) all other = no_space (b == 97) (32 == 100) (begins_with_space (w ++ behind_words words))
-no_and b [] ((c ∷ w) ∷ words) all other = no_space (b == 97) (c == 100) (begins_with_space (w ++ behind_words words))
+no_and b [] ([] ∷ w ∷ words) all other = no_space (b == 97) (32 == 100) (begins_with_space (w ++ after_words words))
+no_and b [] ((c ∷ w) ∷ words) all other = no_space (b == 97) (c == 100) (begins_with_space (w ++ after_words words))
 no_and b (c ∷ []) [] all other = refl
-no_and b (c ∷ []) (w ∷ words) all other = ap (λ x. x && begins_with_space (w ++ behind_words words)) (and_last (b == 97 && c == 110))
+no_and b (c ∷ []) (w ∷ words) all other = ap (λ x. x && begins_with_space (w ++ after_words words)) (and_last (b == 97 && c == 110))
 no_and b (c ∷ d ∷ []) [] all other = and_last (is_and b c d)
 no_and b (c ∷ d ∷ []) (w ∷ words) all other = rw other refl
 no_and b (c ∷ d ∷ e ∷ bs) words all other =
@@ -133,31 +133,31 @@ no_and b (c ∷ d ∷ e ∷ bs) words all other =
     let last = not-true (is_whitespace e) four.0 in
     rw last (and_last (is_and b c d))
 
-item : (space : Bool) (b : ℕ) (bs : List ℕ) (words : List (List ℕ)) → is_item (b ∷ bs) ≡ true → between_ands false (behind_words words) ≡ behind_words words ∷ [] → between_ands space (b ∷ (bs ++ behind_words words)) ≡ (b ∷ (bs ++ behind_words words)) ∷ []
+item : (space : Bool) (b : ℕ) (bs : List ℕ) (words : List (List ℕ)) → is_item (b ∷ bs) ≡ true → between_ands false (after_words words) ≡ after_words words ∷ [] → between_ands space (b ∷ (bs ++ after_words words)) ≡ (b ∷ (bs ++ after_words words)) ∷ []
 item space b bs words is more =
     let both = and_parts (is_solid (b ∷ bs)) (not (is_word_and (b ∷ bs))) is in
     let solid : list_all (λ x. not (is_whitespace x)) (b ∷ bs) ≡ true = both.0 in
     let parts = and_parts (not (is_whitespace b)) (list_all (λ x. not (is_whitespace x)) bs) solid in
-    step space b (bs ++ behind_words words) (either space (b ∷ (bs ++ behind_words words)) (no_and b bs words solid (not-true (is_word_and (b ∷ bs)) both.1)))
-    (ap (λ s. between_ands s (bs ++ behind_words words)) (not-true (is_whitespace b) parts.0) ∙ run bs (behind_words words) parts.1 more)
+    step space b (bs ++ after_words words) (either space (b ∷ (bs ++ after_words words)) (no_and b bs words solid (not-true (is_word_and (b ∷ bs)) both.1)))
+    (ap (λ s. between_ands s (bs ++ after_words words)) (not-true (is_whitespace b) parts.0) ∙ run bs (after_words words) parts.1 more)
 
-behind_one : (words : List (List ℕ)) → list_all is_item words ≡ true → between_ands false (behind_words words) ≡ behind_words words ∷ []
-behind_one [] all = refl
-behind_one ([] ∷ words) all = absurd (false≢true all)
-behind_one ((b ∷ bs) ∷ words) all =
+after_one : (words : List (List ℕ)) → list_all is_item words ≡ true → between_ands false (after_words words) ≡ after_words words ∷ []
+after_one [] all = refl
+after_one ([] ∷ words) all = absurd (false≢true all)
+after_one ((b ∷ bs) ∷ words) all =
     let both = and_parts (is_item (b ∷ bs)) (list_all is_item words) all in
-    step false 32 (b ∷ (bs ++ behind_words words)) (not_spaced (32 ∷ b ∷ (bs ++ behind_words words))) (item true b bs words both.0 (behind_one words both.1))
+    step false 32 (b ∷ (bs ++ after_words words)) (not_spaced (32 ∷ b ∷ (bs ++ after_words words))) (item true b bs words both.0 (after_one words both.1))
 
 pub spaced_one : (words : List (List ℕ)) → list_all is_item words ≡ true → between_ands false (spaced words) ≡ spaced words ∷ []
 spaced_one [] all = refl
 spaced_one ([] ∷ words) all = absurd (false≢true all)
 spaced_one ((b ∷ bs) ∷ words) all =
     let both = and_parts (is_item (b ∷ bs)) (list_all is_item words) all in
-    item false b bs words both.0 (behind_one words both.1)
+    item false b bs words both.0 (after_one words both.1)
 
 -- the words of a name
 
--- words behind a gap of one space, but for the first
+-- words after a gap of one space, but for the first
 abbrev pub gap_of : Bool → List Letter
 gap_of first = cond first [] (letter false 32 ∷ [])
 
@@ -175,40 +175,40 @@ solid_letters (b ∷ bs) all =
 abbrev letters_of : List ℕ → List Letter
 letters_of = map (letter false)
 
-apart_behind : (words : List (List ℕ)) → stand_apart (words_of (letters_of (behind_words words))) ≡ true
-apart_behind [] = apart_end
-apart_behind (word ∷ words) = apart_gap (letter false 32) (letters_of (word ++ behind_words words)) refl
+apart_after : (words : List (List ℕ)) → stand_apart (words_of (letters_of (after_words words))) ≡ true
+apart_after [] = apart_end
+apart_after (word ∷ words) = apart_gap (letter false 32) (letters_of (word ++ after_words words)) refl
 
-one_word : (b : ℕ) (bs : List ℕ) (words : List (List ℕ)) → is_solid (b ∷ bs) ≡ true → words_of (letters_of (behind_words words)) ≡ words_at false words → words_of (letters_of (b ∷ (bs ++ behind_words words))) ≡ a_word [] (letters_of (b ∷ bs)) ∷ words_at false words
+one_word : (b : ℕ) (bs : List ℕ) (words : List (List ℕ)) → is_solid (b ∷ bs) ≡ true → words_of (letters_of (after_words words)) ≡ words_at false words → words_of (letters_of (b ∷ (bs ++ after_words words))) ≡ a_word [] (letters_of (b ∷ bs)) ∷ words_at false words
 one_word b bs words solid more =
     let both = and_parts (not (is_whitespace b)) (list_all (λ x. not (is_whitespace x)) bs) solid in
     let here : is_gap (letter false b) ≡ false = let fails = not-true (is_whitespace b) both.0 in rw fails refl in
-    ap (λ l. words_of (letter false b ∷ l)) (map-append (letter false) bs (behind_words words))
-    ∙ words_word (letter false b) (letters_of bs) (letters_of (behind_words words)) here (solid_letters bs both.1) (apart_behind words)
+    ap (λ l. words_of (letter false b ∷ l)) (map-append (letter false) bs (after_words words))
+    ∙ words_word (letter false b) (letters_of bs) (letters_of (after_words words)) here (solid_letters bs both.1) (apart_after words)
     ∙ ap (λ ws. a_word [] (letters_of (b ∷ bs)) ∷ ws) more
 
-behind_words_of : (words : List (List ℕ)) → list_all is_solid words ≡ true → words_of (letters_of (behind_words words)) ≡ words_at false words
-behind_words_of [] all = refl
-behind_words_of ([] ∷ words) all = absurd (false≢true all)
-behind_words_of ((b ∷ bs) ∷ words) all =
+after_words_of : (words : List (List ℕ)) → list_all is_solid words ≡ true → words_of (letters_of (after_words words)) ≡ words_at false words
+after_words_of [] all = refl
+after_words_of ([] ∷ words) all = absurd (false≢true all)
+after_words_of ((b ∷ bs) ∷ words) all =
     let both = and_parts (is_solid (b ∷ bs)) (list_all is_solid words) all in
-    words_gap (letter false 32 ∷ []) (letters_of (b ∷ (bs ++ behind_words words))) (letters_of (b ∷ bs)) (words_at false words) refl (one_word b bs words both.0 (behind_words_of words both.1))
+    words_gap (letter false 32 ∷ []) (letters_of (b ∷ (bs ++ after_words words))) (letters_of (b ∷ bs)) (words_at false words) refl (one_word b bs words both.0 (after_words_of words both.1))
 
 pub spaced_words_of : (words : List (List ℕ)) → list_all is_solid words ≡ true → words_of (letters_of (spaced words)) ≡ words_at true words
 spaced_words_of [] all = refl
 spaced_words_of ([] ∷ words) all = absurd (false≢true all)
 spaced_words_of ((b ∷ bs) ∷ words) all =
     let both = and_parts (is_solid (b ∷ bs)) (list_all is_solid words) all in
-    one_word b bs words both.0 (behind_words_of words both.1)
+    one_word b bs words both.0 (after_words_of words both.1)
 
 -- what such words spell
-pub letters_behind : (words : List (List ℕ)) → word_letters false (words_at false words) ≡ letters_of (behind_words words)
-letters_behind [] = refl
-letters_behind (word ∷ words) =
-    ap (λ l. letter false 32 ∷ (letters_of word ++ l)) (letters_behind words)
-    ∙ ap (λ l. letter false 32 ∷ l) (sym (map-append (letter false) word (behind_words words)))
+pub letters_after : (words : List (List ℕ)) → word_letters false (words_at false words) ≡ letters_of (after_words words)
+letters_after [] = refl
+letters_after (word ∷ words) =
+    ap (λ l. letter false 32 ∷ (letters_of word ++ l)) (letters_after words)
+    ∙ ap (λ l. letter false 32 ∷ l) (sym (map-append (letter false) word (after_words words)))
 
 pub letters_spaced : (first : Bool) (words : List (List ℕ)) → word_letters true (words_at first words) ≡ letters_of (spaced words)
 letters_spaced first [] = refl
 letters_spaced first (word ∷ words) =
-    ap (λ l. letters_of word ++ l) (letters_behind words) ∙ sym (map-append (letter false) word (behind_words words))
+    ap (λ l. letters_of word ++ l) (letters_after words) ∙ sym (map-append (letter false) word (after_words words))

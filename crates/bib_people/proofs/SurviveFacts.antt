@@ -12,21 +12,21 @@ use Rattle.std.proofs.lemmas.Str.{chars-IsAscii, encodes-IsAscii, chars-nil}
 use Rattle.bib_chunks.specs.declared.chunk.Chunk.{Chunk}
 use Rattle.bib_chunks.specs.declared.chunk.Chunk.TheVariants.{Normal}
 use Rattle.bib_text.specs.declared.spanned.Spanned.{Spanned}
-use Rattle.bib_chunks.specs.Formatted.{flowing, formatted, space_behind}
+use Rattle.bib_chunks.specs.Formatted.{flowing, formatted, space_after}
 use Rattle.bib_chunks.proofs.FormattedFacts.{goes_on, flowing_run}
 use Rattle.bib_chunks.specs.Cuts.{cut_at}
 use Rattle.bib_people.specs.declared.person.Person.{Person}
 use Rattle.bib_people.specs.Letters.{Letter, letters, Word, a_word, words_of, text_of_words}
-use Rattle.bib_people.specs.Names.{Cuts, is_low, leading, through_last, before_comma, person, shown, is_blank, at_last_space, with_comma, with_commas, cut_by_commas, by_commas, before_comma_person, cut_person, in_parts, is_in_parts, person_of}
+use Rattle.bib_people.specs.Names.{Cuts, is_low, leading, through_last, before_comma, person, shown, formats_to_nothing, at_last_space, with_comma, with_commas, cut_by_commas, by_commas, before_comma_person, cut_person, in_parts, is_in_parts, person_of}
 use Rattle.bib_people.specs.People.{people_of, people_chunks, people_from, person_chunks, suffix_text}
-use Rattle.bib_people.specs.Kept.{is_capital_letter, is_small_letter, is_name_byte, is_kept_word, begins, behind_words, spaced, IsKept, AllKept, ArePeople}
+use Rattle.bib_people.specs.Kept.{is_capital_letter, is_small_letter, is_name_byte, is_kept_word, name_begins, after_words, spaced, IsKeptPerson, AllKept, ArePeople}
 use Rattle.bib_people.proofs.WordFacts.{letter, spelt}
 use Rattle.bib_people.proofs.ByteFacts.{name_plain, line_open, is_line_byte, all_follow, none_of, small_low, capital_not_low, skip_none, start_none, start_one, end_none}
 use Rattle.bib_people.proofs.SpacedFacts.{spaced_ends, spaced_begins, spaced_all, words_at, spaced_words_of, letters_spaced, gap_of}
 use Rattle.bib_people.proofs.LineFacts.{comma, comma_items, suffix_line, more_some, is_line_item, AllWords, all_any, all_line, items_solid, items_ascii, items_bytes, items_part, line_items, line_all, line_spelt, plain_line}
 use Rattle.std.specs.declared.ops.Range.{Range}
 use Rattle.bib_chunks.proofs.SeparatedFacts.{no_place}
-use Rattle.bib_people.proofs.AndLists.{formatted_empties, empties, before_and, behind_and, normal, padded, padded_parts, written_behind, IsPart, AllParts, and_list_written}
+use Rattle.bib_people.proofs.AndLists.{formatted_empties, empties, before_and, after_and, normal, padded, padded_parts, written_after, IsPart, AllParts, and_list_written}
 use Rattle.bib_people.proofs.CommaFacts.{is_comma, stands, AreHalves, halves_at, cut_first_comma, cut_no_comma}
 
 -- the text of words
@@ -63,7 +63,7 @@ name_text_byte b name = rw name refl
 
 word_bytes : (word : List ℕ) → is_kept_word is_name_byte word ≡ true → list_all is_text_byte word ≡ true
 word_bytes word kept =
-    let outer = and_parts (begins is_name_byte word) _ kept in
+    let outer = and_parts (name_begins is_name_byte word) _ kept in
     all_follow is_name_byte is_text_byte name_text_byte word (and_parts (list_all is_name_byte word) _ outer.1).0
 
 pub is_text : (words : List (List ℕ)) → AllWords is_name_byte words → IsText (spaced words)
@@ -88,35 +88,35 @@ is_text words all =
 trim_same : (text : List ℕ) → IsText text → trim text ≡ text
 trim_same text is = ap trim_end is.start ∙ is.end
 
--- behind a space
+-- after a space
 space_small : (text : List ℕ) → IsAscii text → IsAscii (32 ∷ text)
 space_small text ascii zero = omega arith
 space_small text ascii (suc k) = ascii k
 
-pub behind_space : (text : List ℕ) → IsText text → trim_start (32 ∷ text) ≡ text
-behind_space text is = start_one text (space_small text is.ascii) is.ascii is.skips
+pub after_space : (text : List ℕ) → IsText text → trim_start (32 ∷ text) ≡ text
+after_space text is = start_one text (space_small text is.ascii) is.ascii is.skips
 
 -- parts of a name, perhaps with empty chunks round them
 
-formatted_text : (text : List ℕ) (span : Range ℕ) (behind : Bool) → IsText text → formatted (stands span text ∷ empties before_and behind) ≡ text
-formatted_text text span behind is =
-    ap (λ l. flowing false (chars text) ++ l) (formatted_empties before_and (space_behind false (Normal text)) behind) ∙ append-nil (flowing false (chars text)) ∙ ap (flowing false) is.same ∙ is.flows
+formatted_text : (text : List ℕ) (span : Range ℕ) (following : Bool) → IsText text → formatted (stands span text ∷ empties before_and following) ≡ text
+formatted_text text span following is =
+    ap (λ l. flowing false (chars text) ++ l) (formatted_empties before_and (space_after false (Normal text)) following) ∙ append-nil (flowing false (chars text)) ∙ ap (flowing false) is.same ∙ is.flows
 
-shown_text : (text : List ℕ) (span : Range ℕ) (behind : Bool) → IsText text → shown (stands span text ∷ empties before_and behind) ≡ text
-shown_text text span behind is = ap (λ cs. trim (encode_utf8_all cs)) (formatted_text text span behind is) ∙ ap trim is.spelt ∙ trim_same text is
+shown_text : (text : List ℕ) (span : Range ℕ) (following : Bool) → IsText text → shown (stands span text ∷ empties before_and following) ≡ text
+shown_text text span following is = ap (λ cs. trim (encode_utf8_all cs)) (formatted_text text span following is) ∙ ap trim is.spelt ∙ trim_same text is
 
 and_no : (a b : Bool) → b ≡ false → (a && b) ≡ false
 and_no true b no_b = no_b
 and_no false b no_b = refl
 
-not_blank : (text : List ℕ) (span : Range ℕ) (behind : Bool) → IsText text → 0 < length text → is_blank (stands span text ∷ empties before_and behind) ≡ false
-not_blank text span behind is some =
-    and_no (length (stands span text ∷ empties before_and behind) == 1) _ (ap (λ cs. length cs == 0) (formatted_text text span behind is) ∙ ne_eqb (length text) 0 (λ none. omega arith))
+not_blank : (text : List ℕ) (span : Range ℕ) (following : Bool) → IsText text → 0 < length text → formats_to_nothing (stands span text ∷ empties before_and following) ≡ false
+not_blank text span following is some =
+    and_no (length (stands span text ∷ empties before_and following) == 1) _ (ap (λ cs. length cs == 0) (formatted_text text span following is) ∙ ne_eqb (length text) 0 (λ none. omega arith))
 
 abbrev letters_of : List ℕ → List Letter
 letters_of = map (letter false)
 
-letters_text : (before : Bool) (text : List ℕ) (span : Range ℕ) → IsText text → letters (empties behind_and before ++ (stands span text ∷ [])) ≡ letters_of text
+letters_text : (before : Bool) (text : List ℕ) (span : Range ℕ) → IsText text → letters (empties after_and before ++ (stands span text ∷ [])) ≡ letters_of text
 letters_text false text span is = append-nil (letters_of (chars text)) ∙ ap letters_of is.same
 letters_text true text span is = ap (λ l. letters_of l ++ (letters_of (chars text) ++ [])) chars-nil ∙ append-nil (letters_of (chars text)) ∙ ap letters_of is.same
 
@@ -172,10 +172,10 @@ no_words test (y ∷ ys) all =
 abbrev a_cut : ℕ → Cuts
 a_cut prefix = record { given = 0; prefix = prefix }
 
-cut_front : (xs ys : List Word) → list_all is_low xs ≡ true → list_all (λ w. not (is_low w)) ys ≡ true → 0 < length ys → before_comma (xs ++ ys) ≡ record { given = 0; prefix = length xs }
+cut_prefix : (xs ys : List Word) → list_all is_low xs ≡ true → list_all (λ w. not (is_low w)) ys ≡ true → 0 < length ys → before_comma (xs ++ ys) ≡ record { given = 0; prefix = length xs }
 unfolding before_comma
-cut_front xs [] low high some = absurd (omega arith)
-cut_front xs (y ∷ ys) low high some =
+cut_prefix xs [] low high some = absurd (omega arith)
+cut_prefix xs (y ∷ ys) low high some =
     let first = not-true (is_low y) (and_parts (not (is_low y)) _ high).0 in
     let lead : leading is_low (xs ++ (y ∷ ys)) ≡ length xs = leading_split is_low xs y ys low first in
     let size : length (xs ++ (y ∷ ys)) ≡ length xs + suc (length ys) = length-append xs (y ∷ ys) in
@@ -194,7 +194,7 @@ spelt_words first words all =
 
 -- one person
 
-padded_no_equals : (before behind : Bool) (text : List ℕ) → list_any (λ b. b == 61) text ≡ false → is_in_parts (padded before behind (Normal text)) ≡ false
+padded_no_equals : (before following : Bool) (text : List ℕ) → list_any (λ b. b == 61) text ≡ false → is_in_parts (padded before following (Normal text)) ≡ false
 padded_no_equals true true text none = rw none refl
 padded_no_equals true false text none = rw none refl
 padded_no_equals false true text none = rw none refl
@@ -207,56 +207,56 @@ words_some : (first : Bool) (words : List (List ℕ)) → 0 < length words → 0
 words_some first [] some = absurd (omega arith)
 words_some first (w ∷ ws) some = omega arith
 
-no_equals : (items : List (List ℕ)) → list_all is_line_item items ≡ true → (before behind : Bool) → is_in_parts (padded before behind (Normal (spaced items))) ≡ false
-no_equals items all before behind =
+no_equals : (items : List (List ℕ)) → list_all is_line_item items ≡ true → (before following : Bool) → is_in_parts (padded before following (Normal (spaced items))) ≡ false
+no_equals items all before following =
     let none : list_any (λ b. b == 61) (spaced items) ≡ false = none_of (λ b. b == 61) (spaced items) (all_follow is_line_byte (λ b. not (b == 61)) (λ b line. (and_parts (not (b == 61)) (goes_on b) (line_open b line)).0) (spaced items) (items_bytes items all)) in
-    padded_no_equals before behind (spaced items) none
+    padded_no_equals before following (spaced items) none
 
 -- a name cut at its comma
-with_comma_read : (before behind : Bool) (prefix name given : List (List ℕ)) (suffix : List ℕ) (a c : Range ℕ) → AllWords is_small_letter prefix → AllWords is_capital_letter name → AllWords is_name_byte given → 0 < length name → 0 < length (spaced given)
-    → with_comma (empties behind_and before ++ (stands a (spaced (prefix ++ name)) ∷ [])) (stands c (spaced given) ∷ empties before_and behind) suffix ≡ person (spaced name) (spaced given) (spaced prefix) suffix
-with_comma_read before behind prefix name given suffix a c small capital any has_name has_given =
-    let first = empties behind_and before ++ (stands a (spaced (prefix ++ name)) ∷ []) in
-    let second = stands c (spaced given) ∷ empties before_and behind in
+with_comma_read : (before following : Bool) (prefix name given : List (List ℕ)) (suffix : List ℕ) (a c : Range ℕ) → AllWords is_small_letter prefix → AllWords is_capital_letter name → AllWords is_name_byte given → 0 < length name → 0 < length (spaced given)
+    → with_comma (empties after_and before ++ (stands a (spaced (prefix ++ name)) ∷ [])) (stands c (spaced given) ∷ empties before_and following) suffix ≡ person (spaced name) (spaced given) (spaced prefix) suffix
+with_comma_read before following prefix name given suffix a c small capital any has_name has_given =
+    let first = empties after_and before ++ (stands a (spaced (prefix ++ name)) ∷ []) in
+    let second = stands c (spaced given) ∷ empties before_and following in
     let small_any = all_any is_small_letter prefix small in
     let capital_any = all_any is_capital_letter name capital in
-    let front_any : AllWords is_name_byte (prefix ++ name) = list_all-append (is_kept_word is_name_byte) prefix name ∙ and_from _ _ small_any capital_any in
-    let front = is_text (prefix ++ name) front_any in
+    let prefix_any : AllWords is_name_byte (prefix ++ name) = list_all-append (is_kept_word is_name_byte) prefix name ∙ and_from _ _ small_any capital_any in
+    let leading_run = is_text (prefix ++ name) prefix_any in
     let last = is_text given any in
     let apart = words_append true prefix name in
     let xs = words_at true prefix in
     let ys = words_at apart.0 name in
-    let words : words_of (letters first) ≡ xs ++ ys = ap words_of (letters_text before (spaced (prefix ++ name)) a front) ∙ spaced_words_of (prefix ++ name) (items_solid (prefix ++ name) (all_line (prefix ++ name) front_any)) ∙ apart.1 in
-    let cuts : before_comma (xs ++ ys) ≡ a_cut (length xs) = cut_front xs ys (low_words true prefix small) (high_words apart.0 name capital) (words_some apart.0 name has_name) in
+    let words : words_of (letters first) ≡ xs ++ ys = ap words_of (letters_text before (spaced (prefix ++ name)) a leading_run) ∙ spaced_words_of (prefix ++ name) (items_solid (prefix ++ name) (all_line (prefix ++ name) prefix_any)) ∙ apart.1 in
+    let cuts : before_comma (xs ++ ys) ≡ a_cut (length xs) = cut_prefix xs ys (low_words true prefix small) (high_words apart.0 name capital) (words_some apart.0 name has_name) in
     let prefix_is : text_of_words (take (length xs) (xs ++ ys)) ≡ spaced prefix = ap text_of_words (take_at xs ys (length xs) refl) ∙ spelt_words true prefix small_any in
     let name_is : text_of_words (drop (length xs) (xs ++ ys)) ≡ spaced name = ap text_of_words (drop_at xs ys (length xs) refl) ∙ spelt_words apart.0 name capital_any in
-    ap (λ blank. cond blank (at_last_space (encode_utf8_all (formatted first)) suffix) (before_comma_person (words_of (letters first)) (shown second) suffix)) (not_blank (spaced given) c behind last has_given)
+    ap (λ blank. cond blank (at_last_space (encode_utf8_all (formatted first)) suffix) (before_comma_person (words_of (letters first)) (shown second) suffix)) (not_blank (spaced given) c following last has_given)
     ∙ ap (λ ws. before_comma_person ws (shown second) suffix) words
     ∙ ap (λ cut. cut_person cut (xs ++ ys) (shown second) suffix) cuts
     ∙ ap (λ n. person n (shown second) (text_of_words (take (length xs) (xs ++ ys))) suffix) name_is
     ∙ ap (λ q. person (spaced name) (shown second) q suffix) prefix_is
-    ∙ ap (λ g. person (spaced name) g (spaced prefix) suffix) (shown_text (spaced given) c behind last)
+    ∙ ap (λ g. person (spaced name) g (spaced prefix) suffix) (shown_text (spaced given) c following last)
 
 some_words : (words : List (List ℕ)) → 0 < length (spaced words) → 0 < length words
 some_words [] some = some
 some_words (w ∷ ws) some = omega arith
 
--- what stands behind the first comma
-behind_read : (before behind : Bool) (prefix name suffix given : List (List ℕ)) (a c : Range ℕ) → AllWords is_small_letter prefix → AllWords is_capital_letter name → AllWords is_name_byte suffix → AllWords is_name_byte given → 0 < length name → 0 < length (spaced given)
-    → with_commas_of (empties behind_and before ++ (stands a (spaced (prefix ++ name)) ∷ [])) (stands c (trim_start (32 ∷ (suffix_text (spaced suffix) ++ spaced given))) ∷ empties before_and behind) ≡ person (spaced name) (spaced given) (spaced prefix) (spaced suffix)
-behind_read before behind prefix name [] given a c small capital tail any has_name has_given =
+-- what stands after the first comma
+after_read : (before following : Bool) (prefix name suffix given : List (List ℕ)) (a c : Range ℕ) → AllWords is_small_letter prefix → AllWords is_capital_letter name → AllWords is_name_byte suffix → AllWords is_name_byte given → 0 < length name → 0 < length (spaced given)
+    → with_commas_of (empties after_and before ++ (stands a (spaced (prefix ++ name)) ∷ [])) (stands c (trim_start (32 ∷ (suffix_text (spaced suffix) ++ spaced given))) ∷ empties before_and following) ≡ person (spaced name) (spaced given) (spaced prefix) (spaced suffix)
+after_read before following prefix name [] given a c small capital tail any has_name has_given =
     let last = is_text given any in
-    let first = empties behind_and before ++ (stands a (spaced (prefix ++ name)) ∷ []) in
-    ap (λ t. with_commas_of first (stands c t ∷ empties before_and behind)) (behind_space (spaced given) last)
-    ∙ ap (with_commas first (stands c (spaced given) ∷ empties before_and behind)) (cut_no_comma (spaced given) c before_and behind last.no_comma last.same)
-    ∙ with_comma_read before behind prefix name given [] a c small capital any has_name has_given
-behind_read before behind prefix name ([] ∷ ss) given a c small capital tail any has_name has_given = absurd (false≢true tail)
-behind_read before behind prefix name ((s ∷ t) ∷ ss) given a c small capital tail any has_name has_given =
+    let first = empties after_and before ++ (stands a (spaced (prefix ++ name)) ∷ []) in
+    ap (λ t. with_commas_of first (stands c t ∷ empties before_and following)) (after_space (spaced given) last)
+    ∙ ap (with_commas first (stands c (spaced given) ∷ empties before_and following)) (cut_no_comma (spaced given) c before_and following last.no_comma last.same)
+    ∙ with_comma_read before following prefix name given [] a c small capital any has_name has_given
+after_read before following prefix name ([] ∷ ss) given a c small capital tail any has_name has_given = absurd (false≢true tail)
+after_read before following prefix name ((s ∷ t) ∷ ss) given a c small capital tail any has_name has_given =
     let suffix = (s ∷ t) ∷ ss in
     let last = is_text given any in
     let middle = is_text suffix tail in
-    let first = empties behind_and before ++ (stands a (spaced (prefix ++ name)) ∷ []) in
-    let some : (length (spaced suffix) == 0) ≡ false = ne_eqb (suc (length (t ++ behind_words ss))) 0 (λ none. omega arith) in
+    let first = empties after_and before ++ (stands a (spaced (prefix ++ name)) ∷ []) in
+    let some : (length (spaced suffix) == 0) ≡ false = ne_eqb (suc (length (t ++ after_words ss))) 0 (λ none. omega arith) in
     let long : suffix_text (spaced suffix) ≡ spaced suffix ++ (44 ∷ 32 ∷ []) = rw some refl in
     let whole : suffix_text (spaced suffix) ++ spaced given ≡ spaced suffix ++ (44 ∷ (32 ∷ spaced given)) = ap (λ l. l ++ spaced given) long ∙ append_assoc (spaced suffix) (44 ∷ 32 ∷ []) (spaced given) in
     let items = comma suffix ++ given in
@@ -268,37 +268,37 @@ behind_read before behind prefix name ((s ∷ t) ∷ ss) given a c small capital
     let small_whole : IsAscii (spaced suffix ++ (44 ∷ (32 ∷ spaced given))) = subst IsAscii (sym line ∙ whole) ascii in
     let cut : AreHalves (spaced suffix) (32 ∷ spaced given) c =
     halves_at (spaced suffix) (32 ∷ spaced given) c middle.no_comma (chars-IsAscii _ small_whole) middle.spelt (encodes-IsAscii (32 ∷ spaced given) (space_small (spaced given) last.ascii)) in
-    ap (λ l. with_commas_of first (stands c l ∷ empties before_and behind)) trimmed
-    ∙ ap (with_commas first (stands c (spaced suffix ++ (44 ∷ (32 ∷ spaced given))) ∷ empties before_and behind)) (cut_first_comma behind_and false (spaced suffix) (32 ∷ spaced given) c (empties before_and behind) cut)
-    ∙ ap (λ l. with_comma first (stands cut.right l ∷ empties before_and behind) (shown (stands cut.left (trim_end (spaced suffix)) ∷ []))) (behind_space (spaced given) last)
-    ∙ ap (λ l. with_comma first (stands cut.right (spaced given) ∷ empties before_and behind) (shown (stands cut.left l ∷ []))) middle.end
-    ∙ ap (with_comma first (stands cut.right (spaced given) ∷ empties before_and behind)) (shown_text (spaced suffix) cut.left false middle)
-    ∙ with_comma_read before behind prefix name given (spaced suffix) a cut.right small capital any has_name has_given
+    ap (λ l. with_commas_of first (stands c l ∷ empties before_and following)) trimmed
+    ∙ ap (with_commas first (stands c (spaced suffix ++ (44 ∷ (32 ∷ spaced given))) ∷ empties before_and following)) (cut_first_comma after_and false (spaced suffix) (32 ∷ spaced given) c (empties before_and following) cut)
+    ∙ ap (λ l. with_comma first (stands cut.right l ∷ empties before_and following) (shown (stands cut.left (trim_end (spaced suffix)) ∷ []))) (after_space (spaced given) last)
+    ∙ ap (λ l. with_comma first (stands cut.right (spaced given) ∷ empties before_and following) (shown (stands cut.left l ∷ []))) middle.end
+    ∙ ap (with_comma first (stands cut.right (spaced given) ∷ empties before_and following)) (shown_text (spaced suffix) cut.left false middle)
+    ∙ with_comma_read before following prefix name given (spaced suffix) a cut.right small capital any has_name has_given
 
-name_read : (before behind : Bool) (prefix name suffix given : List (List ℕ)) → AllWords is_small_letter prefix → AllWords is_capital_letter name → AllWords is_name_byte suffix → AllWords is_name_byte given → 0 < length name → 0 < length (spaced given)
-    → person_of (padded before behind (Normal (spaced (line_items (prefix ++ name) suffix given)))) ≡ person (spaced name) (spaced given) (spaced prefix) (spaced suffix)
+name_read : (before following : Bool) (prefix name suffix given : List (List ℕ)) → AllWords is_small_letter prefix → AllWords is_capital_letter name → AllWords is_name_byte suffix → AllWords is_name_byte given → 0 < length name → 0 < length (spaced given)
+    → person_of (padded before following (Normal (spaced (line_items (prefix ++ name) suffix given)))) ≡ person (spaced name) (spaced given) (spaced prefix) (spaced suffix)
 unfolding person_of
-name_read before behind prefix name suffix given small capital tail any has_name has_given =
-    let front_any : AllWords is_name_byte (prefix ++ name) = list_all-append (is_kept_word is_name_byte) prefix name ∙ and_from _ _ (all_any is_small_letter prefix small) (all_any is_capital_letter name capital) in
-    let front = is_text (prefix ++ name) front_any in
+name_read before following prefix name suffix given small capital tail any has_name has_given =
+    let prefix_any : AllWords is_name_byte (prefix ++ name) = list_all-append (is_kept_word is_name_byte) prefix name ∙ and_from _ _ (all_any is_small_letter prefix small) (all_any is_capital_letter name capital) in
+    let leading_run = is_text (prefix ++ name) prefix_any in
     let items = line_items (prefix ++ name) suffix given in
-    let chunks = padded before behind (Normal (spaced items)) in
+    let chunks = padded before following (Normal (spaced items)) in
     let rest = 32 ∷ (suffix_text (spaced suffix) ++ spaced given) in
     let line : spaced items ≡ spaced (prefix ++ name) ++ (44 ∷ rest) = line_spelt (prefix ++ name) suffix given (more_some prefix name has_name) tail (some_words given has_given) in
-    let all = line_all (prefix ++ name) suffix given front_any tail any in
+    let all = line_all (prefix ++ name) suffix given prefix_any tail any in
     let small_whole : IsAscii (spaced (prefix ++ name) ++ (44 ∷ rest)) = subst IsAscii line (items_ascii items all) in
     let after = comma suffix ++ given in
     let after_all : list_all is_line_item after ≡ true = list_all-append is_line_item (comma suffix) given ∙ and_from _ _ (comma_items suffix (all_line suffix tail)) (all_line given any) in
     let small_rest : IsAscii rest = subst (λ l. IsAscii (32 ∷ l)) (sym (suffix_line suffix given tail (some_words given has_given))) (space_small (spaced after) (items_ascii after after_all)) in
-    let cut : AreHalves (spaced (prefix ++ name)) rest no_place = halves_at (spaced (prefix ++ name)) rest no_place front.no_comma (chars-IsAscii _ small_whole) front.spelt (encodes-IsAscii rest small_rest) in
-    ap (λ b. cond b (in_parts chunks) (by_commas chunks)) (no_equals items all before behind)
-    ∙ ap (cut_by_commas chunks) (ap (λ t. cut_at (padded before behind (Normal t)) 44) line ∙ cut_first_comma behind_and before (spaced (prefix ++ name)) rest no_place (empties before_and behind) cut)
-    ∙ ap (λ t. with_commas_of (empties behind_and before ++ (stands cut.left t ∷ [])) (stands cut.right (trim_start rest) ∷ empties before_and behind)) front.end
-    ∙ behind_read before behind prefix name suffix given cut.left cut.right small capital tail any has_name has_given
+    let cut : AreHalves (spaced (prefix ++ name)) rest no_place = halves_at (spaced (prefix ++ name)) rest no_place leading_run.no_comma (chars-IsAscii _ small_whole) leading_run.spelt (encodes-IsAscii rest small_rest) in
+    ap (λ b. cond b (in_parts chunks) (by_commas chunks)) (no_equals items all before following)
+    ∙ ap (cut_by_commas chunks) (ap (λ t. cut_at (padded before following (Normal t)) 44) line ∙ cut_first_comma after_and before (spaced (prefix ++ name)) rest no_place (empties before_and following) cut)
+    ∙ ap (λ t. with_commas_of (empties after_and before ++ (stands cut.left t ∷ [])) (stands cut.right (trim_start rest) ∷ empties before_and following)) leading_run.end
+    ∙ after_read before following prefix name suffix given cut.left cut.right small capital tail any has_name has_given
 
 -- people
 
-as_words : (p : Person) (k : IsKept p) → p ≡ person (spaced k.name.words) (spaced k.given_name.words) (spaced k.prefix.words) (spaced k.suffix.words)
+as_words : (p : Person) (k : IsKeptPerson p) → p ≡ person (spaced k.name.words) (spaced k.given_name.words) (spaced k.prefix.words) (spaced k.suffix.words)
 as_words p k =
     ap (λ x. record { name = p.name; given_name = p.given_name; prefix = p.prefix; suffix = p.suffix; id = x; prefix_initials = p.prefix_initials; given_initials = p.given_initials; use_prefix = p.use_prefix }) k.no_id
     ∙ ap (λ x. record { name = p.name; given_name = p.given_name; prefix = p.prefix; suffix = p.suffix; id = None; prefix_initials = x; given_initials = p.given_initials; use_prefix = p.use_prefix }) k.no_prefix_initials
@@ -312,22 +312,22 @@ as_words p k =
 some_spaced : (text : List ℕ) (words : List (List ℕ)) → text ≡ spaced words → 0 < length text → 0 < length (spaced words)
 some_spaced text words is some = omega (arith, ap length is)
 
-line_of : (p : Person) → IsKept p → List (List ℕ)
+line_of : (p : Person) → IsKeptPerson p → List (List ℕ)
 line_of p k = line_items (k.prefix.words ++ k.name.words) k.suffix.words k.given_name.words
 
-person_written : (p : Person) (k : IsKept p) → person_chunks p ≡ normal (spaced (line_of p k)) ∷ []
+person_written : (p : Person) (k : IsKeptPerson p) → person_chunks p ≡ normal (spaced (line_of p k)) ∷ []
 unfolding line_of
 person_written p k =
     ap person_chunks (as_words p k)
     ∙ plain_line k.prefix.words k.name.words k.suffix.words k.given_name.words k.prefix.kept (some_words k.name.words (some_spaced p.name k.name.words k.name.spell k.has_name)) k.suffix.kept (some_words k.given_name.words (some_spaced p.given_name k.given_name.words k.given_name.spell k.has_given_name))
 
-person_read : (p : Person) (k : IsKept p) (before behind : Bool) → person_of (padded before behind (Normal (spaced (line_of p k)))) ≡ p
+person_read : (p : Person) (k : IsKeptPerson p) (before following : Bool) → person_of (padded before following (Normal (spaced (line_of p k)))) ≡ p
 unfolding line_of
-person_read p k before behind =
-    name_read before behind k.prefix.words k.name.words k.suffix.words k.given_name.words k.prefix.kept k.name.kept k.suffix.kept k.given_name.kept (some_words k.name.words (some_spaced p.name k.name.words k.name.spell k.has_name)) (some_spaced p.given_name k.given_name.words k.given_name.spell k.has_given_name)
+person_read p k before following =
+    name_read before following k.prefix.words k.name.words k.suffix.words k.given_name.words k.prefix.kept k.name.kept k.suffix.kept k.given_name.kept (some_words k.name.words (some_spaced p.name k.name.words k.name.spell k.has_name)) (some_spaced p.given_name k.given_name.words k.given_name.spell k.has_given_name)
     ∙ sym (as_words p k)
 
-person_part : (p : Person) (k : IsKept p) → IsPart (Normal (spaced (line_of p k)))
+person_part : (p : Person) (k : IsKeptPerson p) → IsPart (Normal (spaced (line_of p k)))
 unfolding line_of
 person_part p k =
     items_part (line_items (k.prefix.words ++ k.name.words) k.suffix.words k.given_name.words)
@@ -343,13 +343,13 @@ all_parts : (people : List Person) (all : AllKept people) → AllParts (lines pe
 all_parts [] all = tt
 all_parts (p ∷ people) all = (person_part p all.0, all_parts people all.1)
 
-behind_written : (people : List Person) (all : AllKept people) → people_from false people ≡ written_behind (lines people all)
-behind_written [] all = refl
-behind_written (p ∷ people) all =
+after_written : (people : List Person) (all : AllKept people) → people_from false people ≡ written_after (lines people all)
+after_written [] all = refl
+after_written (p ∷ people) all =
     ap (λ l. normal (codes " and ") ∷ (l ++ people_from false people)) (person_written p all.0)
-    ∙ ap (λ l. normal (codes " and ") ∷ normal (spaced (line_of p all.0)) ∷ l) (behind_written people all.1)
+    ∙ ap (λ l. normal (codes " and ") ∷ normal (spaced (line_of p all.0)) ∷ l) (after_written people all.1)
 
-parts_read : (before : Bool) (p : Person) (people : List Person) (k : IsKept p) (all : AllKept people) → map person_of (padded_parts before (Normal (spaced (line_of p k))) (lines people all)) ≡ p ∷ people
+parts_read : (before : Bool) (p : Person) (people : List Person) (k : IsKeptPerson p) (all : AllKept people) → map person_of (padded_parts before (Normal (spaced (line_of p k))) (lines people all)) ≡ p ∷ people
 parts_read before p [] k all = ap (λ x. x ∷ []) (person_read p k before false)
 parts_read before p (next ∷ more) k all =
     ap (λ x. x ∷ map person_of (padded_parts true (Normal (spaced (line_of next all.0))) (lines more all.1))) (person_read p k before true)
@@ -360,7 +360,7 @@ pub people_survive : (people : List Person) → ArePeople people → people_of (
 people_survive [] are = absurd (omega (arith, are.some))
 people_survive (p ∷ people) are =
     ap (λ l. people_of (l ++ people_from false people)) (person_written p are.all.0)
-    ∙ ap (λ l. people_of (normal (spaced (line_of p are.all.0)) ∷ l)) (behind_written people are.all.1)
+    ∙ ap (λ l. people_of (normal (spaced (line_of p are.all.0)) ∷ l)) (after_written people are.all.1)
     ∙ ap (map person_of) (and_list_written (Normal (spaced (line_of p are.all.0))) (lines people are.all.1) (person_part p are.all.0) (all_parts people are.all.1))
     ∙ parts_read false p people are.all.0 are.all.1
 

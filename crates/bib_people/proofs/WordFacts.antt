@@ -5,13 +5,13 @@ use Rattle.std.specs.Prelude.{not, ◌==◌, encode_utf8_all}
 use Rattle.std.proofs.lemmas.Str.{length-le-encodes, encodes-append}
 use Rattle.std.specs.List.{prefix_len, list_all}
 use Rattle.std.proofs.lemmas.Bool.{cases_Bool, and_parts, and_from, ne_eqb, not-true, not-false, both_ways}
-use Rattle.bib_people.specs.Letters.{Letter, is_gap, gap_len, word_len, Word, a_word, before_words, words_of, word_letters}
+use Rattle.bib_people.specs.Letters.{Letter, is_gap, gap_len, word_len, Word, a_word, words_with_letter, words_of, word_letters}
 
 -- a character of a name
 abbrev pub letter : Bool → ℕ → Letter
 letter is_verbatim c = record { char = c; is_verbatim = is_verbatim }
 
--- what stands at the front of a list up to the first element that fails
+-- what stands at the start of a list up to the first element that fails
 
 one_passes : {A : Type 0} (p : A → Bool) (x : A) (xs : List A) → p x ≡ true → prefix_len p (x ∷ xs) ≡ suc (prefix_len p xs)
 one_passes p x xs passes = rw passes (omega arith)
@@ -19,17 +19,17 @@ one_passes p x xs passes = rw passes (omega arith)
 none_passes : {A : Type 0} (p : A → Bool) (x : A) (xs : List A) → p x ≡ false → prefix_len p (x ∷ xs) ≡ 0
 none_passes p x xs fails = rw fails refl
 
-pub front_passes : {A : Type 0} (p : A → Bool) (xs : List A) → list_all p (take (prefix_len p xs) xs) ≡ true
-front_passes p [] = refl
-front_passes p (x ∷ xs) =
-    ⊎_elim (λ yes. ap (λ n. list_all p (take n (x ∷ xs))) (one_passes p x xs yes) ∙ and_from (p x) _ yes (front_passes p xs))
+pub prefix_passes : {A : Type 0} (p : A → Bool) (xs : List A) → list_all p (take (prefix_len p xs) xs) ≡ true
+prefix_passes p [] = refl
+prefix_passes p (x ∷ xs) =
+    ⊎_elim (λ yes. ap (λ n. list_all p (take n (x ∷ xs))) (one_passes p x xs yes) ∙ and_from (p x) _ yes (prefix_passes p xs))
     (λ no. ap (λ n. list_all p (take n (x ∷ xs))) (none_passes p x xs no))
     (cases_Bool (p x))
 
-pub behind_fails : {A : Type 0} (p : A → Bool) (xs : List A) (b : A) (bs : List A) → drop (prefix_len p xs) xs ≡ b ∷ bs → p b ≡ false
-behind_fails p [] b bs is = cc
-behind_fails p (x ∷ xs) b bs is =
-    ⊎_elim (λ yes. behind_fails p xs b bs (sym (ap (λ n. drop n (x ∷ xs)) (one_passes p x xs yes)) ∙ is))
+pub after_fails : {A : Type 0} (p : A → Bool) (xs : List A) (b : A) (bs : List A) → drop (prefix_len p xs) xs ≡ b ∷ bs → p b ≡ false
+after_fails p [] b bs is = cc
+after_fails p (x ∷ xs) b bs is =
+    ⊎_elim (λ yes. after_fails p xs b bs (sym (ap (λ n. drop n (x ∷ xs)) (one_passes p x xs yes)) ∙ is))
     (λ no. let same : x ∷ xs ≡ b ∷ bs = sym (ap (λ n. drop n (x ∷ xs)) (none_passes p x xs no)) ∙ is in let first : x ≡ b = cc in ap p (sym first) ∙ no)
     (cases_Bool (p x))
 
@@ -40,7 +40,7 @@ abbrev pub stand_apart : List Word → Bool
 stand_apart [] = true
 stand_apart (word ∷ words) = not (length word.gap == 0)
 
--- what stands behind a gap
+-- what stands after a gap
 pub words_gap : (gap rest inside : List Letter) (words : List Word) → list_all is_gap gap ≡ true → words_of rest ≡ a_word [] inside ∷ words → words_of (gap ++ rest) ≡ a_word gap inside ∷ words
 words_gap [] rest inside words all is = is
 words_gap (l ∷ gap) rest inside words all is =
@@ -57,7 +57,7 @@ words_none (l ∷ gap) all =
     let more = words_none gap both.1 in
     rw (more, here) refl
 
-one_letter : (l : Letter) (words : List Word) → is_gap l ≡ false → stand_apart words ≡ true → before_words l words ≡ a_word [] (l ∷ []) ∷ words
+one_letter : (l : Letter) (words : List Word) → is_gap l ≡ false → stand_apart words ≡ true → words_with_letter l words ≡ a_word [] (l ∷ []) ∷ words
 one_letter l [] no_gap apart = rw no_gap refl
 one_letter l (word ∷ words) no_gap apart = let apart_here = not-true (length word.gap == 0) apart in rw (no_gap, apart_here) refl
 
@@ -68,23 +68,23 @@ words_word l (m ∷ inside) after no_gap all apart =
     let more = words_word m inside after (not-true (is_gap m) both.0) both.1 apart in
     rw (more, no_gap) refl
 
--- behind a word a gap follows, or nothing
+-- after a word a gap follows, or nothing
 pub apart_end : stand_apart (words_of []) ≡ true
 apart_end = refl
 
-apart_words : (l : Letter) (words : List Word) → is_gap l ≡ true → stand_apart (before_words l words) ≡ true
+apart_words : (l : Letter) (words : List Word) → is_gap l ≡ true → stand_apart (words_with_letter l words) ≡ true
 apart_words l [] gap = rw gap refl
 apart_words l (word ∷ words) gap = let far : (suc (length word.gap) == 0) ≡ false = ne_eqb (suc (length word.gap)) 0 (λ same. omega arith) in rw gap (ap not far)
 
 pub apart_gap : (l : Letter) (rest : List Letter) → is_gap l ≡ true → stand_apart (words_of (l ∷ rest)) ≡ true
 apart_gap l rest gap = apart_words l (words_of rest) gap
 
-apart_after : (behind after : List Letter) → after ≡ drop (word_len behind) behind → stand_apart (words_of after) ≡ true
-apart_after behind [] is = apart_end
-apart_after behind (l ∷ rest) is = apart_gap l rest (not-false (is_gap l) (behind_fails (λ x. not (is_gap x)) behind l rest (sym is)))
+apart_after : (following after : List Letter) → after ≡ drop (word_len following) following → stand_apart (words_of after) ≡ true
+apart_after following [] is = apart_end
+apart_after following (l ∷ rest) is = apart_gap l rest (not-false (is_gap l) (after_fails (λ x. not (is_gap x)) following l rest (sym is)))
 
 -- the first word, cut off as the code does it
-next : (rest before behind inside after : List Letter) → list_all is_gap before ≡ true → rest ≡ before ++ behind → ((b : Letter) (bs : List Letter) → behind ≡ b ∷ bs → is_gap b ≡ false) → 0 < length behind → inside ≡ take (word_len behind) behind → after ≡ drop (word_len behind) behind
+next : (rest before following inside after : List Letter) → list_all is_gap before ≡ true → rest ≡ before ++ following → ((b : Letter) (bs : List Letter) → following ≡ b ∷ bs → is_gap b ≡ false) → 0 < length following → inside ≡ take (word_len following) following → after ≡ drop (word_len following) following
     → (words_of rest ≡ a_word before inside ∷ words_of after) × (length after < length rest)
 next rest before [] inside after gap whole first some in_word out = absurd (omega arith)
 next rest before (b ∷ bs) inside after gap whole first some in_word out =
@@ -93,17 +93,17 @@ next rest before (b ∷ bs) inside after gap whole first some in_word out =
     let len : word_len (b ∷ bs) ≡ suc (word_len bs) = rw no_gap (omega arith) in
     let inside_is : inside ≡ b ∷ take (word_len bs) bs = in_word ∙ ap (λ n. take n (b ∷ bs)) len in
     let after_is : after ≡ drop (word_len bs) bs = out ∙ ap (λ n. drop n (b ∷ bs)) len in
-    let whole_behind : b ∷ (take (word_len bs) bs ++ after) ≡ b ∷ bs = ap (λ l. b ∷ l) (ap (λ a. take (word_len bs) bs ++ a) after_is ∙ take-append-drop (word_len bs) bs) in
-    let word = words_word b (take (word_len bs) bs) after here (front_passes (λ x. not (is_gap x)) bs) (apart_after bs after after_is) in
-    let behind_words : words_of (b ∷ bs) ≡ a_word [] inside ∷ words_of after = ap words_of (sym whole_behind) ∙ word ∙ ap (λ i. a_word [] i ∷ words_of after) (sym inside_is) in
+    let whole_after : b ∷ (take (word_len bs) bs ++ after) ≡ b ∷ bs = ap (λ l. b ∷ l) (ap (λ a. take (word_len bs) bs ++ a) after_is ∙ take-append-drop (word_len bs) bs) in
+    let word = words_word b (take (word_len bs) bs) after here (prefix_passes (λ x. not (is_gap x)) bs) (apart_after bs after after_is) in
+    let after_words : words_of (b ∷ bs) ≡ a_word [] inside ∷ words_of after = ap words_of (sym whole_after) ∙ word ∙ ap (λ i. a_word [] i ∷ words_of after) (sym inside_is) in
     let size : length after ≡ length bs - word_len bs = ap length after_is ∙ length-drop (word_len bs) bs in
     let sizes : length rest ≡ length before + length (b ∷ bs) = ap length whole ∙ length-append before (b ∷ bs) in
-    (ap words_of whole ∙ words_gap before (b ∷ bs) inside (words_of after) gap behind_words, omega arith)
+    (ap words_of whole ∙ words_gap before (b ∷ bs) inside (words_of after) gap after_words, omega arith)
 
-pub next_word : (rest before behind inside after : List Letter) → before ≡ take (gap_len rest) rest → behind ≡ drop (gap_len rest) rest → 0 < length behind → inside ≡ take (word_len behind) behind → after ≡ drop (word_len behind) behind
+pub next_word : (rest before following inside after : List Letter) → before ≡ take (gap_len rest) rest → following ≡ drop (gap_len rest) rest → 0 < length following → inside ≡ take (word_len following) following → after ≡ drop (word_len following) following
     → (words_of rest ≡ a_word before inside ∷ words_of after) × (length after < length rest)
-next_word rest before behind inside after is_before is_behind some in_word out =
-    next rest before behind inside after (rw is_before (front_passes is_gap rest)) (rw (is_before, is_behind) (sym (take-append-drop (gap_len rest) rest))) (λ b bs is. behind_fails is_gap rest b bs (sym is_behind ∙ is)) some in_word out
+next_word rest before following inside after is_before is_after some in_word out =
+    next rest before following inside after (rw is_before (prefix_passes is_gap rest)) (rw (is_before, is_after) (sym (take-append-drop (gap_len rest) rest))) (λ b bs is. after_fails is_gap rest b bs (sym is_after ∙ is)) some in_word out
 
 empty : {A : Type 0} (xs : List A) → length xs ≡ 0 → xs ≡ []
 empty [] none = refl
@@ -113,10 +113,10 @@ pub some_left : {A : Type 0} (xs : List A) (is_empty : Bool) → is_empty ≡ (l
 some_left [] is_empty is not_empty = absurd (both_ways is_empty not_empty is)
 some_left (x ∷ xs) is_empty is not_empty = omega arith
 
-pub last_word : (rest behind : List Letter) → behind ≡ drop (gap_len rest) rest → length behind ≡ 0 → words_of rest ≡ []
-last_word rest behind is none =
-    let gap = front_passes is_gap rest in
-    let nothing : drop (gap_len rest) rest ≡ [] = sym is ∙ empty behind none in
+pub last_word : (rest following : List Letter) → following ≡ drop (gap_len rest) rest → length following ≡ 0 → words_of rest ≡ []
+last_word rest following is none =
+    let gap = prefix_passes is_gap rest in
+    let nothing : drop (gap_len rest) rest ≡ [] = sym is ∙ empty following none in
     let whole : rest ≡ take (gap_len rest) rest = sym (take-append-drop (gap_len rest) rest) ∙ ap (λ l. take (gap_len rest) rest ++ l) nothing ∙ append-nil _ in
     words_none rest (rw (← whole) at gap)
 
@@ -133,20 +133,20 @@ spelt_append xs ys = ap encode_utf8_all (map-append (λ l. l.char) xs ys) ∙ en
 
 -- the gap before a word, but for the first one
 pub gap_written : (was middle : List ℕ) (first : Bool) (gap : List Letter) → first ≡ false → middle ≡ was ++ spelt gap → middle ≡ was ++ spelt (cond first [] gap)
-gap_written was middle first gap behind is = rw behind is
+gap_written was middle first gap following is = rw following is
 
 pub gap_passed : (was middle : List ℕ) (first : Bool) (gap : List Letter) → first ≡ true → middle ≡ was → middle ≡ was ++ spelt (cond first [] gap)
-gap_passed was middle first gap front is = rw front (is ∙ sym (append-nil was))
+gap_passed was middle first gap leading_run is = rw leading_run (is ∙ sym (append-nil was))
 
 -- one more word was written
 pub word_written : (was middle now total : List ℕ) (first : Bool) (words : List Word) (i : ℕ) (word : Word) (gap inside : List Letter) → i < length words → word ≡ get_or words i word → word ≡ a_word gap inside → middle ≡ was ++ spelt (cond first [] gap) → now ≡ middle ++ spelt inside
     → was ++ spelt (word_letters first (drop i words)) ≡ total → now ++ spelt (word_letters false (drop (i + 1) words)) ≡ total
-word_written was middle now total first words i word gap inside within here is before behind so_far =
+word_written was middle now total first words i word gap inside within here is before following so_far =
     let rest = word_letters false (drop (i + 1) words) in
     let next : drop i words ≡ a_word gap inside ∷ drop (i + 1) words = drop_more words i word within ∙ ap (λ w. w ∷ drop (i + 1) words) (sym here ∙ is) in
     let all : spelt (word_letters first (drop i words)) ≡ spelt (cond first [] gap) ++ (spelt inside ++ spelt rest) =
     ap (λ l. spelt (word_letters first l)) next ∙ spelt_append (cond first [] gap) (inside ++ rest) ∙ ap (λ l. spelt (cond first [] gap) ++ l) (spelt_append inside rest) in
-    ap (λ l. l ++ spelt rest) (behind ∙ ap (λ l. l ++ spelt inside) before)
+    ap (λ l. l ++ spelt rest) (following ∙ ap (λ l. l ++ spelt inside) before)
     ∙ append_assoc (was ++ spelt (cond first [] gap)) (spelt inside) (spelt rest)
     ∙ append_assoc was (spelt (cond first [] gap)) (spelt inside ++ spelt rest)
     ∙ ap (λ l. was ++ l) (sym all) ∙ so_far

@@ -4,6 +4,7 @@ use Rattle.std.specs.Prelude.{◌≡◌, ℕ, ◌<◌, nat_lt, ◌==◌, ◌&&�
 use Rattle.std.specs.List.{list_all}
 use Rattle.bib_chunks.specs.Cuts.{is_and}
 use Rattle.bib_people.specs.declared.person.Person.{Person}
+use Rattle.bib_text.specs.Characters as char
 
 -- ASCII
 abbrev pub is_capital_letter : ℕ → Bool
@@ -14,11 +15,11 @@ is_small_letter b = nat_lt 96 b && nat_lt b 123
 
 -- a letter, a point or a hyphen
 abbrev pub is_name_byte : ℕ → Bool
-is_name_byte b = is_capital_letter b || (is_small_letter b || (b == 46 || b == 45))
+is_name_byte b = is_capital_letter b || (is_small_letter b || (b == char.point || b == char.hyphen))
 
-abbrev pub begins : (ℕ → Bool) → List ℕ → Bool
-begins test [] = false
-begins test (b ∷ bs) = test b
+abbrev pub name_begins : (ℕ → Bool) → List ℕ → Bool
+name_begins test [] = false
+name_begins test (b ∷ bs) = test b
 
 -- the word that parts people
 abbrev pub is_word_and : List ℕ → Bool
@@ -27,16 +28,16 @@ is_word_and word = false
 
 -- a word of letters, points and hyphens, which begins so and isn't `and`
 abbrev pub is_kept_word : (ℕ → Bool) → List ℕ → Bool
-is_kept_word test word = begins test word && (list_all is_name_byte word && not (is_word_and word))
+is_kept_word test word = name_begins test word && (list_all is_name_byte word && not (is_word_and word))
 
--- words parted by single spaces
-abbrev pub behind_words : List (List ℕ) → List ℕ
-behind_words [] = []
-behind_words (word ∷ words) = 32 ∷ (word ++ behind_words words)
+-- words separated by single spaces
+abbrev pub after_words : List (List ℕ) → List ℕ
+after_words [] = []
+after_words (word ∷ words) = char.space ∷ (word ++ after_words words)
 
 abbrev pub spaced : List (List ℕ) → List ℕ
 spaced [] = []
-spaced (word ∷ words) = word ++ behind_words words
+spaced (word ∷ words) = word ++ after_words words
 
 -- a text is such words, each of which begins so
 pub record AreWords (test : ℕ → Bool) (text : List ℕ) : Type 0 where
@@ -45,7 +46,7 @@ pub record AreWords (test : ℕ → Bool) (text : List ℕ) : Type 0 where
   pub spell : text ≡ spaced words
 
 -- a person that survives
-pub record IsKept (p : Person) : Type 0 where
+pub record IsKeptPerson (p : Person) : Type 0 where
   pub name : AreWords is_capital_letter p.name
   pub given_name : AreWords is_name_byte p.given_name
   pub prefix : AreWords is_small_letter p.prefix
@@ -59,7 +60,7 @@ pub record IsKept (p : Person) : Type 0 where
 
 abbrev pub AllKept : List Person → Type 0
 AllKept [] = Unit {0}
-AllKept (p ∷ people) = IsKept p × AllKept people
+AllKept (p ∷ people) = IsKeptPerson p × AllKept people
 
 -- people that survive
 pub record ArePeople (people : List Person) : Type 0 where

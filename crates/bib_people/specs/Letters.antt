@@ -28,11 +28,11 @@ is_verbatim (Math text) = false
 abbrev pub letters : List (Spanned Chunk) → List Letter
 letters = flat_map (λ c. as_letters (is_verbatim c.v) (text_of c.v))
 
--- words are parted by white space that is not verbatim
+-- words are separated by white space that is not verbatim
 abbrev pub is_gap : Letter → Bool
 is_gap l = is_whitespace l.char && not l.is_verbatim
 
--- how many letters stand in the gap, or in the word, at the front
+-- how many letters stand in the gap, or in the word, at the start
 abbrev pub gap_len : List Letter → ℕ
 gap_len letters = prefix_len is_gap letters
 
@@ -48,11 +48,11 @@ pub record Word : Type 0 where
 abbrev pub a_word : List Letter → List Letter → Word
 a_word gap letters = record { gap = gap; letters = letters }
 
--- words behind one more letter: it belongs to the gap before the first word, is the first letter of that word, or is a
+-- words after one more letter: it belongs to the gap before the first word, is the first letter of that word, or is a
 -- word where a gap or nothing follows
-abbrev pub before_words : Letter → List Word → List Word
-before_words l [] = if is_gap l then [] else a_word [] (l ∷ []) ∷ []
-before_words l (word ∷ words) =
+abbrev pub words_with_letter : Letter → List Word → List Word
+words_with_letter l [] = if is_gap l then [] else a_word [] (l ∷ []) ∷ []
+words_with_letter l (word ∷ words) =
     if is_gap l then a_word (l ∷ word.gap) word.letters ∷ words
     else if length word.gap == 0 then a_word [] (l ∷ word.letters) ∷ words
     else a_word [] (l ∷ []) ∷ word ∷ words
@@ -60,7 +60,7 @@ before_words l (word ∷ words) =
 -- the words of some letters; a gap at the end is left out
 abbrev pub words_of : List Letter → List Word
 words_of [] = []
-words_of (l ∷ rest) = before_words l (words_of rest)
+words_of (l ∷ rest) = words_with_letter l (words_of rest)
 
 -- what neighbouring words are in the source, but for the gap before the first of them
 abbrev pub word_letters : Bool → List Word → List Letter

@@ -2,4 +2,4 @@ pub mod Letters
 pub mod Names
 pub mod People
 pub mod Kept
-pub mod Told
+pub mod WordKinds

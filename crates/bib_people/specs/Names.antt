@@ -12,6 +12,7 @@ use Rattle.bib_chunks.specs.Formatted.{formatted}
 use Rattle.bib_chunks.specs.Cuts.{comma_list, cut_at}
 use Rattle.bib_people.specs.declared.person.Person.{Person}
 use Rattle.bib_people.specs.Letters.{Letter, letters, Word, words_of, text_of_words}
+use Rattle.bib_text.specs.Characters as char
 
 -- whether there is a first letter, and it passes
 abbrev pub first_passes : (Letter → Bool) → List Letter → Bool
@@ -29,22 +30,22 @@ is_lower word = not (is_capital word)
 abbrev pub is_low : Word → Bool
 is_low word = first_passes (λ l. l.is_verbatim || is_lowercase l.char) word.letters
 
--- how many words stand at the front up to the first that fails
+-- how many words stand at the start up to the first that fails
 abbrev pub leading : (Word → Bool) → List Word → ℕ
 leading test words = prefix_len test words
 
--- how many words stand at the front up to the last that passes, this one included
+-- how many words stand at the start up to the last that passes, this one included
 abbrev pub through_last : (Word → Bool) → List Word → ℕ
 through_last test [] = 0
 through_last test (word ∷ words) = if list_any test (word ∷ words) then 1 + through_last test words else 0
 
--- of how many words the given name is, and of how many behind them the prefix; the rest are the name
+-- of how many words the given name is, and of how many after them the prefix; the rest are the name
 pub record Cuts : Type 0 where
   pub given : ℕ
   pub prefix : ℕ
 
--- a name without a comma. The capital words at the front are the given name. If all are capital, the last is the name.
--- If a capital one follows in the rest, the name begins at the last run of capitals there: the prefix goes through the
+-- a name without a comma. The capital words at the start are the given name. If all are capital, the last is the name.
+-- If a capital one follows in the rest, the name begins at the last run of uppercase letters there: the prefix goes through the
 -- last lower word before the last capital one. If none does, the last word is the name
 unfoldable pub whole_name : List Word → Cuts
 whole_name words =
@@ -97,19 +98,19 @@ person_of_words words = whole_person (whole_name words) words
 abbrev pub without_comma : List (Spanned Chunk) → Person
 without_comma chunks = person_of_words (words_of (letters chunks))
 
-abbrev pub is_space : ℕ → Bool
-is_space b = b == 32
+abbrev pub is_space_byte : ℕ → Bool
+is_space_byte b = b == char.space
 
 -- a name whose second part is blank: the text before the comma is cut at its last space
 abbrev pub at_last_space : List ℕ → List ℕ → Person
 at_last_space text suffix =
-    if list_any is_space text
-    then person (trim (after_last is_space text)) [] (trim (before_last is_space text)) suffix
+    if list_any is_space_byte text
+    then person (trim (after_last is_space_byte text)) [] (trim (before_last is_space_byte text)) suffix
     else person (trim text) [] [] suffix
 
 -- whether chunks are a single one that formats to nothing
-abbrev pub is_blank : List (Spanned Chunk) → Bool
-is_blank chunks = length chunks == 1 && length (formatted chunks) == 0
+abbrev pub formats_to_nothing : List (Spanned Chunk) → Bool
+formats_to_nothing chunks = length chunks == 1 && length (formatted chunks) == 0
 
 abbrev pub cut_person : Cuts → List Word → List ℕ → List ℕ → Person
 cut_person cuts words given suffix = person (name_text cuts words) given (prefix_text cuts words) suffix
@@ -117,10 +118,10 @@ cut_person cuts words given suffix = person (name_text cuts words) given (prefix
 abbrev pub before_comma_person : List Word → List ℕ → List ℕ → Person
 before_comma_person words given suffix = cut_person (before_comma words) words given suffix
 
--- a name with a comma: what stands before the first one, and behind the first or, with a suffix, the second
+-- a name with a comma: what stands before the first one, and after the first or, with a suffix, the second
 abbrev pub with_comma : List (Spanned Chunk) → List (Spanned Chunk) → List ℕ → Person
 with_comma first second suffix =
-    if is_blank second then at_last_space (encode_utf8_all (formatted first)) suffix
+    if formats_to_nothing second then at_last_space (encode_utf8_all (formatted first)) suffix
     else before_comma_person (words_of (letters first)) (shown second) suffix
 
 abbrev pub with_commas : List (Spanned Chunk) → List (Spanned Chunk) → Option (List (Spanned Chunk) × List (Spanned Chunk)) → Person
@@ -129,46 +130,46 @@ with_commas first second (Some cut) = with_comma first cut.1 (shown cut.0)
 
 abbrev pub cut_by_commas : List (Spanned Chunk) → Option (List (Spanned Chunk) × List (Spanned Chunk)) → Person
 cut_by_commas chunks None = without_comma chunks
-cut_by_commas chunks (Some cut) = with_commas cut.0 cut.1 (cut_at cut.1 44)
+cut_by_commas chunks (Some cut) = with_commas cut.0 cut.1 (cut_at cut.1 char.comma)
 
 abbrev pub by_commas : List (Spanned Chunk) → Person
-by_commas chunks = cut_by_commas chunks (cut_at chunks 44)
+by_commas chunks = cut_by_commas chunks (cut_at chunks char.comma)
 
 -- names in parts: a comma list of `key=value`
 
 -- a key and a value
-abbrev pub Part : Type 0
-Part = List ℕ × List ℕ
+abbrev pub KeyValue : Type 0
+KeyValue = List ℕ × List ℕ
 
 -- without an equals sign the value is empty
-abbrev pub part_cut : List (Spanned Chunk) → Option (List (Spanned Chunk) × List (Spanned Chunk)) → Part
+abbrev pub part_cut : List (Spanned Chunk) → Option (List (Spanned Chunk) × List (Spanned Chunk)) → KeyValue
 part_cut chunks None = (shown chunks, [])
 part_cut chunks (Some cut) = (shown cut.0, shown cut.1)
 
-abbrev pub part_of : List (Spanned Chunk) → Part
-part_of chunks = part_cut chunks (cut_at chunks 61)
+abbrev pub key_value_of : List (Spanned Chunk) → KeyValue
+key_value_of chunks = part_cut chunks (cut_at chunks char.equals)
 
-abbrev pub parts_of : List (Spanned Chunk) → List Part
-parts_of chunks = map part_of (comma_list chunks)
+abbrev pub parts_of : List (Spanned Chunk) → List KeyValue
+parts_of chunks = map key_value_of (comma_list chunks)
 
 -- the value of a key, given the one that was found before; of two the last stands
-abbrev pub value_behind : Option (List ℕ) → List ℕ → List Part → Option (List ℕ)
-value_behind found key [] = found
-value_behind found key (part ∷ parts) = value_behind (if bytes_eq part.0 key then Some part.1 else found) key parts
+abbrev pub value_after : Option (List ℕ) → List ℕ → List KeyValue → Option (List ℕ)
+value_after found key [] = found
+value_after found key (part ∷ parts) = value_after (if bytes_eq part.0 key then Some part.1 else found) key parts
 
-abbrev pub value_of : List ℕ → List Part → Option (List ℕ)
-value_of = value_behind None
+abbrev pub last_value : List ℕ → List KeyValue → Option (List ℕ)
+last_value = value_after None
 
-unfoldable pub person_of_parts : List Part → Person
+unfoldable pub person_of_parts : List KeyValue → Person
 person_of_parts parts = record {
-  name = unwrap_or (value_of (codes "family") parts) [];
-  given_name = unwrap_or (value_of (codes "given") parts) [];
-  prefix = unwrap_or (value_of (codes "prefix") parts) [];
-  suffix = unwrap_or (value_of (codes "suffix") parts) [];
-  id = value_of (codes "id") parts;
-  prefix_initials = value_of (codes "prefix-i") parts;
-  given_initials = value_of (codes "given-i") parts;
-  use_prefix = option_map (λ v. bytes_eq v (codes "true")) (value_of (codes "useprefix") parts);
+  name = unwrap_or (last_value (codes "family") parts) [];
+  given_name = unwrap_or (last_value (codes "given") parts) [];
+  prefix = unwrap_or (last_value (codes "prefix") parts) [];
+  suffix = unwrap_or (last_value (codes "suffix") parts) [];
+  id = last_value (codes "id") parts;
+  prefix_initials = last_value (codes "prefix-i") parts;
+  given_initials = last_value (codes "given-i") parts;
+  use_prefix = option_map (λ v. bytes_eq v (codes "true")) (last_value (codes "useprefix") parts);
 }
 
 abbrev pub in_parts : List (Spanned Chunk) → Person
@@ -176,7 +177,7 @@ in_parts chunks = person_of_parts (parts_of chunks)
 
 -- whether an equals sign stands in a chunk of any kind
 abbrev pub is_in_parts : List (Spanned Chunk) → Bool
-is_in_parts chunks = list_any (λ c. list_any (λ b. b == 61) (text_of c.v)) chunks
+is_in_parts chunks = list_any (λ c. list_any (λ b. b == char.equals) (text_of c.v)) chunks
 
 -- the person that chunks name
 unfoldable pub person_of : List (Spanned Chunk) → Person
@@ -186,8 +187,8 @@ person_of chunks = if is_in_parts chunks then in_parts chunks else by_commas chu
 
 -- one space beside a text, or nothing beside an empty one
 abbrev pub gap_beside : List ℕ → List ℕ
-gap_beside text = if length text == 0 then [] else 32 ∷ []
+gap_beside text = if length text == 0 then [] else char.space ∷ []
 
--- given name, prefix, name and suffix, those that are not empty parted by single spaces; the name stands there always
+-- given name, prefix, name and suffix, those that are not empty separated by single spaces; the name stands there always
 abbrev pub shown_person : Person → List ℕ
 shown_person p = p.given_name ++ (gap_beside p.given_name ++ (p.prefix ++ (gap_beside p.prefix ++ (p.name ++ (gap_beside p.suffix ++ p.suffix)))))

@@ -15,13 +15,13 @@ people_of chunks = map person_of (and_list chunks)
 
 -- a person of the four parts alone
 
--- a suffix and the comma behind it, if there is one
+-- a suffix and the comma after it, if there is one
 abbrev pub suffix_text : List ℕ → List ℕ
 suffix_text suffix = if length suffix == 0 then [] else suffix ++ codes ", "
 
 -- name, suffix and given name
-abbrev pub behind_prefix : Person → List ℕ
-behind_prefix p = p.name ++ (codes ", " ++ (suffix_text p.suffix ++ p.given_name))
+abbrev pub after_prefix : Person → List ℕ
+after_prefix p = p.name ++ (codes ", " ++ (suffix_text p.suffix ++ p.given_name))
 
 abbrev pub begins_capital : List ℕ → Bool
 begins_capital [] = false
@@ -30,9 +30,9 @@ begins_capital (c ∷ cs) = is_uppercase c
 -- one normal chunk; a prefix that begins with a capital is a verbatim one before it
 abbrev pub plain_chunks : Person → Value
 plain_chunks p =
-    if length p.prefix == 0 then nowhere (Normal (behind_prefix p)) ∷ []
-    else if begins_capital (chars p.prefix) then nowhere (Verbatim p.prefix) ∷ nowhere (Normal (codes " " ++ behind_prefix p)) ∷ []
-    else nowhere (Normal (p.prefix ++ (codes " " ++ behind_prefix p))) ∷ []
+    if length p.prefix == 0 then nowhere (Normal (after_prefix p)) ∷ []
+    else if begins_capital (chars p.prefix) then nowhere (Verbatim p.prefix) ∷ nowhere (Normal (codes " " ++ after_prefix p)) ∷ []
+    else nowhere (Normal (p.prefix ++ (codes " " ++ after_prefix p))) ∷ []
 
 -- a person in parts
 
@@ -67,7 +67,7 @@ has_more p = is_some p.id || (is_some p.prefix_initials || (is_some p.given_init
 abbrev pub person_chunks : Person → Value
 person_chunks p = if has_more p then four_keys p ++ more_keys p else plain_chunks p
 
--- the same, behind the word `and` for all but the first
+-- the same, after the word `and` for all but the first
 abbrev pub joined_person : Bool → Person → Value
 joined_person first p = if first then person_chunks p else nowhere (Normal (codes " and ")) ∷ person_chunks p
 

@@ -2,7 +2,7 @@
 
 ghost use Rattle.std.specs.Prelude.{◌≡◌, ◌++◌, OnOk, IfOk, codes};
 ghost use Rattle.std.specs.Str.{chars};
-ghost use Rattle.bib_people.specs.People.{people_of, suffix_text, behind_prefix, begins_capital, plain_chunks, keyed, keyed_some, keyed_flag, four_keys, more_keys, has_more, person_chunks, joined_person, people_chunks};
+ghost use Rattle.bib_people.specs.People.{people_of, suffix_text, after_prefix, begins_capital, plain_chunks, keyed, keyed_some, keyed_flag, four_keys, more_keys, has_more, person_chunks, joined_person, people_chunks};
 
 use crate::person::Person;
 use bib_chunks::chunk::cuts::and_list;
@@ -25,7 +25,7 @@ pub fn read_people(alloc: Global, chunks: ChunksRef<'_>) -> Result<Vec<Person>, 
     Ok(people)
 }
 
-// Writes a suffix and the comma behind it, if there is one.
+// Writes a suffix and the comma after it, if there is one.
 fn write_suffix(out: &mut Text, suffix: &Text) -> Result<(), AllocError>
     ensures { OnOk result (out.new ≡ out.old ++ suffix_text suffix.now) }
 {
@@ -37,8 +37,8 @@ fn write_suffix(out: &mut Text, suffix: &Text) -> Result<(), AllocError>
 }
 
 // Writes name, suffix and given name.
-fn write_behind_prefix(out: &mut Text, person: &Person) -> Result<(), AllocError>
-    ensures { OnOk result (out.new ≡ out.old ++ behind_prefix person.now) }
+fn write_after_prefix(out: &mut Text, person: &Person) -> Result<(), AllocError>
+    ensures { OnOk result (out.new ≡ out.old ++ after_prefix person.now) }
 {
     out.push_str(person.name.as_str())?;
     out.push_str(", ")?;
@@ -63,18 +63,18 @@ fn push_plain(alloc: Global, all: &mut Chunks, person: &Person) -> Result<(), Al
 {
     let mut text = Text::new(alloc);
     if person.prefix.is_empty() {
-        write_behind_prefix(&mut text, person)?;
+        write_after_prefix(&mut text, person)?;
         return push_normal(all, text);
     }
     if begins_capital(person.prefix.as_str()) {
         push_verbatim(all, person.prefix.clone()?)?;
         text.push_str(" ")?;
-        write_behind_prefix(&mut text, person)?;
+        write_after_prefix(&mut text, person)?;
         return push_normal(all, text);
     }
     text.push_str(person.prefix.as_str())?;
     text.push_str(" ")?;
-    write_behind_prefix(&mut text, person)?;
+    write_after_prefix(&mut text, person)?;
     push_normal(all, text)
 }
 
@@ -159,7 +159,7 @@ fn push_person(alloc: Global, all: &mut Chunks, person: &Person) -> Result<(), A
     push_plain(alloc, all, person)
 }
 
-// Writes a person, behind the word `and` unless it is the first.
+// Writes a person, after the word `and` unless it is the first.
 fn push_joined(
     alloc: Global,
     all: &mut Chunks,

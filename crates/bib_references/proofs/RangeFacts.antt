@@ -8,20 +8,20 @@ use Rattle.bib_entry.specs.declared.entry.Entry.{Entry}
 use Rattle.bib_graph.specs.Graph.{IsInRange}
 use Rattle.bib_inheritance.specs.References.{references, referred}
 use Rattle.bib_inheritance.specs.Sources.{fields_of}
-use Rattle.bib_maps.specs.Names.{ArePlacesBelow}
+use Rattle.bib_maps.specs.Names.{AreIndicesBelow}
 use Rattle.bib_maps.specs.Sorted.{ByText}
 use Rattle.bib_references.specs.Resolving.{graph_by}
 
-places_below : (n : ℕ) (names : ByText ℕ) → ArePlacesBelow n names → (texts : List (List ℕ)) → All (λ r. r < n) (filter_map (by_name.get names) texts)
-places_below n names below [] = All-nil (λ r. r < n)
-places_below n names below (t ∷ texts) = one (by_name.get names t) (filter_map (by_name.get names) texts) (below t) (places_below n names below texts) where
-  one : (o : Option ℕ) (rest : List ℕ) → ((place : ℕ) → o ≡ Some place → place < n) → All (λ r. r < n) rest → All (λ r. r < n) (cons_option o rest)
+indices_below : (n : ℕ) (names : ByText ℕ) → AreIndicesBelow n names → (texts : List (List ℕ)) → All (λ r. r < n) (filter_map (by_name.get names) texts)
+indices_below n names below [] = All-nil (λ r. r < n)
+indices_below n names below (t ∷ texts) = one (by_name.get names t) (filter_map (by_name.get names) texts) (below t) (indices_below n names below texts) where
+  one : (o : Option ℕ) (rest : List ℕ) → ((index : ℕ) → o ≡ Some index → index < n) → All (λ r. r < n) rest → All (λ r. r < n) (cons_option o rest)
   one None rest lies all = all
   one (Some p) rest lies all = All-cons (λ r. r < n) p rest (lies p refl) all
 
-rows_below : (n : ℕ) (names : ByText ℕ) → ArePlacesBelow n names → (own : List Entry) → All (λ refs. All (λ r. r < n) refs) (graph_by names own)
+rows_below : (n : ℕ) (names : ByText ℕ) → AreIndicesBelow n names → (own : List Entry) → All (λ refs. All (λ r. r < n) refs) (graph_by names own)
 rows_below n names below [] = All-nil (λ refs. All (λ r. r < n) refs)
-rows_below n names below (e ∷ own) = All-cons (λ refs. All (λ r. r < n) refs) (references names (fields_of e.fields)) (graph_by names own) (places_below n names below (referred (fields_of e.fields))) (rows_below n names below own)
+rows_below n names below (e ∷ own) = All-cons (λ refs. All (λ r. r < n) refs) (references names (fields_of e.fields)) (graph_by names own) (indices_below n names below (referred (fields_of e.fields))) (rows_below n names below own)
 
-pub graph_in_range : (names : ByText ℕ) (own : List Entry) → ArePlacesBelow (length own) names → IsInRange (graph_by names own)
+pub graph_in_range : (names : ByText ℕ) (own : List Entry) → AreIndicesBelow (length own) names → IsInRange (graph_by names own)
 graph_in_range names own below = subst (λ n. All (λ refs. All (λ r. r < n) refs) (graph_by names own)) (sym (length-map own (λ (e : Entry). references names (fields_of e.fields)))) (rows_below (length own) names below own)

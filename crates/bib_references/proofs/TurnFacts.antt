@@ -13,40 +13,40 @@ use Rattle.std.proofs.lemmas.Slice.Eq.{bytes_eq-Decides}
 use Rattle.std.proofs.lemmas.List.Folds.{list_any_more}
 use Rattle.bib_chunks.specs.Styled.{styled}
 use Rattle.bib_entry.specs.declared.entry.Entry.{Entry}
-use Rattle.bib_graph.specs.Graph.{Graph, AreTurns, refs_of}
+use Rattle.bib_graph.specs.Graph.{Graph, IsTopologicalOrder, refs_of}
 use Rattle.bib_graph.specs.Solving.{IsSolvedTo}
 use Rattle.bib_graph.proofs.Solving.{new_turn, solved_none, solved_more}
 use Rattle.bib_graph.proofs.Work.{as_one, times_from_contains}
-use Rattle.bib_inheritance.specs.Dating.{date_for, last_date, looks_for_date}
-use Rattle.bib_inheritance.specs.Inherited.{date_parts, field_by, given, inherited, plain_field, taken}
-use Rattle.bib_inheritance.specs.Sources.{Source, fields_of, first_named, first_some, has, nowhere, source_at, source_of, sources}
+use Rattle.bib_inheritance.specs.InheritableDate.{date_for, last_date, looks_for_date}
+use Rattle.bib_inheritance.specs.Inherited.{date_parts, field_by, offered_field, inherited, plain_field, inherited_field}
+use Rattle.bib_inheritance.specs.Sources.{Source, fields_of, first_named, first_some, has, no_entry, source_at, source_of, sources}
 use Rattle.bib_inheritance.specs.declared.offers.Reference.{Reference}
 use Rattle.bib_inheritance.proofs.FieldFacts.{inherits}
-use Rattle.bib_inheritance.proofs.LentFacts.{Value}
+use Rattle.bib_inheritance.proofs.GatheredFacts.{Value}
 use Rattle.bib_entry_types.specs.Requirements.{is_one_of, rules_of}
 use Rattle.bib_entry_types.specs.declared.mechanics.EntryType.{EntryType}
-use Rattle.bib_references.specs.Resolving.{AllKeepChunks, KeepsChunks, at_place, rule_by, source_of_entry, sources_of}
+use Rattle.bib_references.specs.Resolving.{AllKeepChunks, KeepsChunks, at_index, rule_by, source_of_entry, sources_of}
 use Rattle.bib_references.specs.Turning.{IsTurned}
 
--- ---- places that are referred to twice
+-- ---- indices that are referred to twice
 
-taken_last : (kind : EntryType) (name : List ℕ) (rs : List Source) (r : Source) → taken kind name (rs ++ r ∷ []) ≡ first_some (taken kind name rs) (given kind r name)
-taken_last kind name [] r = alone (given kind r name) where
+taken_last : (kind : EntryType) (name : List ℕ) (rs : List Source) (r : Source) → inherited_field kind name (rs ++ r ∷ []) ≡ first_some (inherited_field kind name rs) (offered_field kind r name)
+taken_last kind name [] r = alone (offered_field kind r name) where
   alone : {A : Type 0} (o : Option A) → first_some o None ≡ o
   alone None = refl
   alone (Some x) = refl
-taken_last kind name (x ∷ rs) r = ap (first_some (given kind x name)) (taken_last kind name rs r) ∙ either (given kind x name) (taken kind name rs) (given kind r name) where
+taken_last kind name (x ∷ rs) r = ap (first_some (offered_field kind x name)) (taken_last kind name rs r) ∙ either (offered_field kind x name) (inherited_field kind name rs) (offered_field kind r name) where
   either : {A : Type 0} (a b c : Option A) → first_some a (first_some b c) ≡ first_some (first_some a b) c
   either None b c = refl
   either (Some y) b c = refl
 
 -- what was given before isn't given again
-given_before : (kind : EntryType) (name : List ℕ) (at : ℕ → Source) (p : ℕ) (places : List ℕ) → list_any (λ x. eqb x p) places ≡ true → first_some (taken kind name (map at places)) (given kind (at p) name) ≡ taken kind name (map at places)
+given_before : (kind : EntryType) (name : List ℕ) (at : ℕ → Source) (p : ℕ) (indices : List ℕ) → list_any (λ x. eqb x p) indices ≡ true → first_some (inherited_field kind name (map at indices)) (offered_field kind (at p) name) ≡ inherited_field kind name (map at indices)
 given_before kind name at p [] among = absurd (false≢true among)
-given_before kind name at p (x ∷ places) among =
+given_before kind name at p (x ∷ indices) among =
     elim (cases_Bool (eqb x p)) [
-      | inl is ↦ ap (λ y. first_some (first_some (given kind (at y) name) (taken kind name (map at places))) (given kind (at p) name)) (same_place x p is) ∙ again (given kind (at p) name) (taken kind name (map at places)) ∙ ap (λ y. first_some (given kind (at y) name) (taken kind name (map at places))) (sym (same_place x p is))
-      | inr other ↦ later (given kind (at x) name) (taken kind name (map at places)) (given kind (at p) name) (given_before kind name at p places (ap (λ b. b || list_any (λ y. eqb y p) places) (sym other) ∙ among))
+      | inl is ↦ ap (λ y. first_some (first_some (offered_field kind (at y) name) (inherited_field kind name (map at indices))) (offered_field kind (at p) name)) (same_index x p is) ∙ again (offered_field kind (at p) name) (inherited_field kind name (map at indices)) ∙ ap (λ y. first_some (offered_field kind (at y) name) (inherited_field kind name (map at indices))) (sym (same_index x p is))
+      | inr other ↦ later (offered_field kind (at x) name) (inherited_field kind name (map at indices)) (offered_field kind (at p) name) (given_before kind name at p indices (ap (λ b. b || list_any (λ y. eqb y p) indices) (sym other) ∙ among))
     ]
   where
     again : {A : Type 0} (a b : Option A) → first_some (first_some a b) a ≡ first_some a b
@@ -58,31 +58,31 @@ given_before kind name at p (x ∷ places) among =
     later None b c h = h
     later (Some x) b c h = refl
 
-    same_place : (x p : ℕ) → eqb x p ≡ true → x ≡ p
-    same_place x p is = grind (arith, is)
+    same_index : (x p : ℕ) → eqb x p ≡ true → x ≡ p
+    same_index x p is = grind (arith, is)
 
--- the first places so far give what all so far give
+-- the first indices so far give what all so far give
 abbrev pub GivesSame : List ℕ → List ℕ → Type 0
-GivesSame first places = (at : ℕ → Source) (kind : EntryType) (name : List ℕ) → taken kind name (map at first) ≡ taken kind name (map at places)
+GivesSame first indices = (at : ℕ → Source) (kind : EntryType) (name : List ℕ) → inherited_field kind name (map at first) ≡ inherited_field kind name (map at indices)
 
-pub gives_again : (first places : List ℕ) (i : ℕ) → i < length places → list_any (λ x. eqb x (get_or places i 0)) (take i places) ≡ true → GivesSame first (take i places) → GivesSame first (take (i + 1) places)
-gives_again first places i within among h at kind name =
-    let p : ℕ = get_or places i 0 in
-    h at kind name ∙ sym (given_before kind name at p (take i places) among) ∙ sym (taken_last kind name (map at (take i places)) (at p))
-    ∙ ap (taken kind name) (sym (map_push at (take i places) p)) ∙ ap (λ l. taken kind name (map at l)) (sym (take_more places i 0 within))
+pub gives_again : (first indices : List ℕ) (i : ℕ) → i < length indices → list_any (λ x. eqb x (get_or indices i 0)) (take i indices) ≡ true → GivesSame first (take i indices) → GivesSame first (take (i + 1) indices)
+gives_again first indices i within among h at kind name =
+    let p : ℕ = get_or indices i 0 in
+    h at kind name ∙ sym (given_before kind name at p (take i indices) among) ∙ sym (taken_last kind name (map at (take i indices)) (at p))
+    ∙ ap (inherited_field kind name) (sym (map_push at (take i indices) p)) ∙ ap (λ l. inherited_field kind name (map at l)) (sym (take_more indices i 0 within))
 
-pub gives_more : (first places : List ℕ) (i : ℕ) → i < length places → GivesSame first (take i places) → GivesSame (first ++ get_or places i 0 ∷ []) (take (i + 1) places)
-gives_more first places i within h at kind name =
-    let p : ℕ = get_or places i 0 in
-    ap (taken kind name) (map_push at first p) ∙ taken_last kind name (map at first) (at p) ∙ ap (λ o. first_some o (given kind (at p) name)) (h at kind name)
-    ∙ sym (taken_last kind name (map at (take i places)) (at p)) ∙ ap (taken kind name) (sym (map_push at (take i places) p)) ∙ ap (λ l. taken kind name (map at l)) (sym (take_more places i 0 within))
+pub gives_more : (first indices : List ℕ) (i : ℕ) → i < length indices → GivesSame first (take i indices) → GivesSame (first ++ get_or indices i 0 ∷ []) (take (i + 1) indices)
+gives_more first indices i within h at kind name =
+    let p : ℕ = get_or indices i 0 in
+    ap (inherited_field kind name) (map_push at first p) ∙ taken_last kind name (map at first) (at p) ∙ ap (λ o. first_some o (offered_field kind (at p) name)) (h at kind name)
+    ∙ sym (taken_last kind name (map at (take i indices)) (at p)) ∙ ap (inherited_field kind name) (sym (map_push at (take i indices) p)) ∙ ap (λ l. inherited_field kind name (map at l)) (sym (take_more indices i 0 within))
 
--- a place that was seen, or is this one
-pub seen_more : (places : List ℕ) (i q : ℕ) (old new : Bool) → i < length places → new ≡ cond (eq_by_cmp nat_cmp (get_or places i 0) q) true old → old ≡ list_any (λ x. eqb x q) (take i places) → new ≡ list_any (λ x. eqb x q) (take (i + 1) places)
-seen_more places i q old new within is was =
-    let p : ℕ = get_or places i 0 in
+-- an index that was seen, or is this one
+pub seen_more : (indices : List ℕ) (i q : ℕ) (old new : Bool) → i < length indices → new ≡ cond (eq_by_cmp nat_cmp (get_or indices i 0) q) true old → old ≡ list_any (λ x. eqb x q) (take i indices) → new ≡ list_any (λ x. eqb x q) (take (i + 1) indices)
+seen_more indices i q old new within is was =
+    let p : ℕ = get_or indices i 0 in
     is ∙ ap (λ b. cond b true old) (unsigned_tied p q) ∙ ap (cond (eqb p q) true) was
-    ∙ either (eqb p q) (list_any (λ x. eqb x q) (take i places)) ∙ sym (list_any_more (λ x. eqb x q) places i 0 within)
+    ∙ either (eqb p q) (list_any (λ x. eqb x q) (take i indices)) ∙ sym (list_any_more (λ x. eqb x q) indices i 0 within)
   where
     either : (a b : Bool) → cond a true b ≡ (b || a)
     either true true = refl
@@ -90,13 +90,13 @@ seen_more places i q old new within is was =
     either false true = refl
     either false false = refl
 
--- a place that was seen before
-pub seen_again : (places : List ℕ) (i q : ℕ) → i < length places → list_any (λ x. eqb x (get_or places i 0)) (take i places) ≡ true → list_any (λ x. eqb x q) (take (i + 1) places) ≡ list_any (λ x. eqb x q) (take i places)
-seen_again places i q within again = list_any_more (λ x. eqb x q) places i 0 within ∙ elim (cases_Bool (eqb (get_or places i 0) q)) [
+-- an index that was seen before
+pub seen_again : (indices : List ℕ) (i q : ℕ) → i < length indices → list_any (λ x. eqb x (get_or indices i 0)) (take i indices) ≡ true → list_any (λ x. eqb x q) (take (i + 1) indices) ≡ list_any (λ x. eqb x q) (take i indices)
+seen_again indices i q within again = list_any_more (λ x. eqb x q) indices i 0 within ∙ elim (cases_Bool (eqb (get_or indices i 0) q)) [
   | inl is ↦
-      let among : list_any (λ x. eqb x q) (take i places) ≡ true = subst (λ y. list_any (λ x. eqb x y) (take i places) ≡ true) (nat_same (get_or places i 0) q is) again in
-      ap (λ b. b || eqb (get_or places i 0) q) among ∙ sym among
-  | inr other ↦ ap (λ b. list_any (λ x. eqb x q) (take i places) || b) other ∙ or_false (list_any (λ x. eqb x q) (take i places))
+      let among : list_any (λ x. eqb x q) (take i indices) ≡ true = subst (λ y. list_any (λ x. eqb x y) (take i indices) ≡ true) (nat_same (get_or indices i 0) q is) again in
+      ap (λ b. b || eqb (get_or indices i 0) q) among ∙ sym among
+  | inr other ↦ ap (λ b. list_any (λ x. eqb x q) (take i indices) || b) other ∙ or_false (list_any (λ x. eqb x q) (take i indices))
 ] where
   or_false : (b : Bool) → (b || false) ≡ b
   or_false true = refl
@@ -107,24 +107,24 @@ seen_again places i q within again = list_any_more (λ x. eqb x q) places i 0 wi
 
 -- ---- one turn
 
-pub at_source : (entries : List Entry) (place : ℕ) (e : Entry) → place < length entries → e ≡ get_or entries place e → at_place (sources_of entries) place ≡ source_of_entry e
-at_source entries place e within is = get_or-map source_of_entry entries place e nowhere within ∙ ap source_of_entry (sym is)
+pub at_source : (entries : List Entry) (index : ℕ) (e : Entry) → index < length entries → e ≡ get_or entries index e → at_index (sources_of entries) index ≡ source_of_entry e
+at_source entries index e within is = get_or-map source_of_entry entries index e no_entry within ∙ ap source_of_entry (sym is)
 
-pub one_reference : (entries : List Entry) (places : List ℕ) (i : ℕ) (e : Entry) (references : List Reference) (new : Reference) → i < length places → get_or places i 0 < length entries → e ≡ get_or entries (get_or places i 0) e → source_at new ≡ source_of_entry e
-    → sources references ≡ map (at_place (sources_of entries)) (take i places) → sources (references ++ new ∷ []) ≡ map (at_place (sources_of entries)) (take (i + 1) places)
-one_reference entries places i e references new within below is same h =
+pub one_reference : (entries : List Entry) (indices : List ℕ) (i : ℕ) (e : Entry) (references : List Reference) (new : Reference) → i < length indices → get_or indices i 0 < length entries → e ≡ get_or entries (get_or indices i 0) e → source_at new ≡ source_of_entry e
+    → sources references ≡ map (at_index (sources_of entries)) (take i indices) → sources (references ++ new ∷ []) ≡ map (at_index (sources_of entries)) (take (i + 1) indices)
+one_reference entries indices i e references new within below is same h =
     map_push source_at references new
     ∙ ap (λ l. l ++ source_at new ∷ []) h
-    ∙ ap (λ s. map (at_place (sources_of entries)) (take i places) ++ s ∷ []) (same ∙ sym (at_source entries (get_or places i 0) e below is))
-    ∙ sym (map_push (at_place (sources_of entries)) (take i places) (get_or places i 0))
-    ∙ ap (map (at_place (sources_of entries))) (sym (take_more places i 0 within))
+    ∙ ap (λ s. map (at_index (sources_of entries)) (take i indices) ++ s ∷ []) (same ∙ sym (at_source entries (get_or indices i 0) e below is))
+    ∙ sym (map_push (at_index (sources_of entries)) (take i indices) (get_or indices i 0))
+    ∙ ap (map (at_index (sources_of entries))) (sym (take_more indices i 0 within))
 
 -- an own field stays, or is gone
-kept_plain : (own given : List ℕ → Option Value) (name : List ℕ) (chunks : Value) → own name ≡ Some chunks → (plain_field own given name ≡ Some chunks) ⊎ (plain_field own given name ≡ None)
-kept_plain own given name chunks is = go (bytes_eq name (codes "xdata")) where
-  go : (b : Bool) → (cond b None (first_some (own name) (given name)) ≡ Some chunks) ⊎ (cond b None (first_some (own name) (given name)) ≡ None)
+kept_plain : (own offered_field : List ℕ → Option Value) (name : List ℕ) (chunks : Value) → own name ≡ Some chunks → (plain_field own offered_field name ≡ Some chunks) ⊎ (plain_field own offered_field name ≡ None)
+kept_plain own offered_field name chunks is = go (bytes_eq name (codes "xdata")) where
+  go : (b : Bool) → (cond b None (first_some (own name) (offered_field name)) ≡ Some chunks) ⊎ (cond b None (first_some (own name) (offered_field name)) ≡ None)
   go true = inr refl
-  go false = inl (ap (λ o. first_some o (given name)) is)
+  go false = inl (ap (λ o. first_some o (offered_field name)) is)
 
 looks_not : (own : Source) → has own (codes "date") ≡ true → looks_for_date own ≡ false
 looks_not own had = ap (λ h. (rules_of own.kind).needs_date && not (h || has own (codes "year"))) had ∙ never (rules_of own.kind).needs_date where
@@ -135,40 +135,40 @@ looks_not own had = ap (λ h. (rules_of own.kind).needs_date && not (h || has ow
 no_date : (own : Source) (refs : List Source) → has own (codes "date") ≡ true → date_for own refs ≡ None
 no_date own refs had = ap (λ b. cond b (last_date refs) None) (looks_not own had)
 
-kept_by : (date : Option Value) (own given : List ℕ → Option Value) (name : List ℕ) (chunks : Value) → own name ≡ Some chunks → (bytes_eq name (codes "date") ≡ true → date ≡ None)
-    → (field_by date own given name ≡ Some chunks) ⊎ (field_by date own given name ≡ None)
-kept_by None own given name chunks is lacks = kept_plain own given name chunks is
-kept_by (Some date) own given name chunks is lacks = elim (cases_Bool (bytes_eq name (codes "date"))) [
+kept_by : (date : Option Value) (own offered_field : List ℕ → Option Value) (name : List ℕ) (chunks : Value) → own name ≡ Some chunks → (bytes_eq name (codes "date") ≡ true → date ≡ None)
+    → (field_by date own offered_field name ≡ Some chunks) ⊎ (field_by date own offered_field name ≡ None)
+kept_by None own offered_field name chunks is lacks = kept_plain own offered_field name chunks is
+kept_by (Some date) own offered_field name chunks is lacks = elim (cases_Bool (bytes_eq name (codes "date"))) [
   | inl here ↦ absurd (no_some (lacks here))
   | inr other ↦ parts (is_one_of date_parts name) (bytes_eq name (codes "date")) other
 ] where
   no_some : Some date ≡ None → ⊥
   no_some e = cc
 
-  parts : (b t : Bool) → t ≡ false → (cond t (Some date) (cond b None (plain_field own given name)) ≡ Some chunks) ⊎ (cond t (Some date) (cond b None (plain_field own given name)) ≡ None)
+  parts : (b t : Bool) → t ≡ false → (cond t (Some date) (cond b None (plain_field own offered_field name)) ≡ Some chunks) ⊎ (cond t (Some date) (cond b None (plain_field own offered_field name)) ≡ None)
   parts b true other = absurd (clash other) where
     clash : true ≡ false → ⊥
     clash e = cc
   parts true false other = inr refl
-  parts false false other = kept_plain own given name chunks is
+  parts false false other = kept_plain own offered_field name chunks is
 
 same_some : {A B : Type 0} (f : A → B) (o : Option A) (a : A) → o ≡ Some a → is_some (option_map f o) ≡ true
 same_some f o a is = ap (λ o. is_some (option_map f o)) is
 
 -- an entry with what it takes over
-pub turned : (old new : Entry) (refs : List Source) (given : List (List ℕ × Value)) (date : Option Value) → new.key ≡ old.key → new.entry_type ≡ old.entry_type
-    → ((name : List ℕ) → option_map styled (first_named given name) ≡ cond (is_some (fields_of old.fields name)) None (taken old.entry_type name refs))
+pub turned : (old new : Entry) (refs : List Source) (offered_field : List (List ℕ × Value)) (date : Option Value) → new.key ≡ old.key → new.entry_type ≡ old.entry_type
+    → ((name : List ℕ) → option_map styled (first_named offered_field name) ≡ cond (is_some (fields_of old.fields name)) None (inherited_field old.entry_type name refs))
     → option_map styled date ≡ date_for (source_of_entry old) refs
-    → ((name : List ℕ) → get new.fields name ≡ field_by date (get old.fields) (first_named given) name) → IsTurned old refs new
-turned old new refs given date key kind gives dated h = record {
+    → ((name : List ℕ) → get new.fields name ≡ field_by date (get old.fields) (first_named offered_field) name) → IsTurned old refs new
+turned old new refs offered_field date key kind gives dated h = record {
   key = key;
-  inherits = ap (λ k. source_of k new.fields) kind ∙ inherits old.entry_type old.fields new.fields refs given date gives dated h;
+  inherits = ap (λ k. source_of k new.fields) kind ∙ inherits old.entry_type old.fields new.fields refs offered_field date gives dated h;
   chunks = λ name chunks is.
       let none : bytes_eq name (codes "date") ≡ true → date ≡ None = λ here.
       let named : name ≡ codes "date" = (bytes_eq-Decides name (codes "date")).0 here in
       mapped_none date (dated ∙ no_date (source_of_entry old) refs (ap (λ n. is_some (fields_of old.fields n)) (sym named) ∙ same_some styled (get old.fields name) chunks is))
       in
-      subst (λ o. (o ≡ Some chunks) ⊎ (o ≡ None)) (sym (h name)) (kept_by date (get old.fields) (first_named given) name chunks is none);
+      subst (λ o. (o ≡ Some chunks) ⊎ (o ≡ None)) (sym (h name)) (kept_by date (get old.fields) (first_named offered_field) name chunks is none);
 } where
   mapped_none : (o : Option Value) → option_map styled o ≡ None → o ≡ None
   mapped_none None e = refl
@@ -192,8 +192,8 @@ date_alone own = go (looks_for_date own) where
 
 pub inherited_alone : (own : Source) → own.fields (codes "xdata") ≡ None → inherited own [] ≡ own
 inherited_alone own none =
-    let same : (name : List ℕ) → field_by (date_for own []) own.fields (λ n. taken own.kind n []) name ≡ own.fields name =
-    λ name. ap (λ d. field_by d own.fields (λ n. taken own.kind n []) name) (date_alone own) ∙ alone_by own name none
+    let same : (name : List ℕ) → field_by (date_for own []) own.fields (λ n. inherited_field own.kind n []) name ≡ own.fields name =
+    λ name. ap (λ d. field_by d own.fields (λ n. inherited_field own.kind n []) name) (date_alone own) ∙ alone_by own name none
     in
     λ i. record { kind = own.kind; fields = λ name. same name i }
 
@@ -206,7 +206,7 @@ untouched e none = record {
 
 -- ---- all turns
 
-pub turn_within : (graph : Graph) (turns : List ℕ) (i : ℕ) → AreTurns graph turns → i < length turns → get_or turns i 0 < length graph
+pub turn_within : (graph : Graph) (turns : List ℕ) (i : ℕ) → IsTopologicalOrder graph turns → i < length turns → get_or turns i 0 < length graph
 turn_within graph turns i h within =
     let p : ℕ = get_or turns i 0 in
     elim (cases_lt p (length graph)) [
@@ -214,56 +214,56 @@ turn_within graph turns i h within =
       | inr t ↦ absurd (omega (arith, times_from_contains p turns (Contains-get_or turns i 0 within), h.once p, as_one _ _ (le-ltb p (length graph) t)))
     ]
 
-key_at : (entries : List Entry) (place : ℕ) (d : Entry) → (get_or entries place d).key ≡ get_or (map (λ x. x.key) entries) place d.key
-key_at [] place d = refl
+key_at : (entries : List Entry) (index : ℕ) (d : Entry) → (get_or entries index d).key ≡ get_or (map (λ x. x.key) entries) index d.key
+key_at [] index d = refl
 key_at (e ∷ entries) zero d = refl
-key_at (e ∷ entries) (suc place) d = key_at entries place d
+key_at (e ∷ entries) (suc index) d = key_at entries index d
 
-pub keys_kept : (entries : List Entry) (place : ℕ) (new : Entry) → new.key ≡ (get_or entries place new).key → map (λ x. x.key) (set entries place new) ≡ map (λ x. x.key) entries
-keys_kept entries place new same =
-    map-set (λ (x : Entry). x.key) entries place new
-    ∙ ap (set (map (λ (x : Entry). x.key) entries) place) (same ∙ key_at entries place new)
-    ∙ set-get_or (map (λ (x : Entry). x.key) entries) place new.key
+pub keys_kept : (entries : List Entry) (index : ℕ) (new : Entry) → new.key ≡ (get_or entries index new).key → map (λ x. x.key) (set entries index new) ≡ map (λ x. x.key) entries
+keys_kept entries index new same =
+    map-set (λ (x : Entry). x.key) entries index new
+    ∙ ap (set (map (λ (x : Entry). x.key) entries) index) (same ∙ key_at entries index new)
+    ∙ set-get_or (map (λ (x : Entry). x.key) entries) index new.key
 
 -- an entry that has its turn and stays as it is
-pub left_alone : (entries : List Entry) (place : ℕ) (e : Entry) (places : List ℕ) → place < length entries → e ≡ get_or entries place e → places ≡ [] → get e.fields (codes "xdata") ≡ None
-    → (entry : Entry) × (entries ≡ set entries place entry) × IsTurned (get_or entries place entry) (map (at_place (sources_of entries)) places) entry
-left_alone entries place e places within is none lacks = (
+pub left_alone : (entries : List Entry) (index : ℕ) (e : Entry) (indices : List ℕ) → index < length entries → e ≡ get_or entries index e → indices ≡ [] → get e.fields (codes "xdata") ≡ None
+    → (entry : Entry) × (entries ≡ set entries index entry) × IsTurned (get_or entries index entry) (map (at_index (sources_of entries)) indices) entry
+left_alone entries index e indices within is none lacks = (
   e,
-  sym (ap (set entries place) is ∙ set-get_or entries place e),
-  subst (λ l. IsTurned (get_or entries place e) (map (at_place (sources_of entries)) l) e) (sym none) (subst (λ x. IsTurned x [] e) is (untouched e lacks)),
+  sym (ap (set entries index) is ∙ set-get_or entries index e),
+  subst (λ l. IsTurned (get_or entries index e) (map (at_index (sources_of entries)) l) e) (sym none) (subst (λ x. IsTurned x [] e) is (untouched e lacks)),
 )
 
 -- how far the turns have come
 pub record HaveTurned (refs : Graph) (turns : List ℕ) (own entries : List Entry) (i : ℕ) : Type 0 where
   pub as_long : length entries ≡ length own
   pub keys : map (λ e. e.key) entries ≡ map (λ e. e.key) own
-  pub solved : IsSolvedTo nowhere (rule_by (sources_of own)) refs turns (sources_of own) i (sources_of entries)
-  pub waiting : (place : ℕ) (d : Entry) → (Contains (take i turns) place → ⊥) → get_or entries place d ≡ get_or own place d
-  pub chunks : (place : ℕ) (d : Entry) → KeepsChunks (get_or own place d) (get_or entries place d)
+  pub solved : IsSolvedTo no_entry (rule_by (sources_of own)) refs turns (sources_of own) i (sources_of entries)
+  pub waiting : (index : ℕ) (d : Entry) → (Contains (take i turns) index → ⊥) → get_or entries index d ≡ get_or own index d
+  pub chunks : (index : ℕ) (d : Entry) → KeepsChunks (get_or own index d) (get_or entries index d)
 
 pub turned_none : (refs : Graph) (turns : List ℕ) (own : List Entry) → HaveTurned refs turns own own 0
 turned_none refs turns own = record {
   as_long = refl;
   keys = refl;
-  solved = solved_none nowhere (rule_by (sources_of own)) refs turns (sources_of own);
-  waiting = λ place d h. refl;
-  chunks = λ place d name chunks is. inl is;
+  solved = solved_none no_entry (rule_by (sources_of own)) refs turns (sources_of own);
+  waiting = λ index d h. refl;
+  chunks = λ index d name chunks is. inl is;
 }
 
-pub turned_more : (refs : Graph) (turns : List ℕ) (own entries after : List Entry) (i : ℕ) (new : Entry) (places : List ℕ) → AreTurns refs turns → i < length turns → length own ≡ length refs → places ≡ refs_of refs (get_or turns i 0)
-    → after ≡ set entries (get_or turns i 0) new → IsTurned (get_or entries (get_or turns i 0) new) (map (at_place (sources_of entries)) places) new → HaveTurned refs turns own entries i → HaveTurned refs turns own after (i + 1)
-turned_more refs turns own entries after i new places order within as_long row is turn h =
+pub turned_more : (refs : Graph) (turns : List ℕ) (own entries after : List Entry) (i : ℕ) (new : Entry) (indices : List ℕ) → IsTopologicalOrder refs turns → i < length turns → length own ≡ length refs → indices ≡ refs_of refs (get_or turns i 0)
+    → after ≡ set entries (get_or turns i 0) new → IsTurned (get_or entries (get_or turns i 0) new) (map (at_index (sources_of entries)) indices) new → HaveTurned refs turns own entries i → HaveTurned refs turns own after (i + 1)
+turned_more refs turns own entries after i new indices order within as_long row is turn h =
     let p : ℕ = get_or turns i 0 in
     let fresh = new_turn refs turns i order within in
     let below_refs : p < length refs = turn_within refs turns i order within in
     let below : p < length entries = omega (arith, below_refs, as_long, h.as_long) in
     let old : Entry = get_or entries p new in
-    let here : at_place (sources_of entries) p ≡ source_of_entry old = get_or-map source_of_entry entries p new nowhere below in
-    let kept : at_place (sources_of entries) p ≡ at_place (sources_of own) p = h.solved.kept p fresh in
+    let here : at_index (sources_of entries) p ≡ source_of_entry old = get_or-map source_of_entry entries p new no_entry below in
+    let kept : at_index (sources_of entries) p ≡ at_index (sources_of own) p = h.solved.kept p fresh in
     let value : Source = source_of_entry new in
-    let by_rule : value ≡ rule_by (sources_of own) p (map (at_place (sources_of entries)) (refs_of refs p)) =
-    turn.inherits ∙ ap (λ l. inherited (source_of_entry old) (map (at_place (sources_of entries)) l)) row ∙ ap (λ s. inherited s (map (at_place (sources_of entries)) (refs_of refs p))) (sym here ∙ kept)
+    let by_rule : value ≡ rule_by (sources_of own) p (map (at_index (sources_of entries)) (refs_of refs p)) =
+    turn.inherits ∙ ap (λ l. inherited (source_of_entry old) (map (at_index (sources_of entries)) l)) row ∙ ap (λ s. inherited s (map (at_index (sources_of entries)) (refs_of refs p))) (sym here ∙ kept)
     in
     let all : sources_of (set entries p new) ≡ set (sources_of entries) p value = map-set source_of_entry entries p new in
     let later : (q : ℕ) → (Contains (take (i + 1) turns) q → ⊥) → (Contains (take i turns) q → ⊥) × (q ≢ p) = λ q none.
@@ -272,8 +272,8 @@ turned_more refs turns own entries after i new places order within as_long row i
     subst (λ l. HaveTurned refs turns own l (i + 1)) (sym is) record {
       as_long = length-set entries p new ∙ h.as_long;
       keys = keys_kept entries p new turn.key ∙ h.keys;
-      solved = subst (IsSolvedTo nowhere (rule_by (sources_of own)) refs turns (sources_of own) (i + 1)) (sym all)
-          (solved_more nowhere (rule_by (sources_of own)) refs turns (sources_of own) i (sources_of entries) value order within (omega (arith, below, length-map entries source_of_entry)) by_rule h.solved);
+      solved = subst (IsSolvedTo no_entry (rule_by (sources_of own)) refs turns (sources_of own) (i + 1)) (sym all)
+          (solved_more no_entry (rule_by (sources_of own)) refs turns (sources_of own) i (sources_of entries) value order within (omega (arith, below, length-map entries source_of_entry)) by_rule h.solved);
       waiting = λ q d none. get_or-set_other entries p q new d (later q none).1 ∙ h.waiting q d (later q none).0;
       chunks = λ q d. elim (cases_Bool (eqb q p)) [
         | inl e ↦
@@ -296,23 +296,23 @@ turned_more refs turns own entries after i new places order within as_long row i
     contains_more turns i q within (inr e) = subst (λ l. Contains l q) (sym (take_more turns i 0 within)) (subst (Contains (take i turns ++ get_or turns i 0 ∷ [])) e (Contains-push (take i turns) (get_or turns i 0)))
 
 pub turned_chunks : (refs : Graph) (turns : List ℕ) (own entries : List Entry) (i : ℕ) → HaveTurned refs turns own entries i → AllKeepChunks own entries
-turned_chunks refs turns own entries i h place written entry mine now =
-    subst (λ a. KeepsChunks a entry) (at_get own place written entry mine)
-    (subst (KeepsChunks (get_or own place entry)) (at_get entries place entry entry now) (h.chunks place entry))
+turned_chunks refs turns own entries i h index written entry mine now =
+    subst (λ a. KeepsChunks a entry) (at_get own index written entry mine)
+    (subst (KeepsChunks (get_or own index entry)) (at_get entries index entry entry now) (h.chunks index entry))
   where
-    at_get : (es : List Entry) (place : ℕ) (e d : Entry) → slice_get es place ≡ Some e → get_or es place d ≡ e
-    at_get es place e d is = some_same (sym (slice_get-get_or es place d (slice_get_within es place e is)) ∙ is) where
+    at_get : (es : List Entry) (index : ℕ) (e d : Entry) → slice_get es index ≡ Some e → get_or es index d ≡ e
+    at_get es index e d is = some_same (sym (slice_get-get_or es index d (slice_get_within es index e is)) ∙ is) where
       some_same : {A : Type 0} {x y : A} → Some x ≡ Some y → x ≡ y
       some_same e = cc
 
--- places that are among others are below what those are
-pub all_below : {n : ℕ} (places first : List ℕ) → All (λ r. r < n) places → All (Contains places) first → All (λ r. r < n) first
-all_below {n} places first below among k d within =
+-- indices that are among others are below what those are
+pub all_below : {n : ℕ} (indices first : List ℕ) → All (λ r. r < n) indices → All (Contains indices) first → All (λ r. r < n) first
+all_below {n} indices first below among k d within =
     let at = among k d within in
     subst (λ r. r < n) at.2 (below at.0 (get_or first k d) at.1)
 
-pub no_places : (places : List ℕ) → (eqb (length places) 0) ≡ true → places ≡ []
-no_places places t = nil_from_length places (nat_same (length places) 0 t) where
+pub no_indices : (indices : List ℕ) → (eqb (length indices) 0) ≡ true → indices ≡ []
+no_indices indices t = nil_from_length indices (nat_same (length indices) 0 t) where
   nat_same : (x y : ℕ) → eqb x y ≡ true → x ≡ y
   nat_same x y is = grind (arith, is)
 

@@ -5,12 +5,12 @@ use Rattle.std.specs.List.{list_any}
 use Rattle.std.proofs.lemmas.Bool.{false≢true}
 use Rattle.std.proofs.lemmas.List.Folds.{list_any_more}
 use Rattle.bib_enums.specs.declared.type_error.TypeError.{TypeError}
-use Rattle.bib_inheritance.specs.Dating.{DateMayFail, is_unreadable}
+use Rattle.bib_inheritance.specs.InheritableDate.{DateMayFail, is_unreadable}
 use Rattle.bib_inheritance.specs.Sources.{Source}
-use Rattle.bib_inheritance.specs.declared.dating.Dating.{Dating as Kept}
-use Rattle.bib_inheritance.specs.declared.dating.Dating.TheVariants.{Undated, Unreadable, Dated}
-use Rattle.bib_references.specs.Resolving.{at_place, is_bad_date}
-use Rattle.bib_references.specs.Turning.{AreDates, Dates, IsUnread, date_at, fault_in}
+use Rattle.bib_inheritance.specs.declared.inheritable_date.InheritableDate.{InheritableDate as Kept}
+use Rattle.bib_inheritance.specs.declared.inheritable_date.InheritableDate.TheVariants.{Undated, Unreadable, Dated}
+use Rattle.bib_references.specs.Resolving.{at_index, is_bad_date}
+use Rattle.bib_references.specs.Turning.{AreDates, Dates, IsUnreadDate, date_at, error_in}
 
 some_same : {A : Type 0} {x y : A} → Some x ≡ Some y → x ≡ y
 some_same e = cc
@@ -26,19 +26,19 @@ any_more test xs i d within not_here none = list_any_more test xs i d within ∙
 pub find_here : {A : Type 0} (test : A → Bool) (xs : List A) (i : ℕ) (d : A) → i < length xs → list_any test (take i xs) ≡ false → test (get_or xs i d) ≡ true → find test xs ≡ Some (get_or xs i d)
 find_here test [] i d within none here = absurd (omega (arith, within))
 find_here test (x ∷ xs) zero d within none here = ap (λ b. cond b (Some x) (find test xs)) here
-find_here test (x ∷ xs) (suc i) d within none here = behind (test x) (list_any test (take i xs)) none (find_here test xs i d (omega (arith, within))) here where
-  behind : (b c : Bool) → (b || c) ≡ false → (c ≡ false → test (get_or xs i d) ≡ true → find test xs ≡ Some (get_or xs i d)) → test (get_or xs i d) ≡ true → cond b (Some x) (find test xs) ≡ Some (get_or xs i d)
-  behind true c none rest here = absurd (false≢true (sym none))
-  behind false c none rest here = rest none here
+find_here test (x ∷ xs) (suc i) d within none here = following (test x) (list_any test (take i xs)) none (find_here test xs i d (omega (arith, within))) here where
+  following : (b c : Bool) → (b || c) ≡ false → (c ≡ false → test (get_or xs i d) ≡ true → find test xs ≡ Some (get_or xs i d)) → test (get_or xs i d) ≡ true → cond b (Some x) (find test xs) ≡ Some (get_or xs i d)
+  following true c none rest here = absurd (false≢true (sym none))
+  following false c none rest here = rest none here
 
 -- an entry whose date can't be read, or can
-module _ (values : List Source) (dates : Dates) (places : List ℕ) (i : ℕ) (within : i < length places) (are : AreDates values dates) (none : list_any (is_bad_date values) (take i places) ≡ false) where
+module _ (values : List Source) (dates : Dates) (indices : List ℕ) (i : ℕ) (within : i < length indices) (are : AreDates values dates) (none : list_any (is_bad_date values) (take i indices) ≡ false) where
   abbrev p : ℕ
-  p = get_or places i 0
+  p = get_or indices i 0
 
-  pub unread_here : (fault : TypeError) → fault_in (date_at dates p) ≡ Some fault → IsUnread values places fault
-  unread_here fault is = go (date_at dates p) refl is where
-    go : (o : Option Kept) → date_at dates p ≡ o → fault_in o ≡ Some fault → IsUnread values places fault
+  pub unread_here : (error : TypeError) → error_in (date_at dates p) ≡ Some error → IsUnreadDate values indices error
+  unread_here error is = go (date_at dates p) refl is where
+    go : (o : Option Kept) → date_at dates p ≡ o → error_in o ≡ Some error → IsUnreadDate values indices error
     go None there is = cc
     go (Some Undated) there is = cc
     go (Some (Dated chunks)) there is = cc
@@ -46,13 +46,13 @@ module _ (values : List Source) (dates : Dates) (places : List ℕ) (i : ℕ) (w
         let bad = are p (Unreadable found) there in
         record {
           reference = p;
-          first = find_here (is_bad_date values) places i 0 within none (ap is_unreadable bad.0);
-          may = subst (λ (f : TypeError). DateMayFail (at_place values p).fields f.kind) (some_same is) bad.1;
+          first = find_here (is_bad_date values) indices i 0 within none (ap is_unreadable bad.0);
+          may = subst (λ (f : TypeError). DateMayFail (at_index values p).fields f.kind) (some_same is) bad.1;
         }
 
-  pub read_here : IsSome (date_at dates p) → fault_in (date_at dates p) ≡ None → list_any (is_bad_date values) (take (i + 1) places) ≡ false
-  read_here was is = any_more (is_bad_date values) places i 0 within (go (date_at dates p) refl was is) none where
-    go : (o : Option Kept) → date_at dates p ≡ o → IsSome o → fault_in o ≡ None → is_bad_date values p ≡ false
+  pub read_here : IsSome (date_at dates p) → error_in (date_at dates p) ≡ None → list_any (is_bad_date values) (take (i + 1) indices) ≡ false
+  read_here was is = any_more (is_bad_date values) indices i 0 within (go (date_at dates p) refl was is) none where
+    go : (o : Option Kept) → date_at dates p ≡ o → IsSome o → error_in o ≡ None → is_bad_date values p ≡ false
     go None there was is = absurd (false≢true was)
     go (Some Undated) there was is = ap is_unreadable (are p Undated there)
     go (Some (Dated chunks)) there was is = ap is_unreadable (are p (Dated chunks) there)

@@ -6,13 +6,13 @@ use Rattle.bib_chunks.specs.declared.chunk.Chunk.{Chunk}
 use Rattle.bib_entry.specs.declared.entry.Entry.{Entry}
 use Rattle.bib_enums.specs.declared.type_error.TypeError.{TypeError}
 use Rattle.bib_graph.specs.Graph.{Graph, refs_of}
-use Rattle.bib_inheritance.specs.Dating.{DateMayFail, IsDating}
+use Rattle.bib_inheritance.specs.InheritableDate.{DateMayFail, IsInheritableDate}
 use Rattle.bib_inheritance.specs.Inherited.{inherited}
 use Rattle.bib_inheritance.specs.Sources.{Source}
-use Rattle.bib_inheritance.specs.declared.dating.Dating.{Dating as Kept}
-use Rattle.bib_inheritance.specs.declared.dating.Dating.TheVariants.{Undated, Unreadable, Dated}
+use Rattle.bib_inheritance.specs.declared.inheritable_date.InheritableDate.{InheritableDate as Kept}
+use Rattle.bib_inheritance.specs.declared.inheritable_date.InheritableDate.TheVariants.{Undated, Unreadable, Dated}
 use Rattle.bib_text.specs.declared.spanned.Spanned.{Spanned}
-use Rattle.bib_references.specs.Resolving.{KeepsChunks, at_place, is_bad_date, source_of_entry}
+use Rattle.bib_references.specs.Resolving.{KeepsChunks, at_index, is_bad_date, source_of_entry}
 
 -- an entry with what it takes over from those that it refers to
 pub record IsTurned (old : Entry) (references : List Source) (new : Entry) : Type 0 where
@@ -24,45 +24,45 @@ pub record IsTurned (old : Entry) (references : List Source) (new : Entry) : Typ
 abbrev pub Dates : Type 0
 Dates = List (Option Kept)
 
--- whether the date of the entry at a place was read, and what it is
+-- whether the date of the entry at an index was read, and what it is
 abbrev pub date_at : Dates → ℕ → Option Kept
-date_at dates place = slice_index_or dates place None
+date_at dates index = slice_index_or dates index None
 
 -- the date that was read, if it is one
 abbrev pub dated_in : Option Kept → Option (List (Spanned Chunk))
 dated_in (Some (Dated chunks)) = Some chunks
 dated_in (Some Undated) = None
-dated_in (Some (Unreadable fault)) = None
+dated_in (Some (Unreadable error)) = None
 dated_in None = None
 
--- the fault of a date that was read, if it can't be
-abbrev pub fault_in : Option Kept → Option TypeError
-fault_in (Some (Unreadable fault)) = Some fault
-fault_in (Some Undated) = None
-fault_in (Some (Dated chunks)) = None
-fault_in None = None
+-- the error of a date that was read, if it can't be
+abbrev pub error_in : Option Kept → Option TypeError
+error_in (Some (Unreadable error)) = Some error
+error_in (Some Undated) = None
+error_in (Some (Dated chunks)) = None
+error_in None = None
 
--- dates that were read are those of the entries at their places
+-- dates that were read are those of the entries at their indices
 abbrev pub AreDates : List Source → Dates → Type 0
-AreDates values dates = (place : ℕ) (dating : Kept) → date_at dates place ≡ Some dating → IsDating (at_place values place).fields dating
+AreDates values dates = (index : ℕ) (inheritable_date : Kept) → date_at dates index ≡ Some inheritable_date → IsInheritableDate (at_index values index).fields inheritable_date
 
--- no date was read but at some places
+-- no date was read but at some indices
 abbrev pub AddsAmong : List ℕ → Dates → Dates → Type 0
-AddsAmong places old new = (place : ℕ) → IsSome (date_at new place) → IsSome (date_at old place) ⊎ Contains places place
+AddsAmong indices old new = (index : ℕ) → IsSome (date_at new index) → IsSome (date_at old index) ⊎ Contains indices index
 
--- the fault of the first of some entries whose date can't be read
-pub record IsUnread (values : List Source) (places : List ℕ) (fault : TypeError) : Type 0 where
+-- the error of the first of some entries whose date can't be read
+pub record IsUnreadDate (values : List Source) (indices : List ℕ) (error : TypeError) : Type 0 where
   pub reference : ℕ
-  pub first : find (is_bad_date values) places ≡ Some reference
-  pub may : DateMayFail (at_place values reference).fields fault.kind
+  pub first : find (is_bad_date values) indices ≡ Some reference
+  pub may : DateMayFail (at_index values reference).fields error.kind
 
 -- whether an entry is marked and refers to one whose date can't be read
 abbrev pub is_unread_at : List Bool → Graph → List Source → ℕ → Bool
-is_unread_at looks graph values place = slice_index_or looks place false && list_any (is_bad_date values) (refs_of graph place)
+is_unread_at looks graph values index = slice_index_or looks index false && list_any (is_bad_date values) (refs_of graph index)
 
--- the fault of the first entry that is marked and refers to one whose date can't be read
-pub record IsFirstUnread (looks : List Bool) (graph : Graph) (values : List Source) (fault : TypeError) : Type 0 where
-  pub place : ℕ
-  pub marked : slice_index_or looks place false ≡ true
-  pub earlier : (other : ℕ) → other < place → is_unread_at looks graph values other ≡ false
-  pub unread : IsUnread values (refs_of graph place) fault
+-- the error of the first entry that is marked and refers to one whose date can't be read
+pub record IsFirstUnread (looks : List Bool) (graph : Graph) (values : List Source) (error : TypeError) : Type 0 where
+  pub index : ℕ
+  pub marked : slice_index_or looks index false ≡ true
+  pub earlier : (other : ℕ) → other < index → is_unread_at looks graph values other ≡ false
+  pub unread : IsUnreadDate values (refs_of graph index) error

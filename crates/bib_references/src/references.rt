@@ -2,16 +2,16 @@
 
 ghost use Rattle.std.specs.Prelude.{◌≡◌, IfOk, map};
 ghost use Rattle.bib_graph.specs.Rows.{rows};
-ghost use Rattle.bib_inheritance.specs.Dating.{looks_for_date};
+ghost use Rattle.bib_inheritance.specs.InheritableDate.{looks_for_date};
 ghost use Rattle.bib_references.specs.Resolving.{graph_by, source_of_entry};
 
 use bib_entry::entry::Entry;
-use bib_inheritance::dating::looks_for_date;
+use bib_inheritance::inheritable_date::looks_for_date;
 use bib_inheritance::references::references;
 use bib_maps::names::Names;
 use std::alloc::{AllocError, Global};
 
-// For each entry the places of those that it refers to.
+// For each entry the indices of those that it refers to.
 pub(crate) fn graph(
     alloc: Global,
     entries: &[Entry],

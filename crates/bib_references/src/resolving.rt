@@ -1,12 +1,12 @@
 //! The entries of a bibliography with what they inherit.
 
 ghost use Rattle.std.specs.Prelude.{◌≡◌, ◌⊎◌, ◌<◌, ℕ, IfOk, IfErr, OnOk, length};
-ghost use Rattle.bib_graph.specs.Graph.{AreTurns, HasNoCircle, IsFirstOnCircle, IsInRange};
+ghost use Rattle.bib_graph.specs.Graph.{IsTopologicalOrder, HasNoCycle, IsFirstOnCycle, IsInRange};
 ghost use Rattle.bib_graph.specs.Rows.{rows};
-ghost use Rattle.bib_maps.specs.Names.{ArePlacesBelow};
-ghost use Rattle.bib_syntax.specs.Faults.{out_of_memory};
+ghost use Rattle.bib_maps.specs.Names.{AreIndicesBelow};
+ghost use Rattle.bib_syntax.specs.Errors.{out_of_memory};
 ghost use Rattle.bib_syntax.specs.declared.raw.ParseErrorKind.TheVariants.{ResolutionError as ADate};
-ghost use Rattle.bib_references.specs.Resolving.{AreResolved, IsCircleAt, IsResolvingFault, graph_by};
+ghost use Rattle.bib_references.specs.Resolving.{AreResolved, IsCycleAt, IsResolvingError, graph_by};
 
 use crate::dates::unread_dates;
 use crate::references::{graph, looks};
@@ -15,24 +15,24 @@ use crate::unread::unread_date;
 use bib_chunks::chunk::Span;
 use bib_entry::entry::Entry;
 use bib_enums::type_error::TypeError;
-use bib_graph::worklist::turns;
+use bib_graph::worklist::topological_order;
 use bib_maps::names::Names;
 use bib_syntax::raw::{ParseError, ParseErrorKind};
 use std::alloc::{AllocError, Global};
 
-// The fault of the entry at a place, which leads to itself.
-fn circle(
+// The error of the entry at an index, which leads to itself.
+fn cycle(
     alloc: Global,
     spans: &[Span],
     entries: &[Entry],
-    place: usize,
+    index: usize,
 ) -> Result<ParseError, AllocError>
-    requires place { place < length entries.now }
+    requires index { index < length entries.now }
     requires as_long { length spans.now ≡ length entries.now }
-    ensures { IfOk result (IsCircleAt spans.now entries.now place) }
+    ensures { IfOk result (IsCycleAt spans.now entries.now index) }
 {
-    let span = &spans[place];
-    let entry = &entries[place];
+    let span = &spans[index];
+    let entry = &entries[index];
     let key = entry.key.clone()?;
     Ok(ParseError {
         span: span.start..span.end,
@@ -50,24 +50,24 @@ fn order(
     requires in_range { IsInRange (rows refs.now) }
     requires rows { length refs.now ≡ length entries.now }
     requires as_long { length spans.now ≡ length entries.now }
-    ensures turns { IfOk result (λ order. AreTurns (rows refs.now) order.items) }
-    ensures no_circle { OnOk result (HasNoCircle (rows refs.now)) }
-    ensures refused { IfErr result (λ e. (e ≡ out_of_memory) ⊎ ((place : ℕ) ×
-        IsFirstOnCircle (rows refs.now) place × IsCircleAt spans.now entries.now place e)) }
+    ensures turns { IfOk result (λ order. IsTopologicalOrder (rows refs.now) order.items) }
+    ensures no_cycle { OnOk result (HasNoCycle (rows refs.now)) }
+    ensures refused { IfErr result (λ e. (e ≡ out_of_memory) ⊎ ((index : ℕ) ×
+        IsFirstOnCycle (rows refs.now) index × IsCycleAt spans.now entries.now index e)) }
 {
-    match turns(alloc, refs) {
+    match topological_order(alloc, refs) {
         Ok(order) => Ok(order),
-        Err(e) => Err(circle(alloc, spans, entries, e.unless_out_of_memory()?)?),
+        Err(e) => Err(cycle(alloc, spans, entries, e.unless_out_of_memory()?)?),
     }
 }
 
-// The fault of a date that can't be read.
-fn unread(fault: TypeError) -> ParseError
-    ensures { result ≡ record { span = fault.span; kind = ADate fault.kind } }
+// The error of a date that can't be read.
+fn unread(error: TypeError) -> ParseError
+    ensures { result ≡ record { span = error.span; kind = ADate error.kind } }
 {
     ParseError {
-        span: fault.span,
-        kind: ParseErrorKind::ResolutionError(fault.kind),
+        span: error.span,
+        kind: ParseErrorKind::ResolutionError(error.kind),
     }
 }
 
@@ -82,13 +82,13 @@ pub fn resolve(
     names: &Names,
     entries: &mut [Entry],
 ) -> Result<Vec<usize>, ParseError>
-    requires below { ArePlacesBelow (length entries.old) names.now }
+    requires below { AreIndicesBelow (length entries.old) names.now }
     requires as_long { length spans.now ≡ length entries.old }
     ensures length { length entries.new ≡ length entries.old }
-    ensures turns { IfOk result (λ turns. AreTurns (graph_by names.now entries.old) turns.items) }
+    ensures turns { IfOk result (λ turns. IsTopologicalOrder (graph_by names.now entries.old) turns.items) }
     ensures resolved { OnOk result (AreResolved entries.old (graph_by names.now entries.old) entries.new) }
     ensures refused { IfErr result (λ e. (e ≡ out_of_memory) ⊎
-        IsResolvingFault spans.now entries.old (graph_by names.now entries.old) e) }
+        IsResolvingError spans.now entries.old (graph_by names.now entries.old) e) }
 {
     let refs = graph(alloc, entries, names)?;
     let looks = looks(alloc, entries)?;
@@ -96,7 +96,7 @@ pub fn resolve(
     let mut dates = unread_dates(alloc, entries.len())?;
     let turns = take_turns(alloc, &order, &refs, entries, &mut dates)?;
     match unread_date(alloc, &refs, &looks, entries, &mut dates)? {
-        Some(fault) => Err(unread(fault)),
+        Some(error) => Err(unread(error)),
         None => Ok(turns),
     }
 }

@@ -5,20 +5,20 @@ ghost use Rattle.std.specs.FinMap as by_name;
 ghost use Rattle.std.specs.List.{All, Contains};
 ghost use Rattle.bib_chunks.specs.Styled.{styled};
 ghost use Rattle.bib_entry.specs.declared.entry.Entry.{Entry as AnEntry};
-ghost use Rattle.bib_graph.specs.Graph.{IsInRange, HasNoCircle, AreTurns};
+ghost use Rattle.bib_graph.specs.Graph.{IsInRange, HasNoCycle, IsTopologicalOrder};
 ghost use Rattle.bib_graph.specs.Rows.{rows};
-ghost use Rattle.bib_inheritance.specs.Dating.{date_for};
-ghost use Rattle.bib_inheritance.specs.Inherited.{field_by, inherited, taken};
+ghost use Rattle.bib_inheritance.specs.InheritableDate.{date_for};
+ghost use Rattle.bib_inheritance.specs.Inherited.{field_by, inherited, inherited_field};
 ghost use Rattle.bib_inheritance.specs.Sources.{Source, first_named, sources};
 ghost use Rattle.bib_entry_types.specs.declared.mechanics.EntryType.{EntryType};
-ghost use Rattle.bib_references.specs.Resolving.{AllKeepChunks, Inherits, KeepsChunks, at_place, source_of_entry, sources_of};
+ghost use Rattle.bib_references.specs.Resolving.{AllKeepChunks, Inherits, KeepsChunks, at_index, source_of_entry, sources_of};
 ghost use Rattle.bib_references.specs.Turning.{AddsAmong, AreDates, IsTurned, date_at};
 
 use crate::dates::last_date;
 use bib_chunks::chunk::Chunks;
 use bib_entry::entry::Entry;
-use bib_inheritance::dating::{Dating, looks_for_date};
-use bib_inheritance::gathering::gathered;
+use bib_inheritance::gathering::gathered_fields;
+use bib_inheritance::inheritable_date::{InheritableDate, looks_for_date};
 use bib_inheritance::inheriting::inherit;
 use bib_inheritance::offers::Reference;
 use bib_maps::text_map::TextMap;
@@ -27,38 +27,38 @@ use std::alloc::{AllocError, Global};
 use std::collections::BTreeSet;
 use std::mem;
 
-// The places without those that stand before: an entry that is referred to twice gives what it gives once.
-fn distinct(alloc: Global, places: &[usize]) -> Result<Vec<usize>, AllocError>
-    ensures among { IfOk result (λ first. All (Contains places.now) first.items) }
+// The indices without those that stand before: an entry that is referred to twice gives what it gives once.
+fn distinct(alloc: Global, indices: &[usize]) -> Result<Vec<usize>, AllocError>
+    ensures among { IfOk result (λ first. All (Contains indices.now) first.items) }
     ensures same { IfOk result (λ first. (at : ℕ → Source) (kind : EntryType) (name : List ℕ) →
-        taken kind name (map at first.items) ≡ taken kind name (map at places.now)) }
+        inherited_field kind name (map at first.items) ≡ inherited_field kind name (map at indices.now)) }
 {
-    if places.len() < 2 {
-        let all = places.to_vec(alloc)?;
+    if indices.len() < 2 {
+        let all = indices.to_vec(alloc)?;
         return Ok(all);
     }
     let mut seen = BTreeSet::new(alloc);
     let mut first = Vec::new(alloc);
-    'places: for place in places {
-        if seen.insert(*place)? {
-            first.push(*place)?;
+    'indices: for index in indices {
+        if seen.insert(*index)? {
+            first.push(*index)?;
         }
     }
     Ok(first)
 }
 
-// The entries at some places.
+// The entries at some indices.
 fn references_of<'a>(
     alloc: Global,
-    places: &[usize],
+    indices: &[usize],
     entries: &'a [Entry],
 ) -> Result<Vec<Reference<'a>>, AllocError>
-    requires { All (λ r. r < length entries.now) places.now }
+    requires { All (λ r. r < length entries.now) indices.now }
     ensures { IfOk result (λ references. sources references.items ≡
-        map (at_place (sources_of entries.now)) places.now) }
+        map (at_index (sources_of entries.now)) indices.now) }
 {
-    let mut references = Vec::with_capacity(alloc, places.len())?;
-    'places: for r in places {
+    let mut references = Vec::with_capacity(alloc, indices.len())?;
+    'indices: for r in indices {
         let entry = &entries[*r];
         references.push(Reference {
             entry_type: &entry.entry_type,
@@ -68,51 +68,51 @@ fn references_of<'a>(
     Ok(references)
 }
 
-// The fields that the entry at a place lacks and takes over.
+// The fields that the entry at an index lacks and takes over.
 fn fields_at(
     alloc: Global,
-    places: &[usize],
+    indices: &[usize],
     entries: &[Entry],
-    place: usize,
+    index: usize,
 ) -> Result<Vec<(Text, Chunks)>, AllocError>
-    requires references { All (λ r. r < length entries.now) places.now }
-    requires place { place < length entries.now }
+    requires references { All (λ r. r < length entries.now) indices.now }
+    requires index { index < length entries.now }
     ensures { IfOk result (λ fields. (name : List ℕ) → option_map styled (first_named fields.items name) ≡
-        (if is_some ((at_place (sources_of entries.now) place).fields name) then None
-        else taken (at_place (sources_of entries.now) place).kind name
-        (map (at_place (sources_of entries.now)) places.now))) }
+        (if is_some ((at_index (sources_of entries.now) index).fields name) then None
+        else inherited_field (at_index (sources_of entries.now) index).kind name
+        (map (at_index (sources_of entries.now)) indices.now))) }
 {
-    let first = distinct(alloc, places)?;
+    let first = distinct(alloc, indices)?;
     let references = references_of(alloc, &first, entries)?;
-    let entry = &entries[place];
-    let fields = gathered(alloc, &entry.entry_type, &entry.fields, &references)?;
+    let entry = &entries[index];
+    let fields = gathered_fields(alloc, &entry.entry_type, &entry.fields, &references)?;
     Ok(fields)
 }
 
-// The date that the entry at a place takes over: that of the last reference that has one, if the entry looks for a date.
+// The date that the entry at an index takes over: that of the last reference that has one, if the entry looks for a date.
 fn date_at(
     alloc: Global,
-    places: &[usize],
+    indices: &[usize],
     entries: &[Entry],
-    dates: &mut [Option<Dating>],
-    place: usize,
+    dates: &mut [Option<InheritableDate>],
+    index: usize,
 ) -> Result<Option<Chunks>, AllocError>
-    requires references { All (λ r. r < length entries.now) places.now }
-    requires place { place < length entries.now }
+    requires references { All (λ r. r < length entries.now) indices.now }
+    requires index { index < length entries.now }
     requires as_long { length dates.old ≡ length entries.now }
     requires dates { AreDates (sources_of entries.now) dates.old }
     ensures date { IfOk result (λ date. option_map styled date ≡
-        date_for (at_place (sources_of entries.now) place)
-        (map (at_place (sources_of entries.now)) places.now)) }
+        date_for (at_index (sources_of entries.now) index)
+        (map (at_index (sources_of entries.now)) indices.now)) }
     ensures as_long { length dates.new ≡ length entries.now }
     ensures dates { AreDates (sources_of entries.now) dates.new }
-    ensures added { AddsAmong places.now dates.old dates.new }
+    ensures added { AddsAmong indices.now dates.old dates.new }
 {
-    let entry = &entries[place];
+    let entry = &entries[index];
     if !looks_for_date(&entry.entry_type, &entry.fields) {
         return Ok(None);
     }
-    last_date(alloc, places, entries, dates)
+    last_date(alloc, indices, entries, dates)
 }
 
 // Gives an entry what it takes over.
@@ -133,36 +133,36 @@ fn set_gain(
     Ok(())
 }
 
-// The entry at a place has its turn, which is written down. This is the one use of the rule of inheritance.
+// The entry at an index has its turn, which is written down. This is the one use of the rule of inheritance.
 fn take_turn(
     alloc: Global,
-    places: &[usize],
+    indices: &[usize],
     entries: &mut [Entry],
-    dates: &mut [Option<Dating>],
+    dates: &mut [Option<InheritableDate>],
     turns: &mut Vec<usize>,
-    place: usize,
+    index: usize,
 ) -> Result<(), AllocError>
-    requires references { All (λ r. r < length entries.old) places.now }
-    requires place { place < length entries.old }
+    requires references { All (λ r. r < length entries.old) indices.now }
+    requires index { index < length entries.old }
     requires as_long { length dates.old ≡ length entries.old }
     requires dates { AreDates (sources_of entries.old) dates.old }
     ensures length { length entries.new ≡ length entries.old }
-    ensures turns { OnOk result (turns.new.items ≡ turns.old.items ++ place ∷ []) }
-    ensures turned { OnOk result ((entry : AnEntry) × (entries.new ≡ slice_set entries.old place entry) ×
-        IsTurned (slice_index_or entries.old place entry)
-        (map (at_place (sources_of entries.old)) places.now) entry) }
+    ensures turns { OnOk result (turns.new.items ≡ turns.old.items ++ index ∷ []) }
+    ensures turned { OnOk result ((entry : AnEntry) × (entries.new ≡ slice_set entries.old index entry) ×
+        IsTurned (slice_index_or entries.old index entry)
+        (map (at_index (sources_of entries.old)) indices.now) entry) }
     ensures as_long { length dates.new ≡ length entries.old }
     ensures dates { AreDates (sources_of entries.old) dates.new }
-    ensures added { AddsAmong places.now dates.old dates.new }
+    ensures added { AddsAmong indices.now dates.old dates.new }
 {
-    turns.push(place)?;
-    let entry = &entries[place];
-    if places.is_empty() && entry.fields.get("xdata").is_none() {
+    turns.push(index)?;
+    let entry = &entries[index];
+    if indices.is_empty() && entry.fields.get("xdata").is_none() {
         return Ok(());
     }
-    let given = fields_at(alloc, places, entries, place)?;
-    let date = date_at(alloc, places, entries, dates, place)?;
-    set_gain(alloc, &mut entries[place], given, date)?;
+    let given = fields_at(alloc, indices, entries, index)?;
+    let date = date_at(alloc, indices, entries, dates, index)?;
+    set_gain(alloc, &mut entries[index], given, date)?;
     Ok(())
 }
 
@@ -172,13 +172,13 @@ pub(crate) fn take_turns(
     order: &[usize],
     refs: &[Vec<usize>],
     entries: &mut [Entry],
-    dates: &mut [Option<Dating>],
+    dates: &mut [Option<InheritableDate>],
 ) -> Result<Vec<usize>, AllocError>
-    requires order { AreTurns (rows refs.now) order.now }
+    requires order { IsTopologicalOrder (rows refs.now) order.now }
     requires in_range { IsInRange (rows refs.now) }
     requires as_long { length entries.old ≡ length refs.now }
     requires as_many { length dates.old ≡ length entries.old }
-    requires unread { (place : ℕ) → IsNone (date_at dates.old place) }
+    requires unread { (index : ℕ) → IsNone (date_at dates.old index) }
     ensures turns { IfOk result (λ turns. turns.items ≡ order.now) }
     ensures length { length entries.new ≡ length entries.old }
     ensures keys { OnOk result (map (λ e. e.key) entries.new ≡ map (λ e. e.key) entries.old) }
@@ -188,8 +188,8 @@ pub(crate) fn take_turns(
     ensures as_many { OnOk result (length dates.new ≡ length entries.new) }
 {
     let mut turns = Vec::with_capacity(alloc, order.len())?;
-    'order: for place in order {
-        take_turn(alloc, &refs[*place], entries, dates, &mut turns, *place)?;
+    'order: for index in order {
+        take_turn(alloc, &refs[*index], entries, dates, &mut turns, *index)?;
     }
     Ok(turns)
 }

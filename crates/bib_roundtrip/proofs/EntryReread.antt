@@ -36,9 +36,9 @@ pub record IsLine (l : Line) : Type 0 where
 pub record SaysLine (l : Line) (f : FieldReading) : Type 0 where
   pub name : f.name.text ≡ l.0
   pub inside : Place
-  pub behind : Place
-  pub pieces : f.value.pieces ≡ literal (part inside behind) ∷ []
-  pub spells : Spells inside l.1 behind
+  pub following : Place
+  pub pieces : f.value.pieces ≡ literal (part inside following) ∷ []
+  pub spells : Spells inside l.1 following
   pub utf8 : IsUtf8 (encode_utf8_all l.1)
 
 abbrev pub SayLines : List Line → List FieldReading → Type 0
@@ -75,9 +75,9 @@ lines_plainly (l ∷ ls) all stands closes =
     let one = stands_split (line_text l) (flat_map line_text ls) stands in
     identifier_plainly all.0.identifier (stands_split l.0 (codes " = " ++ (encode_utf8_all (123 ∷ (l.1 ++ 125 ∷ [])) ++ codes ",\n")) one.1).1
 
--- a line feed, and then no white space and no remark
+-- a line feed, and then no white space and no comment
 gap_feed : {u v : Place} → CharAt u 10 v → Plainly v → Gap longest u v
-gap_feed feed behind = Gap.white (record { run = step feed refl stop; stops = stops_at is_whitespace behind.here behind.dark }) (stops_at (λ c. c == 37) behind.here behind.plain)
+gap_feed feed following = Gap.white (record { run = step feed refl stop; stops = stops_at is_whitespace following.here following.dark }) (stops_at (λ c. c == 37) following.here following.plain)
 
 pub fields_read : (ls : List Line) {u w x : Place} → AllByRecursion IsLine ls → IsUtf8 (drop u.at u.text) → Stands u (flat_map line_text ls) w → CharAt w 125 x → (fs : List FieldReading) × Fields longest u fs w × SayLines ls fs × IsUtf8 (drop w.at w.text)
 fields_read [] {u} {w} {x} all utf8 stands closes = ([], subst (λ p. Fields longest p [] w) (stands_none stands) (Fields.none (no_white closes refl)), tt, subst (λ p. IsUtf8 (drop p.at p.text)) (sym (stands_none stands)) utf8)
@@ -87,7 +87,7 @@ fields_read (l ∷ ls) {u} {w} all utf8 stands closes =
     let texts = one.utf8 utf8 in
     let more = fields_read ls all.1 texts.1 cut.2 closes in
     let before_comma : Gap longest one.end one.end = Gap.white (no_white one.comma refl) (stops_at (λ c. c == 37) one.comma refl) in
-    let said : SaysLine l one.says = record { name = one.named; inside = one.inside; behind = one.behind; pieces = one.pieces; spells = one.spells; utf8 = texts.0 } in
+    let said : SaysLine l one.says = record { name = one.named; inside = one.inside; following = one.following; pieces = one.pieces; spells = one.spells; utf8 = texts.0 } in
     (one.says ∷ more.0, Fields.more one.field before_comma one.comma (gap_feed one.feed (lines_plainly ls all.1 cut.2 closes)) more.1, (said, more.2), more.3)
 
 -- an entry that is written: the name of its type, its key and its lines
@@ -113,7 +113,7 @@ pub record SaysEntry (e : Written) (said : EntryReading) : Type 0 where
 key_dark : (c : ℕ) → is_key c ≡ true → is_whitespace c ≡ false
 key_dark c passes = not-true (is_whitespace c) (and_parts _ (not (is_whitespace c)) passes).1
 
--- a key's first character or the comma behind it is no white space
+-- a key's first character or the comma after it is no white space
 key_first : {u v w : Place} → Run is_key u v → CharAt v 44 w → Stops is_whitespace u
 key_first stop comma = stops_at is_whitespace comma refl
 key_first (step {c = c} char passes rest) comma = stops_at is_whitespace char (key_dark c passes)
@@ -154,7 +154,7 @@ block_read e {u} {w} right utf8 stands =
       name_start = a.0;
       name_end = b.0;
       before_brace = b.0;
-      behind_brace = c.0;
+      after_brace = c.0;
       brace = 123;
       sign = a.1;
       name = name;

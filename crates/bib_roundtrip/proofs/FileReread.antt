@@ -32,18 +32,18 @@ identifier_stands {name} {u} {v} stands i stops =
       reading = refl;
     }
 
--- one character of white space, and none behind it
+-- one character of white space, and none after it
 one_white : {u v w : Place} {d : ℕ} → CharAt u 32 v → CharAt v d w → is_whitespace d ≡ false → Longest is_whitespace u v
 one_white space char dark = record { run = step space refl stop; stops = stops_at is_whitespace char dark }
 
 pub no_white : {u v : Place} {d : ℕ} → CharAt u d v → is_whitespace d ≡ false → Longest is_whitespace u u
 no_white char dark = record { run = stop; stops = stops_at is_whitespace char dark }
 
--- a field in braces, and the comma and the line feed behind it
+-- a field in braces, and the comma and the line feed after it
 pub record FieldRead (name value : List ℕ) (u w : Place) : Type 0 where
   pub says : FieldReading
   pub inside : Place
-  pub behind : Place
+  pub following : Place
   pub name_end : Place
   pub end : Place
   pub next : Place
@@ -51,8 +51,8 @@ pub record FieldRead (name value : List ℕ) (u w : Place) : Type 0 where
   pub comma : CharAt end 44 next
   pub feed : CharAt next 10 w
   pub named : says.name.text ≡ name
-  pub pieces : says.value.pieces ≡ literal (part inside behind) ∷ []
-  pub spells : Spells inside value behind
+  pub pieces : says.value.pieces ≡ literal (part inside following) ∷ []
+  pub spells : Spells inside value following
   pub utf8 : IsUtf8 (drop u.at u.text) → IsUtf8 (encode_utf8_all value) × IsUtf8 (drop w.at w.text)
 
 pub field_read : (name value : List ℕ) {p : Part} {u w : Place} → Identifier any (place name 0) p (place name (length name)) → ((x y : Place) → Spells x value y → Parts x y)
@@ -71,21 +71,21 @@ field_read name value {p} {u} {w} identifier parts stands =
     let j = stands_char 10 [] i.2 in
     let closes : CharAt g.0 125 e.0 = subst (λ q. CharAt g.0 125 q) (sym (stands_none h.2)) h.1 in
     let feed : CharAt i.0 10 w = subst (λ q. CharAt i.0 10 q) (sym (stands_none j.2)) j.1 in
-    let braced : Braced d.0 (part f.0 g.0) e.0 = record { inside = f.0; behind = g.0; opens = f.1; parts = parts f.0 g.0 g.1; closes = closes; reading = refl } in
+    let braced : Braced d.0 (part f.0 g.0) e.0 = record { inside = f.0; following = g.0; opens = f.1; parts = parts f.0 g.0 g.1; closes = closes; reading = refl } in
     let elements : Elements longest d.0 (literal (part f.0 g.0) ∷ []) e.0 =
     Elements.last (Element.braced braced) (no_white i.1 refl) (stops_at (λ k. k == 35) i.1 refl) in
     let name_read : Identifier longest u (part u a.0) a.0 = identifier_stands a.1 identifier (stops_at is_id_continue b.1 refl) in
     record {
       says = record { name = part u a.0; value = record { pieces = literal (part f.0 g.0) ∷ []; start = d.0.at; end = e.0.at } };
       inside = f.0;
-      behind = g.0;
+      following = g.0;
       name_end = a.0;
       end = e.0;
       next = i.0;
       field = record {
         name_end = a.0;
         before_sign = b.0;
-        behind_sign = c.0;
+        after_sign = c.0;
         value_start = d.0;
         name = name_read;
         white = one_white b.1 c.1 refl;

@@ -8,7 +8,7 @@ use Rattle.std.proofs.lemmas.Bool.{eqb-true, and_from, and_parts}
 use Rattle.std.proofs.lemmas.Str.{chars-encodes}
 use Rattle.bib_text.specs.declared.spanned.Spanned.{Spanned}
 use Rattle.bib_chunks.specs.Styled.{Atom, atoms_of, styled}
-use Rattle.bib_chunks.specs.Written.{is_grouping, is_reserved, spelled, spelling, lead, trail, is_open_behind, written_chunk, written_chunks}
+use Rattle.bib_chunks.specs.Written.{is_grouping, is_reserved, spelled, spelling, lead, trail, is_open_after, written_chunk, written_chunks}
 use Rattle.bib_chunks.specs.declared.chunk.Chunk.{Chunk}
 use Rattle.bib_chunks.specs.declared.chunk.Chunk.TheVariants.{Normal, Verbatim, Math}
 use Rattle.bib_chunks.proofs.TrimFacts.{scalars_parts}
@@ -179,7 +179,7 @@ valid_chunk false (Math text) atoms all rest = (all, rest)
 pub written_texts : (v o : Bool) (chunks : List (Spanned Chunk)) → scalars (written_chunks v o chunks) ≡ true → AllByRecursion IsText (styled chunks)
 written_texts v o [] all = tt
 written_texts v o (c ∷ rest) all =
-    let behind = scalars_parts (lead o c.v ++ written_chunk c.v v ++ trail c.v) (written_chunks v (is_open_behind o c.v) rest) all in
-    let before = scalars_parts (lead o c.v ++ written_chunk c.v v) (trail c.v) behind.0 in
+    let following = scalars_parts (lead o c.v ++ written_chunk c.v v ++ trail c.v) (written_chunks v (is_open_after o c.v) rest) all in
+    let before = scalars_parts (lead o c.v ++ written_chunk c.v v) (trail c.v) following.0 in
     let chunk = scalars_parts (lead o c.v) (written_chunk c.v v) before.0 in
-    valid_chunk v c.v (styled rest) chunk.1 (written_texts v (is_open_behind o c.v) rest behind.1)
+    valid_chunk v c.v (styled rest) chunk.1 (written_texts v (is_open_after o c.v) rest following.1)

@@ -9,12 +9,12 @@ use Rattle.std.proofs.lemmas.List.{append-nil}
 use lib.Utf8.{encode}
 use Rattle.bib_chunks.specs.Styled.{Atom, styled, atoms_of}
 use Rattle.bib_styled.specs.Settled.{IsSettledAtom, AreApart, IsSettled, is_pair}
-use Rattle.bib_chunks.specs.Written.{is_grouping, is_reserved, spelled, spelling, lead, trail, is_open_behind, written_chunk, written_chunks}
+use Rattle.bib_chunks.specs.Written.{is_grouping, is_reserved, spelled, spelling, lead, trail, is_open_after, written_chunk, written_chunks}
 use Rattle.bib_chunks.proofs.WrittenFacts.{spelled_grouping, spelled_verbatim, spelled_reserved, spelled_tilde, spelled_circumflex, spelled_other}
 use Rattle.bib_chunks.specs.declared.chunk.Chunk.{Chunk}
 use Rattle.bib_chunks.specs.declared.chunk.Chunk.TheVariants.{Normal, Verbatim, Math}
 use Rattle.bib_text.specs.declared.spanned.Spanned.{Spanned}
-use Rattle.bib_contents.specs.Commands.{given, accents, symbols}
+use Rattle.bib_contents.specs.Commands.{command_text, accents, symbols}
 use Rattle.bib_contents.specs.Contents.{ContentUnit, Argument, is_escapable, is_escaped, is_space, is_blank, is_name_character, is_sign, is_mark, is_accent_letter, is_ordinary, begins, unit_spelling, fits, IsNext, meaning, character, depth_after, is_closable, held, Reads}
 use Rattle.bib_contents.specs.Contents.Reads.{end, next}
 
@@ -44,7 +44,7 @@ escaped_reserved : (c : ℕ) → is_reserved c ≡ true → is_escaped false c �
 unfolding is_grouping is_escaped is_escapable is_reserved
 escaped_reserved c reserved = grind arith
 
--- behind a backslash
+-- after a backslash
 spelt_escaped : (v : Bool) (c : ℕ) (rest : List ℕ) → is_escaped v c ≡ true → spelled v c ≡ 92 ∷ c ∷ [] → IsSpelt v c rest
 spelt_escaped v c rest escaped spells = record {
   unit = ContentUnit.escaped c;
@@ -101,12 +101,12 @@ signed name = ContentUnit.command name [] (Argument.braced [])
 some_text : {one two : List ℕ} → Some one ≡ Some two → one ≡ two
 some_text same = cc
 
-tilde_given : given (codes "textasciitilde") (Some []) ≡ 126 ∷ []
-unfolding given accents symbols encode
+tilde_given : command_text (codes "textasciitilde") (Some []) ≡ 126 ∷ []
+unfolding command_text accents symbols encode
 tilde_given = refl
 
-circumflex_given : given (codes "textasciicircum") (Some []) ≡ 94 ∷ []
-unfolding given accents symbols encode
+circumflex_given : command_text (codes "textasciicircum") (Some []) ≡ 94 ∷ []
+unfolding command_text accents symbols encode
 circumflex_given = refl
 
 spelt_tilde : (c : ℕ) (rest : List ℕ) → c ≡ 126 → spelled false c ≡ codes "\\textasciitilde{}" → IsSpelt false c rest
@@ -166,8 +166,8 @@ put : {v : Bool} {c : ℕ} {rest : List ℕ} {atoms : List Atom} (depth : ℕ) �
 put {v} {c} {rest} {atoms} depth one read =
     let first : IsNext v one.unit (spelled v c ++ rest) rest = record { fits = one.right; spells = ap (λ cs. cs ++ rest) (sym one.spelt) } in
     let inside : (text : List ℕ) → held one.unit ≡ Some text → Reads false 0 text [] = λ text holds. subst (λ t. Reads false 0 t []) (one.holds text holds) end in
-    let behind : Reads v (depth_after depth one.unit) rest atoms = subst (λ d. Reads v d rest atoms) (sym (one.stays depth)) read in
-    subst (λ xs. Reads v depth (spelled v c ++ rest) (xs ++ atoms)) (one.means depth) (next first (one.closable depth) inside behind)
+    let following : Reads v (depth_after depth one.unit) rest atoms = subst (λ d. Reads v d rest atoms) (sym (one.stays depth)) read in
+    subst (λ xs. Reads v depth (spelled v c ++ rest) (xs ++ atoms)) (one.means depth) (next first (one.closable depth) inside following)
 
 -- the next atom is no character of this kind that passes the test
 abbrev pub NextFails : (ℕ → Bool) → Bool → List Atom → Type 0
@@ -200,17 +200,17 @@ begins_spelled test v c rest slash fails = begins_by test v (is_grouping c) (is_
 
 begins_text : (test : ℕ → Bool) → IsOfCharacters test → (v o : Bool) (cs : List ℕ) (atoms : List Atom) (rest : List ℕ) → (NextFails test o atoms → begins test rest ≡ false)
     → NextFails test o (map (character (depth_of o)) cs ++ atoms) → begins test (spelling v cs ++ rest) ≡ false
-begins_text test of v o [] atoms rest behind fails = behind fails
-begins_text test of v true (c ∷ cs) atoms rest behind fails = rw (append_assoc (spelled v c) (spelling v cs) rest) (begins_spelled test v c (spelling v cs ++ rest) of.slash fails)
-begins_text test of v false (c ∷ cs) atoms rest behind fails = rw (append_assoc (spelled v c) (spelling v cs) rest) (begins_spelled test v c (spelling v cs ++ rest) of.slash fails)
+begins_text test of v o [] atoms rest following fails = following fails
+begins_text test of v true (c ∷ cs) atoms rest following fails = rw (append_assoc (spelled v c) (spelling v cs) rest) (begins_spelled test v c (spelling v cs ++ rest) of.slash fails)
+begins_text test of v false (c ∷ cs) atoms rest following fails = rw (append_assoc (spelled v c) (spelling v cs) rest) (begins_spelled test v c (spelling v cs ++ rest) of.slash fails)
 
 begins_chunk : (test : ℕ → Bool) → IsOfCharacters test → (v o : Bool) (chunk : Chunk) (rest : List (Spanned Chunk)) → ((b : Bool) → NextFails test b (styled rest) → begins test (written_chunks v b rest) ≡ false)
-    → NextFails test o (atoms_of chunk ++ styled rest) → begins test (lead o chunk ++ written_chunk chunk v ++ trail chunk ++ written_chunks v (is_open_behind o chunk) rest) ≡ false
-begins_chunk test of v true (Normal text) rest behind fails = of.closes
-begins_chunk test of v false (Normal text) rest behind fails = rw (append-nil (spelling v (chars text))) (begins_text test of v false (chars text) (styled rest) (written_chunks v false rest) (behind false) fails)
-begins_chunk test of v false (Verbatim text) rest behind fails = of.opens
-begins_chunk test of v true (Verbatim text) rest behind fails = rw (append-nil (spelling v (chars text))) (begins_text test of v true (chars text) (styled rest) (written_chunks v true rest) (behind true) fails)
-begins_chunk test of v o (Math text) rest behind fails = of.dollar
+    → NextFails test o (atoms_of chunk ++ styled rest) → begins test (lead o chunk ++ written_chunk chunk v ++ trail chunk ++ written_chunks v (is_open_after o chunk) rest) ≡ false
+begins_chunk test of v true (Normal text) rest following fails = of.closes
+begins_chunk test of v false (Normal text) rest following fails = rw (append-nil (spelling v (chars text))) (begins_text test of v false (chars text) (styled rest) (written_chunks v false rest) (following false) fails)
+begins_chunk test of v false (Verbatim text) rest following fails = of.opens
+begins_chunk test of v true (Verbatim text) rest following fails = rw (append-nil (spelling v (chars text))) (begins_text test of v true (chars text) (styled rest) (written_chunks v true rest) (following true) fails)
+begins_chunk test of v o (Math text) rest following fails = of.dollar
 
 -- what is written next doesn't begin with a character that passes the test
 begins_written : (test : ℕ → Bool) → IsOfCharacters test → (v o : Bool) (chunks : List (Spanned Chunk)) → NextFails test o (styled chunks) → begins test (written_chunks v o chunks) ≡ false
@@ -226,7 +226,7 @@ spaces_of : IsOfCharacters is_space
 unfolding is_space
 spaces_of = record { slash = refl; opens = refl; closes = refl; dollar = refl }
 
--- behind a hyphen stands none of its kind
+-- after a hyphen stands none of its kind
 hyphen_apart : (c d : ℕ) → c ≡ 45 → is_pair c d ≡ false → (d == 45) ≡ false
 hyphen_apart c d is apart = let shown : is_pair 45 d ≡ false = subst (λ x. is_pair x d ≡ false) is apart in (or_parts (45 == 32 && d == 32) (45 == 45 && d == 45) shown).1
 
@@ -278,11 +278,11 @@ read_text v o (c ∷ cs) chunks each apart read =
     let atoms = map (character (depth_of o)) cs ++ styled chunks in
     let rest = spelling v cs ++ written_chunks v o chunks in
     let settled = settled_white v o c each.0 in
-    let behind : Reads v (depth_of o) rest atoms = read_text v o cs chunks each.1 (apart_rest (character (depth_of o) c) atoms apart) read in
+    let following : Reads v (depth_of o) rest atoms = read_text v o cs chunks each.1 (apart_rest (character (depth_of o) c) atoms apart) read in
     let one : IsSpelt v c rest = spelt v c rest settled
     (λ is. begins_text (λ d. d == 45) hyphens_of v o cs (styled chunks) (written_chunks v o chunks) (begins_written (λ d. d == 45) hyphens_of v o chunks) (hyphens_next o c atoms apart is))
     (λ white. begins_text is_space spaces_of v o cs (styled chunks) (written_chunks v o chunks) (begins_written is_space spaces_of v o chunks) (spaces_next v o c atoms apart each.1 (settled white))) in
-    rw (append_assoc (spelled v c) (spelling v cs) (written_chunks v o chunks)) (put (depth_of o) one behind)
+    rw (append_assoc (spelled v c) (spelling v cs) (written_chunks v o chunks)) (put (depth_of o) one following)
 
 -- a brace before what is read
 read_closing : {v : Bool} {rest : List ℕ} {atoms : List Atom} → Reads v 0 rest atoms → Reads v 1 (125 ∷ rest) atoms
@@ -300,24 +300,24 @@ each_rest : (v o : Bool) (cs : List ℕ) (atoms : List Atom) → AllByRecursion 
 each_rest v o [] atoms each = each
 each_rest v o (c ∷ cs) atoms each = each_rest v o cs atoms each.1
 
-apart_behind : (o : Bool) (cs : List ℕ) (atoms : List Atom) → AreApart (map (character (depth_of o)) cs ++ atoms) → AreApart atoms
-apart_behind o [] atoms apart = apart
-apart_behind o (c ∷ cs) atoms apart = apart_behind o cs atoms (apart_rest (character (depth_of o) c) (map (character (depth_of o)) cs ++ atoms) apart)
+apart_after : (o : Bool) (cs : List ℕ) (atoms : List Atom) → AreApart (map (character (depth_of o)) cs ++ atoms) → AreApart atoms
+apart_after o [] atoms apart = apart
+apart_after o (c ∷ cs) atoms apart = apart_after o cs atoms (apart_rest (character (depth_of o) c) (map (character (depth_of o)) cs ++ atoms) apart)
 
 read_chunk : (v o : Bool) (chunk : Chunk) (rest : List (Spanned Chunk)) → AllByRecursion (IsSettledAtom v) (atoms_of chunk ++ styled rest) → AreApart (atoms_of chunk ++ styled rest)
     → ((b : Bool) → AllByRecursion (IsSettledAtom v) (styled rest) → AreApart (styled rest) → Reads v (depth_of b) (written_chunks v b rest) (styled rest))
-    → Reads v (depth_of o) (lead o chunk ++ written_chunk chunk v ++ trail chunk ++ written_chunks v (is_open_behind o chunk) rest) (atoms_of chunk ++ styled rest)
-read_chunk v false (Normal text) rest each apart behind =
-    rw (append-nil (spelling v (chars text))) (read_text v false (chars text) rest each apart (behind false (each_rest v false (chars text) (styled rest) each) (apart_behind false (chars text) (styled rest) apart)))
-read_chunk v true (Normal text) rest each apart behind =
-    read_closing (rw (append-nil (spelling v (chars text))) (read_text v false (chars text) rest each apart (behind false (each_rest v false (chars text) (styled rest) each) (apart_behind false (chars text) (styled rest) apart))))
-read_chunk v true (Verbatim text) rest each apart behind =
-    rw (append-nil (spelling v (chars text))) (read_text v true (chars text) rest each apart (behind true (each_rest v true (chars text) (styled rest) each) (apart_behind true (chars text) (styled rest) apart)))
-read_chunk v false (Verbatim text) rest each apart behind =
-    read_opening (rw (append-nil (spelling v (chars text))) (read_text v true (chars text) rest each apart (behind true (each_rest v true (chars text) (styled rest) each) (apart_behind true (chars text) (styled rest) apart))))
-read_chunk true o (Math text) rest each apart behind = absurd (both_ways true each.0.0 refl)
-read_chunk false o (Math text) rest each apart behind =
-    rw (append_assoc (chars text) (36 ∷ []) (written_chunks false o rest)) (read_math (depth_of o) (chars text) (written_chunks false o rest) (styled rest) each.0.1 (behind o each.1 (apart_rest (Atom.math (chars text)) (styled rest) apart)))
+    → Reads v (depth_of o) (lead o chunk ++ written_chunk chunk v ++ trail chunk ++ written_chunks v (is_open_after o chunk) rest) (atoms_of chunk ++ styled rest)
+read_chunk v false (Normal text) rest each apart following =
+    rw (append-nil (spelling v (chars text))) (read_text v false (chars text) rest each apart (following false (each_rest v false (chars text) (styled rest) each) (apart_after false (chars text) (styled rest) apart)))
+read_chunk v true (Normal text) rest each apart following =
+    read_closing (rw (append-nil (spelling v (chars text))) (read_text v false (chars text) rest each apart (following false (each_rest v false (chars text) (styled rest) each) (apart_after false (chars text) (styled rest) apart))))
+read_chunk v true (Verbatim text) rest each apart following =
+    rw (append-nil (spelling v (chars text))) (read_text v true (chars text) rest each apart (following true (each_rest v true (chars text) (styled rest) each) (apart_after true (chars text) (styled rest) apart)))
+read_chunk v false (Verbatim text) rest each apart following =
+    read_opening (rw (append-nil (spelling v (chars text))) (read_text v true (chars text) rest each apart (following true (each_rest v true (chars text) (styled rest) each) (apart_after true (chars text) (styled rest) apart))))
+read_chunk true o (Math text) rest each apart following = absurd (both_ways true each.0.0 refl)
+read_chunk false o (Math text) rest each apart following =
+    rw (append_assoc (chars text) (36 ∷ []) (written_chunks false o rest)) (read_math (depth_of o) (chars text) (written_chunks false o rest) (styled rest) each.0.1 (following o each.1 (apart_rest (Atom.math (chars text)) (styled rest) apart)))
 
 -- what is written of settled chunks is read as their styled text
 pub read_written : (v o : Bool) (chunks : List (Spanned Chunk)) → AllByRecursion (IsSettledAtom v) (styled chunks) → AreApart (styled chunks) → Reads v (depth_of o) (written_chunks v o chunks) (styled chunks)

@@ -48,7 +48,7 @@ small_byte b = (λ low. grind arith, λ same. grind arith)
 first_same : {x y : ℕ} {xs ys : List ℕ} → x ∷ xs ≡ y ∷ ys → (x ≡ y) × (xs ≡ ys)
 first_same same = (cc, cc)
 
--- a text without capitals is as it is in small letters
+-- a text without uppercase letters is as it is in lowercase letters
 pub small_text : (bytes : List ℕ) → (list_all (λ b. not (is_ascii_uppercase b)) bytes ≡ true → map to_ascii_lowercase bytes ≡ bytes) × (map to_ascii_lowercase bytes ≡ bytes → list_all (λ b. not (is_ascii_uppercase b)) bytes ≡ true)
 small_text [] = (λ all. refl, λ same. refl)
 small_text (b ∷ bytes) = (
@@ -70,9 +70,9 @@ settled_name name linked identifier small is = (
   (λ settled. ap not (is ∙ settled.apart)),
 )
 
--- the fields that are left, behind one
-pub fields_behind : {P Q : Type 0} {f : List ℕ × List (Spanned Chunk)} {fs rest : List (List ℕ × List (Spanned Chunk))} → P ↔ (Q × AllByRecursion IsSettledField fs) → fs ≡ f ∷ rest → IsSettledField f → P ↔ (Q × AllByRecursion IsSettledField rest)
-fields_behind {P} {Q} {f} {fs} {rest} before is settled =
+-- the fields that are left, after one
+pub fields_after : {P Q : Type 0} {f : List ℕ × List (Spanned Chunk)} {fs rest : List (List ℕ × List (Spanned Chunk))} → P ↔ (Q × AllByRecursion IsSettledField fs) → fs ≡ f ∷ rest → IsSettledField f → P ↔ (Q × AllByRecursion IsSettledField rest)
+fields_after {P} {Q} {f} {fs} {rest} before is settled =
     let whole : P ↔ (Q × AllByRecursion IsSettledField (f ∷ rest)) = subst (λ xs. P ↔ (Q × AllByRecursion IsSettledField xs)) is before in (
       (λ p. let both = whole.0 p in (both.0, both.1.1)),
       (λ both. whole.1 (both.0, (settled, both.1))),

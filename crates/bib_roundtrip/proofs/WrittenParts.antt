@@ -14,7 +14,7 @@ use Rattle.bib_chunks.specs.declared.chunk.Chunk.{Chunk}
 use Rattle.bib_chunks.specs.declared.chunk.Chunk.TheVariants.{Normal, Verbatim, Math}
 use Rattle.bib_chunks.specs.Styled.{Atom, styled, atoms_of}
 use Rattle.bib_styled.specs.Settled.{IsSettledAtom}
-use Rattle.bib_chunks.specs.Written.{is_grouping, is_reserved, spelled, spelling, lead, trail, is_open_behind, written_chunk, written_chunks}
+use Rattle.bib_chunks.specs.Written.{is_grouping, is_reserved, spelled, spelling, lead, trail, is_open_after, written_chunk, written_chunks}
 use Rattle.bib_roundtrip.proofs.StandsFacts.{Stands, stands_none, stands_split, stands_chars, parts_stand, parts_append, parts_plain}
 
 -- characters, where they stand
@@ -85,29 +85,29 @@ settled_rest v f (c ∷ cs) atoms each = settled_rest v f cs atoms each.1
 
 parts_chunk : (v o : Bool) (chunk : Chunk) (rest : List (Spanned Chunk)) {u w : Place} → AllByRecursion (IsSettledAtom v) (atoms_of chunk ++ styled rest)
     → ((b : Bool) (x : Place) → AllByRecursion (IsSettledAtom v) (styled rest) → Spells x (written_chunks v b rest) w → PartsOf b x w)
-    → Spells u (lead o chunk ++ written_chunk chunk v ++ trail chunk ++ written_chunks v (is_open_behind o chunk) rest) w → PartsOf o u w
-parts_chunk v false (Normal text) rest each behind spells =
+    → Spells u (lead o chunk ++ written_chunk chunk v ++ trail chunk ++ written_chunks v (is_open_after o chunk) rest) w → PartsOf o u w
+parts_chunk v false (Normal text) rest each following spells =
     let cut = spells_split (spelling v (chars text)) (written_chunks v false rest) (text_before (spelling v (chars text)) (written_chunks v false rest) spells) in
-    parts_append (parts_spelling v (chars text) cut.1) (behind false _ (settled_rest v Atom.normal (chars text) (styled rest) each) cut.2)
-parts_chunk v true (Normal text) rest each behind spells =
+    parts_append (parts_spelling v (chars text) cut.1) (following false _ (settled_rest v Atom.normal (chars text) (styled rest) each) cut.2)
+parts_chunk v true (Normal text) rest each following spells =
     let first = stands_chars 125 (spelling v (chars text) ++ [] ++ written_chunks v false rest) spells in
     let cut = spells_split (spelling v (chars text)) (written_chunks v false rest) (text_before (spelling v (chars text)) (written_chunks v false rest) first.2) in
-    (_, first.0, none, first.1, parts_append (parts_spelling v (chars text) cut.1) (behind false _ (settled_rest v Atom.normal (chars text) (styled rest) each) cut.2))
-parts_chunk v true (Verbatim text) rest each behind spells =
+    (_, first.0, none, first.1, parts_append (parts_spelling v (chars text) cut.1) (following false _ (settled_rest v Atom.normal (chars text) (styled rest) each) cut.2))
+parts_chunk v true (Verbatim text) rest each following spells =
     let cut = spells_split (spelling v (chars text)) (written_chunks v true rest) (text_before (spelling v (chars text)) (written_chunks v true rest) spells) in
-    parts_before true _ (parts_spelling v (chars text) cut.1) (behind true _ (settled_rest v Atom.verbatim (chars text) (styled rest) each) cut.2)
-parts_chunk v false (Verbatim text) rest each behind spells =
+    parts_before true _ (parts_spelling v (chars text) cut.1) (following true _ (settled_rest v Atom.verbatim (chars text) (styled rest) each) cut.2)
+parts_chunk v false (Verbatim text) rest each following spells =
     let first = stands_chars 123 (spelling v (chars text) ++ [] ++ written_chunks v true rest) spells in
     let cut = spells_split (spelling v (chars text)) (written_chunks v true rest) (text_before (spelling v (chars text)) (written_chunks v true rest) first.2) in
-    let (x, y, inner, closes, more) = parts_before true _ (parts_spelling v (chars text) cut.1) (behind true _ (settled_rest v Atom.verbatim (chars text) (styled rest) each) cut.2) in
+    let (x, y, inner, closes, more) = parts_before true _ (parts_spelling v (chars text) cut.1) (following true _ (settled_rest v Atom.verbatim (chars text) (styled rest) each) cut.2) in
     nested first.1 inner closes more
-parts_chunk true o (Math text) rest each behind spells = absurd (both_ways true each.0.0 refl)
-parts_chunk false o (Math text) rest each behind spells =
+parts_chunk true o (Math text) rest each following spells = absurd (both_ways true each.0.0 refl)
+parts_chunk false o (Math text) rest each following spells =
     let first = stands_chars 36 (chars text ++ 36 ∷ written_chunks false o rest) (math_before (chars text) (written_chunks false o rest) spells) in
     let cut = spells_split (chars text) (36 ∷ written_chunks false o rest) first.2 in
     let last = stands_chars 36 (written_chunks false o rest) cut.2 in
     let math : Parts first.0 last.0 = parts_append (parts_stand cut.1 each.0.2) (plain last.1 refl none) in
-    parts_before o _ (plain first.1 refl math) (behind o _ each.1 last.2)
+    parts_before o _ (plain first.1 refl math) (following o _ each.1 last.2)
 
 parts_written : (v o : Bool) (chunks : List (Spanned Chunk)) {u w : Place} → AllByRecursion (IsSettledAtom v) (styled chunks) → Spells u (written_chunks v o chunks) w → PartsOf o u w
 parts_written v false [] {u} {w} each spells = subst (λ p. Parts u p) (sym (stands_none spells)) none

@@ -30,7 +30,7 @@ IsIdentifier text = (p : Part) × Identifier any (place text 0) p (place text (l
 abbrev pub linking : List (List ℕ)
 linking = words (codes "ids crossref xdata")
 
--- a field's name that is read as it is: an identifier without capitals of ASCII; and it claims and refers to nothing
+-- a field's name that is read as it is: an identifier without uppercase letters of ASCII; and it claims and refers to nothing
 pub record IsSettledName (name : List ℕ) : Type 0 where
   pub identifier : IsIdentifier name
   pub small : map to_ascii_lowercase name ≡ name

@@ -73,8 +73,8 @@ fn is_settled_field(name: &str, chunks: ChunksRef<'_>) -> bool
 }
 
 /// Whether an entry is read again as it was, once it is written in BibLaTeX's names: its key is of key characters, each
-/// field's name is an identifier without capitals of ASCII, none is `ids`, `crossref` or `xdata`, and each value is
-/// settled. Takes no memory.
+/// field's name is an identifier without uppercase letters of ASCII, none is `ids`, `crossref` or `xdata`, and each value is
+/// settled. Does not allocate.
 pub fn is_settled_entry(entry: &Entry) -> bool
     ensures { IsTrue result ↔ IsSettledEntry entry.now }
 {

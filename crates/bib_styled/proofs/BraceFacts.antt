@@ -57,20 +57,20 @@ parts_end end (nested other inner close rest) = absurd (no_char_at_end end other
 not_last : {u v e : Place} {c : ℕ} → AtEnd e → CharAt u c v → u ≡ e → ⊥
 not_last {v = v} {c = c} end char last = no_char_at_end end (subst (λ p. CharAt p c v) last char)
 
--- what is left goes on behind a part
-closes_behind : (n : ℕ) (e : Place) {u v y : Place} {c : ℕ} → AtEnd e → CharAt u c y → (c ≡ 125 → ⊥) → ((x : Place) → Parts u x → (u ≡ x) ⊎ Parts v x) → ((x : Place) → Parts v x → Parts u x)
+-- what is left goes on after a part
+closes_after : (n : ℕ) (e : Place) {u v y : Place} {c : ℕ} → AtEnd e → CharAt u c y → (c ≡ 125 → ⊥) → ((x : Place) → Parts u x → (u ≡ x) ⊎ Parts v x) → ((x : Place) → Parts v x → Parts u x)
     → Closes n u e ↔ Closes n v e
-closes_behind zero e end char other first back = (λ p. ⊎_elim (λ last. absurd (not_last end char last)) (λ q. q) (first e p), back e)
-closes_behind (suc n) e {u} {v} {y} {c} end char other first back = (
+closes_after zero e end char other first back = (λ p. ⊎_elim (λ last. absurd (not_last end char last)) (λ q. q) (first e p), back e)
+closes_after (suc n) e {u} {v} {y} {c} end char other first back = (
   λ (w, x, parts, close, rest). ⊎_elim (λ last. absurd (other (same_char char (subst (λ p. CharAt p 125 x) (sym last) close)).0)) (λ q. (w, x, q, close, rest)) (first w parts),
   λ (w, x, parts, close, rest). (w, x, back w parts, close, rest),
 )
 
 pub closes_plain : (n : ℕ) (e : Place) {u v : Place} {c : ℕ} → AtEnd e → CharAt u c v → is_plain c ≡ true → (c ≡ 125 → ⊥) → Closes n u e ↔ Closes n v e
-closes_plain n e end char passes other = closes_behind n e end char other (λ x. parts_plain char passes) (λ x rest. plain char passes rest)
+closes_plain n e end char passes other = closes_after n e end char other (λ x. parts_plain char passes) (λ x rest. plain char passes rest)
 
 pub closes_hidden : (n : ℕ) (e : Place) {u v w : Place} {c : ℕ} → AtEnd e → CharAt u 92 v → CharAt v c w → Closes n u e ↔ Closes n w e
-closes_hidden n e end slash char = closes_behind n e end slash (λ same. omega (arith, same)) (λ x. parts_hidden slash char) (λ x rest. hidden slash char rest)
+closes_hidden n e end slash char = closes_after n e end slash (λ same. omega (arith, same)) (λ x. parts_hidden slash char) (λ x rest. hidden slash char rest)
 
 pub closes_slash_end : (n : ℕ) (e : Place) {u v : Place} → AtEnd e → CharAt u 92 v → AtEnd v → Closes n u e → ⊥
 closes_slash_end zero e end slash last parts = not_last end slash (parts_slash_end slash last parts)

@@ -48,7 +48,7 @@ placed_whole (c ∷ rest) first second whole low high is placed before ordered =
   placed_whole rest first second whole c.span.end high is placed.2 before ordered,
 )
 
--- a chunk of another kind stands behind the last
+-- a chunk of another kind stands after the last
 pub joined_push : (rest : List (Spanned Chunk)) (first second : Spanned Chunk) → is_same_kind first.v second.v ≡ false → AreJoined (rest ++ first ∷ [])
     → AreJoined ((rest ++ first ∷ []) ++ second ∷ [])
 joined_push [] first second apart joined = (apart, tt)

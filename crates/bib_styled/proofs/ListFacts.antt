@@ -13,7 +13,7 @@ use Rattle.bib_chunks.specs.Cuts.{placed}
 use Rattle.bib_chunks.specs.Styled.{Atom, atoms_of, styled, text_of, is_shown, is_same_kind}
 use Rattle.bib_styled.specs.Lists.{lengthened, at_start, chunk_of, before, chunks_of}
 use Rattle.bib_chunks.proofs.StyledFacts.{no_characters, hidden}
-use Rattle.bib_styled.specs.Joining.{behind}
+use Rattle.bib_styled.specs.Joining.{with_chunk}
 
 -- what is at a chunk's end decides as the chunk does
 joined_same : (c d e : Chunk) → is_same_kind c d ≡ true → is_same_kind (lengthened c d) e ≡ is_same_kind d e
@@ -96,22 +96,22 @@ module _ (c d : Spanned Chunk) where
         | false ↦ before_apart h (e ∷ es)
       ]
 
--- it doesn't matter whether the chunk before others or the one behind them comes first
-before-behind : (c : Spanned Chunk) (chunks : List (Spanned Chunk)) (n : Spanned Chunk) → before c (behind chunks n) ≡ behind (before c chunks) n
+-- it doesn't matter whether the chunk before others or the one after them comes first
+before-with_chunk : (c : Spanned Chunk) (chunks : List (Spanned Chunk)) (n : Spanned Chunk) → before c (with_chunk chunks n) ≡ with_chunk (before c chunks) n
 unfolding both
-before-behind c [] n = refl
-before-behind c (d ∷ []) n =
-    elim (is_same_kind c.v d.v) as (λ b. is_same_kind c.v d.v ≡ b → before c (before d (n ∷ [])) ≡ behind (if b then both c d ∷ [] else c ∷ d ∷ []) n) [
+before-with_chunk c [] n = refl
+before-with_chunk c (d ∷ []) n =
+    elim (is_same_kind c.v d.v) as (λ b. is_same_kind c.v d.v ≡ b → before c (before d (n ∷ [])) ≡ with_chunk (if b then both c d ∷ [] else c ∷ d ∷ []) n) [
       | true ↦ λ h. before_twice c d h (n ∷ [])
       | false ↦ λ h. before_other c d h (n ∷ [])
     ] refl
-before-behind c (d ∷ e ∷ rest) n =
-    elim (is_same_kind c.v d.v) as (λ b. (if b then both c d ∷ behind (e ∷ rest) n else c ∷ d ∷ behind (e ∷ rest) n) ≡ behind (if b then both c d ∷ e ∷ rest else c ∷ d ∷ e ∷ rest) n) [ true ↦ refl | false ↦ refl ]
+before-with_chunk c (d ∷ e ∷ rest) n =
+    elim (is_same_kind c.v d.v) as (λ b. (if b then both c d ∷ with_chunk (e ∷ rest) n else c ∷ d ∷ with_chunk (e ∷ rest) n) ≡ with_chunk (if b then both c d ∷ e ∷ rest else c ∷ d ∷ e ∷ rest) n) [ true ↦ refl | false ↦ refl ]
 
--- a styled text with more behind it, which is one chunk
-chunks_of-append : (atoms more : List Atom) (n : Spanned Chunk) → chunks_of more ≡ n ∷ [] → chunks_of (atoms ++ more) ≡ behind (chunks_of atoms) n
+-- a styled text with more after it, which is one chunk
+chunks_of-append : (atoms more : List Atom) (n : Spanned Chunk) → chunks_of more ≡ n ∷ [] → chunks_of (atoms ++ more) ≡ with_chunk (chunks_of atoms) n
 chunks_of-append [] more n is = is
-chunks_of-append (a ∷ atoms) more n is = ap (before (at_start (chunk_of a))) (chunks_of-append atoms more n is) ∙ before-behind _ (chunks_of atoms) n
+chunks_of-append (a ∷ atoms) more n is = ap (before (at_start (chunk_of a))) (chunks_of-append atoms more n is) ∙ before-with_chunk _ (chunks_of atoms) n
 
 normal_run : (c : ℕ) (cs : List ℕ) → chunks_of (map Atom.normal (c ∷ cs)) ≡ at_start (Normal (encode_utf8_all (c ∷ cs))) ∷ []
 normal_run c [] = ap (λ t. at_start (Normal t) ∷ []) (sym (append-nil (encode_utf8 c)))
@@ -121,11 +121,11 @@ verbatim_run : (c : ℕ) (cs : List ℕ) → chunks_of (map Atom.verbatim (c ∷
 verbatim_run c [] = ap (λ t. at_start (Verbatim t) ∷ []) (sym (append-nil (encode_utf8 c)))
 verbatim_run c (d ∷ cs) = ap (before (at_start (Verbatim (encode_utf8 c)))) (verbatim_run d cs)
 
--- the last of some chunks, with one behind it
-behind-last : (front : List (Spanned Chunk)) (last n : Spanned Chunk) → behind (front ++ last ∷ []) n ≡ front ++ before last (n ∷ [])
-behind-last [] last n = refl
-behind-last (x ∷ []) last n = refl
-behind-last (x ∷ y ∷ front) last n = ap (λ l. x ∷ l) (behind-last (y ∷ front) last n)
+-- the last of some chunks, with one after it
+with_chunk-last : (leading_run : List (Spanned Chunk)) (last n : Spanned Chunk) → with_chunk (leading_run ++ last ∷ []) n ≡ leading_run ++ before last (n ∷ [])
+with_chunk-last [] last n = refl
+with_chunk-last (x ∷ []) last n = refl
+with_chunk-last (x ∷ y ∷ leading_run) last n = ap (λ l. x ∷ l) (with_chunk-last (y ∷ leading_run) last n)
 
 not_lengthened : (c d : Chunk) → is_same_kind c d ≡ false → lengthened c d ≡ c
 not_lengthened (Normal a) (Normal b) h = absurd (false≢true (sym h))
@@ -136,20 +136,20 @@ not_lengthened (Verbatim a) (Normal b) h = refl
 not_lengthened (Verbatim a) (Math b) h = refl
 not_lengthened (Math a) d h = refl
 
-module _ (old front now : List (Spanned Chunk)) (last : Spanned Chunk) (v chunk : Chunk) (was : old ≡ front ++ last ∷ []) (text : v ≡ lengthened last.v chunk) where
+module _ (old leading_run now : List (Spanned Chunk)) (last : Spanned Chunk) (v chunk : Chunk) (was : old ≡ leading_run ++ last ∷ []) (text : v ≡ lengthened last.v chunk) where
   -- the last chunk was taken out, lengthened and put back
-  pub added_joined : is_same_kind last.v chunk ≡ true → now ≡ front ++ placed v last.span.start last.span.end ∷ [] → now ≡ behind old (at_start chunk)
+  pub added_joined : is_same_kind last.v chunk ≡ true → now ≡ leading_run ++ placed v last.span.start last.span.end ∷ [] → now ≡ with_chunk old (at_start chunk)
   unfolding both
   added_joined h is =
-      is ∙ ap (λ t. front ++ placed t last.span.start last.span.end ∷ []) text
-      ∙ sym (ap (λ l. behind l (at_start chunk)) was ∙ behind-last front last (at_start chunk) ∙ ap (λ l. front ++ l) (before_joined last (at_start chunk) h []))
+      is ∙ ap (λ t. leading_run ++ placed t last.span.start last.span.end ∷ []) text
+      ∙ sym (ap (λ l. with_chunk l (at_start chunk)) was ∙ with_chunk-last leading_run last (at_start chunk) ∙ ap (λ l. leading_run ++ l) (before_joined last (at_start chunk) h []))
 
-  -- it was put back as it was, and the next one behind it
-  pub added_apart : is_same_kind last.v chunk ≡ false → (middle : List (Spanned Chunk)) → middle ≡ front ++ placed v last.span.start last.span.end ∷ [] → now ≡ middle ++ at_start chunk ∷ [] → now ≡ behind old (at_start chunk)
+  -- it was put back as it was, and the next one after it
+  pub added_apart : is_same_kind last.v chunk ≡ false → (middle : List (Spanned Chunk)) → middle ≡ leading_run ++ placed v last.span.start last.span.end ∷ [] → now ≡ middle ++ at_start chunk ∷ [] → now ≡ with_chunk old (at_start chunk)
   added_apart h middle back is =
-      is ∙ ap (λ l. l ++ at_start chunk ∷ []) (back ∙ ap (λ t. front ++ placed t last.span.start last.span.end ∷ []) (text ∙ not_lengthened last.v chunk h))
-      ∙ append_assoc front (last ∷ []) (at_start chunk ∷ [])
-      ∙ sym (ap (λ l. behind l (at_start chunk)) was ∙ behind-last front last (at_start chunk) ∙ ap (λ l. front ++ l) (before_apart last (at_start chunk) h []))
+      is ∙ ap (λ l. l ++ at_start chunk ∷ []) (back ∙ ap (λ t. leading_run ++ placed t last.span.start last.span.end ∷ []) (text ∙ not_lengthened last.v chunk h))
+      ∙ append_assoc leading_run (last ∷ []) (at_start chunk ∷ [])
+      ∙ sym (ap (λ l. with_chunk l (at_start chunk)) was ∙ with_chunk-last leading_run last (at_start chunk) ∙ ap (λ l. leading_run ++ l) (before_apart last (at_start chunk) h []))
 
 one_run : (kind : ℕ → Atom) (to : List ℕ → Chunk) (run : (c : ℕ) (cs : List ℕ) → chunks_of (map kind (c ∷ cs)) ≡ at_start (to (encode_utf8_all (c ∷ cs))) ∷ []) (text : List ℕ) → IsUtf8 text → not (length text == 0) ≡ true
     → chunks_of (map kind (chars text)) ≡ at_start (to text) ∷ []
@@ -170,8 +170,8 @@ pub joined_more : (chunks : List (Spanned Chunk)) (i : ℕ) (d : Spanned Chunk) 
 joined_more chunks i d lt =
     ap styled (take_more chunks i d lt) ∙ flat_map-append (λ c. atoms_of c.v) (take i chunks) (get_or chunks i d ∷ []) ∙ ap (λ l. styled (take i chunks) ++ l) (append-nil _)
 
-pub joined_shown : (atoms : List Atom) (chunk : Chunk) (all more : List (Spanned Chunk)) → IsUtf8 (text_of chunk) → is_shown chunk ≡ true → all ≡ chunks_of atoms → more ≡ behind all (at_start chunk) → more ≡ chunks_of (atoms ++ atoms_of chunk)
-joined_shown atoms chunk all more utf8 some was is = is ∙ ap (λ l. behind l (at_start chunk)) was ∙ sym (chunks_of-append atoms (atoms_of chunk) (at_start chunk) (shown chunk utf8 some))
+pub joined_shown : (atoms : List Atom) (chunk : Chunk) (all more : List (Spanned Chunk)) → IsUtf8 (text_of chunk) → is_shown chunk ≡ true → all ≡ chunks_of atoms → more ≡ with_chunk all (at_start chunk) → more ≡ chunks_of (atoms ++ atoms_of chunk)
+joined_shown atoms chunk all more utf8 some was is = is ∙ ap (λ l. with_chunk l (at_start chunk)) was ∙ sym (chunks_of-append atoms (atoms_of chunk) (at_start chunk) (shown chunk utf8 some))
 
 pub joined_hidden : (atoms : List Atom) (chunk : Chunk) → is_shown chunk ≡ false → chunks_of atoms ≡ chunks_of (atoms ++ atoms_of chunk)
 joined_hidden atoms chunk none = sym (ap (λ l. chunks_of (atoms ++ l)) (hidden chunk none) ∙ ap chunks_of (append-nil atoms))

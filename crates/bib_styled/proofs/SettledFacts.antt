@@ -13,7 +13,7 @@ use Rattle.bib_text.specs.Braces.{IsParts}
 use Rattle.bib_text.specs.Places.{Place, CharAt, Longest, AtEnd}
 use Rattle.bib_chunks.specs.Styled.{Atom, atoms_of}
 use Rattle.bib_styled.specs.Settled.{IsSettledAtom, runs_together, AreApart, IsSettled}
-use Rattle.bib_styled.specs.Settling.{character_atom, text_atoms, behind, runs_into, MayFollow, AreSettledBehind, Continues, ContinuesIn, IsStuck, IsStuckIn, IsSettledMath}
+use Rattle.bib_styled.specs.Settling.{character_atom, text_atoms, neighbour, runs_into, MayFollow, AreSettledAfter, Continues, ContinuesIn, IsUnsettledAfter, IsStuckIn, IsSettledMath}
 use Rattle.bib_text.proofs.TextFacts.{ahead, Passed, passed_char, passed_run, chars_at_end}
 
 -- a character is settled in verbatim fields and in others alike
@@ -27,7 +27,7 @@ settled_somewhere v false c settled = settled
 
 -- a character was passed that may stand there
 pub settled_step : (b : Bool) (before last : Before) (c : ℕ) (all cs : List ℕ) → MayFollow last (character_atom b c) → Continues before (text_atoms b all) last (text_atoms b (c ∷ cs))
-    → Continues before (text_atoms b all) (behind (character_atom b c)) (text_atoms b cs)
+    → Continues before (text_atoms b all) (neighbour (character_atom b c)) (text_atoms b cs)
 settled_step b before last c all cs may so_far v rest = (
   λ settled. ((so_far v rest).0 settled).2,
   λ settled. (so_far v rest).1 (settled_anywhere v b c may.0, may.1, settled),
@@ -35,7 +35,7 @@ settled_step b before last c all cs may so_far v rest = (
 
 -- a character stands there that may not
 pub settled_stuck : (b : Bool) (before last : Before) (c : ℕ) (all cs : List ℕ) → (MayFollow last (character_atom b c) → ⊥) → Continues before (text_atoms b all) last (text_atoms b (c ∷ cs))
-    → IsStuck before (text_atoms b all)
+    → IsUnsettledAfter before (text_atoms b all)
 settled_stuck b before last c all cs may_not so_far v rest settled =
     let here = (so_far v rest).0 settled in
     may_not (settled_somewhere v b c here.0, here.1)
@@ -50,17 +50,17 @@ no_dollar (c ∷ cs) rest all =
 -- a dollar sign stands where the longest run without one does not end the text
 pub dollar_found : {u w : Place} (x : Place) (r : Option ℕ) (found : Bool) → Longest (λ c. not (c == 36)) u w → IsUtf8 (ahead u) → MatchOption r (AtEnd w × (x ≡ w)) (λ c. CharAt w c x) → found ≡ is_some r
     → found ≡ list_any (λ c. c == 36) (chars (ahead u))
-dollar_found {u} {w} x None found longest utf8 end tells =
+dollar_found {u} {w} x None found longest utf8 end decides =
     let (cs, passed, all) = passed_run longest.run utf8 in
-    tells ∙ sym (ap (list_any (λ c. c == 36)) (passed.spelt ∙ ap (λ xs. cs ++ xs) (chars_at_end w end.0)) ∙ no_dollar cs [] all)
-dollar_found {u} {w} x (Some c) found longest utf8 char tells =
+    decides ∙ sym (ap (list_any (λ c. c == 36)) (passed.spelt ∙ ap (λ xs. cs ++ xs) (chars_at_end w end.0)) ∙ no_dollar cs [] all)
+dollar_found {u} {w} x (Some c) found longest utf8 char decides =
     let (cs, passed, all) = passed_run longest.run utf8 in
     let one : Passed w (c ∷ []) x = passed_char char passed.utf8 in
     let stops : (c == 36) ≡ true = not-false (c == 36) (longest.stops c x char) in
     let here : list_any (λ d. d == 36) (c ∷ chars (ahead x)) ≡ true = or_left (c == 36) _ stops in
-    tells ∙ sym (ap (list_any (λ d. d == 36)) passed.spelt ∙ no_dollar cs (chars (ahead w)) all ∙ ap (list_any (λ d. d == 36)) one.spelt ∙ here)
+    decides ∙ sym (ap (list_any (λ d. d == 36)) passed.spelt ∙ no_dollar cs (chars (ahead w)) all ∙ ap (list_any (λ d. d == 36)) one.spelt ∙ here)
 
-same_runs : (a b : Atom) → runs_into (behind a) b ≡ runs_together a b
+same_runs : (a b : Atom) → runs_into (neighbour a) b ≡ runs_together a b
 same_runs (Atom.normal c) (Atom.normal d) = refl
 same_runs (Atom.normal c) (Atom.verbatim d) = refl
 same_runs (Atom.normal c) (Atom.math d) = refl
@@ -72,23 +72,23 @@ same_runs (Atom.math c) (Atom.verbatim d) = refl
 same_runs (Atom.math c) (Atom.math d) = refl
 
 -- settled as a whole, and from the start on
-behind_from : (v : Bool) (before : Before) (a : Atom) (rest : List Atom) → AllByRecursion (IsSettledAtom v) (a ∷ rest) → AreApart (a ∷ rest) → runs_into before a ≡ false → AreSettledBehind v before (a ∷ rest)
-behind_from v before a [] each apart free = (each.0, free, tt)
-behind_from v before a (b ∷ rest) each apart free = (each.0, free, behind_from v (behind a) b rest each.1 apart.1 (same_runs a b ∙ apart.0))
+after_from : (v : Bool) (before : Before) (a : Atom) (rest : List Atom) → AllByRecursion (IsSettledAtom v) (a ∷ rest) → AreApart (a ∷ rest) → runs_into before a ≡ false → AreSettledAfter v before (a ∷ rest)
+after_from v before a [] each apart free = (each.0, free, tt)
+after_from v before a (b ∷ rest) each apart free = (each.0, free, after_from v (neighbour a) b rest each.1 apart.1 (same_runs a b ∙ apart.0))
 
-each_from : (v : Bool) (before : Before) (atoms : List Atom) → AreSettledBehind v before atoms → AllByRecursion (IsSettledAtom v) atoms
+each_from : (v : Bool) (before : Before) (atoms : List Atom) → AreSettledAfter v before atoms → AllByRecursion (IsSettledAtom v) atoms
 each_from v before [] settled = tt
-each_from v before (a ∷ rest) settled = (settled.0, each_from v (behind a) rest settled.2)
+each_from v before (a ∷ rest) settled = (settled.0, each_from v (neighbour a) rest settled.2)
 
-apart_from : (v : Bool) (before : Before) (atoms : List Atom) → AreSettledBehind v before atoms → AreApart atoms
+apart_from : (v : Bool) (before : Before) (atoms : List Atom) → AreSettledAfter v before atoms → AreApart atoms
 apart_from v before [] settled = tt
 apart_from v before (a ∷ []) settled = tt
-apart_from v before (a ∷ b ∷ rest) settled = (sym (same_runs a b) ∙ settled.2.1, apart_from v (behind a) (b ∷ rest) settled.2)
+apart_from v before (a ∷ b ∷ rest) settled = (sym (same_runs a b) ∙ settled.2.1, apart_from v (neighbour a) (b ∷ rest) settled.2)
 
-pub settled_whole : (v : Bool) (atoms : List Atom) → IsSettled atoms v ↔ AreSettledBehind v Nothing atoms
+pub settled_whole : (v : Bool) (atoms : List Atom) → IsSettled atoms v ↔ AreSettledAfter v Nothing atoms
 settled_whole v [] = (λ s. tt, λ s. record { each = tt; apart = tt })
 settled_whole v (a ∷ rest) = (
-  λ s. behind_from v Nothing a rest s.each s.apart refl,
+  λ s. after_from v Nothing a rest s.each s.apart refl,
   λ s. record { each = each_from v Nothing (a ∷ rest) s; apart = apart_from v Nothing (a ∷ rest) s },
 )
 
@@ -97,18 +97,18 @@ pub settled_end : (b : Bool) (before last : Before) (all cs : List ℕ) → cs �
 settled_end b before last all cs nothing so_far = rw nothing at so_far
 
 -- a chunk of characters was passed, or can't be
-chunk_of_text : (b v : Bool) (before : Before) (r : Option Before) (atoms : List Atom) (cs : List ℕ) → atoms ≡ text_atoms b cs → MatchOption r (IsStuck before (text_atoms b cs)) (λ after. Continues before (text_atoms b cs) after [])
+chunk_of_text : (b v : Bool) (before : Before) (r : Option Before) (atoms : List Atom) (cs : List ℕ) → atoms ≡ text_atoms b cs → MatchOption r (IsUnsettledAfter before (text_atoms b cs)) (λ after. Continues before (text_atoms b cs) after [])
     → MatchOption r (IsStuckIn v before atoms) (λ after. ContinuesIn v before atoms after [])
 chunk_of_text b v before None atoms cs is stuck = rw is (stuck v)
 chunk_of_text b v before (Some after) atoms cs is on = rw is (on v)
 
 pub chunk_of_normal : (v : Bool) (before : Before) (r : Option Before) (chunk : Chunk) (text bytes : List ℕ) → chunk ≡ NormalChunk text → bytes ≡ text
-    → MatchOption r (IsStuck before (text_atoms false (chars bytes))) (λ after. Continues before (text_atoms false (chars bytes)) after [])
+    → MatchOption r (IsUnsettledAfter before (text_atoms false (chars bytes))) (λ after. Continues before (text_atoms false (chars bytes)) after [])
     → MatchOption r (IsStuckIn v before (atoms_of chunk)) (λ after. ContinuesIn v before (atoms_of chunk) after [])
 chunk_of_normal v before r chunk text bytes is same = chunk_of_text false v before r (atoms_of chunk) (chars bytes) (ap atoms_of is ∙ ap (λ t. text_atoms false (chars t)) (sym same))
 
 pub chunk_of_verbatim : (v : Bool) (before : Before) (r : Option Before) (chunk : Chunk) (text bytes : List ℕ) → chunk ≡ VerbatimChunk text → bytes ≡ text
-    → MatchOption r (IsStuck before (text_atoms true (chars bytes))) (λ after. Continues before (text_atoms true (chars bytes)) after [])
+    → MatchOption r (IsUnsettledAfter before (text_atoms true (chars bytes))) (λ after. Continues before (text_atoms true (chars bytes)) after [])
     → MatchOption r (IsStuckIn v before (atoms_of chunk)) (λ after. ContinuesIn v before (atoms_of chunk) after [])
 chunk_of_verbatim v before r chunk text bytes is same = chunk_of_text true v before r (atoms_of chunk) (chars bytes) (ap atoms_of is ∙ ap (λ t. text_atoms true (chars t)) (sym same))
 

@@ -11,7 +11,7 @@ AreJoined [] = Unit {0}
 AreJoined (c ∷ []) = Unit {0}
 AreJoined (c ∷ d ∷ rest) = (is_same_kind c.v d.v ≡ false) × AreJoined (d ∷ rest)
 
--- each chunk stands behind the one before it, between these two places
+-- each chunk stands after the one before it, between these two places
 abbrev pub ArePlaced : ℕ → ℕ → List (Spanned Chunk) → Type 0
 ArePlaced low high [] = low ≤ high
 ArePlaced low high (c ∷ rest) = (low ≤ c.span.start) × (c.span.start ≤ c.span.end) × ArePlaced c.span.end high rest
@@ -26,4 +26,4 @@ pub record IsWhole (first second whole : Spanned Chunk) : Type 0 where
 -- what two neighbours become: one chunk, or where they are of two kinds the two
 abbrev pub AreNeighbours : Spanned Chunk → Spanned Chunk → Spanned Chunk × Option (Spanned Chunk) → Type 0
 AreNeighbours first second (whole, None) = IsWhole first second whole
-AreNeighbours first second (before, Some behind) = (before ≡ first) × (behind ≡ second) × (is_same_kind first.v second.v ≡ false)
+AreNeighbours first second (before, Some following) = (before ≡ first) × (following ≡ second) × (is_same_kind first.v second.v ≡ false)

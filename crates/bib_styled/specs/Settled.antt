@@ -5,18 +5,19 @@ use Rattle.std.specs.Char.{is_whitespace}
 use Rattle.std.specs.List.{list_any, AllByRecursion}
 use Rattle.bib_text.specs.Braces.{IsParts}
 use Rattle.bib_chunks.specs.Styled.{Atom}
+use Rattle.bib_text.specs.Characters as char
 
 -- an atom that may stand in settled text: no white space but U+0020, and math outside verbatim fields alone, without
 -- `$` and with its braces in balance
 abbrev pub IsSettledAtom : Bool → Atom → Type 0
-IsSettledAtom is_verbatim (Atom.normal c) = is_whitespace c ≡ true → c ≡ 32
-IsSettledAtom is_verbatim (Atom.verbatim c) = is_whitespace c ≡ true → c ≡ 32
+IsSettledAtom is_verbatim (Atom.normal c) = is_whitespace c ≡ true → c ≡ char.space
+IsSettledAtom is_verbatim (Atom.verbatim c) = is_whitespace c ≡ true → c ≡ char.space
 IsSettledAtom is_verbatim (Atom.math text) =
-    (is_verbatim ≡ false) × (list_any (λ c. c == 36) text ≡ false) × IsParts (encode_utf8_all text)
+    (is_verbatim ≡ false) × (list_any (λ c. c == char.dollar) text ≡ false) × IsParts (encode_utf8_all text)
 
 -- two characters that are read as one unit where they are neighbours: two spaces, or two hyphens
 abbrev pub is_pair : ℕ → ℕ → Bool
-is_pair c d = (c == 32 && d == 32) || (c == 45 && d == 45)
+is_pair c d = (c == char.space && d == char.space) || (c == char.hyphen && d == char.hyphen)
 
 -- whether two neighbours run together: such a pair of equal kind
 abbrev pub runs_together : Atom → Atom → Bool

@@ -9,9 +9,9 @@ use bib_chunks::chunk::{Chunk, Chunks, Spanned};
 use bib_text::text::Text;
 use std::alloc::AllocError;
 
-/// Appends a chunk. A normal chunk behind a normal one, and a verbatim one behind a verbatim one, becomes a part of it.
+/// Appends a chunk. A normal chunk after a normal one, and a verbatim one after a verbatim one, becomes a part of it.
 ///
-/// Refused for want of memory alone, and then the last chunk may be lost.
+/// Refused when out of memory alone, and then the last chunk may be lost.
 pub fn append(out: &mut Chunks, chunk: Spanned<Chunk>) -> Result<(), AllocError>
     ensures styled { OnOk result (styled out.new ≡ styled out.old ++ atoms_of chunk.v) }
     ensures joined { OnOk result (AreJoined out.old → AreJoined out.new) }
@@ -54,7 +54,7 @@ fn join(
     }
 }
 
-// A text with another behind it.
+// A text with another after it.
 fn longer(text: Text, more: &str) -> Result<Text, AllocError>
     ensures { IfOk result (λ whole. chars whole ≡ chars text ++ chars more.now) }
 {
@@ -66,7 +66,7 @@ fn longer(text: Text, more: &str) -> Result<Text, AllocError>
 
 /// Appends copies of chunks, one after another, as `append` does.
 ///
-/// Refused for want of memory alone, and then some first ones may be appended, or the last chunk lost.
+/// Refused when out of memory alone, and then some first ones may be appended, or the last chunk lost.
 pub fn append_copies(out: &mut Chunks, chunks: &[Spanned<Chunk>]) -> Result<(), AllocError>
     ensures styled { OnOk result (styled out.new ≡ styled out.old ++ styled chunks.now) }
     ensures joined { OnOk result (AreJoined out.old → AreJoined out.new) }

@@ -3,7 +3,7 @@
 ghost use Rattle.std.specs.Prelude.{◌≡◌, ◌∷◌, ◌++◌, [], OnOk, IfOk};
 ghost use Rattle.bib_chunks.specs.Styled.{styled, is_same_kind};
 ghost use Rattle.bib_styled.specs.Lists.{lengthened, at_start, chunks_of, comma_texts};
-ghost use Rattle.bib_styled.specs.Joining.{behind};
+ghost use Rattle.bib_styled.specs.Joining.{with_chunk};
 
 use bib_chunks::chunk::cuts::comma_list;
 use bib_chunks::chunk::{Chunk, Chunks, ChunksRef, Spanned, format_styled, is_shown};
@@ -40,7 +40,7 @@ fn push_copy(chunks: &mut Chunks, chunk: &Chunk) -> Result<(), AllocError>
 
 // Adds a chunk, joined to the last one if that is of its kind.
 fn add(chunks: &mut Chunks, chunk: &Chunk) -> Result<(), AllocError>
-    ensures { OnOk result (chunks.new ≡ behind chunks.old (at_start chunk.now)) }
+    ensures { OnOk result (chunks.new ≡ with_chunk chunks.old (at_start chunk.now)) }
 {
     let Some(mut last) = chunks.pop() else {
         return push_copy(chunks, chunk);

@@ -5,7 +5,7 @@ ghost use Rattle.std.specs.List.{list_any};
 ghost use Rattle.std.specs.Str.{chars};
 ghost use Rattle.bib_text.specs.Braces.{IsParts};
 ghost use Rattle.bib_styled.specs.Settled.{is_pair, IsSettled};
-ghost use Rattle.bib_styled.specs.Settling.{MayFollow, behind, character_atom, text_atoms, Continues, IsStuck, ContinuesIn, IsStuckIn, IsSettledMath};
+ghost use Rattle.bib_styled.specs.Settling.{MayFollow, neighbour, character_atom, text_atoms, Continues, IsUnsettledAfter, ContinuesIn, IsStuckIn, IsSettledMath};
 ghost use Rattle.bib_chunks.specs.Styled.{atoms_of, styled};
 
 use bib_chunks::chunk::{Chunk, ChunksRef};
@@ -26,7 +26,7 @@ fn is_pair(c: char, d: char) -> bool
     (c == ' ' && d == ' ') || (c == '-' && d == '-')
 }
 
-// Whether a character may stand behind what stands before it.
+// Whether a character may stand after what stands before it.
 fn may_follow(before: Before, c: char, is_braced: bool) -> bool
     ensures { MatchBool result (MayFollow before (character_atom is_braced c))
         (MayFollow before (character_atom is_braced c) → ⊥) }
@@ -41,9 +41,9 @@ fn may_follow(before: Before, c: char, is_braced: bool) -> bool
     }
 }
 
-// What stands before the atom behind a character.
-fn behind(c: char, is_braced: bool) -> Before
-    ensures { result ≡ behind (character_atom is_braced c) }
+// What stands before the atom after a character.
+fn neighbour(c: char, is_braced: bool) -> Before
+    ensures { result ≡ neighbour (character_atom is_braced c) }
 {
     if is_braced {
         return Before::Verbatim(c);
@@ -51,9 +51,9 @@ fn behind(c: char, is_braced: bool) -> Before
     Before::Normal(c)
 }
 
-// What stands behind a text, if its characters may stand there.
-fn behind_text(text: &str, is_braced: bool, before: Before) -> Option<Before>
-    ensures { MatchOption result (IsStuck before (text_atoms is_braced (chars text.now)))
+// What stands after a text, if its characters may stand there.
+fn after_text(text: &str, is_braced: bool, before: Before) -> Option<Before>
+    ensures { MatchOption result (IsUnsettledAfter before (text_atoms is_braced (chars text.now)))
         (λ after. Continues before (text_atoms is_braced (chars text.now)) after []) }
 {
     let mut scanner = Scanner::new(text);
@@ -62,7 +62,7 @@ fn behind_text(text: &str, is_braced: bool, before: Before) -> Option<Before>
         if !may_follow(last, c, is_braced) {
             return None;
         }
-        last = behind(c, is_braced);
+        last = neighbour(c, is_braced);
     }
     Some(last)
 }
@@ -113,14 +113,14 @@ fn is_settled_math(text: &str) -> bool
     is_parts(text)
 }
 
-// What stands behind a chunk, if its atoms may stand there.
-fn behind_chunk(chunk: &Chunk, is_verbatim: bool, before: Before) -> Option<Before>
+// What stands after a chunk, if its atoms may stand there.
+fn after_chunk(chunk: &Chunk, is_verbatim: bool, before: Before) -> Option<Before>
     ensures { MatchOption result (IsStuckIn is_verbatim before (atoms_of chunk.now))
         (λ after. ContinuesIn is_verbatim before (atoms_of chunk.now) after []) }
 {
     match chunk {
-        Chunk::Normal(text) => behind_text(text.as_str(), false, before),
-        Chunk::Verbatim(text) => behind_text(text.as_str(), true, before),
+        Chunk::Normal(text) => after_text(text.as_str(), false, before),
+        Chunk::Verbatim(text) => after_text(text.as_str(), true, before),
         Chunk::Math(text) => {
             if is_verbatim {
                 return None;
@@ -135,13 +135,13 @@ fn behind_chunk(chunk: &Chunk, is_verbatim: bool, before: Before) -> Option<Befo
 
 /// Whether a value of a field, verbatim or not, is read again with the same styled text once it is written: its white
 /// space is U+0020 alone, no two spaces or hyphens of one kind are neighbours, and math, outside verbatim fields only,
-/// holds no dollar sign and has its braces in balance. Takes no memory.
+/// holds no dollar sign and has its braces in balance. Does not allocate.
 pub fn is_settled(chunks: ChunksRef<'_>, is_verbatim: bool) -> bool
     ensures { IsTrue result ↔ IsSettled (styled chunks.now) is_verbatim }
 {
     let mut before = Before::Nothing;
     'chunks: for chunk in chunks {
-        let Some(after) = behind_chunk(&chunk.v, is_verbatim, before) else {
+        let Some(after) = after_chunk(&chunk.v, is_verbatim, before) else {
             return false;
         };
         before = after;

@@ -55,20 +55,20 @@ opened_there : {n : ℕ} {u v w x y : Place} → CharAt u 123 v → Parts v w �
 opened_there brace inner close (last parts) = last (nested brace inner close parts)
 opened_there brace inner close (level parts close' rest) = level (nested brace inner close parts) close' rest
 
--- what a brace opens, and what stands behind the one that closes it
+-- what a brace opens, and what stands after the one that closes it
 pub record Opened (v x : Place) : Type 0 where
   pub inner_end : Place
-  pub behind : Place
+  pub following : Place
   pub inner : Parts v inner_end
-  pub close : CharAt inner_end 125 behind
-  pub rest : Parts behind x
+  pub close : CharAt inner_end 125 following
+  pub rest : Parts following x
 
 pub opened_parts : {u v x y : Place} → CharAt u 123 v → Parts u x → CharAt x 125 y → Opened v x
 opened_parts brace none closing = absurd (char_clash brace closing refl)
 opened_parts brace (plain char passes parts) closing = absurd (pass_clash is_plain char passes brace refl)
 opened_parts brace (hidden slash any parts) closing = absurd (char_clash brace slash refl)
 opened_parts {u} {v} {x} brace (nested {w = w} {x = b} brace' inner close rest) closing =
-    record { inner_end = w; behind = b; inner = subst (λ p. Parts p w) (same_char brace' brace).1 inner; close = close; rest = rest }
+    record { inner_end = w; following = b; inner = subst (λ p. Parts p w) (same_char brace' brace).1 inner; close = close; rest = rest }
 
 opened_back : {n : ℕ} {u v x y : Place} → CharAt u 123 v → Closes n u x → CharAt x 125 y → Closes (suc n) v x
 opened_back brace (last parts) closing = let o = opened_parts brace parts closing in level o.inner o.close (last o.rest)
@@ -97,7 +97,7 @@ closed_back {n} {u} {v} {x} close (level {w = w} parts close' rest) =
 pub braced_close : {u v : Place} (n : ℕ) → CharAt u 125 v → SameBraced (suc n) u n v
 braced_close n close = record { there = λ x y p c. level none close p; back = λ x y p c. closed_back close p }
 
--- nothing is closed behind the end of the text
+-- nothing is closed after the end of the text
 parts_end : {u x : Place} → AtEnd u → Parts u x → u ≡ x
 parts_end end none = refl
 parts_end end (plain char passes parts) = absurd (no_char_at_end end char)
@@ -126,7 +126,7 @@ closes_hidden_end : {n : ℕ} {u v x y : Place} → CharAt u 92 v → AtEnd v �
 closes_hidden_end slash end (last parts) brace = hidden_end slash end parts brace
 closes_hidden_end slash end (level parts close rest) brace = hidden_end slash end parts close
 
--- over a backslash and the character behind it, if one stands there
+-- over a backslash and the character after it, if one stands there
 pub braced_hidden : {u v w : Place} (n : ℕ) (taken : Option ℕ) → CharAt u 92 v → MatchOption taken (AtEnd v × (w ≡ v)) (λ c. CharAt v c w) → SameBraced n u n w
 braced_hidden {u} {v} {w} n None slash ended = record {
   there = λ x y p c. absurd (closes_end ended.0 (subst (λ q. Closes n q x) ended.1 p) c);
@@ -159,7 +159,7 @@ found_parts {u} {v} {w} {n} same none_open close =
 pub braced_same : {n m : ℕ} {u v w : Place} → SameBraced n u m v → w ≡ v → SameBraced n u m w
 braced_same {n} {m} {u} {v} {w} all same = subst (λ p. SameBraced n u m p) (sym same) all
 
--- one level less is open behind a closing brace
+-- one level less is open after a closing brace
 pub braced_less : {n : ℕ} {u v w : Place} (m : ℕ) → SameBraced n u m v → (m ≡ 0 → ⊥) → CharAt v 125 w → SameBraced n u (m - 1) w
 braced_less {n} {u} {v} {w} m all some close =
     let open' : m ≡ suc (m - 1) = omega arith in

@@ -6,7 +6,7 @@ use Rattle.bib_text.proofs.PlaceFacts.{same_char, char_clash, pass_clash, longes
 use Rattle.bib_text.specs.Braces.{Parts}
 use Rattle.bib_text.specs.Braces.{Parts as parts}
 use Rattle.bib_syntax.proofs.WordFacts.{ahead_number}
-use Rattle.bib_syntax.proofs.ReadingFacts.{fault_back}
+use Rattle.bib_syntax.proofs.ReadingFacts.{error_back}
 use Rattle.bib_syntax.specs.Characters.{is_id_start}
 use Rattle.bib_syntax.specs.Reading.{Part, Piece, FieldReading}
 use Rattle.bib_syntax.specs.Grammar.{Identifier, Quoted, QuotedParts, Element, Elements, Field, Gap, Fields, longest}
@@ -15,7 +15,7 @@ use Rattle.bib_syntax.specs.Grammar.{Element as element}
 use Rattle.bib_syntax.specs.Grammar.{Elements as elements}
 use Rattle.bib_syntax.specs.Grammar.{Gap as gap}
 use Rattle.bib_syntax.specs.Grammar.{Fields as fields}
-use Rattle.bib_syntax.specs.Faults.{Refuses}
+use Rattle.bib_syntax.specs.Errors.{Refuses}
 use Rattle.bib_syntax.specs.declared.raw.ParseError.{ParseError}
 use Rattle.bib_syntax.proofs.LawFacts.{moved, identifier_same, element_same, field_same, gap_same, no_field_closes, start_not_white}
 
@@ -37,11 +37,11 @@ elements_rest {b = b} {c = c} e white sign white' (elements.last f w ends) =
     absurd (test_clash true refl (ends 35 c (moved (λ x y. CharAt x 35 y) end sign)))
 elements_rest {v = v} e white sign white' (elements.more {es = es} f w s w' rest) =
     let end = longest_same (moved (Longest is_whitespace) (element_same e f).1 white) w in
-    let behind = (same_char (moved (λ x y. CharAt x 35 y) end sign) s).1 in
-    let next = longest_same (moved (Longest is_whitespace) behind white') w' in
+    let following = (same_char (moved (λ x y. CharAt x 35 y) end sign) s).1 in
+    let next = longest_same (moved (Longest is_whitespace) following white') w' in
     (es, subst (λ x. Elements longest x es v) (sym next) rest)
 
--- one element more, with the # behind it
+-- one element more, with the # after it
 pub element_read : {start u a b c d : Place} {ps : List Piece} (e : Piece) → ElementsRead start ps u → Element longest u e a → Longest is_whitespace a b → CharAt b 35 c → Longest is_whitespace c d
     → ElementsRead start (ps ++ e ∷ []) d
 element_read {start} {u} {a} {b} {c} {d} {ps} e read one white sign white' = record {
@@ -77,11 +77,11 @@ fields_rest f g sign h (fields.last f' g') close =
     absurd (char_clash close (moved (λ x y. CharAt x 44 y) (gap_same (moved (Gap longest) (field_same f f').1 g) g') sign) refl)
 fields_rest {v = v} f g sign h (fields.more {fs = fs} f' g' sign' h' rest) close =
     let comma = gap_same (moved (Gap longest) (field_same f f').1 g) g' in
-    let behind = (same_char (moved (λ x y. CharAt x 44 y) comma sign) sign').1 in
-    let next = gap_same (moved (Gap longest) behind h) h' in
+    let following = (same_char (moved (λ x y. CharAt x 44 y) comma sign) sign').1 in
+    let next = gap_same (moved (Gap longest) following h) h' in
     (fs, subst (λ x. Fields longest x fs v) (sym next) rest)
 
--- one field more, with the comma behind it
+-- one field more, with the comma after it
 pub field_read : {start u a b c d : Place} {fs : List FieldReading} (f : FieldReading) → FieldsRead start fs u → Field longest u f a → Gap longest a b → CharAt b 44 c → Gap longest c d
     → FieldsRead start (fs ++ f ∷ []) d
 field_read f read one g sign h = record {
@@ -91,18 +91,18 @@ field_read f read one g sign h = record {
 
 gap_stops : {u v : Place} → Gap longest u v → Stops is_whitespace v
 gap_stops (gap.white w ends) = w.stops
-gap_stops (gap.remark w r w') = w'.stops
+gap_stops (gap.line_comment w r w') = w'.stops
 
--- a longest run of white space behind a gap is empty
-white_behind_gap : {u v w : Place} → Gap longest u v → Longest is_whitespace v w → v ≡ w
-white_behind_gap g white = longest_same (record { run = Run.stop; stops = gap_stops g }) white
+-- a longest run of white space after a gap is empty
+white_after_gap : {u v w : Place} → Gap longest u v → Longest is_whitespace v w → v ≡ w
+white_after_gap g white = longest_same (record { run = Run.stop; stops = gap_stops g }) white
 
--- the last field, without a comma behind it
+-- the last field, without a comma after it
 pub fields_last : {start u a b c : Place} {fs : List FieldReading} (f : FieldReading) → FieldsRead start fs u → Field longest u f a → Gap longest a b → Longest is_whitespace b c
     → Fields longest start (fs ++ f ∷ []) c
-fields_last {start} {u} {a} {b} {c} {fs} f read one g white = subst (λ x. Fields longest start (fs ++ f ∷ []) x) (white_behind_gap g white) (read.there _ _ (fields.last one g))
+fields_last {start} {u} {a} {b} {c} {fs} f read one g white = subst (λ x. Fields longest start (fs ++ f ∷ []) x) (white_after_gap g white) (read.there _ _ (fields.last one g))
 
--- a brace is missing behind the last field
+-- a brace is missing after the last field
 pub no_fields_last : {start u a b : Place} {fs : List FieldReading} {f : FieldReading} → FieldsRead start fs u → Field longest u f a → Gap longest a b → ((x : Place) → CharAt b 44 x → ⊥)
     → ((v w : Place) → Longest is_whitespace b v → CharAt v 125 w → ⊥) → (gs : List FieldReading) (v w : Place) → Fields longest start gs v → CharAt v 125 w → ⊥
 no_fields_last read one g no_comma none gs v w x close = after (read.back gs v w x close).1 one g no_comma none close where
@@ -172,7 +172,7 @@ ahead_field f = ahead_then (ahead_identifier f.name) (ahead_then (ahead_run f.wh
 
 pub ahead_gap : {u v : Place} → Gap longest u v → Ahead u v
 ahead_gap (gap.white w ends) = ahead_run w.run
-ahead_gap (gap.remark w r w') = ahead_then (ahead_run w.run) (ahead_then (ahead_char r.sign) (ahead_then (ahead_run r.line.run) (ahead_run w'.run)))
+ahead_gap (gap.line_comment w r w') = ahead_then (ahead_run w.run) (ahead_then (ahead_char r.sign) (ahead_then (ahead_run r.line.run) (ahead_run w'.run)))
 
 pub ahead_fields : {u v : Place} {fs : List FieldReading} → Fields longest u fs v → Ahead u v
 ahead_fields (fields.none w) = ahead_run w.run
@@ -182,7 +182,7 @@ ahead_fields (fields.more f g s h rest) = ahead_then (ahead_field f) (ahead_then
 -- a refusal further on refuses from an earlier place
 pub refuses_from : {u v : Place} {e : ParseError} (P Q : Type 0) → Ahead u v → (P → Q) → Refuses v.text e P → Refuses u.text e Q
 refuses_from P Q ahead implies (inl memory) = inl memory
-refuses_from P Q ahead implies (inr fault) = inr (fault_back ahead fault.0, implies fault.1)
+refuses_from P Q ahead implies (inr error) = inr (error_back ahead error.0, implies error.1)
 
 -- a field whose name doesn't stand there, whose sign is missing, or whose value is
 pub no_field_name : {u : Place} → ((p : Part) (v : Place) → Identifier longest u p v → ⊥) → (f : FieldReading) (v : Place) → Field longest u f v → ⊥
@@ -197,10 +197,10 @@ pub no_field_value : {u a b c d : Place} {p : Part} → Identifier longest u p a
     → ((es : List Piece) (v : Place) → Elements longest d es v → ⊥) → (f : FieldReading) (v : Place) → Field longest u f v → ⊥
 no_field_value name white sign white' none f v x =
     let there = longest_same (moved (Longest is_whitespace) (identifier_same name x.name).1 white) x.white in
-    let behind = (same_char (moved (λ y z. CharAt y 61 z) there sign) x.sign).1 in
-    let start = longest_same (moved (Longest is_whitespace) behind white') x.white' in
+    let following = (same_char (moved (λ y z. CharAt y 61 z) there sign) x.sign).1 in
+    let start = longest_same (moved (Longest is_whitespace) following white') x.white' in
     none _ _ (subst (λ y. Elements longest y f.value.pieces v) (sym start) x.elements)
 
--- no brace stands behind the white space
+-- no brace stands after the white space
 pub no_brace : {u a : Place} → Longest is_whitespace u a → ((x : Place) → CharAt a 125 x → ⊥) → (v w : Place) → Longest is_whitespace u v → CharAt v 125 w → ⊥
 no_brace white none v w white' close = none w (moved (λ x y. CharAt x 125 y) (longest_same white' white) close)

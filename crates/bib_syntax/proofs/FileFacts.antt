@@ -7,19 +7,19 @@ use Rattle.bib_text.specs.Places.{Place, CharAt, Run, Longest, AtEnd, between}
 use Rattle.bib_text.specs.Places.Run.{stop, step}
 use Rattle.bib_text.proofs.PlaceFacts.{same_char, char_clash, pass_clash, longest_same, longest_rest, left_smaller, Ahead, ahead_here, ahead_then, ahead_char, ahead_run, no_char_at_end}
 use Rattle.bib_syntax.specs.Characters.{is_key}
-use Rattle.bib_syntax.specs.Reading.{Part, part, FieldReading, EntryReading, FileReading, nothing, then, joined}
-use Rattle.bib_syntax.specs.Grammar.{Identifier, Quoted, Remark, Gap, Fields, Head, Body, Block, File, block_kind, longest}
+use Rattle.bib_syntax.specs.Reading.{Part, part, FieldReading, EntryReading, FileReading, empty_reading, then, joined_preambles}
+use Rattle.bib_syntax.specs.Grammar.{Identifier, Quoted, LineComment, Gap, Fields, Head, Body, Block, File, block_kind, longest}
 use Rattle.bib_syntax.specs.Grammar.{Body as body}
 use Rattle.bib_syntax.specs.Grammar.{File as file}
 use Rattle.bib_syntax.specs.Grammar.{BlockKind}
-use Rattle.bib_syntax.proofs.LawFacts.{moved, identifier_same, quoted_same, gap_same, fields_same, remark_same}
+use Rattle.bib_syntax.proofs.LawFacts.{moved, identifier_same, quoted_same, gap_same, fields_same, line_comment_same}
 use Rattle.bib_syntax.proofs.FieldFacts.{ahead_identifier, ahead_quoted, ahead_gap, ahead_fields}
 
 pub head_same : {u v w : Place} {p q : Part} → Head longest u p v → Head longest u q w → (p ≡ q) × (v ≡ w)
 head_same a b =
     let name = identifier_same (subst (λ x. Identifier longest x _ _) (same_char a.sign b.sign).1 a.name) b.name in
     let white = longest_same (moved (Longest is_whitespace) name.1 a.white) b.white in
-    let brace = (same_char (subst (λ x. CharAt x a.brace a.behind_brace) white a.opens) b.opens).1 in
+    let brace = (same_char (subst (λ x. CharAt x a.brace a.after_brace) white a.opens) b.opens).1 in
     (name.0, longest_same (moved (Longest is_whitespace) brace a.white') b.white')
 
 -- a head whose name doesn't stand there, or whose brace is missing
@@ -31,7 +31,7 @@ pub no_head_brace : {u x a b : Place} {q : Part} → CharAt u 64 x → Identifie
 no_head_brace {q = q} sign name white none p v head =
     let names = identifier_same name (subst (λ y. Identifier longest y p head.name_end) (same_char head.sign sign).1 head.name) in
     let there = longest_same (moved (Longest is_whitespace) names.1 white) head.white in
-    none head.brace head.behind_brace (subst (λ y. CharAt y head.brace head.behind_brace) (sym there) head.opens) head.is_brace
+    none head.brace head.after_brace (subst (λ y. CharAt y head.brace head.after_brace) (sym there) head.opens) head.is_brace
 
 pub ahead_head : {u v : Place} {p : Part} → Head longest u p v → Ahead u v
 ahead_head h = ahead_then (ahead_char h.sign) (ahead_then (ahead_identifier h.name) (ahead_then (ahead_run h.white.run) (ahead_then (ahead_char h.opens) (ahead_run h.white'.run))))
@@ -63,8 +63,8 @@ pub no_entry_fields : {u a b c d : Place} → Longest is_key u a → Longest is_
     → ((fs : List FieldReading) (v w : Place) → Fields longest d fs v → CharAt v 125 w → ⊥) → (start : Place) (p : Part) (r : FileReading) (v : Place) → Body longest start p BlockKind.entry u r v → ⊥
 no_entry_fields key white comma gap none start p r v (body.entry {z = z} {fs = fs} a key' white' comma' gap' fields close) =
     let there = longest_same (moved (Longest is_whitespace) (longest_same key key') white) white' in
-    let behind = (same_char (moved (λ x y. CharAt x 44 y) there comma) comma').1 in
-    let start' = gap_same (moved (Gap longest) behind gap) gap' in
+    let following = (same_char (moved (λ x y. CharAt x 44 y) there comma) comma').1 in
+    let start' = gap_same (moved (Gap longest) following gap) gap' in
     none fs z v (subst (λ x. Fields longest x fs z) (sym start') fields) close
 
 pub body_same : {start u v w : Place} {p : Part} {k : BlockKind} {r s : FileReading} → Body longest start p k u r v → Body longest start p k u s w → (r ≡ s) × (v ≡ w)
@@ -84,8 +84,8 @@ body_same (body.strings fields close) (body.strings fields' close') =
 body_same {start} {u} {p = p} (body.entry {z = z} {fs = fs} a key white comma gap fields close) (body.entry {z = z'} {fs = fs'} b key' white' comma' gap' fields' close') =
     let end = longest_same key key' in
     let there = longest_same (moved (Longest is_whitespace) end white) white' in
-    let behind = (same_char (moved (λ x y. CharAt x 44 y) there comma) comma').1 in
-    let begin = gap_same (moved (Gap longest) behind gap) gap' in
+    let following = (same_char (moved (λ x y. CharAt x 44 y) there comma) comma').1 in
+    let begin = gap_same (moved (Gap longest) following gap) gap' in
     let same = fields_same (subst (λ x. Fields longest x fs z) begin fields) close fields' close' in
     let says : Place → List FieldReading → Place → FileReading = λ x gs y. record { preamble = []; entries = record { key = part u x; kind = p; fields = gs; start = start.at; end = y.at } ∷ []; abbreviations = [] } in (
       ap (λ x. says x fs z) end ∙ ap (λ gs. says b gs z) same.0 ∙ ap (says b fs') same.1,
@@ -120,35 +120,35 @@ pub no_block_body : {u a : Place} {p : Part} (k : BlockKind) → Head longest u 
 no_block_body {u} {a} {p} k head kind none r v b = none u p r v (subst (λ x. Body longest u p x a r v) (sym kind) (body_at head b))
 
 -- what blocks say is joined in any order of joining
-joined-nil : (p : List ℕ) → joined p [] ≡ p
-joined-nil [] = refl
-joined-nil (b ∷ bs) = refl
+joined_preambles-nil : (p : List ℕ) → joined_preambles p [] ≡ p
+joined_preambles-nil [] = refl
+joined_preambles-nil (b ∷ bs) = refl
 
-texts-joined : (p sign q r : List ℕ) → p ++ sign ++ q ++ sign ++ r ≡ p ++ sign ++ (q ++ sign ++ r)
-texts-joined p sign q r = simp append_assoc
+texts-joined_preambles : (p sign q r : List ℕ) → p ++ sign ++ q ++ sign ++ r ≡ p ++ sign ++ (q ++ sign ++ r)
+texts-joined_preambles p sign q r = simp append_assoc
 
-pub joined-joined : (p q r : List ℕ) → joined (joined p q) r ≡ joined p (joined q r)
-joined-joined [] q r = refl
-joined-joined (b ∷ bs) [] r = refl
-joined-joined (b ∷ bs) (c ∷ cs) [] = refl
-joined-joined (b ∷ bs) (c ∷ cs) (d ∷ ds) = texts-joined (b ∷ bs) (codes " # ") (c ∷ cs) (d ∷ ds)
+pub joined_preambles-joined_preambles : (p q r : List ℕ) → joined_preambles (joined_preambles p q) r ≡ joined_preambles p (joined_preambles q r)
+joined_preambles-joined_preambles [] q r = refl
+joined_preambles-joined_preambles (b ∷ bs) [] r = refl
+joined_preambles-joined_preambles (b ∷ bs) (c ∷ cs) [] = refl
+joined_preambles-joined_preambles (b ∷ bs) (c ∷ cs) (d ∷ ds) = texts-joined_preambles (b ∷ bs) (codes " # ") (c ∷ cs) (d ∷ ds)
 
 pub then-then : (a b c : FileReading) → then (then a b) c ≡ then a (then b c)
 then-then a b c =
     let entries : (a.entries ++ b.entries) ++ c.entries ≡ a.entries ++ (b.entries ++ c.entries) = simp append_assoc in
     let abbreviations : (a.abbreviations ++ b.abbreviations) ++ c.abbreviations ≡ a.abbreviations ++ (b.abbreviations ++ c.abbreviations) = simp append_assoc in
     let build : List ℕ → List EntryReading → List FieldReading → FileReading = λ p es fs. record { preamble = p; entries = es; abbreviations = fs } in
-    ap (λ p. build p ((a.entries ++ b.entries) ++ c.entries) ((a.abbreviations ++ b.abbreviations) ++ c.abbreviations)) (joined-joined a.preamble b.preamble c.preamble)
-    ∙ ap (λ es. build (joined a.preamble (joined b.preamble c.preamble)) es ((a.abbreviations ++ b.abbreviations) ++ c.abbreviations)) entries
-    ∙ ap (build (joined a.preamble (joined b.preamble c.preamble)) (a.entries ++ (b.entries ++ c.entries))) abbreviations
+    ap (λ p. build p ((a.entries ++ b.entries) ++ c.entries) ((a.abbreviations ++ b.abbreviations) ++ c.abbreviations)) (joined_preambles-joined_preambles a.preamble b.preamble c.preamble)
+    ∙ ap (λ es. build (joined_preambles a.preamble (joined_preambles b.preamble c.preamble)) es ((a.abbreviations ++ b.abbreviations) ++ c.abbreviations)) entries
+    ∙ ap (build (joined_preambles a.preamble (joined_preambles b.preamble c.preamble)) (a.entries ++ (b.entries ++ c.entries))) abbreviations
 
-pub then-nothing : (a : FileReading) → then a nothing ≡ a
-then-nothing a =
+pub then-empty_reading : (a : FileReading) → then a empty_reading ≡ a
+then-empty_reading a =
     let build : List ℕ → List EntryReading → List FieldReading → FileReading = λ p es fs. record { preamble = p; entries = es; abbreviations = fs } in
-    ap (λ p. build p (a.entries ++ []) (a.abbreviations ++ [])) (joined-nil a.preamble) ∙ ap (λ es. build a.preamble es (a.abbreviations ++ [])) (append-nil a.entries) ∙ ap (build a.preamble a.entries) (append-nil a.abbreviations)
+    ap (λ p. build p (a.entries ++ []) (a.abbreviations ++ [])) (joined_preambles-nil a.preamble) ∙ ap (λ es. build a.preamble es (a.abbreviations ++ [])) (append-nil a.entries) ∙ ap (build a.preamble a.entries) (append-nil a.abbreviations)
 
-pub nothing-then : (a : FileReading) → then nothing a ≡ a
-nothing-then a = refl
+pub empty_reading-then : (a : FileReading) → then empty_reading a ≡ a
+empty_reading-then a = refl
 
 -- what was read of a file from `start`, up to `here`
 pub record FileRead (start : Place) (says : FileReading) (here : Place) : Type 0 where
@@ -158,44 +158,44 @@ pub record FileRead (start : Place) (says : FileReading) (here : Place) : Type 0
 abbrev pub is_skipped : ℕ → Bool
 is_skipped c = not (c == 64) && not (c == 37)
 
-pub no_file_read : (start : Place) → FileRead start nothing start
+pub no_file_read : (start : Place) → FileRead start empty_reading start
 no_file_read start = record { there = λ r x. x; back = λ r x. (r, x) }
 
 skip_there : {u v : Place} {r : FileReading} → Run is_skipped u v → File longest v r → File longest u r
 skip_there stop x = x
 skip_there (step char passes rest) x = file.skipped char passes (skip_there rest x)
 
--- what is left of a file behind a character that is skipped, a remark and a block
+-- what is left of a file after a character that is skipped, a comment and a block
 skipped_rest : {u v : Place} {c : ℕ} {r : FileReading} → CharAt u c v → is_skipped c ≡ true → File longest u r → File longest v r
 skipped_rest char passes (file.end end) = absurd (no_char_at_end end char)
 skipped_rest {r = r} char passes (file.skipped char' passes' x) = subst (λ y. File longest y r) (same_char char' char).1 x
-skipped_rest char passes (file.remark m x) = absurd (pass_clash is_skipped char passes m.sign refl)
+skipped_rest char passes (file.line_comment m x) = absurd (pass_clash is_skipped char passes m.sign refl)
 skipped_rest char passes (file.block b x) = absurd (pass_clash is_skipped char passes b.head.sign refl)
 
 skip_back : {u v : Place} {r : FileReading} → Run is_skipped u v → File longest u r → File longest v r
 skip_back stop x = x
 skip_back (step char passes rest) x = skip_back rest (skipped_rest char passes x)
 
-remark_rest : {u v : Place} {r : FileReading} → Remark u v → File longest u r → File longest v r
-remark_rest m (file.end end) = absurd (no_char_at_end end m.sign)
-remark_rest m (file.skipped char passes x) = absurd (pass_clash is_skipped char passes m.sign refl)
-remark_rest {r = r} m (file.remark m' x) = subst (λ y. File longest y r) (remark_same m' m) x
-remark_rest m (file.block b x) = absurd (char_clash m.sign b.head.sign refl)
+line_comment_rest : {u v : Place} {r : FileReading} → LineComment u v → File longest u r → File longest v r
+line_comment_rest m (file.end end) = absurd (no_char_at_end end m.sign)
+line_comment_rest m (file.skipped char passes x) = absurd (pass_clash is_skipped char passes m.sign refl)
+line_comment_rest {r = r} m (file.line_comment m' x) = subst (λ y. File longest y r) (line_comment_same m' m) x
+line_comment_rest m (file.block b x) = absurd (char_clash m.sign b.head.sign refl)
 
--- a block at its at sign, and what is left behind it
+-- a block at its at sign, and what is left after it
 record FirstBlock (u : Place) (r : FileReading) : Type 0 where
-  behind : Place
+  following : Place
   first : FileReading
   rest : FileReading
-  block : Block longest u first behind
-  left : File longest behind rest
+  block : Block longest u first following
+  left : File longest following rest
   whole : r ≡ then first rest
 
 first_block : {u x : Place} {r : FileReading} → CharAt u 64 x → File longest u r → FirstBlock u r
 first_block sign (file.end end) = absurd (no_char_at_end end sign)
 first_block sign (file.skipped char passes x) = absurd (pass_clash is_skipped char passes sign refl)
-first_block sign (file.remark m x) = absurd (char_clash sign m.sign refl)
-first_block sign (file.block b x) = record { behind = _; first = _; rest = _; block = b; left = x; whole = refl }
+first_block sign (file.line_comment m x) = absurd (char_clash sign m.sign refl)
+first_block sign (file.block b x) = record { following = _; first = _; rest = _; block = b; left = x; whole = refl }
 
 pub skip_read : {start u v : Place} {says : FileReading} → FileRead start says u → Longest is_skipped u v → FileRead start says v
 skip_read read run = record {
@@ -203,10 +203,10 @@ skip_read read run = record {
   back = λ r x. let y = read.back r x in (y.0, skip_back run.run y.1);
 }
 
-pub remark_read : {start u v : Place} {says : FileReading} → FileRead start says u → Remark u v → FileRead start says v
-remark_read read m = record {
-  there = λ r x. read.there r (file.remark m x);
-  back = λ r x. let y = read.back r x in (y.0, remark_rest m y.1);
+pub line_comment_read : {start u v : Place} {says : FileReading} → FileRead start says u → LineComment u v → FileRead start says v
+line_comment_read read m = record {
+  there = λ r x. read.there r (file.line_comment m x);
+  back = λ r x. let y = read.back r x in (y.0, line_comment_rest m y.1);
 }
 
 pub block_read : {start u v : Place} {says first : FileReading} → FileRead start says u → Block longest u first v → FileRead start (then says first) v
@@ -220,20 +220,20 @@ block_read {start} {u} {v} {says} {first} read b = record {
 
 -- the whole file
 pub file_found : {start u : Place} {says : FileReading} → FileRead start says u → AtEnd u → File longest start says
-file_found {start} {u} {says} read end = subst (λ r. File longest start r) (then-nothing says) (read.there nothing (file.end end))
+file_found {start} {u} {says} read end = subst (λ r. File longest start r) (then-empty_reading says) (read.there empty_reading (file.end end))
 
 -- a block is missing
 pub no_file_block : {start u x : Place} {says : FileReading} → FileRead start says u → CharAt u 64 x → ((r : FileReading) (v : Place) → Block longest u r v → ⊥) → (r : FileReading) → File longest start r → ⊥
-no_file_block read sign none r x = let f = first_block sign (read.back r x).1 in none f.first f.behind f.block
+no_file_block read sign none r x = let f = first_block sign (read.back r x).1 in none f.first f.following f.block
 
 -- a text has one raw reading
 pub file_same : {u : Place} {r s : FileReading} → File longest u r → File longest u s → r ≡ s
 file_same (file.end end) (file.end end') = refl
 file_same (file.end end) (file.skipped char passes x) = absurd (no_char_at_end end char)
-file_same (file.end end) (file.remark m x) = absurd (no_char_at_end end m.sign)
+file_same (file.end end) (file.line_comment m x) = absurd (no_char_at_end end m.sign)
 file_same (file.end end) (file.block b x) = absurd (no_char_at_end end b.head.sign)
 file_same (file.skipped char passes x) second = file_same x (skipped_rest char passes second)
-file_same (file.remark m x) second = file_same x (remark_rest m second)
+file_same (file.line_comment m x) second = file_same x (line_comment_rest m second)
 file_same {u} {r} {s} (file.block {first = first} {rest = rest} b x) second =
     let f = first_block b.head.sign second in
     let same = block_same f.block b in
@@ -252,18 +252,18 @@ entry_found {u} {s} {a} {b} {c} {d} {z} {w} {fs} kind key start end starts ends 
     ap (λ k. says_entry k kind fs u.at z.at) (sym reading) ∙ ap (λ n. says_entry key kind fs n z.at) starts ∙ ap (says_entry key kind fs start) (sym ends) in
     subst (λ r. Body longest u kind BlockKind.entry s r w) same (body.entry a run white comma gap fields close)
 
--- less is left behind a block, a remark, and a run of characters that are skipped
+-- less is left after a block, a comment, and a run of characters that are skipped
 pub block_smaller : {u v : Place} {r : FileReading} → Block longest u r v → length v.text - v.at < length u.text - u.at
 block_smaller {u} b =
     let h = b.head in
     left_smaller (ahead_here u) h.sign
     (ahead_then (ahead_identifier h.name) (ahead_then (ahead_run h.white.run) (ahead_then (ahead_char h.opens) (ahead_then (ahead_run h.white'.run) (ahead_body b.body)))))
 
-pub ahead_remark : {u v : Place} → Remark u v → Ahead u v
-ahead_remark m = ahead_then (ahead_char m.sign) (ahead_run m.line.run)
+pub ahead_line_comment : {u v : Place} → LineComment u v → Ahead u v
+ahead_line_comment m = ahead_then (ahead_char m.sign) (ahead_run m.line.run)
 
-pub remark_smaller : {u v : Place} → Remark u v → length v.text - v.at < length u.text - u.at
-remark_smaller {u} m = left_smaller (ahead_here u) m.sign (ahead_run m.line.run)
+pub line_comment_smaller : {u v : Place} → LineComment u v → length v.text - v.at < length u.text - u.at
+line_comment_smaller {u} m = left_smaller (ahead_here u) m.sign (ahead_run m.line.run)
 
 -- a character that is neither an at sign nor a percent sign is skipped
 pub is_skipped_from : (c : ℕ) → (c ≡ 64 → ⊥) → (c ≡ 37 → ⊥) → is_skipped c ≡ true

@@ -11,7 +11,7 @@ use Rattle.bib_text.proofs.PlaceFacts.{same_char, char_clash, pass_clash, longes
 use Rattle.bib_syntax.specs.Characters.{is_id_start, is_id_continue, is_delimiter}
 use Rattle.bib_syntax.specs.Reading.{Part, part, Piece, FieldReading}
 use Rattle.bib_syntax.specs.Reading.Piece.{literal, abbreviation}
-use Rattle.bib_syntax.specs.Grammar.{Identifier, Number, QuotedParts, Quoted, Braced, Element, Elements, Field, Remark, Gap, Fields, longest}
+use Rattle.bib_syntax.specs.Grammar.{Identifier, Number, QuotedParts, Quoted, Braced, Element, Elements, Field, LineComment, Gap, Fields, longest}
 use Rattle.bib_syntax.specs.Grammar.Number.{whole, broken}
 use Rattle.bib_syntax.specs.Grammar.{QuotedParts as quotes}
 use Rattle.bib_syntax.specs.Grammar.{Element as element}
@@ -53,8 +53,8 @@ parts_same (parts.hidden slash any rest) c second d = parts_same rest c (brace.h
 parts_same {u} {v} {w} (parts.nested o inner close rest) c second d =
     let opened = brace.opened_parts o second d in
     let end = parts_same inner close opened.inner opened.close in
-    let behind = (same_char (moved (λ a b. CharAt a 125 b) end close) opened.close).1 in
-    parts_same rest c (moved Parts (sym behind) opened.rest) d
+    let following = (same_char (moved (λ a b. CharAt a 125 b) end close) opened.close).1 in
+    parts_same rest c (moved Parts (sym following) opened.rest) d
 
 pub quoted_parts_same : {u v w x y : Place} → QuotedParts u v → CharAt v 34 x → QuotedParts u w → CharAt w 34 y → v ≡ w
 quoted_parts_same quotes.none c quotes.none d = refl
@@ -63,7 +63,7 @@ quoted_parts_same quotes.none c (quotes.hidden slash any rest) d = absurd (char_
 quoted_parts_same (quotes.plain char p rest) c second d = quoted_parts_same rest c (quote.plain_back char p second d) d
 quoted_parts_same (quotes.hidden slash any rest) c second d = quoted_parts_same rest c (quote.hidden_back slash any second d) d
 
--- a part between places, and the place behind it
+-- a part between places, and the place after it
 part_same : {u v a b : Place} {p q : Part} → u ≡ a → v ≡ b → p ≡ part u v → q ≡ part a b → p ≡ q
 part_same {u} {v} {a} {b} starts ends first second = first ∙ ap (λ x. part x v) starts ∙ ap (part a) ends ∙ sym second
 
@@ -82,13 +82,13 @@ quoted_same {u} {v} {w} first second =
 -- a number's first character
 record Digit (u : Place) : Type 0 where
   digit : ℕ
-  behind : Place
-  here : CharAt u digit behind
+  following : Place
+  here : CharAt u digit following
   passes : is_ascii_digit digit ≡ true
 
 first_digit : {u v : Place} → Number longest u v → Digit u
-first_digit (whole c d r e) = record { digit = _; behind = _; here = c; passes = d }
-first_digit (broken c d r p s e) = record { digit = _; behind = _; here = c; passes = d }
+first_digit (whole c d r e) = record { digit = _; following = _; here = c; passes = d }
+first_digit (broken c d r p s e) = record { digit = _; following = _; here = c; passes = d }
 
 pub element_same : {u v w : Place} {e f : Piece} → Element longest u e v → Element longest u f w → (e ≡ f) × (v ≡ w)
 element_same {u} {v} {w} (element.number n) (element.number m) = let end = number_same n m in (ap (λ x. literal (part u x)) end, end)
@@ -122,8 +122,8 @@ elements_same (elements.more f white' sign white2 rest) (elements.last e white e
 elements_same {u} {v} {w} (elements.more {es = es} e white sign white2 rest) (elements.more {e = f} f' white' sign' white2' rest') =
     let same = element_same e f' in
     let end = longest_same (moved (Longest is_whitespace) same.1 white) white' in
-    let behind = (same_char (moved (λ a b. CharAt a 35 b) end sign) sign').1 in
-    let next = longest_same (moved (Longest is_whitespace) behind white2) white2' in
+    let following = (same_char (moved (λ a b. CharAt a 35 b) end sign) sign').1 in
+    let next = longest_same (moved (Longest is_whitespace) following white2) white2' in
     let more = elements_same (subst (λ x. Elements longest x es v) next rest) rest' in
     (ap (λ x. x ∷ es) same.0 ∙ ap (λ x. f ∷ x) more.0, more.1)
 
@@ -145,15 +145,15 @@ field_same {u} {v} {w} {f} {g} a b =
     let rest = elements_same (subst (λ x. Elements longest x f.value.pieces v) start a.elements) b.elements in
     (field_equal f g name.0 rest.0 (a.starts ∙ ap (λ p. p.at) start ∙ sym b.starts) (a.ends ∙ ap (λ p. p.at) rest.1 ∙ sym b.ends), rest.1)
 
-pub remark_same : {u v w : Place} → Remark u v → Remark u w → v ≡ w
-remark_same a b = longest_same (moved (Longest (λ c. not (c == 10))) (same_char a.sign b.sign).1 a.line) b.line
+pub line_comment_same : {u v w : Place} → LineComment u v → LineComment u w → v ≡ w
+line_comment_same a b = longest_same (moved (Longest (λ c. not (c == 10))) (same_char a.sign b.sign).1 a.line) b.line
 
 pub gap_same : {u v w : Place} → Gap longest u v → Gap longest u w → v ≡ w
 gap_same (gap.white a ends) (gap.white b ends') = longest_same a b
-gap_same (gap.white a ends) (gap.remark b r c) = absurd (test_clash true refl (ends _ _ (moved (λ x y. CharAt x 37 y) (longest_same b a) r.sign)))
-gap_same (gap.remark a r c) (gap.white b ends) = absurd (test_clash true refl (ends _ _ (moved (λ x y. CharAt x 37 y) (longest_same a b) r.sign)))
-gap_same (gap.remark a r c) (gap.remark b s d) =
-    longest_same (moved (Longest is_whitespace) (remark_same (moved (Remark) (longest_same a b) r) s) c) d
+gap_same (gap.white a ends) (gap.line_comment b r c) = absurd (test_clash true refl (ends _ _ (moved (λ x y. CharAt x 37 y) (longest_same b a) r.sign)))
+gap_same (gap.line_comment a r c) (gap.white b ends) = absurd (test_clash true refl (ends _ _ (moved (λ x y. CharAt x 37 y) (longest_same a b) r.sign)))
+gap_same (gap.line_comment a r c) (gap.line_comment b s d) =
+    longest_same (moved (Longest is_whitespace) (line_comment_same (moved (LineComment) (longest_same a b) r) s) c) d
 
 -- an identifier's first character is no white space
 pub start_not_white : (c : ℕ) → is_id_start c ≡ true → is_whitespace c ≡ false
@@ -187,7 +187,7 @@ fields_same (fields.more f g sign h rest) c (fields.last f' g') d =
 fields_same {u} {v} {w} (fields.more {fs = fs} f g sign h rest) c (fields.more {f = f1} f' g' sign' h' rest') d =
     let same = field_same f f' in
     let comma = gap_same (moved (Gap longest) same.1 g) g' in
-    let behind = (same_char (moved (λ a b. CharAt a 44 b) comma sign) sign').1 in
-    let next = gap_same (moved (Gap longest) behind h) h' in
+    let following = (same_char (moved (λ a b. CharAt a 44 b) comma sign) sign').1 in
+    let next = gap_same (moved (Gap longest) following h) h' in
     let more = fields_same (subst (λ x. Fields longest x fs v) next rest) c rest' d in
     (ap (λ x. x ∷ fs) same.0 ∙ ap (λ x. f1 ∷ x) more.0, more.1)

@@ -5,5 +5,5 @@ pub mod LawFacts
 pub mod ModeFacts
 pub mod QuoteFacts
 pub mod ReadingFacts
-pub mod StandingFacts
+pub mod SliceFacts
 pub mod WordFacts

@@ -8,7 +8,7 @@ use Rattle.bib_text.specs.Places.{Place, CharAt, Run, Stops, Longest}
 use Rattle.bib_text.specs.Places.Run.{stop, step}
 use Rattle.bib_text.proofs.PlaceFacts.{run_append, run_push, stops_at, test_clash}
 use Rattle.bib_syntax.specs.Characters.{is_id_start, is_id_continue, is_delimiter, is_key}
-use Rattle.bib_syntax.specs.Reading.{Part, Piece, FieldReading, FileReading, nothing}
+use Rattle.bib_syntax.specs.Reading.{Part, Piece, FieldReading, FileReading, empty_reading}
 use Rattle.bib_syntax.specs.Grammar.{Identifier, Number, Element, Elements, Field, Gap, Fields, Head, Body, File, any, longest}
 use Rattle.bib_syntax.specs.Grammar.{Number as number}
 use Rattle.bib_syntax.specs.Grammar.{Element as element}
@@ -43,7 +43,7 @@ field_any : {u v : Place} {f : FieldReading} → Field longest u f v → Field a
 field_any f = record {
   name_end = f.name_end;
   before_sign = f.before_sign;
-  behind_sign = f.behind_sign;
+  after_sign = f.after_sign;
   value_start = f.value_start;
   name = identifier_any f.name;
   white = f.white.run;
@@ -56,7 +56,7 @@ field_any f = record {
 
 gap_any : {u v : Place} → Gap longest u v → Gap any u v
 gap_any (gap.white w ends) = gap.white w.run tt
-gap_any (gap.remark w m w') = gap.remark w.run m w'.run
+gap_any (gap.line_comment w m w') = gap.line_comment w.run m w'.run
 
 fields_any : {u v : Place} {fs : List FieldReading} → Fields longest u fs v → Fields any u fs v
 fields_any (fields.none w) = fields.none w.run
@@ -68,7 +68,7 @@ head_any h = record {
   name_start = h.name_start;
   name_end = h.name_end;
   before_brace = h.before_brace;
-  behind_brace = h.behind_brace;
+  after_brace = h.after_brace;
   brace = h.brace;
   sign = h.sign;
   name = identifier_any h.name;
@@ -87,7 +87,7 @@ body_any (body.entry a key white comma g fields close) = body.entry a key.run wh
 pub file_any : {u : Place} {r : FileReading} → File longest u r → File any u r
 file_any (file.end end) = file.end end
 file_any (file.skipped char passes x) = file.skipped char passes (file_any x)
-file_any (file.remark m x) = file.remark m (file_any x)
+file_any (file.line_comment m x) = file.line_comment m (file_any x)
 file_any (file.block b x) = file.block (record { inside = b.inside; kind = b.kind; head = head_any b.head; body = body_any b.body }) (file_any x)
 
 -- white space is no other class that the grammar runs over
@@ -113,17 +113,17 @@ stops_before test apart (step first white rest) char fails = stops_at test first
 longest_to : (test : ℕ → Bool) {u v x : Place} {c : ℕ} → Run test u v → CharAt v c x → test c ≡ false → Longest test u v
 longest_to test run char fails = record { run = run; stops = stops_at test char fails }
 
--- what may stand behind an element and the white space behind that: # , } or a remark
+-- what may stand after an element and the white space after that: # , } or a comment
 abbrev is_end : ℕ → Bool
 is_end c = c == 35 || c == 44 || c == 125 || c == 37
 
--- the character behind the white space behind an element
-record Behind (v : Place) : Type 0 where
+-- the character after the white space after an element
+record Following (v : Place) : Type 0 where
   at : Place
-  behind : Place
+  following : Place
   char : ℕ
   white : Run is_whitespace v at
-  here : CharAt at char behind
+  here : CharAt at char following
   ends : is_end char ≡ true
 
 end_not_digit : (c : ℕ) → is_end c ≡ true → is_ascii_digit c ≡ false
@@ -138,7 +138,7 @@ end_not_white c ends = grind (arith, nat_tests)
 end_not_continue : (c : ℕ) → is_end c ≡ true → is_id_continue c ≡ false
 end_not_continue c ends = grind (arith, nat_tests)
 
-element_longest : {u v : Place} {e : Piece} → Element any u e v → Behind v → Element longest u e v
+element_longest : {u v : Place} {e : Piece} → Element any u e v → Following v → Element longest u e v
 element_longest (element.number (number.whole {w = w} c d r e)) b =
     element.number (number.whole c d
     (record { run = r; stops = stops_before is_ascii_digit digit_not_white b.white b.here (end_not_digit b.char b.ends) })
@@ -159,7 +159,7 @@ element_longest (element.named none i) b =
 element_longest (element.braced x) b = element.braced x
 element_longest (element.quoted q) b = element.quoted q
 
--- the characters that may stand behind a gap between fields
+-- the characters that may stand after a gap between fields
 abbrev is_close : ℕ → Bool
 is_close c = c == 44 || c == 125
 
@@ -175,13 +175,13 @@ close_not_percent c close = grind (arith, nat_tests)
 close_not_sign : (c : ℕ) → is_close c ≡ true → c == 35 ≡ false
 close_not_sign c close = grind (arith, nat_tests)
 
--- white space and a gap behind it, cut where the white space ends
+-- white space and a gap after it, cut where the white space ends
 record WhiteGap (v x : Place) : Type 0 where
   end : Place
   white : Longest is_whitespace v end
   rest : Gap longest end x
   no_sign : Stops (λ c. c == 35) end
-  behind : Behind v
+  following : Following v
 
 white_gap : {v w x y : Place} {k : ℕ} → Run is_whitespace v w → Gap any w x → CharAt x k y → is_close k ≡ true → WhiteGap v x
 white_gap {v} {w} {x} {y} {k} white (gap.white r e) char close =
@@ -191,25 +191,25 @@ white_gap {v} {w} {x} {y} {k} white (gap.white r e) char close =
       white = all;
       rest = gap.white (record { run = stop; stops = all.stops }) (stops_at (λ c. c == 37) char (close_not_percent k close));
       no_sign = stops_at (λ c. c == 35) char (close_not_sign k close);
-      behind = record { at = x; behind = y; char = k; white = all.run; here = char; ends = close_ends k close };
+      following = record { at = x; following = y; char = k; white = all.run; here = char; ends = close_ends k close };
     }
-white_gap {v} {w} {x} {y} {k} white (gap.remark {v = a} r m r') char close =
+white_gap {v} {w} {x} {y} {k} white (gap.line_comment {v = a} r m r') char close =
     let all = longest_to is_whitespace (run_append white r) m.sign refl in
     record {
       end = a;
       white = all;
-      rest = gap.remark (record { run = stop; stops = all.stops }) m (longest_to is_whitespace r' char (close_not_white k close));
+      rest = gap.line_comment (record { run = stop; stops = all.stops }) m (longest_to is_whitespace r' char (close_not_white k close));
       no_sign = stops_at (λ c. c == 35) m.sign refl;
-      behind = record { at = a; behind = m.inside; char = 37; white = all.run; here = m.sign; ends = refl };
+      following = record { at = a; following = m.inside; char = 37; white = all.run; here = m.sign; ends = refl };
     }
 
 -- a first character that is no white space
 record Visible (u : Place) : Type 0 where
   char : ℕ
-  behind : Place
-  here : CharAt u char behind
+  following : Place
+  here : CharAt u char following
   visible : is_whitespace char ≡ false
-  no_remark : char == 37 ≡ false
+  no_line_comment : char == 37 ≡ false
 
 digit_visible : (c : ℕ) → is_ascii_digit c ≡ true → is_whitespace c ≡ false
 digit_visible c digit = grind (arith, nat_tests)
@@ -221,17 +221,17 @@ start_no_percent : (c : ℕ) → is_id_start c ≡ true → c == 37 ≡ false
 start_no_percent c starts = ne_eqb c 37 (λ same. test_clash (is_id_start 37) (subst (λ x. is_id_start x ≡ true) same starts) refl)
 
 digit_first : {u x : Place} {c : ℕ} → CharAt u c x → is_ascii_digit c ≡ true → Visible u
-digit_first {u} {x} {c} char digit = record { char = c; behind = x; here = char; visible = digit_visible c digit; no_remark = digit_no_percent c digit }
+digit_first {u} {x} {c} char digit = record { char = c; following = x; here = char; visible = digit_visible c digit; no_line_comment = digit_no_percent c digit }
 
 name_first : {u v : Place} {p : Part} → Identifier any u p v → Visible u
-name_first i = record { char = i.first; behind = i.second; here = i.here; visible = start_not_white i.first i.starts; no_remark = start_no_percent i.first i.starts }
+name_first i = record { char = i.first; following = i.second; here = i.here; visible = start_not_white i.first i.starts; no_line_comment = start_no_percent i.first i.starts }
 
 element_first : {u v : Place} {e : Piece} → Element any u e v → Visible u
 element_first (element.number (number.whole c d r e)) = digit_first c d
 element_first (element.number (number.broken c d r p s e)) = digit_first c d
 element_first (element.named none i) = name_first i
-element_first (element.braced b) = record { char = 123; behind = b.inside; here = b.opens; visible = refl; no_remark = refl }
-element_first (element.quoted q) = record { char = 34; behind = q.inside; here = q.opens; visible = refl; no_remark = refl }
+element_first (element.braced b) = record { char = 123; following = b.inside; here = b.opens; visible = refl; no_line_comment = refl }
+element_first (element.quoted q) = record { char = 34; following = q.inside; here = q.opens; visible = refl; no_line_comment = refl }
 
 elements_first : {u v : Place} {es : List Piece} → Elements any u es v → Visible u
 elements_first (elements.last e w ends) = element_first e
@@ -245,18 +245,18 @@ record ElementsLongest (u : Place) (es : List Piece) (x : Place) : Type 0 where
 elements_longest : {u w x y : Place} {k : ℕ} {es : List Piece} → Elements any u es w → Gap any w x → CharAt x k y → is_close k ≡ true → ElementsLongest u es x
 elements_longest (elements.last e white ends) g char close =
     let cut = white_gap white g char close in
-    record { end = cut.end; elements = elements.last (element_longest e cut.behind) cut.white cut.no_sign; rest = cut.rest }
+    record { end = cut.end; elements = elements.last (element_longest e cut.following) cut.white cut.no_sign; rest = cut.rest }
 elements_longest (elements.more {w = w} {x = b} e white sign white' rest) g char close =
     let more = elements_longest rest g char close in
     let first = elements_first rest in
     record {
       end = more.end;
-      elements = elements.more (element_longest e (record { at = w; behind = b; char = 35; white = white; here = sign; ends = refl }))
+      elements = elements.more (element_longest e (record { at = w; following = b; char = 35; white = white; here = sign; ends = refl }))
           (longest_to is_whitespace white sign refl) sign (longest_to is_whitespace white' first.here first.visible) more.elements;
       rest = more.rest;
     }
 
--- a name with white space behind it, and then a character that is part of no name
+-- a name with white space after it, and then a character that is part of no name
 name_longest : {u v w x : Place} {p : Part} {c : ℕ} → Identifier any u p v → Run is_whitespace v w → CharAt w c x → is_id_continue c ≡ false → Identifier longest u p v
 name_longest i white char fails = record {
   second = i.second;
@@ -283,7 +283,7 @@ field_longest {f = f} a g char close =
       field = record {
         name_end = a.name_end;
         before_sign = a.before_sign;
-        behind_sign = a.behind_sign;
+        after_sign = a.after_sign;
         value_start = a.value_start;
         name = name_longest a.name a.white a.sign refl;
         white = longest_to is_whitespace a.white a.sign refl;
@@ -298,16 +298,16 @@ field_longest {f = f} a g char close =
 
 -- a gap before a character that is neither white space nor a percent sign
 gap_longest : {u v : Place} → Gap any u v → Visible v → Gap longest u v
-gap_longest (gap.white r e) first = gap.white (longest_to is_whitespace r first.here first.visible) (stops_at (λ c. c == 37) first.here first.no_remark)
-gap_longest (gap.remark r m r') first = gap.remark (longest_to is_whitespace r m.sign refl) m (longest_to is_whitespace r' first.here first.visible)
+gap_longest (gap.white r e) first = gap.white (longest_to is_whitespace r first.here first.visible) (stops_at (λ c. c == 37) first.here first.no_line_comment)
+gap_longest (gap.line_comment r m r') first = gap.line_comment (longest_to is_whitespace r m.sign refl) m (longest_to is_whitespace r' first.here first.visible)
 
 -- a gap, and white space up to a visible character
 gap_white : {u v w : Place} → Gap any u v → Run is_whitespace v w → Visible w → Gap longest u w
 gap_white (gap.white r e) white first = gap_longest (gap.white (run_append r white) e) first
-gap_white (gap.remark r m r') white first = gap_longest (gap.remark r m (run_append r' white)) first
+gap_white (gap.line_comment r m r') white first = gap_longest (gap.line_comment r m (run_append r' white)) first
 
 close_visible : {v y : Place} {k : ℕ} → CharAt v k y → is_close k ≡ true → Visible v
-close_visible {v} {y} {k} char close = record { char = k; behind = y; here = char; visible = close_not_white k close; no_remark = close_not_percent k close }
+close_visible {v} {y} {k} char close = record { char = k; following = y; here = char; visible = close_not_white k close; no_line_comment = close_not_percent k close }
 
 -- fields, and where they begin if the white space before them is longest
 record FieldsLongest (v : Place) : Type 0 where
@@ -348,7 +348,7 @@ white_fields {u = u} run (fields.more f h comma h' rest) close =
     let first = name_first f.name in
     record { fields = record { start = u; says = one.says ∷ more.fields.says; fields = fields.more one.field one.rest comma more.before more.fields.fields }; before = longest_to is_whitespace run first.here first.visible }
 
--- white space and a run behind it, cut where the white space ends
+-- white space and a run after it, cut where the white space ends
 record WhiteRun (test : ℕ → Bool) (u w : Place) : Type 0 where
   end : Place
   white : Longest is_whitespace u end
@@ -371,12 +371,12 @@ brace_visible c brace = grind (arith, nat_tests)
 closing_visible : (c : ℕ) → c == 125 || c == 34 ≡ true → is_whitespace c ≡ false
 closing_visible c brace = grind (arith, nat_tests)
 
-head_longest : {u v w : Place} {p : Part} → (h : Head any u p w) → Longest is_whitespace h.behind_brace v → Head longest u p v
+head_longest : {u v w : Place} {p : Part} → (h : Head any u p w) → Longest is_whitespace h.after_brace v → Head longest u p v
 head_longest h white = record {
   name_start = h.name_start;
   name_end = h.name_end;
   before_brace = h.before_brace;
-  behind_brace = h.behind_brace;
+  after_brace = h.after_brace;
   brace = h.brace;
   sign = h.sign;
   name = name_longest h.name h.white h.opens (brace_no_name h.brace h.is_brace);
@@ -389,7 +389,7 @@ head_longest h white = record {
 key_visible : (c : ℕ) → is_key c ≡ true → is_whitespace c ≡ false
 key_visible c key = not-true (is_whitespace c) (and_parts (not (c == 44 || c == 125) && not (is_control c)) (not (is_whitespace c)) key).1
 
--- white space, and a block's body behind it
+-- white space, and a block's body after it
 record WhiteBody (start : Place) (p : Part) (k : BlockKind) (u v : Place) : Type 0 where
   inside : Place
   says : FileReading
@@ -399,7 +399,7 @@ record WhiteBody (start : Place) (p : Part) (k : BlockKind) (u v : Place) : Type
 body_longest : {start a u v : Place} {p : Part} {k : BlockKind} {r : FileReading} → Run is_whitespace a u → Body any start p k u r v → WhiteBody start p k a v
 body_longest run (body.comment b inside close) =
     let cut = white_run (λ c. not (c == 125)) run inside close refl in
-    record { inside = cut.end; says = nothing; white = cut.white; body = body.comment b (longest_to (λ c. not (c == 125)) cut.rest close refl) close }
+    record { inside = cut.end; says = empty_reading; white = cut.white; body = body.comment b (longest_to (λ c. not (c == 125)) cut.rest close refl) close }
 body_longest {u = u} run (body.preamble {c = c} quoted white close shuts) =
     record {
       inside = u;
@@ -431,9 +431,9 @@ body_longest {u = u} run (body.entry b (step {c = c} first passes rest) white co
 
 -- a file that any runs read is read by the longest
 pub file_longest : {u : Place} {r : FileReading} → File any u r → (s : FileReading) × File longest u s
-file_longest (file.end end) = (nothing, file.end end)
+file_longest (file.end end) = (empty_reading, file.end end)
 file_longest (file.skipped char passes x) = let more = file_longest x in (more.0, file.skipped char passes more.1)
-file_longest (file.remark m x) = let more = file_longest x in (more.0, file.remark m more.1)
+file_longest (file.line_comment m x) = let more = file_longest x in (more.0, file.line_comment m more.1)
 file_longest (file.block b x) =
     let more = file_longest x in
     let cut = body_longest b.head.white' b.body in

@@ -42,7 +42,7 @@ run_back (step char passes rest) parts quote = run_back rest (plain_back char pa
 pub quoted_run : {u v : Place} → Run is_quotable u v → SameQuoted u v
 quoted_run run = record { there = λ x y p c. run_there run p; back = λ x y p c. run_back run p c }
 
--- nothing closes a quoted text behind the end of the text
+-- nothing closes a quoted text after the end of the text
 quoted_end : {u x y : Place} → AtEnd u → QuotedParts u x → CharAt x 34 y → ⊥
 quoted_end end none quote = no_char_at_end end quote
 quoted_end end (plain char passes parts) quote = no_char_at_end end char
@@ -60,7 +60,7 @@ hidden_end_back slash end none quote = char_clash slash quote refl
 hidden_end_back slash end (plain char passes parts) quote = pass_clash is_quotable char passes slash refl
 hidden_end_back slash end (hidden {w = w'} {c = c'} slash' char' parts) quote = no_char_at_end end (subst (λ p. CharAt p c' w') (same_char slash' slash).1 char')
 
--- over a backslash and the character behind it, if one stands there
+-- over a backslash and the character after it, if one stands there
 pub quoted_hidden : {u v w : Place} (taken : Option ℕ) → CharAt u 92 v → MatchOption taken (AtEnd v × (w ≡ v)) (λ c. CharAt v c w) → SameQuoted u w
 quoted_hidden {u} {v} {w} None slash ended = record {
   there = λ x y p c. absurd (quoted_end ended.0 (subst (λ q. QuotedParts q x) ended.1 p) c);

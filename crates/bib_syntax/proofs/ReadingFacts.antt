@@ -1,15 +1,15 @@
--- Facts on parts of a text and on faults in it.
+-- Facts on parts of a text and on errors in it.
 use Rattle.std.specs.Prelude.{OnErr, OnOk, IfOk, IfErr}
 use Rattle.std.proofs.Common.{Result, Ok, Err, Bool, true, false, MatchBool, ◌≡◌, ℕ, ◌-◌, ◌≤◌, List, take, drop, ap, ◌∙◌, subst, arith}
 use Rattle.bib_text.specs.Places.{Place, CharAt, place, between}
 use Rattle.bib_text.proofs.PlaceFacts.{Ahead}
 use Rattle.bib_syntax.specs.Reading.{Part, part}
-use Rattle.bib_syntax.specs.Faults.{IsSyntaxFault}
+use Rattle.bib_syntax.specs.Errors.{IsSyntaxError}
 use Rattle.bib_syntax.specs.declared.raw.ParseError.{ParseError}
 
--- a fault in the text is one in the text of an earlier place
-pub fault_back : {u v : Place} {e : ParseError} → Ahead u v → IsSyntaxFault v.text e → IsSyntaxFault u.text e
-fault_back {u} {v} {e} ahead fault = subst (λ t. IsSyntaxFault t e) ahead.text fault
+-- an error in the text is one in the text of an earlier place
+pub error_back : {u v : Place} {e : ParseError} → Ahead u v → IsSyntaxError v.text e → IsSyntaxError u.text e
+error_back {u} {v} {e} ahead error = subst (λ t. IsSyntaxError t e) ahead.text error
 
 -- the bytes from a place up to a later one, with their ends, are the part between the two
 pub part_from : {u v : Place} (start end : ℕ) (bytes : List ℕ) → Ahead u v → start ≡ u.at → end ≡ v.at → bytes ≡ between (place v.text start) v
@@ -20,9 +20,9 @@ part_from {u} {v} start end bytes ahead starts ends is =
     ∙ ap (λ s. let p : Part = record { text = between u v; start = s; end = end } in p) starts
     ∙ ap (λ e. let p : Part = record { text = between u v; start = u.at; end = e } in p) ends
 
--- a place that a scanner told is not behind a later one
-pub not_behind : {u v : Place} (start : ℕ) → Ahead u v → start ≡ u.at → start ≤ v.at
-not_behind start ahead starts = omega (arith, ahead.at, starts)
+-- a place that a scanner reported is not after a later one
+pub not_after : {u v : Place} (start : ℕ) → Ahead u v → start ≡ u.at → start ≤ v.at
+not_after start ahead starts = omega (arith, ahead.at, starts)
 
 -- a character that stands here is taken
 pub taken_if : {u v : Place} (c : ℕ) (b : Bool) → MatchBool b (CharAt u c v) ((v ≡ u) × ((w : Place) → CharAt u c w → ⊥)) → ((w : Place) × CharAt u c w) → CharAt u c v

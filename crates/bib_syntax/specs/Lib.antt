@@ -1,7 +1,7 @@
 pub mod Blocks
 pub mod Characters
-pub mod Faults
+pub mod Errors
 pub mod Grammar
 pub mod Views
 pub mod Reading
-pub mod Standing
+pub mod Slices

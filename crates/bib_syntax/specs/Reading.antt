@@ -19,14 +19,14 @@ pub data Piece : Type 0 where
   abbreviation : Part → Piece
 
 -- the elements of a value, and where it begins and ends
-pub record Value : Type 0 where
+pub record ValueReading : Type 0 where
   pub pieces : List Piece
   pub start : ℕ
   pub end : ℕ
 
 pub record FieldReading : Type 0 where
   pub name : Part
-  pub value : Value
+  pub value : ValueReading
 
 -- an entry, from its @ up to its closing brace
 pub record EntryReading : Type 0 where
@@ -43,19 +43,19 @@ pub record FileReading : Type 0 where
   pub abbreviations : List FieldReading
 
 -- what a file says in which nothing stands
-abbrev pub nothing : FileReading
-nothing = record { preamble = []; entries = []; abbreviations = [] }
+abbrev pub empty_reading : FileReading
+empty_reading = record { preamble = []; entries = []; abbreviations = [] }
 
 -- two preambles, joined as BibTeX joins texts
-abbrev pub joined : List ℕ → List ℕ → List ℕ
-joined [] rest = rest
-joined (b ∷ bs) [] = b ∷ bs
-joined (b ∷ bs) (c ∷ cs) = (b ∷ bs) ++ codes " # " ++ (c ∷ cs)
+abbrev pub joined_preambles : List ℕ → List ℕ → List ℕ
+joined_preambles [] rest = rest
+joined_preambles (b ∷ bs) [] = b ∷ bs
+joined_preambles (b ∷ bs) (c ∷ cs) = (b ∷ bs) ++ codes " # " ++ (c ∷ cs)
 
--- what two files say, the second behind the first
+-- what two files say, the second after the first
 abbrev pub then : FileReading → FileReading → FileReading
 then first rest = record {
-  preamble = joined first.preamble rest.preamble;
+  preamble = joined_preambles first.preamble rest.preamble;
   entries = first.entries ++ rest.entries;
   abbreviations = first.abbreviations ++ rest.abbreviations;
 }

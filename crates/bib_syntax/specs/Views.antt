@@ -9,7 +9,7 @@ use Rattle.bib_syntax.specs.declared.raw.RawChunk.TheVariants.{Normal, Abbreviat
 use Rattle.bib_syntax.specs.declared.raw.Pair.{Pair}
 use Rattle.bib_syntax.specs.declared.raw.RawEntry.{RawEntry}
 use Rattle.bib_syntax.specs.declared.raw.RawBibliography.{RawBibliography}
-use Rattle.bib_syntax.specs.Reading.{Part, Piece, FieldReading, EntryReading, FileReading, nothing}
+use Rattle.bib_syntax.specs.Reading.{Part, Piece, FieldReading, EntryReading, FileReading, empty_reading}
 use Rattle.bib_syntax.specs.Reading.Piece.{literal, abbreviation}
 
 -- a text at its span
@@ -28,13 +28,13 @@ piece_of s = piece_at s.span.start s.span.end s.v
 abbrev pub field_of : Pair → FieldReading
 field_of p = record { name = part_of p.key; value = record { pieces = map piece_of p.value.v.items; start = p.value.span.start; end = p.value.span.end } }
 
-abbrev pub entry_of : Spanned RawEntry → EntryReading
-entry_of e = record { key = part_of e.v.key; kind = part_of e.v.kind; fields = map field_of e.v.fields.items; start = e.span.start; end = e.span.end }
+abbrev pub entry_reading_of : Spanned RawEntry → EntryReading
+entry_reading_of e = record { key = part_of e.v.key; kind = part_of e.v.kind; fields = map field_of e.v.fields.items; start = e.span.start; end = e.span.end }
 
 -- what a raw bibliography says
 abbrev pub file_of : RawBibliography → FileReading
 file_of raw = record {
   preamble = string_bytes raw.preamble;
-  entries = map entry_of raw.entries.items;
+  entries = map entry_reading_of raw.entries.items;
   abbreviations = map field_of raw.abbreviations.items;
 }

@@ -3,12 +3,12 @@
 ghost use Rattle.std.specs.Prelude.{◌≡◌, ◌↔◌, ℕ, List};
 ghost use Rattle.bib_syntax.specs.Grammar.{IsFile, IsRawReading};
 ghost use Rattle.bib_syntax.specs.Reading.{FileReading};
-ghost use Rattle.bib_syntax.specs.Standing.{ReadingStandsIn};
+ghost use Rattle.bib_syntax.specs.Slices.{ReadingStandsIn};
 
 /// A text has at most one raw reading.
 pub fn one_reading()
-    ensures { (text : List ℕ) (says tells : FileReading) → IsRawReading text says →
-        IsRawReading text tells → says ≡ tells }
+    ensures { (text : List ℕ) (says decides : FileReading) → IsRawReading text says →
+        IsRawReading text decides → says ≡ decides }
 {}
 
 /// The texts that the file grammar reads, where runs may end anywhere, are those that have a raw reading, where each

@@ -2,7 +2,7 @@
 
 ghost use Rattle.std.specs.Prelude.{◌≡◌, ◌≢◌, [], ◌∷◌, ◌++◌, codes, Some, IfOk, IfErr, OnOk, OnErr};
 ghost use Rattle.bib_syntax.specs.Characters as characters;
-ghost use Rattle.bib_syntax.specs.Faults.{token_text, kind_text, error_text, out_of_memory, Refuses};
+ghost use Rattle.bib_syntax.specs.Errors.{token_text, kind_text, error_text, out_of_memory, Refuses};
 ghost use Rattle.bib_syntax.specs.Grammar.{IsFile, IsRawReading};
 ghost use Rattle.bib_syntax.specs.Views.{file_of};
 ghost use Rattle.bib_syntax.specs.declared.raw.ParseErrorKind.TheVariants.{OutOfMemory};
@@ -39,7 +39,7 @@ pub struct RawBibliography<'s> {
 impl<'s> RawBibliography<'s> {
     /// Reads a bibliography file.
     ///
-    /// A text that the file grammar doesn't read is refused with a fault of kind `UnexpectedEof`, `Unexpected` or
+    /// A text that the file grammar doesn't read is refused with an error of kind `UnexpectedEof`, `Unexpected` or
     /// `Expected`, whose span is in bytes of the text.
     pub fn parse(alloc: Global, src: &'s str) -> Result<Self, ParseError>
         ensures read { IfOk result (λ raw. IsRawReading src.now (file_of raw)) }
@@ -111,7 +111,7 @@ pub enum RawChunk<'s> {
 pub struct Pair<'s> {
     /// The name.
     pub key: Spanned<&'s str>,
-    /// The value, which goes on over the white space behind it.
+    /// The value, which goes on over the white space after it.
     pub value: Spanned<Field<'s>>,
 }
 
@@ -127,7 +127,7 @@ impl<'s> Pair<'s> {
 /// Why a text was refused, and where.
 #[derive(Debug, Clone, PartialEq, Eq, Drop)]
 pub struct ParseError {
-    /// The bytes of the text at fault. At the kind `OutOfMemory` it is `0..0`.
+    /// The bytes of the text at error. At the kind `OutOfMemory` it is `0..0`.
     pub span: Span,
     /// What is wrong.
     pub kind: ParseErrorKind,

@@ -13,7 +13,7 @@ pub named_none : {A : Type 0} (rows : List (List ℕ × A)) (text : List ℕ) �
 named_none [] text none = refl
 named_none (row ∷ rows) text none = search (arith, none.0, named_none rows text none.1, bytes_eq-Decides)
 
--- a table is looked through before the one behind it
+-- a table is looked through before the one after it
 pub named-append-some : {A : Type 0} (rows more : List (List ℕ × A)) (text : List ℕ) (value : A) → named rows text ≡ Some value → named (rows ++ more) text ≡ Some value
 named-append-some [] more text value found = cc
 named-append-some (row ∷ rows) more text value found =
@@ -21,8 +21,8 @@ named-append-some (row ∷ rows) more text value found =
   where
     here : {A : Type 0} (is_here : Bool) (first all : Option A) (this value : A) → (first ≡ Some value → all ≡ Some value)
         → cond is_here (Some this) first ≡ Some value → cond is_here (Some this) all ≡ Some value
-    here true first all this value behind found = found
-    here false first all this value behind found = behind found
+    here true first all this value following found = found
+    here false first all this value following found = following found
 
 pub named-append-none : {A : Type 0} (rows more : List (List ℕ × A)) (text : List ℕ) → named rows text ≡ None → named (rows ++ more) text ≡ named more text
 named-append-none [] more text none = refl
@@ -31,5 +31,5 @@ named-append-none (row ∷ rows) more text none =
   where
     here : {A : Type 0} (is_here : Bool) (first all rest : Option A) (this : A) → (first ≡ None → all ≡ rest)
         → cond is_here (Some this) first ≡ None → cond is_here (Some this) all ≡ rest
-    here true first all rest this behind none = cc
-    here false first all rest this behind none = behind none
+    here true first all rest this following none = cc
+    here false first all rest this following none = following none

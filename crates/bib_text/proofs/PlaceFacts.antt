@@ -50,18 +50,18 @@ no_char_at_end {u} {v} {c} end char =
     let width : 1 ≤ len_utf8 c = (len_utf8_bounds c).0 in
     omega arith
 
--- a text may be cut behind a character that stands where it may be cut
-pub boundary_behind : {u v : Place} {c : ℕ} → IsUtf8 u.text → IsCharBoundary u.text u.at → CharAt u c v → IsCharBoundary u.text v.at
-boundary_behind {u} {v} {c} utf8 boundary char =
+-- a text may be cut after a character that stands where it may be cut
+pub boundary_following : {u v : Place} {c : ℕ} → IsUtf8 u.text → IsCharBoundary u.text u.at → CharAt u c v → IsCharBoundary u.text v.at
+boundary_following {u} {v} {c} utf8 boundary char =
     rw char.next (IsCharBoundary-past_char u.text (drop v.at u.text) u.at c boundary.0 (IsUtf8-drop u.text u.at utf8 boundary) char.here)
 
 -- where one character stands, no other does
 pub no_other_char : {u v : Place} {c : ℕ} (d : ℕ) → CharAt u c v → (c ≡ d → ⊥) → (w : Place) → CharAt u d w → ⊥
 no_other_char d char differs w other = differs (same_char char other).0
 
--- the place behind a character
-pub place_behind : {u v : Place} {c : ℕ} → CharAt u c v → v ≡ place u.text (u.at + len_utf8 c)
-place_behind {u} {v} {c} char = same_place {u = v} {v = place u.text (u.at + len_utf8 c)} char.same char.next
+-- the place after a character
+pub place_after : {u v : Place} {c : ℕ} → CharAt u c v → v ≡ place u.text (u.at + len_utf8 c)
+place_after {u} {v} {c} char = same_place {u = v} {v = place u.text (u.at + len_utf8 c)} char.same char.next
 
 -- runs one after another
 pub run_append : {test : ℕ → Bool} {u v w : Place} → Run test u v → Run test v w → Run test u w
@@ -78,7 +78,7 @@ stops_at_end test end c v char = absurd (no_char_at_end end char)
 pub stops_at : (test : ℕ → Bool) {u v : Place} {c : ℕ} → CharAt u c v → test c ≡ false → Stops test u
 stops_at test {u} {v} {c} char fails d w other = subst (λ x. test x ≡ false) (same_char char other).0 fails
 
--- a text may be cut behind a character
+-- a text may be cut after a character
 pub boundary_after : (text : List ℕ) (at : ℕ) {u v : Place} {c : ℕ} → place text at ≡ u → IsUtf8 text → IsCharBoundary text at → CharAt u c v → IsCharBoundary text (at + len_utf8 c)
 boundary_after text at {u} {v} {c} here utf8 boundary char =
     let at_place : CharAt (place text at) c v = subst (λ p. CharAt p c v) (sym here) char in
@@ -96,7 +96,7 @@ all_push_ascii text at all within ascii holds = each.step all (ascii_here text a
 
 -- any character more
 pub all_push_char : {Holds : ℕ → Type 0} {u v : Place} {c : ℕ} (text : List ℕ) (at : ℕ) → AllBetween Holds u (place text at) → CharAt (place text at) c v → Holds c → AllBetween Holds u (place text (at + len_utf8 c))
-all_push_char {Holds} {u} text at all char holds = subst (λ p. AllBetween Holds u p) (place_behind char) (each.step all char holds)
+all_push_char {Holds} {u} text at all char holds = subst (λ p. AllBetween Holds u p) (place_after char) (each.step all char holds)
 
 -- of which then something else holds
 pub all_map : {Holds Follows : ℕ → Type 0} {u v : Place} → ((c : ℕ) → Holds c → Follows c) → AllBetween Holds u v → AllBetween Follows u v
@@ -112,7 +112,7 @@ pub all_same : {Holds : ℕ → Type 0} {u v : Place} → AllBetween Holds u v �
 all_same each.stop = refl
 all_same (each.step all char holds) = char.same ∙ all_same all
 
--- they stand one behind another
+-- they stand one after another
 pub all_forward : {Holds : ℕ → Type 0} {u v : Place} → AllBetween Holds u v → u.at ≤ v.at
 all_forward {u = u} each.stop = omega arith
 all_forward {Holds} {u} {v = w} (each.step {v = v} {c = c} all char holds) =
@@ -139,13 +139,13 @@ stands_cases {u} {v} c d char =
     ]
 
 -- what a step over the characters of the text from a place gives
-pub char_at_front : (B : Type 0) (text : List ℕ) (at : ℕ) → at ≤ length text → (found : Option ℕ) (now behind : List ℕ) → now ≡ drop at text
-    → MatchOption found ((length now ≡ 0) × B) (λ c. now ≡ encode_utf8 c ++ behind)
+pub char_at_prefix : (B : Type 0) (text : List ℕ) (at : ℕ) → at ≤ length text → (found : Option ℕ) (now following : List ℕ) → now ≡ drop at text
+    → MatchOption found ((length now ≡ 0) × B) (λ c. now ≡ encode_utf8 c ++ following)
     → MatchOption found (AtEnd (place text at)) (λ c. (v : Place) × CharAt (place text at) c v)
-char_at_front B text at within None now behind rest none =
+char_at_prefix B text at within None now following rest none =
     let left : length text - at ≡ 0 = sym (length-drop at text) ∙ ap length (sym rest) ∙ none.0 in
     omega arith
-char_at_front B text at within (Some c) now behind rest some = (_, char_here text behind at c (sym rest ∙ some))
+char_at_prefix B text at within (Some c) now following rest some = (_, char_here text following at c (sym rest ∙ some))
 
 -- the same character passes or fails, and not both
 pub test_clash : (b : Bool) → b ≡ true → b ≡ false → ⊥
@@ -159,7 +159,7 @@ runs_same (step char passes rest) ends stop ends' = absurd (test_clash _ passes 
 runs_same {test} {u} {v} {w} (step char passes rest) ends (step char' passes' rest') ends' =
     runs_same rest ends (subst (λ p. Run test p w) (sym (same_char char char').1) rest') ends'
 
--- what is left of a run behind its first character
+-- what is left of a run after its first character
 pub run_rest : {test : ℕ → Bool} {u v w : Place} {c : ℕ} → Run test u w → Stops test w → CharAt u c v → test c ≡ true → Run test v w
 run_rest stop ends char passes = absurd (test_clash _ passes (ends _ _ char))
 run_rest {test} {u} {v} {w} (step char' passes' rest) ends char passes = subst (λ p. Run test p w) (same_char char' char).1 rest
@@ -190,7 +190,7 @@ boundary_ahead {u} {v} at ahead boundary = subst (λ t. IsCharBoundary t at) (sy
 pub longest_same : {test : ℕ → Bool} {u v w : Place} → Longest test u v → Longest test u w → v ≡ w
 longest_same first second = runs_same first.run first.stops second.run second.stops
 
--- a longest run goes on behind its first character
+-- a longest run goes on after its first character
 pub longest_rest : {test : ℕ → Bool} {u v w : Place} {c : ℕ} → Longest test u w → CharAt u c v → test c ≡ true → Longest test v w
 longest_rest longest char passes = record { run = run_rest longest.run longest.stops char passes; stops = longest.stops }
 
@@ -206,17 +206,17 @@ pass_clash test {u} {v} {w} {c} {d} first passes second fails = test_clash (test
 pub stops_without : (k : ℕ) {u : Place} → ((v : Place) → CharAt u k v → ⊥) → Stops (λ c. c == k) u
 stops_without k {u} absent c v char = ne_eqb c k (λ same. absent v (subst (λ x. CharAt u x v) same char))
 
--- what is left behind a character and more is less
+-- what is left after a character and more is less
 pub left_smaller : {u v w x : Place} {c : ℕ} → Ahead u v → CharAt v c w → Ahead w x → length x.text - x.at < length u.text - u.at
-left_smaller {u} {v} {w} {x} {c} before char behind =
+left_smaller {u} {v} {w} {x} {c} before char following =
     let left : v.at + len_utf8 c ≤ length v.text = char_left char in
     let width : 1 ≤ len_utf8 c = (len_utf8_bounds c).0 in
     let text : length v.text ≡ length u.text = ap length before.text in
     let text' : length w.text ≡ length v.text = ap length char.same in
-    let text'' : length x.text ≡ length w.text = ap length behind.text in
+    let text'' : length x.text ≡ length w.text = ap length following.text in
     let start : u.at ≤ v.at = before.at in
     let next : w.at ≡ v.at + len_utf8 c = char.next in
-    let end : w.at ≤ x.at = behind.at in
+    let end : w.at ≤ x.at = following.at in
     omega arith
 
 -- over a character, if one stands there

@@ -1,4 +1,4 @@
--- What a scanner eats is the front of the characters ahead.
+-- What a scanner eats is the start of the characters ahead.
 use Rattle.std.proofs.Common.{◌≡◌, ℕ, Bool, true, false, List, [], ◌∷◌, ◌++◌, drop, refl, sym, ap, ◌∙◌, arith, zero, suc, cond}
 use Rattle.std.specs.Prelude.{encode_utf8_all}
 use Rattle.std.specs.List.{list_all}
@@ -10,34 +10,34 @@ use Rattle.std.proofs.lemmas.Str.{encodes-chars, chars_from_encodes, encodes-IsA
 use Rattle.bib_text.specs.Places.{Place, place, CharAt, Longest, Stops, AtEnd, between}
 use Rattle.bib_text.proofs.PlaceFacts.{char_here}
 use Rattle.bib_text.proofs.TextFacts.{ahead, Passed, passed_run, passed_between, passed_char, chars_at_end}
-use Rattle.bib_text.specs.Runs.{front, behind}
+use Rattle.bib_text.specs.Runs.{leading_run, rest_after}
 
 -- a run that passes, and characters that do not begin with one that does
-pub split_front : (test : ℕ → Bool) (run rest : List ℕ) → list_all test run ≡ true → (front test rest ≡ []) → front test (run ++ rest) ≡ run
-split_front test [] rest all stops = stops
-split_front test (c ∷ run) rest all stops =
+pub split_prefix : (test : ℕ → Bool) (run rest : List ℕ) → list_all test run ≡ true → (leading_run test rest ≡ []) → leading_run test (run ++ rest) ≡ run
+split_prefix test [] rest all stops = stops
+split_prefix test (c ∷ run) rest all stops =
     let parts = and_parts (test c) (list_all test run) all in
-    cond-true (test c) (c ∷ front test (run ++ rest)) [] parts.0 ∙ ap (λ xs. c ∷ xs) (split_front test run rest parts.1 stops)
+    cond-true (test c) (c ∷ leading_run test (run ++ rest)) [] parts.0 ∙ ap (λ xs. c ∷ xs) (split_prefix test run rest parts.1 stops)
 
-pub split_behind : (test : ℕ → Bool) (run rest : List ℕ) → list_all test run ≡ true → (behind test rest ≡ rest) → behind test (run ++ rest) ≡ rest
-split_behind test [] rest all stops = stops
-split_behind test (c ∷ run) rest all stops =
+pub split_after : (test : ℕ → Bool) (run rest : List ℕ) → list_all test run ≡ true → (rest_after test rest ≡ rest) → rest_after test (run ++ rest) ≡ rest
+split_after test [] rest all stops = stops
+split_after test (c ∷ run) rest all stops =
     let parts = and_parts (test c) (list_all test run) all in
-    cond-true (test c) (behind test (run ++ rest)) (c ∷ run ++ rest) parts.0 ∙ split_behind test run rest parts.1 stops
+    cond-true (test c) (rest_after test (run ++ rest)) (c ∷ run ++ rest) parts.0 ∙ split_after test run rest parts.1 stops
 
--- where no character passes, nothing is at the front
-stopped : (test : ℕ → Bool) (v : Place) (cs : List ℕ) → IsUtf8 (ahead v) → cs ≡ chars (ahead v) → Stops test v → (front test cs ≡ []) × (behind test cs ≡ cs)
+-- where no character passes, nothing is at the start
+stopped : (test : ℕ → Bool) (v : Place) (cs : List ℕ) → IsUtf8 (ahead v) → cs ≡ chars (ahead v) → Stops test v → (leading_run test cs ≡ []) × (rest_after test cs ≡ cs)
 stopped test v [] utf8 is stops = (refl, refl)
 stopped test v (c ∷ cs) utf8 is stops =
     let spelt : ahead v ≡ encode_utf8_all (c ∷ cs) = sym (encodes-chars (ahead v) utf8) ∙ ap encode_utf8_all (sym is) in
     let no : test c ≡ false = stops c _ (char_here v.text (encode_utf8_all cs) v.at c spelt) in
-    (cond-false (test c) (c ∷ front test cs) [] no, cond-false (test c) (behind test cs) (c ∷ cs) no)
+    (cond-false (test c) (c ∷ leading_run test cs) [] no, cond-false (test c) (rest_after test cs) (c ∷ cs) no)
 
 pub record Eaten (test : ℕ → Bool) (u v : Place) : Type 0 where
   pub same : v.text ≡ u.text
-  pub run : between u v ≡ encode_utf8_all (front test (chars (ahead u)))
+  pub run : between u v ≡ encode_utf8_all (leading_run test (chars (ahead u)))
   pub utf8 : IsUtf8 (ahead v)
-  pub rest : chars (ahead v) ≡ behind test (chars (ahead u))
+  pub rest : chars (ahead v) ≡ rest_after test (chars (ahead u))
 
 pub eaten : (test : ℕ → Bool) {u v : Place} → Longest test u v → IsUtf8 (ahead u) → Eaten test u v
 eaten test {u} {v} longest utf8 =
@@ -45,12 +45,12 @@ eaten test {u} {v} longest utf8 =
     let stops = stopped test v (chars (ahead v)) passed.1.utf8 refl longest.stops in
     record {
       same = passed.1.same;
-      run = passed_between passed.1 ∙ ap encode_utf8_all (sym (ap (front test) passed.1.spelt ∙ split_front test passed.0 (chars (ahead v)) passed.2 stops.0));
+      run = passed_between passed.1 ∙ ap encode_utf8_all (sym (ap (leading_run test) passed.1.spelt ∙ split_prefix test passed.0 (chars (ahead v)) passed.2 stops.0));
       utf8 = passed.1.utf8;
-      rest = sym (ap (behind test) passed.1.spelt ∙ split_behind test passed.0 (chars (ahead v)) passed.2 stops.1);
+      rest = sym (ap (rest_after test) passed.1.spelt ∙ split_after test passed.0 (chars (ahead v)) passed.2 stops.1);
     }
 
-pub white : (cs : List ℕ) → skip_leading_whitespace cs ≡ behind is_whitespace cs
+pub white : (cs : List ℕ) → skip_leading_whitespace cs ≡ rest_after is_whitespace cs
 white [] = refl
 white (c ∷ cs) = ap (λ xs. here (is_whitespace c) xs (c ∷ cs)) (white cs)
   where
@@ -58,19 +58,19 @@ white (c ∷ cs) = ap (λ xs. here (is_whitespace c) xs (c ∷ cs)) (white cs)
     here true xs ys = xs
     here false xs ys = ys
 
--- the characters behind white space
-pub trimmed_chars : (bs trimmed : List ℕ) → IsUtf8 trimmed → trimmed ≡ trim_start bs → chars trimmed ≡ behind is_whitespace (chars bs)
+-- the characters after white space
+pub trimmed_chars : (bs trimmed : List ℕ) → IsUtf8 trimmed → trimmed ≡ trim_start bs → chars trimmed ≡ rest_after is_whitespace (chars bs)
 unfolding trim_start
 trimmed_chars bs trimmed utf8 is = sym (chars_from_encodes (skip_leading_whitespace (chars bs)) trimmed utf8 (sym is)) ∙ white (chars bs)
 
 -- the same from the start of a text
-pub eaten_new : (test : ℕ → Bool) (text : List ℕ) {u v : Place} → u ≡ place text 0 → IsUtf8 text → Longest test u v → (v.text ≡ text) × (between u v ≡ encode_utf8_all (front test (chars text))) × (chars (ahead v) ≡ behind test (chars text))
+pub eaten_new : (test : ℕ → Bool) (text : List ℕ) {u v : Place} → u ≡ place text 0 → IsUtf8 text → Longest test u v → (v.text ≡ text) × (between u v ≡ encode_utf8_all (leading_run test (chars text))) × (chars (ahead v) ≡ rest_after test (chars text))
 eaten_new test text {u} {v} is utf8 longest =
     let here : ahead u ≡ text = ap ahead is in
     let ate : Eaten test u v = eaten test longest (rw here utf8) in
-    (ate.same ∙ ap (λ p. p.text) is, ate.run ∙ ap (λ bs. encode_utf8_all (front test (chars bs))) here, ate.rest ∙ ap (λ bs. behind test (chars bs)) here)
+    (ate.same ∙ ap (λ p. p.text) is, ate.run ∙ ap (λ bs. encode_utf8_all (leading_run test (chars bs))) here, ate.rest ∙ ap (λ bs. rest_after test (chars bs)) here)
 
-pub eaten_rest : (test : ℕ → Bool) (text : List ℕ) (at : ℕ) {u v : Place} → u ≡ place text 0 → IsUtf8 text → Longest test u v → at ≡ v.at → chars (drop at text) ≡ behind test (chars text)
+pub eaten_rest : (test : ℕ → Bool) (text : List ℕ) (at : ℕ) {u v : Place} → u ≡ place text 0 → IsUtf8 text → Longest test u v → at ≡ v.at → chars (drop at text) ≡ rest_after test (chars text)
 eaten_rest test text at {u} {v} is utf8 longest there =
     let ate = eaten_new test text is utf8 longest in
     ap (λ n. chars (drop n text)) there ∙ ap (λ bs. chars (drop v.at bs)) (sym ate.0) ∙ ate.2
@@ -79,19 +79,19 @@ pub boundary_there : {test : ℕ → Bool} (at : ℕ) (text : List ℕ) {u v : P
 boundary_there {test} at text is utf8 longest boundary = rw (sym (eaten_new test text is utf8 longest).0) boundary
 
 -- digits are their bytes
-front_ascii : (cs : List ℕ) → IsAscii (front is_ascii_digit cs)
-front_ascii [] = λ k. omega arith
-front_ascii (c ∷ cs) = here (is_ascii_digit c) c (front is_ascii_digit cs) refl (front_ascii cs)
+prefix_ascii : (cs : List ℕ) → IsAscii (leading_run is_ascii_digit cs)
+prefix_ascii [] = λ k. omega arith
+prefix_ascii (c ∷ cs) = here (is_ascii_digit c) c (leading_run is_ascii_digit cs) refl (prefix_ascii cs)
   where
     here : (b : Bool) (c : ℕ) (cs : List ℕ) → is_ascii_digit c ≡ b → IsAscii cs → IsAscii (cond b (c ∷ cs) [])
     here true c cs is more zero = grind (arith, nat_tests)
     here true c cs is more (suc k) = more k
     here false c cs is more k = omega arith
 
-digits_encode : (cs : List ℕ) → encode_utf8_all (front is_ascii_digit cs) ≡ front is_ascii_digit cs
-digits_encode cs = encodes-IsAscii (front is_ascii_digit cs) (front_ascii cs)
+digits_encode : (cs : List ℕ) → encode_utf8_all (leading_run is_ascii_digit cs) ≡ leading_run is_ascii_digit cs
+digits_encode cs = encodes-IsAscii (leading_run is_ascii_digit cs) (prefix_ascii cs)
 
-pub eaten_digits : (text : List ℕ) {u v : Place} → u ≡ place text 0 → IsUtf8 text → Longest is_ascii_digit u v → between u v ≡ front is_ascii_digit (chars text)
+pub eaten_digits : (text : List ℕ) {u v : Place} → u ≡ place text 0 → IsUtf8 text → Longest is_ascii_digit u v → between u v ≡ leading_run is_ascii_digit (chars text)
 eaten_digits text is utf8 longest = (eaten_new is_ascii_digit text is utf8 longest).1 ∙ digits_encode (chars text)
 
 -- one character was eaten

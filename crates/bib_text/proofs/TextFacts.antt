@@ -117,7 +117,7 @@ run_onward {u = u} {v} (step {v = w} {c = c} char passes rest) =
     let next : w.at ≡ u.at + len_utf8 c = char.next in
     (more.0 ∙ char.same, omega arith)
 
--- less is left behind a run and a character
+-- less is left after a run and a character
 pub less_left : {test : ℕ → Bool} {u v w : Place} {c : ℕ} → Run test u v → CharAt v c w → length w.text - w.at < length u.text - u.at
 less_left {u = u} {v} {w} {c} run char =
     let onward : u.at ≤ v.at = (run_onward run).1 in
@@ -140,14 +140,14 @@ three_parts out one two three xs ys zs first second third = two_parts out two th
 pub chars_past : (cs bs rest : List ℕ) → IsUtf8 bs → bs ≡ encode_utf8_all cs ++ rest → (chars bs ≡ cs ++ chars rest) × IsUtf8 rest
 chars_past [] bs rest utf8 begins = (ap chars begins, rw begins at utf8)
 chars_past (c ∷ cs) bs rest utf8 begins =
-    let front : bs ≡ encode_utf8 c ++ (encode_utf8_all cs ++ rest) = begins ∙ append_assoc (encode_utf8 c) (encode_utf8_all cs) rest in
-    let more = chars_past cs (encode_utf8_all cs ++ rest) rest (IsUtf8-past_char bs (encode_utf8_all cs ++ rest) c utf8 front) refl in
-    (chars_past_char bs (encode_utf8_all cs ++ rest) c utf8 front ∙ ap (λ xs. c ∷ xs) more.0, more.1)
+    let leading_run : bs ≡ encode_utf8 c ++ (encode_utf8_all cs ++ rest) = begins ∙ append_assoc (encode_utf8 c) (encode_utf8_all cs) rest in
+    let more = chars_past cs (encode_utf8_all cs ++ rest) rest (IsUtf8-past_char bs (encode_utf8_all cs ++ rest) c utf8 leading_run) refl in
+    (chars_past_char bs (encode_utf8_all cs ++ rest) c utf8 leading_run ∙ ap (λ xs. c ∷ xs) more.0, more.1)
 
 -- the characters of a text that these spell
 pub chars_whole : (cs bs : List ℕ) → IsUtf8 bs → bs ≡ encode_utf8_all cs → chars bs ≡ cs
 chars_whole cs bs utf8 spells = (chars_past cs bs [] utf8 (spells ∙ sym (append-nil _))).0 ∙ ap (λ xs. cs ++ xs) chars-nil ∙ append-nil cs
 
--- less is left behind a character
-pub less_behind : {u v : Place} {c : ℕ} → CharAt u c v → length v.text - v.at < length u.text - u.at
-less_behind char = less_left {test = λ c. true} stop char
+-- less is left after a character
+pub less_after : {u v : Place} {c : ℕ} → CharAt u c v → length v.text - v.at < length u.text - u.at
+less_after char = less_left {test = λ c. true} stop char

@@ -1,20 +1,21 @@
 -- Meaning: words of public contracts.
 -- Texts in which the braces balance, as they stand between two braces in a file: a backslash hides the
--- character behind it, and each brace that opens is closed.
+-- character after it, and each brace that opens is closed.
 use Rattle.std.specs.Prelude.{◌≡◌, ℕ, Bool, true, not, ◌&&◌, ◌==◌, List, length}
 use Rattle.bib_text.specs.Places.{Place, CharAt, place}
+use Rattle.bib_text.specs.Characters as char
 
 -- a character that is neither a brace nor a backslash
 abbrev pub is_plain : ℕ → Bool
-is_plain c = not (c == 123) && not (c == 125) && not (c == 92)
+is_plain c = not (c == char.open_brace) && not (c == char.close_brace) && not (c == char.backslash)
 
 -- from one place to the other, parts of a braced text: a plain character, a backslash and any character, or
 -- parts in a pair of braces
 pub data Parts : Place → Place → Type 0 where
   none : {u : Place} → Parts u u
   plain : {u v w : Place} {c : ℕ} → CharAt u c v → is_plain c ≡ true → Parts v w → Parts u w
-  hidden : {u v w x : Place} {c : ℕ} → CharAt u 92 v → CharAt v c w → Parts w x → Parts u x
-  nested : {u v w x y : Place} → CharAt u 123 v → Parts v w → CharAt w 125 x → Parts x y → Parts u y
+  hidden : {u v w x : Place} {c : ℕ} → CharAt u char.backslash v → CharAt v c w → Parts w x → Parts u x
+  nested : {u v w x y : Place} → CharAt u char.open_brace v → Parts v w → CharAt w char.close_brace x → Parts x y → Parts u y
 
 -- the whole text is parts of a braced text
 abbrev pub IsParts : List ℕ → Type 0

@@ -1,6 +1,7 @@
 -- Meaning: words of public contracts.
 -- Names, and the values that they stand for.
 use Rattle.std.specs.Prelude.{ℕ, List, [], ◌∷◌, Option, Some, None, if◌then◌else◌, ◌==◌, bytes_eq, map}
+use Rattle.bib_text.specs.Characters as char
 
 -- the value beside a name in a table
 abbrev pub named : {A : Type 0} → List (List ℕ × A) → List ℕ → Option A
@@ -19,7 +20,7 @@ before_words c (word ∷ rest) = (c ∷ word) ∷ rest
 -- the parts of a text between its spaces
 abbrev pub between_spaces : List ℕ → List (List ℕ)
 between_spaces [] = [] ∷ []
-between_spaces (c ∷ text) = if c == 32 then [] ∷ between_spaces text else before_words c (between_spaces text)
+between_spaces (c ∷ text) = if c == char.space then [] ∷ between_spaces text else before_words c (between_spaces text)
 
 -- the words of a list that is written with single spaces between them; a blank one has none
 abbrev pub words : List ℕ → List (List ℕ)

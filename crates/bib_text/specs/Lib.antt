@@ -1,4 +1,5 @@
 pub mod Braces
+pub mod Characters
 pub mod Enums
 pub mod Lending
 pub mod Places

@@ -9,10 +9,11 @@ pub record Place : Type 0 where
   pub text : List ℕ
   pub at : ℕ
 
+-- this offset in a text
 abbrev pub place : List ℕ → ℕ → Place
 place text at = record { text = text; at = at }
 
--- the character c stands at u, and v is the place behind it
+-- the character c stands at u, and v is the place after it
 pub record CharAt (u : Place) (c : ℕ) (v : Place) : Type 0 where
   pub same : v.text ≡ u.text
   pub here : drop u.at u.text ≡ encode_utf8 c ++ drop v.at u.text

@@ -2,11 +2,11 @@
 -- Runs at the start of a text.
 use Rattle.std.specs.Prelude.{ℕ, Bool, List, [], ◌∷◌, if◌then◌else◌}
 
--- the characters at the start of a text that pass a test, and the characters behind those
-abbrev pub front : (ℕ → Bool) → List ℕ → List ℕ
-front test [] = []
-front test (c ∷ cs) = if test c then c ∷ front test cs else []
+-- the characters at the start of a text that pass a test, and the characters after those
+abbrev pub leading_run : (ℕ → Bool) → List ℕ → List ℕ
+leading_run test [] = []
+leading_run test (c ∷ cs) = if test c then c ∷ leading_run test cs else []
 
-abbrev pub behind : (ℕ → Bool) → List ℕ → List ℕ
-behind test [] = []
-behind test (c ∷ cs) = if test c then behind test cs else c ∷ cs
+abbrev pub rest_after : (ℕ → Bool) → List ℕ → List ℕ
+rest_after test [] = []
+rest_after test (c ∷ cs) = if test c then rest_after test cs else c ∷ cs

@@ -39,14 +39,14 @@ impl<T> Items<T> {
         }
     }
 
-    /// The list of a vector's elements. Takes no memory.
+    /// The list of a vector's elements. Does not allocate.
     pub fn from_vec(elements: Vec<T>) -> Self
         ensures { result ≡ elements.items }
     {
         Items { vec: elements }
     }
 
-    /// The vector of the elements. Takes no memory.
+    /// The vector of the elements. Does not allocate.
     pub fn into_vec(self) -> Vec<T>
         ensures { result.items ≡ self }
     {

@@ -25,7 +25,7 @@ impl<'s> Model for Scanner<'s> {
     ghost invariant = { λ s. IsUtf8 s.text.now × IsCharBoundary s.text.now s.at };
 }
 
-// The character at a place and the place behind it, if the text goes on.
+// The character at a place and the place after it, if the text goes on.
 fn char_at(text: &str, at: usize) -> Option<char>
     requires { IsCharBoundary text.now at }
     ensures { MatchOption result
@@ -187,7 +187,7 @@ impl<'s> Scanner<'s> {
     /// The text from `start` up to here.
     pub fn from(&self, start: usize) -> &'s str
         requires boundary { IsCharBoundary self.now.text start }
-        requires behind { start ≤ self.now.at }
+        requires following { start ≤ self.now.at }
         ensures { result.now ≡ between (place self.now.text start) self.now }
     {
         &self.text[start..self.at]

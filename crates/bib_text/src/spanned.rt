@@ -42,7 +42,7 @@ impl<T> Spanned<T> {
         }
     }
 
-    /// Whether the value stands nowhere, which its start tells.
+    /// Whether the value stands nowhere, which its start says.
     pub fn is_detached(&self) -> bool
         ensures { IsTrue result ↔ (self.now.span.start ≡ 2 ^ 64 - 1) }
     {

@@ -42,14 +42,14 @@ impl Text {
         Ok(Text { string })
     }
 
-    /// The text of a string. Takes no memory.
+    /// The text of a string. Does not allocate.
     pub fn from_string(whole: String) -> Self
         ensures { result ≡ string_bytes whole }
     {
         Text { string: whole }
     }
 
-    /// The string of a text. Takes no memory.
+    /// The string of a text. Does not allocate.
     pub fn into_string(self) -> String
         ensures { string_bytes result ≡ self }
     {

@@ -16,5 +16,5 @@ permissive_meaning meaning (Typed v) = typed (meaning v)
 permissive_meaning meaning (Chunks chunks) = as_chunks chunks
 
 -- the kind of a refusal of chunks as a number: none stands there where the chunks' span is empty
-abbrev pub number_fault : Value → TypeErrorKind
-number_fault chunks = if nat_lt (whole_span chunks).start (whole_span chunks).end then InvalidNumber else MissingNumber
+abbrev pub number_error : Value → TypeErrorKind
+number_error chunks = if nat_lt (whole_span chunks).start (whole_span chunks).end then InvalidNumber else MissingNumber

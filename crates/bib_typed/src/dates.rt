@@ -1,6 +1,6 @@
 //! Dates as typed values.
 
-ghost use Rattle.bib_dates.specs.Kept.{IsKept};
+ghost use Rattle.bib_dates.specs.Kept.{IsKeptDate};
 ghost use Rattle.bib_dates.specs.Chunks.{date_read, DateMayRefuse, date_written};
 ghost use Rattle.bib_dates.specs.declared.date.Date.{Date as ADate};
 ghost use Rattle.bib_dates.proofs.DatesReread.{date_survives};
@@ -25,7 +25,7 @@ impl Type for Date {
 
     ghost writes = { date_written };
 
-    ghost kept = { IsKept };
+    ghost kept = { IsKeptDate };
 
     ghost survives = { date_survives };
 

@@ -100,7 +100,7 @@ impl Type for Language {
     }
 }
 
-/// Read by its name, in any ASCII case; any other text is a type of its own, in small letters. Written as one normal
+/// Read by its name, in any ASCII case; any other text is a type of its own, in lowercase letters. Written as one normal
 /// chunk.
 impl Type for EditorType {
     ghost use Rattle.bib_enums.specs.declared.types.EditorType.{EditorType as Role};

@@ -26,7 +26,7 @@ pub trait ChunksExt {
             (T.may_refuse (contents self.now)) result };
 
     /// The text of the chunks: math between dollar signs, and in normal text a line break as a space, or as nothing
-    /// behind white space.
+    /// after white space.
     fn format_verbatim(&self, alloc: Global) -> Result<String, AllocError>
         ensures { IfOk result (λ text. string_bytes text ≡
             encode_utf8_all (formatted (contents self.now))) };

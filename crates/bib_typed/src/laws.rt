@@ -4,7 +4,7 @@
 ghost use Rattle.std.specs.Prelude.{◌≡◌, ◌⊎◌, ℕ, List, None};
 ghost use Rattle.std.specs.declared.ops.Range.{Range as ARange};
 ghost use Rattle.bib_chunks.specs.Values.{Value};
-ghost use Rattle.bib_dates.specs.Kept.{IsKept};
+ghost use Rattle.bib_dates.specs.Kept.{IsKeptDate};
 ghost use Rattle.bib_dates.specs.Readings.{IsDateKind};
 ghost use Rattle.bib_dates.specs.declared.date.Date.{Date as ADate};
 ghost use Rattle.bib_people.specs.Kept.{ArePeople};
@@ -73,7 +73,7 @@ pub fn lists_of_languages_are_kept()
 {}
 
 /// Each list of people is kept that has one, and whose names are of words of ASCII letters, points and hyphens with single
-/// spaces between them: no word is `and`, those of names begin with a capital, those of prefixes with a small letter,
+/// spaces between them: no word is `and`, those of names begin with a capital, those of prefixes with a lowercase letter,
 /// no one lacks a name or a given name, and no one has another part.
 pub fn lists_of_people_are_kept()
     ensures { (people : List APerson) → ArePeople people → ⟦<Vec<Person> as Type>⟧.kept people }
@@ -82,7 +82,7 @@ pub fn lists_of_people_are_kept()
 /// Each date of a year from -9999 to 9999 is kept whose months and days exist, where no day lacks its month, and that has
 /// no time.
 pub fn dates_are_kept()
-    ensures { (date : ADate) → IsKept date → ⟦<Date as Type>⟧.kept date }
+    ensures { (date : ADate) → IsKeptDate date → ⟦<Date as Type>⟧.kept date }
 {}
 
 /// A value is kept where its type keeps it, chunks as they stand where the type doesn't read them, and no other.
@@ -97,7 +97,7 @@ pub fn permissive_values_are_kept<T: Type + Drop>(value: &T, chunks: &Chunks)
         T.Type.reads chunks.now ≡ None }
 {}
 
-/// Each type that may refuse chunks has few kinds of errors, want of memory aside.
+/// Each type that may refuse chunks has few kinds of errors, out of memory aside.
 pub fn types_have_few_kinds()
     ensures number { (chunks : Value) (kind : AKind) → ⟦<i64 as Type>⟧.may_refuse chunks kind →
         (kind ≡ InvalidNumber) ⊎ (kind ≡ MissingNumber) }
@@ -115,7 +115,7 @@ pub fn types_have_few_kinds()
         ⟦<Date as Type>⟧.may_refuse chunks kind → IsDateKind kind }
 {}
 
-/// The other types refuse no chunks: any are read, want of memory aside.
+/// The other types refuse no chunks: any are read, out of memory aside.
 pub fn others_read_any_chunks<T: Type + Drop>()
     ensures text { (chunks : Value) (kind : AKind) → ⟦<String as Type>⟧.may_refuse chunks kind → ⊥ }
     ensures texts { (chunks : Value) (kind : AKind) →

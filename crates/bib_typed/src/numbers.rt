@@ -4,7 +4,7 @@ ghost use Rattle.std.specs.Prelude.{◌≡◌, ℤ, FitsSigned};
 ghost use Rattle.std.specs.Int.{w64};
 ghost use Rattle.bib_values.specs.Numbers.{number_read, number_written};
 ghost use Rattle.bib_values.proofs.NumberFacts.{number_survives};
-ghost use Rattle.bib_typed.specs.Typed.{number_fault};
+ghost use Rattle.bib_typed.specs.Typed.{number_error};
 
 use crate::typed::{Type, found};
 use bib_chunks::chunk::{Chunks, ChunksRef, whole_span};
@@ -13,8 +13,8 @@ use bib_values::numbers::{read_number, write_number};
 use std::alloc::{AllocError, Global};
 
 // The kind of a refusal of chunks as a number.
-fn number_fault(chunks: ChunksRef<'_>) -> TypeErrorKind
-    ensures { result ≡ number_fault chunks.now }
+fn number_error(chunks: ChunksRef<'_>) -> TypeErrorKind
+    ensures { result ≡ number_error chunks.now }
 {
     let span = whole_span(chunks);
     if span.start < span.end {
@@ -23,7 +23,7 @@ fn number_fault(chunks: ChunksRef<'_>) -> TypeErrorKind
     TypeErrorKind::MissingNumber
 }
 
-/// Read from digits with an optional sign, or from a roman numeral of 1 to 3,999 in capitals or in small letters, with
+/// Read from digits with an optional sign, or from a roman numeral of 1 to 3,999 in uppercase letters or in lowercase letters, with
 /// white space round it. Else refused, with `MissingNumber` where the chunks have no bytes in the file, and with
 /// `InvalidNumber` where they have. Written in digits, as one normal chunk.
 impl Type for i64 {
@@ -33,7 +33,7 @@ impl Type for i64 {
 
     ghost reads = { number_read };
 
-    ghost may_refuse = { λ chunks kind. kind ≡ number_fault chunks };
+    ghost may_refuse = { λ chunks kind. kind ≡ number_error chunks };
 
     ghost writes = { number_written };
 
@@ -43,7 +43,7 @@ impl Type for i64 {
 
     fn from_chunks(alloc: Global, chunks: ChunksRef<'_>) -> Result<i64, TypeError> {
         let number = read_number(alloc, chunks)?;
-        found(number, chunks, number_fault(chunks))
+        found(number, chunks, number_error(chunks))
     }
 
     fn to_chunks(&self, alloc: Global) -> Result<Chunks, AllocError> {

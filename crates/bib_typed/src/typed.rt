@@ -29,7 +29,7 @@ pub trait Type: Sized {
     // What chunks are read as, if they are.
     ghost reads: { List (APlaced AChunk) → Option Meaning };
 
-    // The kinds that a refusal of chunks may have, want of memory aside.
+    // The kinds that a refusal of chunks may have, out of memory aside.
     ghost may_refuse: { List (APlaced AChunk) → AKind → Type 0 };
 
     // The chunks that are written for a value.
@@ -38,7 +38,7 @@ pub trait Type: Sized {
     // The values that are read back from what is written for them.
     ghost kept: { Meaning → Type 0 };
 
-    /// The value that chunks are read as. A fault is of the kind `OutOfMemory` and stands at `0..0`, or says that the
+    /// The value that chunks are read as. An error is of the kind `OutOfMemory` and stands at `0..0`, or says that the
     /// chunks aren't read.
     fn from_chunks(alloc: Global, chunks: ChunksRef<'_>) -> Result<Self, TypeError>
         ensures { IsReadAs meaning (reads chunks.now) (may_refuse chunks.now) result };
@@ -58,7 +58,7 @@ pub(crate) fn found<T: Drop>(
     kind: TypeErrorKind,
 ) -> Result<T, TypeError>
     requires { kind ≢ OutOfMemory }
-    ensures { IsReadAs (λ value. value) read (λ told. told ≡ kind) result }
+    ensures { IsReadAs (λ value. value) read (λ reported. reported ≡ kind) result }
 {
     match read {
         Some(value) => Ok(value),

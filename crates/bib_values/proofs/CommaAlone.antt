@@ -9,15 +9,15 @@ use Rattle.std.proofs.lemmas.Str.{scalars-chars, chars-encodes}
 use Rattle.bib_chunks.specs.declared.chunk.Chunk.{Chunk}
 use Rattle.bib_chunks.specs.declared.chunk.Chunk.TheVariants.{Normal, Verbatim, Math}
 use Rattle.bib_chunks.specs.Styled.{Atom, atoms_of, styled}
-use Rattle.bib_chunks.specs.Formatted.{is_break, unbroken, flowing, ends_in_space, formatted_chunk, formatted_behind, formatted, space_behind}
+use Rattle.bib_chunks.specs.Formatted.{is_break, unbroken, flowing, ends_in_space, formatted_chunk, formatted_after, formatted, space_after}
 use Rattle.bib_chunks.specs.Cuts.{comma_list}
 use Rattle.bib_chunks.specs.Parted.{AreTexts, IsList, HoldsNoComma, is_normal_comma}
 use Rattle.bib_chunks.specs.Parted.IsList.{last, next}
 use Rattle.bib_chunks.proofs.PartFacts.{comma_list_no_comma}
 use Rattle.bib_chunks.proofs.WholeFacts.{comma_list_whole}
 use Rattle.bib_chunks.specs.Values.{Value, text, alone}
-use Rattle.bib_values.specs.Lists.{strings_read, strings_written, is_plain, IsPlain, StringsKept}
-use Rattle.bib_chunks.specs.Separated.{behind_separator}
+use Rattle.bib_values.specs.Lists.{strings_read, strings_written, is_plain_in_list, IsPlain, StringsKept}
+use Rattle.bib_chunks.specs.Separated.{after_separator}
 
 -- a test that all elements of two lists pass
 all-append : {A : Type 0} (test : A → Bool) (xs ys : List A) → list_all test xs ≡ true → list_all test ys ≡ true → list_all test (xs ++ ys) ≡ true
@@ -71,7 +71,7 @@ parts_all test {separator = separator} {parts = part ∷ parts} (next left right
 
 -- a character that stays: a scalar, no comma and no break
 abbrev pub stays : ℕ → Bool
-stays c = scalar c && is_plain c
+stays c = scalar c && is_plain_in_list c
 
 broken_stays : (space : Bool) → list_all stays (if space then [] else 32 ∷ []) ≡ true
 broken_stays true = refl
@@ -100,17 +100,17 @@ chunk_stays space (Normal t) all = flowing_stays space (chars t) all
 chunk_stays space (Verbatim t) all = no_verbatim (chars t) all
 chunk_stays space (Math t) all = absurd (false≢true all)
 
-part_stays : (space : Bool) (part : Value) → list_all is_letter (styled part) ≡ true → list_all stays (formatted_behind space part) ≡ true
+part_stays : (space : Bool) (part : Value) → list_all is_letter (styled part) ≡ true → list_all stays (formatted_after space part) ≡ true
 part_stays space [] all = refl
 part_stays space (c ∷ part) all =
     let both = all-parts is_letter (atoms_of c.v) (styled part) all in
-    all-append stays (formatted_chunk (λ cs. cs) space c.v) _ (chunk_stays space c.v both.0) (part_stays (space_behind space c.v) part both.1)
+    all-append stays (formatted_chunk (λ cs. cs) space c.v) _ (chunk_stays space c.v both.0) (part_stays (space_after space c.v) part both.1)
 
-staying : (cs : List ℕ) → list_all stays cs ≡ true → (scalars cs ≡ true) × (list_all is_plain cs ≡ true)
+staying : (cs : List ℕ) → list_all stays cs ≡ true → (scalars cs ≡ true) × (list_all is_plain_in_list cs ≡ true)
 staying [] all = (refl, refl)
 staying (c ∷ cs) all =
     let parts = and_parts (stays c) (list_all stays cs) all in
-    let one = and_parts (scalar c) (is_plain c) parts.0 in
+    let one = and_parts (scalar c) (is_plain_in_list c) parts.0 in
     let rest = staying cs parts.1 in
     (and_from _ _ one.0 rest.0, and_from _ _ one.1 rest.1)
 
@@ -118,14 +118,14 @@ staying (c ∷ cs) all =
 part_plain : (part : Value) (t : List ℕ) → IsUtf8 t → text part ≡ t → list_all is_normal_scalar (styled part) ≡ true → HoldsNoComma part → IsPlain t
 part_plain part t utf8 is all none =
     let both = staying (formatted part) (part_stays false part (letters (styled part) all none)) in
-    record { utf8 = utf8; plain = ap (λ u. list_all is_plain (chars u)) (sym is) ∙ ap (list_all is_plain) (chars-encodes (formatted part) both.0) ∙ both.1 }
+    record { utf8 = utf8; plain = ap (λ u. list_all is_plain_in_list (chars u)) (sym is) ∙ ap (list_all is_plain_in_list) (chars-encodes (formatted part) both.0) ∙ both.1 }
 
 -- what is written is normal, and texts
 comma_text : IsUtf8 (codes ",")
 unfolding lib.Utf8.encode
 comma_text = (44 ∷ [], (refl, refl))
 
-written_texts : (texts : List (List ℕ)) → AllByRecursion IsUtf8 texts → AreTexts (flat_map (behind_separator (codes ",")) (map (λ t. alone (Normal t)) texts))
+written_texts : (texts : List (List ℕ)) → AllByRecursion IsUtf8 texts → AreTexts (flat_map (after_separator (codes ",")) (map (λ t. alone (Normal t)) texts))
 written_texts [] utf8 = tt
 written_texts (t ∷ texts) utf8 = (comma_text, (utf8.0, written_texts texts utf8.1))
 
@@ -133,7 +133,7 @@ scalar_atoms : (cs : List ℕ) → scalars cs ≡ true → list_all is_normal_sc
 scalar_atoms [] all = refl
 scalar_atoms (c ∷ cs) all = let parts = and_parts (scalar c) (scalars cs) all in and_from _ _ parts.0 (scalar_atoms cs parts.1)
 
-written_normal : (texts : List (List ℕ)) → AllByRecursion IsUtf8 texts → list_all is_normal_scalar (styled (flat_map (behind_separator (codes ",")) (map (λ t. alone (Normal t)) texts))) ≡ true
+written_normal : (texts : List (List ℕ)) → AllByRecursion IsUtf8 texts → list_all is_normal_scalar (styled (flat_map (after_separator (codes ",")) (map (λ t. alone (Normal t)) texts))) ≡ true
 unfolding chars
 written_normal [] utf8 = refl
 written_normal (t ∷ texts) utf8 = all-append is_normal_scalar (map Atom.normal (chars t)) _ (scalar_atoms (chars t) (scalars-chars t utf8.0)) (written_normal texts utf8.1)

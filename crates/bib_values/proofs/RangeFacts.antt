@@ -14,12 +14,12 @@ use Rattle.std.proofs.lemmas.Str.{chars-nil, chars_from_encodes}
 use Rattle.std.proofs.lemmas.Str.Parse.{parse_digits}
 use Rattle.bib_chunks.proofs.StyledFacts.{no_characters}
 use Rattle.bib_values.proofs.NumberFacts.{digits_model}
-use Rattle.bib_values.specs.Ranges.{is_small, number, is_dash, behind_dash, ends_at, up_to, goes_on_with, with_first, all_of}
-use Rattle.bib_text.specs.Runs.{front, behind}
+use Rattle.bib_values.specs.Ranges.{is_small, leading_number, is_dash, after_dash, ends_at, up_to, goes_on_with, with_first, all_of}
+use Rattle.bib_text.specs.Runs.{leading_run, rest_after}
 
-front_digits : (cs : List ℕ) → all_ascii_digits (front is_ascii_digit cs) ≡ true
-front_digits [] = refl
-front_digits (c ∷ cs) = here (is_ascii_digit c) c (front is_ascii_digit cs) refl (front_digits cs)
+prefix_digits : (cs : List ℕ) → all_ascii_digits (leading_run is_ascii_digit cs) ≡ true
+prefix_digits [] = refl
+prefix_digits (c ∷ cs) = here (is_ascii_digit c) c (leading_run is_ascii_digit cs) refl (prefix_digits cs)
   where
     here : (b : Bool) (c : ℕ) (ds : List ℕ) → is_ascii_digit c ≡ b → all_ascii_digits ds ≡ true → all_ascii_digits (cond b (c ∷ ds) []) ≡ true
     here true c ds is more = and_from _ _ is more
@@ -38,27 +38,27 @@ small_no ds fails = false_from_ne_true (is_small ds) (λ holds.
     fails (some, fits))
 
 -- what `parse` answers on the digits
-pub number_parsed : {E : Type 0} (cs ds rest : List ℕ) (r : Result ℕ E) → ds ≡ front is_ascii_digit cs → rest ≡ behind is_ascii_digit cs → ParsesUnsigned 32 10 ds r → MatchResult r (λ n. number cs ≡ Some (n, rest)) (λ e. number cs ≡ None)
-unfolding number
+pub number_parsed : {E : Type 0} (cs ds rest : List ℕ) (r : Result ℕ E) → ds ≡ leading_run is_ascii_digit cs → rest ≡ rest_after is_ascii_digit cs → ParsesUnsigned 32 10 ds r → MatchResult r (λ n. leading_number cs ≡ Some (n, rest)) (λ e. leading_number cs ≡ None)
+unfolding leading_number
 number_parsed {E} cs ds rest (Ok n) is left parses =
-    let told = parse_digits digits_model {E = E} 32 ds (Ok n) parses (ap all_ascii_digits is ∙ front_digits cs) in
-    cond-true (is_small (front is_ascii_digit cs)) _ _ (ap is_small (sym is) ∙ small_yes ds told.0)
-    ∙ ap (λ xs. Some (digits_value 10 xs, behind is_ascii_digit cs)) (sym is) ∙ ap (λ m. Some (m, behind is_ascii_digit cs)) (sym told.1) ∙ ap (λ xs. Some (n, xs)) (sym left)
+    let reported = parse_digits digits_model {E = E} 32 ds (Ok n) parses (ap all_ascii_digits is ∙ prefix_digits cs) in
+    cond-true (is_small (leading_run is_ascii_digit cs)) _ _ (ap is_small (sym is) ∙ small_yes ds reported.0)
+    ∙ ap (λ xs. Some (digits_value 10 xs, rest_after is_ascii_digit cs)) (sym is) ∙ ap (λ m. Some (m, rest_after is_ascii_digit cs)) (sym reported.1) ∙ ap (λ xs. Some (n, xs)) (sym left)
 number_parsed {E} cs ds rest (Err e) is left parses =
-    let told = parse_digits digits_model {E = E} 32 ds (Err e) parses (ap all_ascii_digits is ∙ front_digits cs) in
-    cond-false (is_small (front is_ascii_digit cs)) _ _ (ap is_small (sym is) ∙ small_no ds told)
+    let reported = parse_digits digits_model {E = E} 32 ds (Err e) parses (ap all_ascii_digits is ∙ prefix_digits cs) in
+    cond-false (is_small (leading_run is_ascii_digit cs)) _ _ (ap is_small (sym is) ∙ small_no ds reported)
 
-pub dashed : (cs rest : List ℕ) (c : ℕ) (left : List ℕ) → cs ≡ c ∷ rest → left ≡ behind (λ d. d == 45) rest → is_dash c ≡ true → behind_dash cs ≡ Some left
-unfolding behind_dash
-dashed cs rest c left is leaves dash = ap behind_dash is ∙ cond-true (is_dash c) _ _ dash ∙ ap (λ x. Some x) (sym leaves)
+pub dashed : (cs rest : List ℕ) (c : ℕ) (left : List ℕ) → cs ≡ c ∷ rest → left ≡ rest_after (λ d. d == 45) rest → is_dash c ≡ true → after_dash cs ≡ Some left
+unfolding after_dash
+dashed cs rest c left is leaves dash = ap after_dash is ∙ cond-true (is_dash c) _ _ dash ∙ ap (λ x. Some x) (sym leaves)
 
-pub undashed : (cs rest : List ℕ) (c : ℕ) → cs ≡ c ∷ rest → is_dash c ≡ false → behind_dash cs ≡ None
-unfolding behind_dash
-undashed cs rest c is dash = ap behind_dash is ∙ cond-false (is_dash c) _ _ dash
+pub undashed : (cs rest : List ℕ) (c : ℕ) → cs ≡ c ∷ rest → is_dash c ≡ false → after_dash cs ≡ None
+unfolding after_dash
+undashed cs rest c is dash = ap after_dash is ∙ cond-false (is_dash c) _ _ dash
 
-pub undashed_end : (cs : List ℕ) → cs ≡ [] → behind_dash cs ≡ None
-unfolding behind_dash
-undashed_end cs is = ap behind_dash is
+pub undashed_end : (cs : List ℕ) → cs ≡ [] → after_dash cs ≡ None
+unfolding after_dash
+undashed_end cs is = ap after_dash is
 
 pub chars_empty : (bs : List ℕ) → length bs ≡ 0 → chars bs ≡ []
 chars_empty [] none = chars-nil
@@ -83,10 +83,10 @@ unended a b rest found is utf8 some =
 pub lone : (a : ℕ) (text : List ℕ) → length text ≡ 0 → Some (record { start = a; end = a }) ≡ goes_on_with a (chars text)
 lone a text none = sym (ap (goes_on_with a) (chars_empty text none))
 
-pub parted : (a : ℕ) (text : List ℕ) (dash : Option (List ℕ)) → IsUtf8 text → 0 < length text → behind_dash (chars text) ≡ dash → up_to a dash ≡ goes_on_with a (chars text)
+pub parted : (a : ℕ) (text : List ℕ) (dash : Option (List ℕ)) → IsUtf8 text → 0 < length text → after_dash (chars text) ≡ dash → up_to a dash ≡ goes_on_with a (chars text)
 parted a text dash utf8 some is =
     let more = chars_some text utf8 some in
-    ap (up_to a) (sym is ∙ ap behind_dash more.2) ∙ sym (ap (goes_on_with a) more.2)
+    ap (up_to a) (sym is ∙ ap after_dash more.2) ∙ sym (ap (goes_on_with a) more.2)
 
 -- one value more, and one that is not there
 joined_first : {A : Type 0} (a r : A) (found : Option (List A)) → with_first (Some a) (option_map (λ rs. rs ++ r ∷ []) found) ≡ option_map (λ rs. rs ++ r ∷ []) (with_first (Some a) found)

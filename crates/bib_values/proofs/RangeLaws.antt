@@ -16,12 +16,12 @@ use Rattle.std.proofs.lemmas.Str.Parse.{digit_from_value}
 use Rattle.bib_chunks.specs.Formatted.{formatted}
 use Rattle.bib_chunks.specs.Cuts.{comma_list}
 use Rattle.bib_chunks.specs.Values.{Value}
-use Rattle.bib_values.specs.Lists.{is_plain, IsPlain, StringsKept}
+use Rattle.bib_values.specs.Lists.{is_plain_in_list, IsPlain, StringsKept}
 use Rattle.bib_chunks.proofs.ValueFacts.{is_simple, simple_ascii}
 use Rattle.bib_values.proofs.CommaFacts.{parts_format}
-use Rattle.bib_values.specs.Ranges.{is_small, number, behind_dash, ends_at, up_to, starts_with, range_of, all_of, with_first, first_of, ranges_read, range_read, range_text, ranges_written, range_written, RangeKept, RangesKept}
-use Rattle.bib_text.specs.Runs.{front, behind}
-use Rattle.bib_text.proofs.ScannedFacts.{split_front, split_behind}
+use Rattle.bib_values.specs.Ranges.{is_small, leading_number, after_dash, ends_at, up_to, starts_with, range_of, all_of, with_first, first_of, ranges_read, range_read, range_text, ranges_written, range_written, RangeKept, RangesKept}
+use Rattle.bib_text.specs.Runs.{leading_run, rest_after}
+use Rattle.bib_text.proofs.ScannedFacts.{split_prefix, split_after}
 use Rattle.bib_values.proofs.RangeFacts.{small_yes}
 
 -- the bytes of a range
@@ -48,11 +48,11 @@ decimal_digits : (n : ℕ) → n < 2 ^ 32 → list_all is_ascii_digit (decimal n
 decimal_digits n small = digits_all _ (decimal_is_IsNumeral n (omega arith)).0.1
 
 -- nothing is passed where no character passes
-stays : (p : ℕ → Bool) (cs : List ℕ) → list_all (λ c. not (p c)) cs ≡ true → behind p cs ≡ cs
+stays : (p : ℕ → Bool) (cs : List ℕ) → list_all (λ c. not (p c)) cs ≡ true → rest_after p cs ≡ cs
 stays p [] all = refl
 stays p (c ∷ cs) all = here (p c) refl
   where
-    here : (b : Bool) → p c ≡ b → behind p (c ∷ cs) ≡ c ∷ cs
+    here : (b : Bool) → p c ≡ b → rest_after p (c ∷ cs) ≡ c ∷ cs
     here true is = let no = (and_parts (not (p c)) (list_all (λ x. not (p x)) cs) all).0 in cc
     here false is = cond-false (p c) _ _ is
 
@@ -68,24 +68,24 @@ digit_hyphen c is = grind (arith, nat_tests)
 digit_byte : (c : ℕ) → is_ascii_digit c ≡ true → is_byte c ≡ true
 digit_byte c is = grind (arith, nat_tests)
 
-byte_plain : (c : ℕ) → is_byte c ≡ true → is_plain c ≡ true
+byte_plain : (c : ℕ) → is_byte c ≡ true → is_plain_in_list c ≡ true
 byte_plain c is = grind (arith, nat_tests)
 
 byte_simple : (c : ℕ) → is_byte c ≡ true → is_simple c ≡ true
 byte_simple c is = grind (arith, nat_tests)
 
 -- a number is read from its digits, where no digit follows
-number_decimal : (n : ℕ) (rest : List ℕ) → n < 2 ^ 32 → front is_ascii_digit rest ≡ [] → behind is_ascii_digit rest ≡ rest → number (decimal n ++ rest) ≡ Some (n, rest)
-unfolding number
+number_decimal : (n : ℕ) (rest : List ℕ) → n < 2 ^ 32 → leading_run is_ascii_digit rest ≡ [] → rest_after is_ascii_digit rest ≡ rest → leading_number (decimal n ++ rest) ≡ Some (n, rest)
+unfolding leading_number
 number_decimal n rest small none left =
     let spelt = decimal_is_IsNumeral n (omega arith) in
-    let digits : front is_ascii_digit (decimal n ++ rest) ≡ decimal n = split_front is_ascii_digit (decimal n) rest (decimal_digits n small) none in
+    let digits : leading_run is_ascii_digit (decimal n ++ rest) ≡ decimal n = split_prefix is_ascii_digit (decimal n) rest (decimal_digits n small) none in
     let value : digits_value 10 (decimal n) ≡ n = spelt.1 in
     let fits : digits_value 10 (decimal n) < 2 ^ 32 = omega arith in
-    cond-true (is_small (front is_ascii_digit (decimal n ++ rest))) _ _ (ap is_small digits ∙ small_yes (decimal n) (spelt.0.0, fits))
-    ∙ ap (λ ds. Some (digits_value 10 ds, behind is_ascii_digit (decimal n ++ rest))) digits
-    ∙ ap (λ v. Some (v, behind is_ascii_digit (decimal n ++ rest))) value
-    ∙ ap (λ xs. Some (n, xs)) (split_behind is_ascii_digit (decimal n) rest (decimal_digits n small) left)
+    cond-true (is_small (leading_run is_ascii_digit (decimal n ++ rest))) _ _ (ap is_small digits ∙ small_yes (decimal n) (spelt.0.0, fits))
+    ∙ ap (λ ds. Some (digits_value 10 ds, rest_after is_ascii_digit (decimal n ++ rest))) digits
+    ∙ ap (λ v. Some (v, rest_after is_ascii_digit (decimal n ++ rest))) value
+    ∙ ap (λ xs. Some (n, xs)) (split_after is_ascii_digit (decimal n) rest (decimal_digits n small) left)
 
 range_bytes : (r : Range ℕ) → RangeKept r → list_all is_byte (range_text r) ≡ true
 range_bytes r kept =
@@ -93,18 +93,18 @@ range_bytes r kept =
     (all_both is_byte (decimal r.start) (codes "-") (weaken is_ascii_digit is_byte digit_byte (decimal r.start) (decimal_digits r.start kept.0)) refl)
     (weaken is_ascii_digit is_byte digit_byte (decimal r.end) (decimal_digits r.end kept.1))
 
-dash_passed : (b : ℕ) → b < 2 ^ 32 → behind_dash (45 ∷ decimal b) ≡ Some (decimal b)
-unfolding behind_dash
+dash_passed : (b : ℕ) → b < 2 ^ 32 → after_dash (45 ∷ decimal b) ≡ Some (decimal b)
+unfolding after_dash
 dash_passed b small = ap (λ xs. Some xs) (stays (λ d. d == 45) (decimal b) (weaken is_ascii_digit (λ c. not (c == 45)) digit_hyphen (decimal b) (decimal_digits b small)))
 
 pub range_text_read : (r : Range ℕ) → RangeKept r → range_of (range_text r) ≡ Some r
 unfolding range_of
 range_text_read r kept =
-    let solid : behind is_whitespace (range_text r) ≡ range_text r = stays is_whitespace (range_text r) (weaken is_byte (λ c. not (is_whitespace c)) byte_white (range_text r) (range_bytes r kept)) in
+    let solid : rest_after is_whitespace (range_text r) ≡ range_text r = stays is_whitespace (range_text r) (weaken is_byte (λ c. not (is_whitespace c)) byte_white (range_text r) (range_bytes r kept)) in
     let shape : range_text r ≡ decimal r.start ++ (45 ∷ decimal r.end) = append_assoc (decimal r.start) (codes "-") (decimal r.end) in
-    let first : number (behind is_whitespace (range_text r)) ≡ Some (r.start, 45 ∷ decimal r.end) = ap number (solid ∙ shape) ∙ number_decimal r.start (45 ∷ decimal r.end) kept.0 refl refl in
-    let white : behind is_whitespace (decimal r.end) ≡ decimal r.end = stays is_whitespace (decimal r.end) (weaken is_ascii_digit (λ c. not (is_whitespace c)) digit_white (decimal r.end) (decimal_digits r.end kept.1)) in
-    let last : number (behind is_whitespace (decimal r.end)) ≡ Some (r.end, []) = ap number (white ∙ sym (append-nil (decimal r.end))) ∙ number_decimal r.end [] kept.1 refl refl in
+    let first : leading_number (rest_after is_whitespace (range_text r)) ≡ Some (r.start, 45 ∷ decimal r.end) = ap leading_number (solid ∙ shape) ∙ number_decimal r.start (45 ∷ decimal r.end) kept.0 refl refl in
+    let white : rest_after is_whitespace (decimal r.end) ≡ decimal r.end = stays is_whitespace (decimal r.end) (weaken is_ascii_digit (λ c. not (is_whitespace c)) digit_white (decimal r.end) (decimal_digits r.end kept.1)) in
+    let last : leading_number (rest_after is_whitespace (decimal r.end)) ≡ Some (r.end, []) = ap leading_number (white ∙ sym (append-nil (decimal r.end))) ∙ number_decimal r.end [] kept.1 refl refl in
     ap starts_with first ∙ ap (up_to r.start) (dash_passed r.end kept.1) ∙ ap (ends_at r.start) last
 
 range_chars : (r : Range ℕ) → RangeKept r → chars (range_text r) ≡ range_text r
@@ -115,7 +115,7 @@ range_plain r kept =
     let bytes = range_bytes r kept in
     record {
       utf8 = IsUtf8-from_ascii (range_text r) (simple_ascii (range_text r) (weaken is_byte is_simple byte_simple (range_text r) bytes));
-      plain = ap (list_all is_plain) (range_chars r kept) ∙ weaken is_byte is_plain byte_plain (range_text r) bytes;
+      plain = ap (list_all is_plain_in_list) (range_chars r kept) ∙ weaken is_byte is_plain_in_list byte_plain (range_text r) bytes;
     }
 
 texts_plain : (ranges : List (Range ℕ)) → AllByRecursion RangeKept ranges → AllByRecursion IsPlain (map range_text ranges)

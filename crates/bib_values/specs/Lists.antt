@@ -9,6 +9,7 @@ use Rattle.bib_chunks.specs.Formatted.{is_break}
 use Rattle.bib_chunks.specs.Cuts.{comma_list}
 use Rattle.bib_chunks.specs.Values.{Value, text, alone}
 use Rattle.bib_chunks.specs.Separated.{joined_by}
+use Rattle.bib_text.specs.Characters as char
 
 -- the texts that are read from chunks: those of the parts of a comma list
 unfoldable pub strings_read : Value → List (List ℕ)
@@ -19,13 +20,13 @@ abbrev pub strings_written : List (List ℕ) → Value
 strings_written texts = joined_by (codes ",") (map (λ t. alone (Normal t)) texts)
 
 -- whether a character stays as it is in a comma list: it is no comma, and breaks no line
-abbrev pub is_plain : ℕ → Bool
-is_plain c = not (c == 44) && not (is_break c)
+abbrev pub is_plain_in_list : ℕ → Bool
+is_plain_in_list c = not (c == char.comma) && not (is_break c)
 
 -- a text of such characters
 pub record IsPlain (text : List ℕ) : Type 0 where
   pub utf8 : IsUtf8 text
-  pub plain : list_all is_plain (chars text) ≡ true
+  pub plain : list_all is_plain_in_list (chars text) ≡ true
 
 -- the lists of texts that are read back: at least one text, and each is such a text
 abbrev pub StringsKept : List (List ℕ) → Type 0

@@ -27,6 +27,6 @@ number_of bs = option_or (decimal_of bs) (option_map pos (roman_of bs))
 unfoldable pub number_read : Value → Option ℤ
 number_read chunks = number_of (trim (text chunks))
 
--- how a number is written: in decimal digits, behind `-` where it is below zero, as one normal chunk
+-- how a number is written: in decimal digits, after `-` where it is below zero, as one normal chunk
 abbrev pub number_written : ℤ → Value
 number_written z = alone (Normal (signed_decimal z))

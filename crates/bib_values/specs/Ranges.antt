@@ -10,13 +10,14 @@ use Rattle.std.specs.declared.ops.Range.{Range}
 use Rattle.bib_chunks.specs.declared.chunk.Chunk.TheVariants.{Normal}
 use Rattle.bib_chunks.specs.Formatted.{formatted}
 use Rattle.bib_chunks.specs.Cuts.{comma_list}
-use Rattle.bib_text.specs.Runs.{front, behind}
+use Rattle.bib_text.specs.Runs.{leading_run, rest_after}
 use Rattle.bib_chunks.specs.Values.{Value, alone}
 use Rattle.bib_values.specs.Lists.{strings_written}
+use Rattle.bib_text.specs.Characters as char
 
 -- the characters that part two numbers: `-`, the en dash U+2013, the em dash U+2014
 abbrev pub is_dash : ℕ → Bool
-is_dash c = c == 45 || c == 8211 || c == 8212
+is_dash c = c == char.hyphen || c == char.en_dash || c == char.em_dash
 
 -- digits that spell a number that fits in 32 bits
 pub record IsNumber (digits : List ℕ) (n : ℕ) : Type 0 where
@@ -28,7 +29,7 @@ pub record IsNumber (digits : List ℕ) (n : ℕ) : Type 0 where
 -- what ends a range with this start: nothing, and the start is its end too, or a dash, any `-`, white space, and the end
 pub data EndsRange (start : ℕ) : List ℕ → ℕ → Type 0 where
   lone : EndsRange start [] start
-  dashed : (dash : ℕ) (hyphens white digits : List ℕ) {end : ℕ} → is_dash dash ≡ true → list_all (λ c. c == 45) hyphens ≡ true
+  dashed : (dash : ℕ) (hyphens white digits : List ℕ) {end : ℕ} → is_dash dash ≡ true → list_all (λ c. c == char.hyphen) hyphens ≡ true
       → list_all is_whitespace white ≡ true → IsNumber digits end → EndsRange start (dash ∷ (hyphens ++ (white ++ digits))) end
 
 -- a text, given by its characters, is a range: white space, its start, white space, and what ends it
@@ -47,41 +48,41 @@ pub record IsRange (text : List ℕ) (range : Range ℕ) : Type 0 where
 abbrev pub is_small : List ℕ → Bool
 is_small digits = nat_lt 0 (length digits) && nat_lt (digits_value 10 digits) (2 ^ 32)
 
--- the number at the start of a text, and what stands behind it: its digits are as many as there are
-unfoldable pub number : List ℕ → Option (ℕ × List ℕ)
-number cs =
-    if is_small (front is_ascii_digit cs) then Some (digits_value 10 (front is_ascii_digit cs), behind is_ascii_digit cs) else None
+-- the number at the start of a text, and what stands after it: its digits are as many as there are
+unfoldable pub leading_number : List ℕ → Option (ℕ × List ℕ)
+leading_number cs =
+    if is_small (leading_run is_ascii_digit cs) then Some (digits_value 10 (leading_run is_ascii_digit cs), rest_after is_ascii_digit cs) else None
 
--- what stands behind a dash and any `-` that follow it, if the text begins with one
-unfoldable pub behind_dash : List ℕ → Option (List ℕ)
-behind_dash [] = None
-behind_dash (c ∷ cs) = if is_dash c then Some (behind (λ d. d == 45) cs) else None
+-- what stands after a dash and any `-` that follow it, if the text begins with one
+unfoldable pub after_dash : List ℕ → Option (List ℕ)
+after_dash [] = None
+after_dash (c ∷ cs) = if is_dash c then Some (rest_after (λ d. d == char.hyphen) cs) else None
 
--- the range with this start, given its end and what stands behind that: nothing may
+-- the range with this start, given its end and what stands after that: nothing may
 abbrev pub ends_at : ℕ → Option (ℕ × List ℕ) → Option (Range ℕ)
 ends_at a None = None
 ends_at a (Some (b, [])) = Some (record { start = a; end = b })
 ends_at a (Some (b, c ∷ cs)) = None
 
--- the range with this start, given what stands behind the dash: white space, and its end
+-- the range with this start, given what stands after the dash: white space, and its end
 abbrev pub up_to : ℕ → Option (List ℕ) → Option (Range ℕ)
 up_to a None = None
-up_to a (Some cs) = ends_at a (number (behind is_whitespace cs))
+up_to a (Some cs) = ends_at a (leading_number (rest_after is_whitespace cs))
 
--- the range with this start, given what stands behind that and white space: nothing, and the one number is both ends,
+-- the range with this start, given what stands after that and white space: nothing, and the one number is both ends,
 -- or a dash
 abbrev pub goes_on_with : ℕ → List ℕ → Option (Range ℕ)
 goes_on_with a [] = Some (record { start = a; end = a })
-goes_on_with a (c ∷ cs) = up_to a (behind_dash (c ∷ cs))
+goes_on_with a (c ∷ cs) = up_to a (after_dash (c ∷ cs))
 
--- the range, given its start and what stands behind that
+-- the range, given its start and what stands after that
 abbrev pub starts_with : Option (ℕ × List ℕ) → Option (Range ℕ)
 starts_with None = None
-starts_with (Some (a, cs)) = goes_on_with a (behind is_whitespace cs)
+starts_with (Some (a, cs)) = goes_on_with a (rest_after is_whitespace cs)
 
 -- the range that a text is, read from its start on; that it is the one of `IsRange` is a law of this crate
 unfoldable pub range_of : List ℕ → Option (Range ℕ)
-range_of cs = starts_with (number (behind is_whitespace cs))
+range_of cs = starts_with (leading_number (rest_after is_whitespace cs))
 
 -- a value before some others, if both are there
 abbrev pub with_first : {A : Type 0} → Option A → Option (List A) → Option (List A)

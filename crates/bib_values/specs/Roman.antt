@@ -6,6 +6,7 @@ use Rattle.std.specs.Prelude.{ℕ, ◌/◌, ◌%◌, Bool, ◌||◌, List, [], �
 use Rattle.std.specs.List.{slice_get, find, range_with_len}
 use Rattle.std.specs.Str.{str_to_ascii_lowercase}
 use Rattle.std.specs.Option.{unwrap_or}
+use Rattle.bib_text.specs.Characters as char
 
 -- the letters of a digit, from 0 to 9, given the letters that stand for 1, 5 and 10 in its place
 abbrev pub digit_letters : ℕ → ℕ → ℕ → List (List ℕ)
@@ -15,19 +16,19 @@ digit_letters one five ten =
 
 -- those of a digit of thousands, from 0 to 3
 abbrev pub thousands : List (List ℕ)
-thousands = [] ∷ (77 ∷ []) ∷ (77 ∷ 77 ∷ []) ∷ (77 ∷ 77 ∷ 77 ∷ []) ∷ []
+thousands = [] ∷ (char.upper_m ∷ []) ∷ (char.upper_m ∷ char.upper_m ∷ []) ∷ (char.upper_m ∷ char.upper_m ∷ char.upper_m ∷ []) ∷ []
 
 -- the row of a digit in such a table
 abbrev pub letters_at : List (List ℕ) → ℕ → List ℕ
 letters_at table digit = unwrap_or (slice_get table digit) []
 
--- the numeral of a number below 4,000, in capitals: thousands, hundreds, tens and ones
+-- the numeral of a number below 4,000, in uppercase letters: thousands, hundreds, tens and ones
 unfoldable pub roman : ℕ → List ℕ
 roman n =
-    letters_at thousands (n / 1000) ++ letters_at (digit_letters 67 68 77) (n / 100 % 10)
-    ++ letters_at (digit_letters 88 76 67) (n / 10 % 10) ++ letters_at (digit_letters 73 86 88) (n % 10)
+    letters_at thousands (n / 1000) ++ letters_at (digit_letters char.upper_c char.upper_d char.upper_m) (n / 100 % 10)
+    ++ letters_at (digit_letters char.upper_x char.upper_l char.upper_c) (n / 10 % 10) ++ letters_at (digit_letters char.upper_i char.upper_v char.upper_x) (n % 10)
 
--- whether a text is the numeral of a number, all in capitals or all in small letters
+-- whether a text is the numeral of a number, all in uppercase letters or all in lowercase letters
 abbrev pub spells : List ℕ → ℕ → Bool
 spells text n = bytes_eq text (roman n) || bytes_eq text (str_to_ascii_lowercase (roman n))
 

@@ -2,20 +2,21 @@
 -- The number of a roman numeral from its letters.
 use Rattle.std.specs.Prelude.{ℕ, ◌+◌, ◌-◌, ◌&&◌, ◌||◌, ◌==◌, nat_lt, nat_le, if◌then◌else◌, List, [], ◌∷◌, length, Option, Some, None}
 use Rattle.bib_values.specs.Roman.{spells}
+use Rattle.bib_text.specs.Characters as char
 
 -- the value of a letter by itself, capital or small
 abbrev pub letter_value : ℕ → ℕ
 letter_value c =
-    if c == 73 || c == 105 then 1 else if c == 86 || c == 118 then 5 else if c == 88 || c == 120 then 10
-    else if c == 76 || c == 108 then 50 else if c == 67 || c == 99 then 100 else if c == 68 || c == 100 then 500
-    else if c == 77 || c == 109 then 1000 else 0
+    if c == char.upper_i || c == char.letter_i then 1 else if c == char.upper_v || c == char.letter_v then 5 else if c == char.upper_x || c == char.letter_x then 10
+    else if c == char.upper_l || c == char.letter_l then 50 else if c == char.upper_c || c == char.letter_c then 100 else if c == char.upper_d || c == char.letter_d then 500
+    else if c == char.upper_m || c == char.letter_m then 1000 else 0
 
 -- the value of the first letter, if there is one
 abbrev pub first_value : List ℕ → ℕ
 first_value [] = 0
 first_value (c ∷ rest) = letter_value c
 
--- the value of letters, given that of one more and those behind it: it is taken off before a greater one
+-- the value of letters, given that of one more and those after it: it is taken off before a greater one
 abbrev pub with_letter : ℕ → ℕ → ℕ → ℕ
 with_letter value next total = if nat_lt value next then total - value else total + value
 

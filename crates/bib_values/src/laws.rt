@@ -27,7 +27,7 @@ pub fn numbers_survive()
     ensures { (z : ℤ) → FitsSigned w64 z → number_read (number_written z) ≡ Some z }
 {}
 
-/// Each numeral from 1 to 3,999, in capitals and in small letters, spells its number.
+/// Each numeral from 1 to 3,999, in uppercase letters and in lowercase letters, spells its number.
 pub fn numerals_spell_their_numbers()
     ensures { (n : ℕ) → 0 < n → n < 4000 → (number_of (roman n) ≡ Some (pos n)) ×
         (number_of (str_to_ascii_lowercase (roman n)) ≡ Some (pos n)) }

@@ -5,8 +5,8 @@ ghost use Rattle.std.specs.Char.{is_ascii_digit, is_whitespace};
 ghost use Rattle.std.specs.Option.{option_map};
 ghost use Rattle.std.specs.Str.{chars};
 ghost use Rattle.std.specs.Fmt.{decimal};
-ghost use Rattle.bib_values.specs.Ranges.{number, is_dash, behind_dash, up_to, goes_on_with, starts_with, range_of, ranges_read, range_read, range_text, range_written, ranges_written};
-ghost use Rattle.bib_text.specs.Runs.{front, behind};
+ghost use Rattle.bib_values.specs.Ranges.{leading_number, is_dash, after_dash, up_to, goes_on_with, starts_with, range_of, ranges_read, range_read, range_text, range_written, ranges_written};
+ghost use Rattle.bib_text.specs.Runs.{leading_run, rest_after};
 
 use crate::lists::write_strings;
 use bib_chunks::chunk::cuts::comma_list;
@@ -16,10 +16,10 @@ use bib_text::scanner::Scanner;
 use std::alloc::{AllocError, Global};
 use std::ops::Range;
 
-// The digits at the start of a text, and what stands behind them.
+// The digits at the start of a text, and what stands after them.
 fn digits(text: &str) -> (&str, &str)
-    ensures digits { result.0.now ≡ front is_ascii_digit (chars text.now) }
-    ensures rest { chars result.1.now ≡ behind is_ascii_digit (chars text.now) }
+    ensures digits { result.0.now ≡ leading_run is_ascii_digit (chars text.now) }
+    ensures rest { chars result.1.now ≡ rest_after is_ascii_digit (chars text.now) }
 {
     let mut scanner = Scanner::new(text);
     let run = scanner.eat_while(|c| c.is_ascii_digit());
@@ -27,9 +27,9 @@ fn digits(text: &str) -> (&str, &str)
     (run, &text[at..])
 }
 
-// What stands behind the hyphens at the start of a text.
-fn behind_hyphens(text: &str) -> &str
-    ensures { chars result.now ≡ behind (λ c. c == 45) (chars text.now) }
+// What stands after the hyphens at the start of a text.
+fn after_hyphens(text: &str) -> &str
+    ensures { chars result.now ≡ rest_after (λ c. c == 45) (chars text.now) }
 {
     let mut scanner = Scanner::new(text);
     let _hyphens = scanner.eat_while(|c| c == '-');
@@ -37,17 +37,17 @@ fn behind_hyphens(text: &str) -> &str
     &text[at..]
 }
 
-// What stands behind the white space at the start of a text.
-fn behind_white(text: &str) -> &str
-    ensures { chars result.now ≡ behind is_whitespace (chars text.now) }
+// What stands after the white space at the start of a text.
+fn after_white(text: &str) -> &str
+    ensures { chars result.now ≡ rest_after is_whitespace (chars text.now) }
 {
     text.trim_start()
 }
 
-// The number at the start of a text, and what stands behind it.
-fn number(text: &str) -> Option<(u32, &str)>
-    ensures { MatchOption result (number (chars text.now) ≡ None)
-        (λ found. number (chars text.now) ≡ Some (found.0, chars found.1.now)) }
+// The number at the start of a text, and what stands after it.
+fn leading_number(text: &str) -> Option<(u32, &str)>
+    ensures { MatchOption result (leading_number (chars text.now) ≡ None)
+        (λ found. leading_number (chars text.now) ≡ Some (found.0, chars found.1.now)) }
 {
     let (run, rest) = digits(text);
     let Ok(value) = run.parse::<u32>() else {
@@ -63,28 +63,28 @@ fn is_dash(c: char) -> bool
     c == '-' || c == '\u{2013}' || c == '\u{2014}'
 }
 
-// What stands behind a dash and further hyphens.
-fn behind_dash(text: &str) -> Option<&str>
-    ensures { MatchOption result (behind_dash (chars text.now) ≡ None)
-        (λ rest. behind_dash (chars text.now) ≡ Some (chars rest.now)) }
+// What stands after a dash and further hyphens.
+fn after_dash(text: &str) -> Option<&str>
+    ensures { MatchOption result (after_dash (chars text.now) ≡ None)
+        (λ rest. after_dash (chars text.now) ≡ Some (chars rest.now)) }
 {
     let mut scanner = Scanner::new(text);
     let Some(c) = scanner.eat() else {
         return None;
     };
     let at = scanner.cursor();
-    let rest = behind_hyphens(&text[at..]);
+    let rest = after_hyphens(&text[at..]);
     if !is_dash(c) {
         return None;
     }
     Some(rest)
 }
 
-// The range with this start, given what stands behind a dash.
+// The range with this start, given what stands after a dash.
 fn up_to(start: u32, text: &str) -> Option<Range<u32>>
     ensures { result ≡ up_to start (Some (chars text.now)) }
 {
-    let Some(found) = number(behind_white(text)) else {
+    let Some(found) = leading_number(after_white(text)) else {
         return None;
     };
     let rest = found.1.as_bytes();
@@ -94,14 +94,14 @@ fn up_to(start: u32, text: &str) -> Option<Range<u32>>
     Some(start..found.0)
 }
 
-// The range with this start, given what stands behind it and white space.
+// The range with this start, given what stands after it and white space.
 fn goes_on_with(start: u32, text: &str) -> Option<Range<u32>>
     ensures { result ≡ goes_on_with start (chars text.now) }
 {
     if text.len() == 0 {
         return Some(start..start);
     }
-    let Some(rest) = behind_dash(text) else {
+    let Some(rest) = after_dash(text) else {
         return None;
     };
     up_to(start, rest)
@@ -111,15 +111,15 @@ fn goes_on_with(start: u32, text: &str) -> Option<Range<u32>>
 fn range_of(text: &str) -> Option<Range<u32>>
     ensures { result ≡ range_of (chars text.now) }
 {
-    let Some(found) = number(behind_white(text)) else {
+    let Some(found) = leading_number(after_white(text)) else {
         return None;
     };
-    goes_on_with(found.0, behind_white(found.1))
+    goes_on_with(found.0, after_white(found.1))
 }
 
 /// The ranges that the formatted parts of a comma list spell. `None` where a part spells none. A range is a number of 32
 /// bits in decimal digits, which is both its ends, or two of them with `-`, U+2013 or U+2014 between them and any `-`
-/// behind that. White space may stand before each number and before what parts the two, and behind a lone one.
+/// after that. White space may stand before each number and before what parts the two, and after a lone one.
 pub fn read_ranges(
     alloc: Global,
     chunks: ChunksRef<'_>,

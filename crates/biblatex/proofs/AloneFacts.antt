@@ -8,12 +8,12 @@ use Rattle.std.proofs.lemmas.Slice.Eq.{bytes_eq-Decides}
 use Rattle.bib_chunks.specs.Styled.{Atom, styled}
 use Rattle.bib_maps.specs.Sorted.{ByText}
 use Rattle.bib_entry.specs.declared.entry.Entry.{Entry}
-use Rattle.bib_graph.specs.Graph.{refs_of, Leads, HasNoCircle}
-use Rattle.bib_inheritance.specs.Dating.{date_for, last_date, looks_for_date}
+use Rattle.bib_graph.specs.Graph.{refs_of, Leads, HasNoCycle}
+use Rattle.bib_inheritance.specs.InheritableDate.{date_for, last_date, looks_for_date}
 use Rattle.bib_inheritance.specs.Inherited.{inherited, plain_field, field_by}
 use Rattle.bib_inheritance.specs.References.{references}
-use Rattle.bib_inheritance.specs.Sources.{Source, fields_of, first_some, nowhere}
-use Rattle.bib_references.specs.Resolving.{graph_by, source_of_entry, sources_of, at_place, Inherits, AreDatesRead}
+use Rattle.bib_inheritance.specs.Sources.{Source, fields_of, first_some, no_entry}
+use Rattle.bib_references.specs.Resolving.{graph_by, source_of_entry, sources_of, at_index, Inherits, AreDatesRead}
 use Rattle.biblatex.specs.Resolved.{names_of, graph_of}
 
 -- an entry that refers to nothing
@@ -25,16 +25,16 @@ no_references : (names : ByText ℕ) (e : Entry) → RefersToNothing e → refer
 no_references names e none = rw (none.crossref, none.xdata) refl
 
 -- no row of the graph has a reference
-no_row : (names : ByText ℕ) (own : List Entry) (place : ℕ) → AllByRecursion RefersToNothing own → refs_of (graph_by names own) place ≡ []
-no_row names [] place all = refl
+no_row : (names : ByText ℕ) (own : List Entry) (index : ℕ) → AllByRecursion RefersToNothing own → refs_of (graph_by names own) index ≡ []
+no_row names [] index all = refl
 no_row names (e ∷ own) zero all = no_references names e all.0
-no_row names (e ∷ own) (suc place) all = no_row names own place all.1
+no_row names (e ∷ own) (suc index) all = no_row names own index all.1
 
 nothing_in : {a : ℕ} {xs : List ℕ} → xs ≡ [] → Contains xs a → ⊥
 nothing_in {a} {xs} none holds = let here = subst (λ ys. Contains ys a) none holds in absurd (omega (arith, here.1))
 
-pub no_circle : (own : List Entry) → AllByRecursion RefersToNothing own → HasNoCircle (graph_of own)
-no_circle own all place within leads = none leads
+pub no_cycle : (own : List Entry) → AllByRecursion RefersToNothing own → HasNoCycle (graph_of own)
+no_cycle own all index within leads = none leads
   where
     none : {a b : ℕ} → Leads (graph_of own) a b → ⊥
     none {a} (Leads.one holds) = nothing_in (no_row (names_of own) own a all) holds
@@ -45,18 +45,18 @@ and_last true = refl
 and_last false = refl
 
 pub no_dates : (own : List Entry) (values : List Source) → AllByRecursion RefersToNothing own → AreDatesRead (sources_of own) (graph_of own) values
-no_dates own values all place = rw (no_row (names_of own) own place all) (and_last (looks_for_date (at_place (sources_of own) place)))
+no_dates own values all index = rw (no_row (names_of own) own index all) (and_last (looks_for_date (at_index (sources_of own) index)))
 
 rows_length : (names : ByText ℕ) (own : List Entry) → length (graph_by names own) ≡ length own
 rows_length names [] = refl
 rows_length names (e ∷ own) = ap suc (rows_length names own)
 
--- the value at a place is the entry's own
-own_value : (own : List Entry) (values : List Source) (place : ℕ) → AllByRecursion RefersToNothing own → Inherits (sources_of own) (graph_of own) values → place < length own
-    → at_place values place ≡ inherited (at_place (sources_of own) place) []
-own_value own values place all inherits within =
-    inherits.each place (subst (λ n. place < n) (sym (rows_length (names_of own) own)) within)
-    ∙ ap (λ refs. inherited (at_place (sources_of own) place) (map (λ r. slice_index_or values r nowhere) refs)) (no_row (names_of own) own place all)
+-- the value at an index is the entry's own
+own_value : (own : List Entry) (values : List Source) (index : ℕ) → AllByRecursion RefersToNothing own → Inherits (sources_of own) (graph_of own) values → index < length own
+    → at_index values index ≡ inherited (at_index (sources_of own) index) []
+own_value own values index all inherits within =
+    inherits.each index (subst (λ n. index < n) (sym (rows_length (names_of own) own)) within)
+    ∙ ap (λ refs. inherited (at_index (sources_of own) index) (map (λ r. slice_index_or values r no_entry) refs)) (no_row (names_of own) own index all)
 
 bytes_same : (one two : List ℕ) → bytes_eq one two ≡ true → one ≡ two
 bytes_same one two same = (bytes_eq-Decides one two).0 same
@@ -96,13 +96,13 @@ as_written own entry none same = record {
 
 -- values that are each entry's own
 all_as_written : (own entries : List Entry) → AllByRecursion RefersToNothing own → length entries ≡ length own
-    → ((place : ℕ) → place < length own → at_place (sources_of entries) place ≡ inherited (at_place (sources_of own) place) []) → AllZip IsAsWritten own entries
+    → ((index : ℕ) → index < length own → at_index (sources_of entries) index ≡ inherited (at_index (sources_of own) index) []) → AllZip IsAsWritten own entries
 all_as_written [] [] all size each = tt
 all_as_written [] (e ∷ entries) all size each = absurd (omega (arith, size))
 all_as_written (o ∷ own) [] all size each = absurd (omega (arith, size))
 all_as_written (o ∷ own) (e ∷ entries) all size each = (
   as_written o e all.0 (each zero (omega arith)),
-  all_as_written own entries all.1 (omega (arith, size)) (λ place within. each (suc place) (omega (arith, within))),
+  all_as_written own entries all.1 (omega (arith, size)) (λ index within. each (suc index) (omega (arith, within))),
 )
 
 length-map : {A B : Type 0} (f : A → B) (xs : List A) → length (map f xs) ≡ length xs
@@ -114,4 +114,4 @@ pub entries_as_written : (own entries : List Entry) → AllByRecursion RefersToN
 entries_as_written own entries all inherits =
     all_as_written own entries all
     (sym (length-map source_of_entry entries) ∙ inherits.same_length ∙ rows_length (names_of own) own)
-    (λ place within. own_value own (sources_of entries) place all inherits within)
+    (λ index within. own_value own (sources_of entries) index all inherits within)

@@ -55,7 +55,7 @@ same_key one two is = (bytes_eq-Decides one two).0 is
 turned : (one two : List ℕ) → bytes_eq one two ≡ true → bytes_eq two one ≡ true
 turned one two is = (bytes_eq-Decides two one).1 (sym (same_key one two is))
 
--- a key that stands at another place too is not distinct
+-- a key that stands at another index too is not distinct
 pub not_distinct : (keys : Keys') (i : ℕ) → i < length keys → stands_elsewhere keys i ≡ true → IsDistinct bytes_eq keys → ⊥
 not_distinct keys i within elsewhere distinct =
     elim (cases_Bool (list_any (bytes_eq (get_or keys i [])) (take i keys))) [
@@ -66,15 +66,15 @@ not_distinct keys i within elsewhere distinct =
           let same : bytes_eq (get_or keys i []) (get_or keys found.at []) ≡ true = ap (bytes_eq (get_or keys i [])) (sym (get_or-take i keys found.at [] low)) ∙ found.passes in
           both_ways _ (apart_from_distinct bytes_eq keys found.at i [] distinct low within) (turned (get_or keys i []) (get_or keys found.at []) same)
       | inr none ↦
-          let behind : list_any (bytes_eq (get_or keys i [])) (drop (i + 1) keys) ≡ true = ap (λ b. b || list_any (bytes_eq (get_or keys i [])) (drop (i + 1) keys)) (sym none) ∙ elsewhere in
-          let found = found_at (bytes_eq (get_or keys i [])) (drop (i + 1) keys) behind in
+          let following : list_any (bytes_eq (get_or keys i [])) (drop (i + 1) keys) ≡ true = ap (λ b. b || list_any (bytes_eq (get_or keys i [])) (drop (i + 1) keys)) (sym none) ∙ elsewhere in
+          let found = found_at (bytes_eq (get_or keys i [])) (drop (i + 1) keys) following in
           let size : length (drop (i + 1) keys) ≡ length keys - (i + 1) = length-drop (i + 1) keys in
           let high : i + 1 + found.at < length keys = omega (arith, found.within, size) in
           let same : bytes_eq (get_or keys i []) (get_or keys (i + 1 + found.at) []) ≡ true = ap (bytes_eq (get_or keys i [])) (sym (get_or-drop (i + 1) keys found.at [])) ∙ found.passes in
           both_ways _ (apart_from_distinct bytes_eq keys i (i + 1 + found.at) [] distinct (omega arith) high) same
     ]
 
--- a key points to its own place, or stands at no other
+-- a key points to its own index, or stands at no other
 abbrev pub IsAlone : ByText ℕ → Keys' → ℕ → Type 0
 IsAlone names keys i = (by_name.get names (get_or keys i []) ≡ Some i) ⊎ (stands_elsewhere keys i ≡ false)
 
@@ -91,8 +91,8 @@ apart names keys alone i j before within =
     clash : bytes_eq (get_or keys i []) (get_or keys j []) ≡ true → IsAlone names keys i → IsAlone names keys j → ⊥
     clash same (inr none) second =
         let size : length (drop (i + 1) keys) ≡ length keys - (i + 1) = length-drop (i + 1) keys in
-        let place : i + 1 + (j - (i + 1)) ≡ j = omega (arith, before) in
-        let here : bytes_eq (get_or keys i []) (get_or (drop (i + 1) keys) (j - (i + 1)) []) ≡ true = ap (bytes_eq (get_or keys i [])) (get_or-drop (i + 1) keys (j - (i + 1)) [] ∙ ap (λ n. get_or keys n []) place) ∙ same in
+        let index : i + 1 + (j - (i + 1)) ≡ j = omega (arith, before) in
+        let here : bytes_eq (get_or keys i []) (get_or (drop (i + 1) keys) (j - (i + 1)) []) ≡ true = ap (bytes_eq (get_or keys i [])) (get_or-drop (i + 1) keys (j - (i + 1)) [] ∙ ap (λ n. get_or keys n []) index) ∙ same in
         let found = list_any_at (bytes_eq (get_or keys i [])) (drop (i + 1) keys) (j - (i + 1)) [] (omega (arith, before, within, size)) here in
         both_ways _ (or_parts (list_any (bytes_eq (get_or keys i [])) (take i keys)) _ none).1 found
     clash same first (inr none) =
@@ -101,8 +101,8 @@ apart names keys alone i j before within =
         let found = list_any_at (bytes_eq (get_or keys j [])) (take j keys) i [] (omega (arith, before, size)) here in
         both_ways _ (or_parts (list_any (bytes_eq (get_or keys j [])) (take j keys)) _ none).0 found
     clash same (inl first) (inl second) =
-        let places : i ≡ j = some_same (sym first ∙ ap (by_name.get names) (same_key (get_or keys i []) (get_or keys j []) same) ∙ second) in
-        omega (arith, before, places)
+        let indices : i ≡ j = some_same (sym first ∙ ap (by_name.get names) (same_key (get_or keys i []) (get_or keys j []) same) ∙ second) in
+        omega (arith, before, indices)
 
 -- where each key is alone, keys are distinct
 pub distinct : (names : ByText ℕ) (keys : Keys') → ((i : ℕ) → i < length keys → IsAlone names keys i) → IsDistinct bytes_eq keys
@@ -110,27 +110,27 @@ distinct names keys alone = IsDistinct-from_apart bytes_eq keys (λ i j d before
     let low : i < length keys = omega (arith, before, within) in
     ap (λ k. bytes_eq k (get_or keys j d)) (any_default keys i d [] low) ∙ ap (bytes_eq (get_or keys i [])) (any_default keys j d [] within) ∙ apart names keys alone i j before within)
 
--- the keys before and behind a place
-pub elsewhere_found : (es : List Entry) (i : ℕ) (e : Entry) (before behind : Bool) → i < length es → e ≡ get_or es i e
-    → before ≡ list_any (λ x. bytes_eq e.key x.key) (take i es) → behind ≡ list_any (λ x. bytes_eq e.key x.key) (drop (i + 1) es)
-    → before || behind ≡ stands_elsewhere (keys_of es) i
-elsewhere_found es i e before behind within is first second =
-    ap (λ b. b || behind) (first ∙ any_key e.key (take i es) ∙ ap (list_any (bytes_eq e.key)) (sym (take-map (λ x. x.key) i es)))
+-- the keys before and after an index
+pub elsewhere_found : (es : List Entry) (i : ℕ) (e : Entry) (before following : Bool) → i < length es → e ≡ get_or es i e
+    → before ≡ list_any (λ x. bytes_eq e.key x.key) (take i es) → following ≡ list_any (λ x. bytes_eq e.key x.key) (drop (i + 1) es)
+    → before || following ≡ stands_elsewhere (keys_of es) i
+elsewhere_found es i e before following within is first second =
+    ap (λ b. b || following) (first ∙ any_key e.key (take i es) ∙ ap (list_any (bytes_eq e.key)) (sym (take-map (λ x. x.key) i es)))
     ∙ ap (λ b. list_any (bytes_eq e.key) (take i (keys_of es)) || b) (second ∙ any_key e.key (drop (i + 1) es) ∙ ap (list_any (bytes_eq e.key)) (sym (drop-map (λ x. x.key) (i + 1) es)))
     ∙ ap (λ k. list_any (bytes_eq k) (take i (keys_of es)) || list_any (bytes_eq k) (drop (i + 1) (keys_of es))) (sym (key_at es i e within is))
 
 pub found_before : (es : List Entry) (i : ℕ) (e : Entry) (before : Bool) → i < length es → e ≡ get_or es i e → before ≡ list_any (λ x. bytes_eq e.key x.key) (take i es) → before ≡ true → before ≡ stands_elsewhere (keys_of es) i
 found_before es i e before within is first passes =
-    let behind = list_any (λ x. bytes_eq e.key x.key) (drop (i + 1) es) in
-    passes ∙ ap (λ b. b || behind) (sym passes) ∙ elsewhere_found es i e before behind within is first refl
+    let following = list_any (λ x. bytes_eq e.key x.key) (drop (i + 1) es) in
+    passes ∙ ap (λ b. b || following) (sym passes) ∙ elsewhere_found es i e before following within is first refl
 
-pub found_behind : (es : List Entry) (i : ℕ) (e : Entry) (before behind : Bool) → i < length es → e ≡ get_or es i e
-    → before ≡ list_any (λ x. bytes_eq e.key x.key) (take i es) → before ≡ false → behind ≡ list_any (λ x. bytes_eq e.key x.key) (drop (i + 1) es)
-    → behind ≡ stands_elsewhere (keys_of es) i
-found_behind es i e before behind within is first fails second =
-    ap (λ b. b || behind) (sym fails) ∙ elsewhere_found es i e before behind within is first second
+pub found_after : (es : List Entry) (i : ℕ) (e : Entry) (before following : Bool) → i < length es → e ≡ get_or es i e
+    → before ≡ list_any (λ x. bytes_eq e.key x.key) (take i es) → before ≡ false → following ≡ list_any (λ x. bytes_eq e.key x.key) (drop (i + 1) es)
+    → following ≡ stands_elsewhere (keys_of es) i
+found_after es i e before following within is first fails second =
+    ap (λ b. b || following) (sym fails) ∙ elsewhere_found es i e before following within is first second
 
--- one place more
+-- one index more
 pub alone_next : (names : ByText ℕ) (keys : Keys') (n : ℕ) → ((i : ℕ) → i < n → IsAlone names keys i) → IsAlone names keys n → (i : ℕ) → i < n + 1 → IsAlone names keys i
 alone_next names keys n all one i below =
     elim (cases_Bool (i == n)) [
@@ -140,11 +140,11 @@ alone_next names keys n all one i below =
           all i (omega (arith, below, other))
     ]
 
--- a key that points to its place
+-- a key that points to its index
 pub points : (names : ByText ℕ) (es : List Entry) (i : ℕ) (e : Entry) → i < length es → e ≡ get_or es i e → by_name.get names e.key ≡ Some i → IsAlone names (keys_of es) i
 points names es i e within is here = inl (ap (by_name.get names) (key_at es i e within is) ∙ here)
 
--- where all places were looked at
+-- where all indices were looked at
 pub all_alone : (names : ByText ℕ) (es : List Entry) (n : ℕ) → ((i : ℕ) → i < n → IsAlone names (keys_of es) i) → length es ≤ n → IsTrue true ↔ IsDistinct bytes_eq (keys_of es)
 all_alone names es n all whole =
     let size : length (keys_of es) ≡ length es = length-map es (λ x. x.key) in

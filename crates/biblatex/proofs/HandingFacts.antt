@@ -22,7 +22,7 @@ texts_around : (written : Entry → List ℕ) (before : List Entry) (e : Entry) 
 texts_around written [] e after = refl
 texts_around written (x ∷ before) e after = ap (λ texts. text_of written true x ∷ texts) (map-append (text_of written false) before (e ∷ after))
 
--- the texts of all entries, cut at one place
+-- the texts of all entries, cut at one index
 pub texts_at : (written : Entry → List ℕ) (es : List Entry) (i : ℕ) (e : Entry) (first : Bool) → i < length es → e ≡ get_or es i e → first ≡ (i == 0)
     → entry_texts written es ≡ entry_texts written (take i es) ++ text_of written first e ∷ map (text_of written false) (drop (i + 1) es)
 texts_at written es i e first within is flag =

@@ -1,21 +1,21 @@
--- A fault of what a text says lies in the text.
+-- An error of what a text says lies in the text.
 use Rattle.std.proofs.Common.{◌≡◌, ℕ, zero, suc, ◌<◌, ◌^◌, Bool, true, false, List, [], ◌∷◌, length, refl, ap, subst, arith, inl, inr, ◌⊎◌, Option, None, Some, Result, Ok, Err}
 use Rattle.std.specs.Prelude.{reverse, find, bytes_eq, option_map, cond}
 use Rattle.std.specs.Prelude.{IfErr, slice_get}
 use Rattle.std.specs.List.{AllByRecursion}
-use Rattle.bib_syntax.specs.Faults.{out_of_memory}
+use Rattle.bib_syntax.specs.Errors.{out_of_memory}
 use Rattle.bib_syntax.specs.Grammar.{IsRawReading}
-use Rattle.bib_syntax.proofs.StandingFacts.{file_stands}
+use Rattle.bib_syntax.proofs.SliceFacts.{file_stands}
 use mathlib.Core.List.{reverse_aux}
 use Rattle.std.proofs.lemmas.Bool.{cases_Bool}
-use Rattle.bib_abbreviations.specs.Abbreviations.{Definitions, IsFirstFault}
-use Rattle.bib_abbreviations.specs.Abbreviations.{IsFirstFault as first_fault}
+use Rattle.bib_abbreviations.specs.Abbreviations.{Definitions, IsFirstError}
+use Rattle.bib_abbreviations.specs.Abbreviations.{IsFirstError as first_error}
 use Rattle.bib_contents.specs.Contents.{LiesBetween}
 use Rattle.bib_syntax.specs.Reading.{Part, Piece, FieldReading, EntryReading, FileReading}
-use Rattle.bib_syntax.specs.Standing.{StandsIn, PieceStandsIn, FieldStandsIn, EntryStandsIn, ReadingStandsIn}
+use Rattle.bib_syntax.specs.Slices.{StandsIn, PieceStandsIn, FieldStandsIn, EntryStandsIn, ReadingStandsIn}
 use Rattle.bib_syntax.specs.declared.raw.ParseError.{ParseError}
-use Rattle.bib_file_entries.specs.Loaded.{IsFaultOfEntries, IsFaultOfFields, definition_in}
-use Rattle.biblatex.specs.Resolved.{IsFaultOf, IsOfDate}
+use Rattle.bib_file_entries.specs.Loaded.{IsFirstErrorOfEntries, IsFirstErrorOfFields, definition_in}
+use Rattle.biblatex.specs.Resolved.{IsFirstErrorOf, IsOfDate}
 
 -- what each of some holds, the one that is found holds
 found_holds : {A : Type 0} (P : A → Type 0) (test : A → Bool) (xs : List A) (x : A) → AllByRecursion P xs → find test xs ≡ Some x → P x
@@ -61,51 +61,51 @@ definitions_stand text abbreviations all name definition is =
 part_lies : {text : List ℕ} {p : Part} → StandsIn text p → (e : ParseError) → e.span.start ≡ p.start → e.span.end ≡ p.end → LiesBetween 0 (length text) e
 part_lies stands e starts ends = (omega arith, omega (arith, stands.size, starts, ends), omega (arith, stands.within, ends))
 
-first_fault_lies : {definitions : Definitions} {is_verbatim : Bool} {path : List (List ℕ)} {pieces : List Piece} {e : ParseError} (text : List ℕ) → length text < 2 ^ 64
-    → DefinitionsStandIn text definitions → AllByRecursion (PieceStandsIn text) pieces → IsFirstFault definitions is_verbatim path pieces e → LiesBetween 0 (length text) e
-first_fault_lies text small definitions all (first_fault.unread none kind place) =
+first_error_lies : {definitions : Definitions} {is_verbatim : Bool} {path : List (List ℕ)} {pieces : List Piece} {e : ParseError} (text : List ℕ) → length text < 2 ^ 64
+    → DefinitionsStandIn text definitions → AllByRecursion (PieceStandsIn text) pieces → IsFirstError definitions is_verbatim path pieces e → LiesBetween 0 (length text) e
+first_error_lies text small definitions all (first_error.unread none kind index) =
     let stands = all.0 in
-    let lies = place stands.size (omega (arith, small, stands.within)) in
+    let lies = index stands.size (omega (arith, small, stands.within)) in
     (omega arith, lies.1, omega (arith, lies.2, stands.within))
-first_fault_lies {e = e} text small definitions all (first_fault.unknown absent m is) = part_lies all.0 e (ap (λ x. x.span.start) is) (ap (λ x. x.span.end) is)
-first_fault_lies {e = e} text small definitions all (first_fault.circle on is) = part_lies all.0 e (ap (λ x. x.span.start) is) (ap (λ x. x.span.end) is)
-first_fault_lies text small definitions all (first_fault.inside {definition = definition} off d fault) = first_fault_lies text small definitions (definitions _ definition d) fault
-first_fault_lies text small definitions all (first_fault.behind says fault) = first_fault_lies text small definitions all.1 fault
+first_error_lies {e = e} text small definitions all (first_error.unknown absent m is) = part_lies all.0 e (ap (λ x. x.span.start) is) (ap (λ x. x.span.end) is)
+first_error_lies {e = e} text small definitions all (first_error.cycle on is) = part_lies all.0 e (ap (λ x. x.span.start) is) (ap (λ x. x.span.end) is)
+first_error_lies text small definitions all (first_error.inside {definition = definition} off d error) = first_error_lies text small definitions (definitions _ definition d) error
+first_error_lies text small definitions all (first_error.following says error) = first_error_lies text small definitions all.1 error
 
-fields_fault_lies : {definitions : Definitions} {fields : List FieldReading} {e : ParseError} (text : List ℕ) → length text < 2 ^ 64 → DefinitionsStandIn text definitions
-    → AllByRecursion (FieldStandsIn text) fields → IsFaultOfFields definitions fields e → LiesBetween 0 (length text) e
-fields_fault_lies text small definitions all (IsFaultOfFields.here fault unread) = first_fault_lies text small definitions all.0.pieces fault
-fields_fault_lies text small definitions all (IsFaultOfFields.behind read fault) = fields_fault_lies text small definitions all.1 fault
+fields_error_lies : {definitions : Definitions} {fields : List FieldReading} {e : ParseError} (text : List ℕ) → length text < 2 ^ 64 → DefinitionsStandIn text definitions
+    → AllByRecursion (FieldStandsIn text) fields → IsFirstErrorOfFields definitions fields e → LiesBetween 0 (length text) e
+fields_error_lies text small definitions all (IsFirstErrorOfFields.here error unread) = first_error_lies text small definitions all.0.pieces error
+fields_error_lies text small definitions all (IsFirstErrorOfFields.following read error) = fields_error_lies text small definitions all.1 error
 
-entries_fault_lies : {definitions : Definitions} {claimed : List (List ℕ)} {said : List EntryReading} {e : ParseError} (text : List ℕ) → length text < 2 ^ 64
-    → DefinitionsStandIn text definitions → AllByRecursion (EntryStandsIn text) said → IsFaultOfEntries definitions claimed said e → LiesBetween 0 (length text) e
-entries_fault_lies text small definitions all (IsFaultOfEntries.duplicate was is) =
+entries_error_lies : {definitions : Definitions} {claimed : List (List ℕ)} {said : List EntryReading} {e : ParseError} (text : List ℕ) → length text < 2 ^ 64
+    → DefinitionsStandIn text definitions → AllByRecursion (EntryStandsIn text) said → IsFirstErrorOfEntries definitions claimed said e → LiesBetween 0 (length text) e
+entries_error_lies text small definitions all (IsFirstErrorOfEntries.duplicate was is) =
     let entry = all.0 in
     let starts = ap (λ x. x.span.start) is in
     let ends = ap (λ x. x.span.end) is in
     (omega arith, omega (arith, entry.ordered, starts, ends), omega (arith, entry.within, ends))
-entries_fault_lies text small definitions all (IsFaultOfEntries.unreadable fresh fault) = fields_fault_lies text small definitions all.0.fields fault
-entries_fault_lies text small definitions all (IsFaultOfEntries.behind fresh read fault) = entries_fault_lies text small definitions all.1 fault
+entries_error_lies text small definitions all (IsFirstErrorOfEntries.unreadable fresh error) = fields_error_lies text small definitions all.0.fields error
+entries_error_lies text small definitions all (IsFirstErrorOfEntries.following fresh read error) = entries_error_lies text small definitions all.1 error
 
-entry_stands : {text : List ℕ} (said : List EntryReading) (place : ℕ) (one : EntryReading) → AllByRecursion (EntryStandsIn text) said → slice_get said place ≡ Some one → EntryStandsIn text one
-entry_stands [] place one all there = cc
+entry_stands : {text : List ℕ} (said : List EntryReading) (index : ℕ) (one : EntryReading) → AllByRecursion (EntryStandsIn text) said → slice_get said index ≡ Some one → EntryStandsIn text one
+entry_stands [] index one all there = cc
 entry_stands {text} (first ∷ rest) zero one all there = subst (EntryStandsIn text) (same there) all.0 where
   same : {A : Type 0} {x y : A} → Some x ≡ Some y → x ≡ y
   same e = cc
-entry_stands (first ∷ rest) (suc place) one all there = entry_stands rest place one all.1 there
+entry_stands (first ∷ rest) (suc index) one all there = entry_stands rest index one all.1 there
 
--- the first fault of what a text says, but that of a date
-pub fault_lies : {says : FileReading} {e : ParseError} (text : List ℕ) → length text < 2 ^ 64 → ReadingStandsIn text says → IsFaultOf says e → IsOfDate e ⊎ LiesBetween 0 (length text) e
-fault_lies {says} text small stands (IsFaultOf.entry fault) = inr (entries_fault_lies text small (definitions_stand text says.abbreviations stands.abbreviations) stands.entries fault)
-fault_lies {says} text small stands (IsFaultOf.circle {place = place} own first is) =
-    let entry = entry_stands says.entries place is.said stands.entries is.there in
+-- the first error of what a text says, but that of a date
+pub error_lies : {says : FileReading} {e : ParseError} (text : List ℕ) → length text < 2 ^ 64 → ReadingStandsIn text says → IsFirstErrorOf says e → IsOfDate e ⊎ LiesBetween 0 (length text) e
+error_lies {says} text small stands (IsFirstErrorOf.entry error) = inr (entries_error_lies text small (definitions_stand text says.abbreviations stands.abbreviations) stands.entries error)
+error_lies {says} text small stands (IsFirstErrorOf.cycle {index = index} own first is) =
+    let entry = entry_stands says.entries index is.said stands.entries is.there in
     let starts = ap (λ x. x.span.start) is.is in
     let ends = ap (λ x. x.span.end) is.is in
     inr (omega arith, omega (arith, entry.ordered, starts, ends), omega (arith, entry.within, ends))
-fault_lies text small stands (IsFaultOf.date own none inherits looks earlier is) = inl (record { kind = is.kind; is = is.is; of_dates = is.of_dates })
+error_lies text small stands (IsFirstErrorOf.date own none inherits looks earlier is) = inl (record { kind = is.kind; is = is.is; of_dates = is.of_dates })
 
 pub refused_inside : {T : Type 0} (X : Type 0) {says : FileReading} (text : List ℕ) (r : Result T ParseError) → length text < 2 ^ 64 → IsRawReading text says
-    → IfErr r (λ e. (e ≡ out_of_memory) ⊎ (IsFaultOf says e × X)) → IfErr r (λ e. (e ≡ out_of_memory) ⊎ IsOfDate e ⊎ LiesBetween 0 (length text) e)
+    → IfErr r (λ e. (e ≡ out_of_memory) ⊎ (IsFirstErrorOf says e × X)) → IfErr r (λ e. (e ≡ out_of_memory) ⊎ IsOfDate e ⊎ LiesBetween 0 (length text) e)
 refused_inside X text (Ok x) small reads refused = tt
 refused_inside X text (Err e) small reads (inl memory) = inl memory
-refused_inside X text (Err e) small reads (inr fault) = inr (fault_lies text small (file_stands text refl reads) fault.0)
+refused_inside X text (Err e) small reads (inr error) = inr (error_lies text small (file_stands text refl reads) error.0)

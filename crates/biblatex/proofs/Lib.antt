@@ -1,9 +1,9 @@
 pub mod AloneFacts
 pub mod DistinctFacts
-pub mod FaultFacts
+pub mod ErrorFacts
 pub mod HandingFacts
 pub mod InsideFacts
-pub mod PlaceLaws
+pub mod IndexLaws
 pub mod RefusalFacts
 pub mod RereadFacts
 pub mod ResolvedFacts

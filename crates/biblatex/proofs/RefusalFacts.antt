@@ -4,94 +4,94 @@ use Rattle.std.specs.Prelude.{IfErr, IfOk, OnOk, slice_get}
 use Rattle.std.specs.declared.ops.Range.{Range}
 use Rattle.bib_entry.specs.declared.entry.Entry.{Entry}
 use Rattle.bib_abbreviations.specs.Abbreviations.{Definitions}
-use Rattle.bib_graph.specs.Graph.{HasNoCircle, IsFirstOnCircle}
+use Rattle.bib_graph.specs.Graph.{HasNoCycle, IsFirstOnCycle}
 use Rattle.bib_maps.specs.Sorted.{ByText}
-use Rattle.bib_syntax.specs.Faults.{Refuses, out_of_memory}
+use Rattle.bib_syntax.specs.Errors.{Refuses, out_of_memory}
 use Rattle.bib_syntax.specs.Grammar.{IsFile, IsRawReading}
 use Rattle.bib_syntax.proofs.FileFacts.{file_same}
 use Rattle.bib_syntax.proofs.ModeFacts.{file_any}
 use Rattle.bib_syntax.specs.Reading.{EntryReading, FileReading}
-use Rattle.bib_syntax.specs.Views.{entry_of}
+use Rattle.bib_syntax.specs.Views.{entry_reading_of}
 use Rattle.bib_syntax.specs.declared.raw.ParseError.{ParseError}
 use Rattle.bib_syntax.specs.declared.raw.ParseErrorKind.TheVariants.{ReferenceCycle}
 use Rattle.bib_syntax.specs.declared.raw.RawEntry.{RawEntry}
 use Rattle.bib_text.specs.declared.spanned.Spanned.{Spanned}
-use Rattle.bib_file_entries.specs.Library.{Library}
+use Rattle.bib_file_entries.specs.Bibliography.{Bibliography}
 use Rattle.bib_file_entries.specs.Loaded.{AreEntries, definition_in}
-use Rattle.bib_references.specs.Resolving.{AreDatesRead, AreResolved, Inherits, IsCircleAt, IsDateFault, IsResolvingFault, graph_by, has_bad_date, sources_of}
+use Rattle.bib_references.specs.Resolving.{AreDatesRead, AreResolved, Inherits, IsCycleAt, IsDateError, IsResolvingError, graph_by, has_bad_date, sources_of}
 use Rattle.biblatex.specs.Headline.{IsAcceptedText, IsBibliographyOf, IsErrorOf}
-use Rattle.biblatex.specs.Resolved.{AreOwn, IsAccepted, IsFaultOf, IsLoaded, graph_of, names_of}
+use Rattle.biblatex.specs.Resolved.{AreOwn, IsAccepted, IsFirstErrorOf, IsLoaded, graph_of, names_of}
 use Rattle.biblatex.proofs.ResolvedFacts.{dates_of_each, accepted_faultless}
 
 some_same : {A : Type 0} {x y : A} → Some x ≡ Some y → x ≡ y
 some_same e = cc
 
--- what a file says of the entry at a place
-told : {definitions : Definitions} {claimed : List (List ℕ)} (said : List EntryReading) (own : List Entry) (place : ℕ) (entry : Entry) → AreEntries definitions claimed said own → slice_get own place ≡ Some entry
-    → (one : EntryReading) × (slice_get said place ≡ Some one) × (entry.key ≡ one.key.text)
-told said own place entry AreEntries.none there = cc
-told (one ∷ said) (first ∷ own) zero entry (AreEntries.next fresh is rest) there = (one, refl, sym (ap (λ (e : Entry). e.key) (some_same there)) ∙ is.key)
-told (one ∷ said) (first ∷ own) (suc place) entry (AreEntries.next fresh is rest) there = told said own place entry rest there
+-- what a file says of the entry at an index
+reported : {definitions : Definitions} {claimed : List (List ℕ)} (said : List EntryReading) (own : List Entry) (index : ℕ) (entry : Entry) → AreEntries definitions claimed said own → slice_get own index ≡ Some entry
+    → (one : EntryReading) × (slice_get said index ≡ Some one) × (entry.key ≡ one.key.text)
+reported said own index entry AreEntries.none there = cc
+reported (one ∷ said) (first ∷ own) zero entry (AreEntries.next fresh is rest) there = (one, refl, sym (ap (λ (e : Entry). e.key) (some_same there)) ∙ is.key)
+reported (one ∷ said) (first ∷ own) (suc index) entry (AreEntries.next fresh is rest) there = reported said own index entry rest there
 
-raw_at : (raw : List (Spanned RawEntry)) (place : ℕ) (one : EntryReading) (span : Range ℕ) → slice_get (map entry_of raw) place ≡ Some one → slice_get (map (λ r. r.span) raw) place ≡ Some span
+raw_at : (raw : List (Spanned RawEntry)) (index : ℕ) (one : EntryReading) (span : Range ℕ) → slice_get (map entry_reading_of raw) index ≡ Some one → slice_get (map (λ r. r.span) raw) index ≡ Some span
     → (one.start ≡ span.start) × (one.end ≡ span.end)
-raw_at [] place one span there stands = cc
+raw_at [] index one span there stands = cc
 raw_at (r ∷ raw) zero one span there stands = (ap (λ (o : EntryReading). o.start) (sym (some_same there)) ∙ ap (λ (s : Range ℕ). s.start) (some_same stands), ap (λ (o : EntryReading). o.end) (sym (some_same there)) ∙ ap (λ (s : Range ℕ). s.end) (some_same stands))
-raw_at (r ∷ raw) (suc place) one span there stands = raw_at raw place one span there stands
+raw_at (r ∷ raw) (suc index) one span there stands = raw_at raw index one span there stands
 
 range_is : (s t : Range ℕ) → s.start ≡ t.start → s.end ≡ t.end → s ≡ t
 range_is s t a b = λ i. record { start = a i; end = b i }
 
--- the fault of a circle is told of what the file says
-circle_told : {definitions : Definitions} {claimed : List (List ℕ)} (raw : List (Spanned RawEntry)) (own : List Entry) (place : ℕ) (e : ParseError) → AreEntries definitions claimed (map entry_of raw) own → IsCircleAt (map (λ r. r.span) raw) own place e
-    → (one : EntryReading) × (slice_get (map entry_of raw) place ≡ Some one) × (let span : Range ℕ = record { start = one.start; end = one.end } in e ≡ record { span = span; kind = ReferenceCycle one.key.text })
-circle_told raw own place e are at =
-    let one = told (map entry_of raw) own place at.entry are at.here in
-    let stands = raw_at raw place one.0 at.span one.1 at.stands in (
+-- the error of a cycle is reported of what the file says
+cycle_reported : {definitions : Definitions} {claimed : List (List ℕ)} (raw : List (Spanned RawEntry)) (own : List Entry) (index : ℕ) (e : ParseError) → AreEntries definitions claimed (map entry_reading_of raw) own → IsCycleAt (map (λ r. r.span) raw) own index e
+    → (one : EntryReading) × (slice_get (map entry_reading_of raw) index ≡ Some one) × (let span : Range ℕ = record { start = one.start; end = one.end } in e ≡ record { span = span; kind = ReferenceCycle one.key.text })
+cycle_reported raw own index e are at =
+    let one = reported (map entry_reading_of raw) own index at.entry are at.here in
+    let stands = raw_at raw index one.0 at.span one.1 at.stands in (
       one.0,
       one.1,
       at.is ∙ ap (λ (s : Range ℕ). (let f : ParseError = record { span = s; kind = ReferenceCycle at.entry.key } in f)) (range_is at.span (record { start = one.0.start; end = one.0.end }) (sym stands.0) (sym stands.1))
           ∙ ap (λ k. (let f : ParseError = record { span = record { start = one.0.start; end = one.0.end }; kind = ReferenceCycle k } in f)) one.2,
     )
 
--- a fault of what entries inherit is one of the file
-pub resolving_told : {says : FileReading} (raw : List (Spanned RawEntry)) (own : List Entry) (names : ByText ℕ) (e : ParseError) → says.entries ≡ map entry_of raw → AreOwn says own → names_of own ≡ names → IsResolvingFault (map (λ r. r.span) raw) own (graph_by names own) e
-    → IsFaultOf says e
-resolving_told {says} raw own names e says_raw are named (IsResolvingFault.circle {place = place} first at) =
-    let one = circle_told raw own place e (subst (λ l. AreEntries (definition_in says.abbreviations) [] l own) says_raw are) at in
-    IsFaultOf.circle are (subst (λ n. IsFirstOnCircle (graph_by n own) place) (sym named) first) (record { said = one.0; there = ap (λ l. slice_get l place) says_raw ∙ one.1; is = one.2 })
-resolving_told {says} raw own names e says_raw are named (IsResolvingFault.date {values = values} {place = place} none solves looks earlier is) =
-    IsFaultOf.date are (subst (λ n. HasNoCircle (graph_by n own)) (sym named) none) (subst (λ n. Inherits (sources_of own) (graph_by n own) values) (sym named) solves) looks
-    (subst (λ n. (other : ℕ) → other < place → has_bad_date (sources_of own) (graph_by n own) values other ≡ false) (sym named) earlier)
-    (subst (λ n. IsDateFault (graph_by n own) values place e) (sym named) is)
+-- an error of what entries inherit is one of the file
+pub resolving_reported : {says : FileReading} (raw : List (Spanned RawEntry)) (own : List Entry) (names : ByText ℕ) (e : ParseError) → says.entries ≡ map entry_reading_of raw → AreOwn says own → names_of own ≡ names → IsResolvingError (map (λ r. r.span) raw) own (graph_by names own) e
+    → IsFirstErrorOf says e
+resolving_reported {says} raw own names e says_raw are named (IsResolvingError.cycle {index = index} first at) =
+    let one = cycle_reported raw own index e (subst (λ l. AreEntries (definition_in says.abbreviations) [] l own) says_raw are) at in
+    IsFirstErrorOf.cycle are (subst (λ n. IsFirstOnCycle (graph_by n own) index) (sym named) first) (record { said = one.0; there = ap (λ l. slice_get l index) says_raw ∙ one.1; is = one.2 })
+resolving_reported {says} raw own names e says_raw are named (IsResolvingError.date {values = values} {index = index} none solves looks earlier is) =
+    IsFirstErrorOf.date are (subst (λ n. HasNoCycle (graph_by n own)) (sym named) none) (subst (λ n. Inherits (sources_of own) (graph_by n own) values) (sym named) solves) looks
+    (subst (λ n. (other : ℕ) → other < index → has_bad_date (sources_of own) (graph_by n own) values other ≡ false) (sym named) earlier)
+    (subst (λ n. IsDateError (graph_by n own) values index e) (sym named) is)
 
-pub refused : {says : FileReading} {T : Type 0} (r : Result T ParseError) (e : ParseError) → r ≡ Err e → (e ≡ out_of_memory) ⊎ IsFaultOf says e → IfErr r (λ e. (e ≡ out_of_memory) ⊎ (IsFaultOf says e × (IsAccepted says → ⊥)))
-refused {says} r e is (inl memory) = subst (λ r. IfErr r (λ e. (e ≡ out_of_memory) ⊎ (IsFaultOf says e × (IsAccepted says → ⊥)))) (sym is) (inl memory)
-refused {says} r e is (inr fault) = subst (λ r. IfErr r (λ e. (e ≡ out_of_memory) ⊎ (IsFaultOf says e × (IsAccepted says → ⊥)))) (sym is) (inr (fault, λ accepted. accepted_faultless accepted fault))
+pub refused : {says : FileReading} {T : Type 0} (r : Result T ParseError) (e : ParseError) → r ≡ Err e → (e ≡ out_of_memory) ⊎ IsFirstErrorOf says e → IfErr r (λ e. (e ≡ out_of_memory) ⊎ (IsFirstErrorOf says e × (IsAccepted says → ⊥)))
+refused {says} r e is (inl memory) = subst (λ r. IfErr r (λ e. (e ≡ out_of_memory) ⊎ (IsFirstErrorOf says e × (IsAccepted says → ⊥)))) (sym is) (inl memory)
+refused {says} r e is (inr error) = subst (λ r. IfErr r (λ e. (e ≡ out_of_memory) ⊎ (IsFirstErrorOf says e × (IsAccepted says → ⊥)))) (sym is) (inr (error, λ accepted. accepted_faultless accepted error))
 
 -- what a text says as a whole is accepted where one reading of it is: it has no other
 not_accepted : {says : FileReading} (text : List ℕ) → IsRawReading text says → (IsAccepted says → ⊥) → IsAcceptedText text → ⊥
 not_accepted text reads none accepted = none (subst IsAccepted (file_same accepted.reading reads) accepted.accepted)
 
-pub refused_text : {T : Type 0} {says : FileReading} (text : List ℕ) (r : Result T ParseError) → IsRawReading text says → IfErr r (λ e. (e ≡ out_of_memory) ⊎ (IsFaultOf says e × (IsAccepted says → ⊥)))
+pub refused_text : {T : Type 0} {says : FileReading} (text : List ℕ) (r : Result T ParseError) → IsRawReading text says → IfErr r (λ e. (e ≡ out_of_memory) ⊎ (IsFirstErrorOf says e × (IsAccepted says → ⊥)))
     → IfErr r (λ e. (e ≡ out_of_memory) ⊎ (IsErrorOf text e × (IsAcceptedText text → ⊥)))
 refused_text text (Ok x) reads h = tt
 refused_text text (Err e) reads (inl memory) = inl memory
-refused_text text (Err e) reads (inr fault) = inr (IsErrorOf.first reads fault.0, not_accepted text reads fault.1)
+refused_text text (Err e) reads (inr error) = inr (IsErrorOf.first reads error.0, not_accepted text reads error.1)
 
 -- a text that the file grammar doesn't read
 pub refused_syntax : {text : List ℕ} {e : ParseError} → Refuses text e (IsFile text → ⊥) → (e ≡ out_of_memory) ⊎ (IsErrorOf text e × (IsAcceptedText text → ⊥))
 refused_syntax (inl memory) = inl memory
-refused_syntax (inr fault) = inr (IsErrorOf.syntax fault.0 fault.1, λ accepted. fault.1 (accepted.says, file_any accepted.reading))
+refused_syntax (inr error) = inr (IsErrorOf.syntax error.0 error.1, λ accepted. error.1 (accepted.says, file_any accepted.reading))
 
 -- ---- a slice of all that a vector has
 
-taken_front : {A : Type 0} (new rest : List A) → take (length new) (new ++ rest) ≡ new
-taken_front [] rest = refl
-taken_front (x ∷ new) rest = ap (λ l. x ∷ l) (taken_front new rest)
+taken_prefix : {A : Type 0} (new rest : List A) → take (length new) (new ++ rest) ≡ new
+taken_prefix [] rest = refl
+taken_prefix (x ∷ new) rest = ap (λ l. x ∷ l) (taken_prefix new rest)
 
 pub all_taken : {A : Type 0} (n : ℕ) (new old : List A) → length new ≡ n → take n (new ++ drop (length new) old) ≡ new
-all_taken n new old e = subst (λ k. take k (new ++ drop (length new) old) ≡ new) e (taken_front new (drop (length new) old))
+all_taken n new old e = subst (λ k. take k (new ++ drop (length new) old) ≡ new) e (taken_prefix new (drop (length new) old))
 
 -- ---- what is loaded
 
@@ -99,16 +99,16 @@ pub entries_count : {definitions : Definitions} {claimed : List (List ℕ)} (sai
 entries_count said own AreEntries.none = refl
 entries_count (one ∷ said) (first ∷ own) (AreEntries.next fresh is rest) = ap suc (entries_count said own rest)
 
-pub loaded : {says : FileReading} (own entries : List Entry) (names : ByText ℕ) → AreOwn says own → names_of own ≡ names → AreResolved own (graph_by names own) entries → IsLoaded says (let l : Library = record { entries = entries; names = names } in l)
+pub loaded : {says : FileReading} (own entries : List Entry) (names : ByText ℕ) → AreOwn says own → names_of own ≡ names → AreResolved own (graph_by names own) entries → IsLoaded says (let l : Bibliography = record { entries = entries; names = names } in l)
 loaded own entries names are named resolved =
     let graph : graph_by names own ≡ graph_of own = ap (λ n. graph_by n own) (sym named) in
-    let none : HasNoCircle (graph_of own) = subst HasNoCircle graph resolved.no_circle in
+    let none : HasNoCycle (graph_of own) = subst HasNoCycle graph resolved.no_cycle in
     let inherits : Inherits (sources_of own) (graph_of own) (sources_of entries) = subst (λ g. Inherits (sources_of own) g (sources_of entries)) graph resolved.inherits in
     record {
       accepted = record {
         own = own;
         entries = are;
-        no_circle = none;
+        no_cycle = none;
         dates = dates_of_each own (sources_of entries) none inherits (subst (λ g. AreDatesRead (sources_of own) g (sources_of entries)) graph resolved.dates);
       };
       keys = resolved.keys;
@@ -119,10 +119,10 @@ loaded own entries names are named resolved =
 
 -- ---- what a text is loaded as
 
-pub library_of : {E : Type 0} {says : FileReading} (text : List ℕ) (r : Result Library E) → IsRawReading text says → IfOk r (IsLoaded says) → IfOk r (IsBibliographyOf text)
-library_of {says = says} text (Ok library) reads is = record { says = says; reading = reads; loaded = is }
-library_of text (Err e) reads is = tt
+pub bibliography_of : {E : Type 0} {says : FileReading} (text : List ℕ) (r : Result Bibliography E) → IsRawReading text says → IfOk r (IsLoaded says) → IfOk r (IsBibliographyOf text)
+bibliography_of {says = says} text (Ok bibliography) reads is = record { says = says; reading = reads; loaded = is }
+bibliography_of text (Err e) reads is = tt
 
-pub accepted_text : {E : Type 0} {says : FileReading} (text : List ℕ) (r : Result Library E) → IsRawReading text says → IfOk r (IsLoaded says) → OnOk r (IsAcceptedText text)
-accepted_text {says = says} text (Ok library) reads is = record { says = says; reading = reads; accepted = is.accepted }
+pub accepted_text : {E : Type 0} {says : FileReading} (text : List ℕ) (r : Result Bibliography E) → IsRawReading text says → IfOk r (IsLoaded says) → OnOk r (IsAcceptedText text)
+accepted_text {says = says} text (Ok bibliography) reads is = record { says = says; reading = reads; accepted = is.accepted }
 accepted_text text (Err e) reads is = tt

@@ -43,12 +43,12 @@ use Rattle.bib_roundtrip.proofs.RereadFacts.{reread}
 use Rattle.bib_roundtrip.proofs.StandsFacts.{stands_between}
 use Rattle.bib_roundtrip.proofs.EntryReread.{SaysLine, SayLines, SaysEntry, SayEntries, FileAgain}
 use Rattle.bib_roundtrip.proofs.WrittenReread.{kind, by_written_name, same_rule, line_of, written_of, entries_again}
-use Rattle.bib_file_entries.specs.Library.{Library, claims}
+use Rattle.bib_file_entries.specs.Bibliography.{Bibliography, claims}
 use Rattle.bib_references.specs.Resolving.{Inherits, sources_of}
 use Rattle.biblatex.specs.Resolved.{AreOwn, IsLoaded, graph_of}
-use Rattle.bib_file_entries.specs.Loaded.{definition_in, name_of, field_in, Says, CanBeRead, AllCanBeRead, IsEntry, AreEntries, is_claimed}
+use Rattle.bib_file_entries.specs.Loaded.{definition_in, name_of, field_in, FieldSays, CanBeRead, AllCanBeRead, IsEntry, AreEntries, is_claimed}
 use Rattle.biblatex.specs.Headline.{IsReadAgain}
-use Rattle.biblatex.proofs.AloneFacts.{RefersToNothing, IsAsWritten, no_circle, no_dates, entries_as_written}
+use Rattle.biblatex.proofs.AloneFacts.{RefersToNothing, IsAsWritten, no_cycle, no_dates, entries_as_written}
 use Rattle.biblatex.proofs.ResolvedFacts.{graph_same, keys_same, sources_same}
 use Rattle.bib_file_entries.proofs.LoadingFacts.{AllZip-reverse}
 
@@ -77,7 +77,7 @@ module _ (definitions : Definitions) where
     chunks : Value'
     same : styled chunks ≡ styled f.1
     name : name_of r ≡ biblatex_name f.0
-    says : Says definitions r chunks
+    says : FieldSays definitions r chunks
     readable : CanBeRead definitions r
     apart : list_any (bytes_eq (name_of r)) linking ≡ false
 
@@ -94,7 +94,7 @@ module _ (definitions : Definitions) where
   field_says f r settled said =
       let v = is_verbatim_field f.0 in
       let cs = written_chunks v false f.1 in
-      let p = part said.inside said.behind in
+      let p = part said.inside said.following in
       let small : name_of r ≡ biblatex_name f.0 = ap (map to_ascii_lowercase) said.name ∙ by_written_name (λ n. map to_ascii_lowercase n ≡ n) f.0 settled.name.small refl refl refl in
       let rule : is_verbatim_field (name_of r) ≡ v = ap is_verbatim_field small ∙ same_rule f.0 in
       let spelt : chars (encode_utf8_all cs) ≡ cs = chars_whole cs (encode_utf8_all cs) said.utf8 refl in
@@ -107,7 +107,7 @@ module _ (definitions : Definitions) where
       let read : Evaluates definitions v (literal p ∷ []) (styled again.chunks) = subst (Evaluates definitions v (literal p ∷ [])) (sym again.says) whole in
       let readable : IsReadable definitions v (literal p ∷ []) = record {
         known = λ name reaches. absurd (no_names reaches);
-        no_circle = λ name definition reaches defined again. absurd (no_names reaches);
+        no_cycle = λ name definition reaches defined again. absurd (no_names reaches);
         texts = λ t holds. ⊎_elim (λ same. (styled f.1, subst (λ x. IsContent v (chars x) (styled f.1)) same content)) (λ none. absurd none) holds;
         inner_texts = λ name definition reaches defined. absurd (no_names reaches);
       } in
@@ -127,7 +127,7 @@ module _ (definitions : Definitions) where
   -- fields that are read: each has the name and the chunks of what its reading says
   record IsRead (w : List ℕ × Value') (r : FieldReading) : Type 0 where
     name : name_of r ≡ w.0
-    says : Says definitions r w.1
+    says : FieldSays definitions r w.1
     readable : CanBeRead definitions r
     apart : list_any (bytes_eq (name_of r)) linking ≡ false
 
@@ -157,7 +157,7 @@ module _ (definitions : Definitions) where
   all_readable (w ∷ ws) (r ∷ rs) all = (all.0.readable, all_readable ws rs all.1)
 
   abbrev IsFound : Option FieldReading → Option Value' → Type 0
-  IsFound field value = MatchOption field (value ≡ None) (λ r. (chunks : Value') × (value ≡ Some chunks) × Says definitions r chunks)
+  IsFound field value = MatchOption field (value ≡ None) (λ r. (chunks : Value') × (value ≡ Some chunks) × FieldSays definitions r chunks)
 
   found_first : (name : List ℕ) (ws : List (List ℕ × Value')) (rs : List FieldReading) → AllZip IsRead ws rs → IsFound (find (λ r. bytes_eq name (name_of r)) rs) (by_name.find by_bytes name ws)
   found_first name [] [] all = refl
@@ -303,7 +303,7 @@ loaded_mapped (e ∷ es) (o ∷ os) (x ∷ xs) all plain keys = (
 )
 
 -- what is mapped by the entries of a file as they are written is mapped by those of each bibliography that it says
-loaded_reread : (says : FileReading) (es own : List Entry) → AreOwn says own → AllByRecursion RefersToNothing own → AllZip IsMapped es own → (read : Library) → IsLoaded says read → AllZip IsMapped es read.entries
+loaded_reread : (says : FileReading) (es own : List Entry) → AreOwn says own → AllByRecursion RefersToNothing own → AllZip IsMapped es own → (read : Bibliography) → IsLoaded says read → AllZip IsMapped es read.entries
 loaded_reread says es own are alone mapped read loaded =
     let sources : sources_of loaded.accepted.own ≡ sources_of own = sources_same says loaded.accepted.entries are in
     let graph : graph_of loaded.accepted.own ≡ graph_of own = graph_same says loaded.accepted.entries are in
@@ -325,7 +325,7 @@ entries_reread es settled utf8 =
       accepted = record {
         says = says;
         reading = again.file;
-        accepted = record { own = all.read; entries = all.are; no_circle = no_circle all.read all.alone; dates = λ values inherits. no_dates all.read values all.alone };
+        accepted = record { own = all.read; entries = all.are; no_cycle = no_cycle all.read all.alone; dates = λ values inherits. no_dates all.read values all.alone };
       };
       mapped = λ read is. loaded_reread says es all.read all.are all.alone all.mapped read (subst (λ s. IsLoaded s read) (file_same is.reading again.file) is.loaded);
     }

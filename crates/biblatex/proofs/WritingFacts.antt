@@ -13,7 +13,7 @@ abbrev pub is_empty : List Entry → Bool
 is_empty [] = true
 is_empty (e ∷ es) = false
 
--- one more entry behind others
+-- one more entry after others
 one_more : (written : Entry → List ℕ) (es : List Entry) (e : Entry) → entries_text written (es ++ e ∷ []) ≡ entries_text written es ++ (parting (is_empty es) ++ (written e ++ codes "\n"))
 one_more written [] e = refl
 one_more written (d ∷ []) e = sym (append_assoc (written d) (codes "\n") (codes "\n" ++ (written e ++ codes "\n")))
@@ -30,7 +30,7 @@ first_taken es zero within = refl
 first_taken [] (suc i) within = absurd (omega arith)
 first_taken (e ∷ es) (suc i) within = not_suc i
 
--- the entry at a place behind those before it
+-- the entry at an index after those before it
 pub next_written : (written : Entry → List ℕ) (es : List Entry) (i : ℕ) (e : Entry) (first : Bool) → i < length es → e ≡ get_or es i e → first ≡ (i == 0)
     → entries_text written (take (i + 1) es) ≡ entries_text written (take i es) ++ (parting first ++ (written e ++ codes "\n"))
 next_written written es i e first within is flag =
@@ -41,7 +41,7 @@ next_written written es i e first within is flag =
 pub not_first : (i : ℕ) → false ≡ (i + 1 == 0)
 not_first i = grind arith
 
--- texts that are taken one behind another
+-- texts that are taken one after another
 pub appends_more : (a b c : Option (List ℕ)) (xs ys zs : List ℕ) → Appends a b xs → Appends b c ys → zs ≡ xs ++ ys → Appends a c zs
 appends_more None b c xs ys zs first second is = tt
 appends_more (Some old) None c xs ys zs first second is = absurd first

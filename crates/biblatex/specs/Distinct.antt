@@ -3,7 +3,7 @@
 use Rattle.std.specs.Prelude.{ℕ, ◌+◌, Bool, ◌||◌, List, [], take, drop, bytes_eq, slice_index_or}
 use Rattle.std.specs.List.{list_any}
 
--- whether the key at a place stands at another
+-- whether the key at an index stands at another
 abbrev pub stands_elsewhere : List (List ℕ) → ℕ → Bool
-stands_elsewhere keys place =
-    list_any (bytes_eq (slice_index_or keys place [])) (take place keys) || list_any (bytes_eq (slice_index_or keys place [])) (drop (place + 1) keys)
+stands_elsewhere keys index =
+    list_any (bytes_eq (slice_index_or keys index [])) (take index keys) || list_any (bytes_eq (slice_index_or keys index [])) (drop (index + 1) keys)

@@ -5,6 +5,6 @@ pub mod Keys
 pub mod Lending
 pub mod Places
 pub mod Resolved
-pub mod SameLibrary
+pub mod SameBibliography
 pub mod Syntax
 pub mod Writing

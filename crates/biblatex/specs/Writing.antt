@@ -1,5 +1,5 @@
 -- Machinery: words of private contracts.
--- Entries written one behind another.
+-- Entries written one after another.
 use Rattle.std.specs.Prelude.{ℕ, Bool, true, false, List, [], codes}
 
 -- what stands before an entry

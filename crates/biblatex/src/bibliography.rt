@@ -8,16 +8,16 @@ ghost use Rattle.std.specs.Vec.Iter.{into_iter_items};
 ghost use Rattle.std.specs.Iterator.{YieldsFirstRef, item_count};
 ghost use Rattle.bib_contents.specs.Contents.{LiesBetween};
 ghost use Rattle.bib_entry.specs.declared.entry.Entry.{Entry as AnEntry};
-ghost use Rattle.bib_graph.specs.Graph.{AreTurns};
-ghost use Rattle.bib_syntax.specs.Faults.{out_of_memory};
+ghost use Rattle.bib_graph.specs.Graph.{IsTopologicalOrder};
+ghost use Rattle.bib_syntax.specs.Errors.{out_of_memory};
 ghost use Rattle.bib_syntax.specs.Views.{file_of};
 ghost use Rattle.biblatex.specs.Headline.{IsAcceptedText, IsBibliographyOf, IsErrorOf};
 ghost use Rattle.biblatex.specs.Keys.{keys_left};
-ghost use Rattle.biblatex.specs.Resolved.{AreOwn, IsAccepted, IsFaultOf, IsLoaded, IsOfDate, graph_of};
+ghost use Rattle.biblatex.specs.Resolved.{AreOwn, IsAccepted, IsFirstErrorOf, IsLoaded, IsOfDate, graph_of};
 ghost use Rattle.biblatex.specs.Lending.{LendsEntry, LendsEntries};
-ghost use Rattle.bib_maps.specs.Names.{ArePlacesBelow, claimed, claims_for};
-ghost use Rattle.bib_file_entries.specs.Library.{aliased, aliases, claims, entry_of, inserted, nothing, place_of, removed};
-ghost use Rattle.biblatex.specs.SameLibrary.{same_library, same_library_per, same_library_equiv};
+ghost use Rattle.bib_maps.specs.Names.{AreIndicesBelow, claimed, claims_for};
+ghost use Rattle.bib_file_entries.specs.Bibliography.{aliased, aliases, claims, entry_of, inserted, empty_bibliography, index_of, removed};
+ghost use Rattle.biblatex.specs.SameBibliography.{same_bibliography, same_bibliography_per, same_bibliography_equiv};
 
 use bib_entry::entry::Entry;
 use bib_file_entries::claiming::claims;
@@ -41,20 +41,20 @@ pub struct Bibliography {
 }
 
 impl Model for Bibliography {
-    ghost use Rattle.bib_file_entries.specs.Library.{Library, library_code};
-    ghost use Rattle.bib_maps.specs.Names.{ArePlacesBelow};
+    ghost use Rattle.bib_file_entries.specs.Bibliography.{Bibliography, bibliography_code};
+    ghost use Rattle.bib_maps.specs.Names.{AreIndicesBelow};
     ghost use Rattle.std.specs.Prelude.{length};
 
-    ghost Value = { Library };
+    ghost Value = { Bibliography };
 
-    ghost coded = { library_code };
+    ghost coded = { bibliography_code };
 
     ghost view = { λ a. record { entries = a.entries.items; names = a.names } };
 
-    ghost invariant = { λ a. ArePlacesBelow (length a.entries.items) a.names };
+    ghost invariant = { λ a. AreIndicesBelow (length a.entries.items) a.names };
 }
 
-/// An entry that was not added for want of memory.
+/// An entry that was not added when out of memory.
 #[derive(Debug, Drop)]
 pub struct InsertError {
     /// The entry.
@@ -80,7 +80,7 @@ impl InsertError {
     }
 }
 
-// Makes room for an entry behind the others, and lets the names that it claims point there.
+// Makes room for an entry after the others, and lets the names that it claims point there.
 fn claim_next(entries: &mut Vec<Entry>, names: &mut Names, entry: &Entry) -> Result<(), AllocError>
     ensures same_entries { entries.new.items ≡ entries.old.items }
     ensures room { OnOk result (vec_len entries.new < vec_capacity entries.new) }
@@ -94,9 +94,9 @@ fn claim_next(entries: &mut Vec<Entry>, names: &mut Names, entry: &Entry) -> Res
 }
 
 impl Bibliography {
-    /// No entries. Takes no memory.
+    /// No entries. Does not allocate.
     pub fn new(alloc: Global) -> Self
-        ensures { result ≡ nothing }
+        ensures { result ≡ empty_bibliography }
     {
         Bibliography {
             entries: Vec::new(alloc),
@@ -108,8 +108,8 @@ impl Bibliography {
     ///
     /// Each entry has its own fields but `xdata`, and those that it inherits from the entries that it refers to.
     ///
-    /// Refused with a syntax fault where the file grammar doesn't read the text, and otherwise as `from_raw` says. Spans are
-    /// in bytes of the text; that of any fault but of a date lies in it.
+    /// Refused with a syntax error where the file grammar doesn't read the text, and otherwise as `from_raw` says. Spans are
+    /// in bytes of the text; that of any error but of a date lies in it.
     pub fn parse(alloc: Global, src: &str) -> Result<Self, ParseError>
         ensures loaded { IfOk result (IsBibliographyOf src.now) }
         ensures accepted { OnOk result (IsAcceptedText src.now) }
@@ -122,7 +122,7 @@ impl Bibliography {
         Self::from_raw(alloc, raw)
     }
 
-    /// The bibliography of a file that was read already. What the file says of texts and places is believed.
+    /// The bibliography of a file that was read already. What the file says of texts and indices is believed.
     ///
     /// Refused, in the order of the file, for the first entry whose key an earlier one claimed (`DuplicateKey`, at the
     /// entry) or which has a field that can't be read; else for the first entry that refers to itself, by others or at once
@@ -132,23 +132,23 @@ impl Bibliography {
     pub fn from_raw(alloc: Global, raw: RawBibliography<'_>) -> Result<Self, ParseError>
         ensures loaded { IfOk result (IsLoaded (file_of raw.entry)) }
         ensures refused { IfErr result (λ e. (e ≡ out_of_memory) ⊎
-            (IsFaultOf (file_of raw.entry) e × (IsAccepted (file_of raw.entry) → ⊥))) }
+            (IsFirstErrorOf (file_of raw.entry) e × (IsAccepted (file_of raw.entry) → ⊥))) }
     {
-        let (library, _turns) = Self::from_raw_counted(alloc, raw)?;
-        Ok(library)
+        let (bibliography, _turns) = Self::from_raw_counted(alloc, raw)?;
+        Ok(bibliography)
     }
 
-    /// The same, and the turns in which entries took over what they inherit: the place of each entry once, behind the
-    /// places of all entries that it refers to.
+    /// The same, and the turns in which entries took over what they inherit: the index of each entry once, after the
+    /// indices of all entries that it refers to.
     pub fn from_raw_counted(
         alloc: Global,
         raw: RawBibliography<'_>,
     ) -> Result<(Self, Vec<usize>), ParseError>
         ensures loaded { IfOk result (λ counted. IsLoaded (file_of raw.entry) counted.0) }
         ensures turns { IfOk result (λ counted. (own : List AnEntry) × AreOwn (file_of raw.entry) own ×
-            AreTurns (graph_of own) counted.1.items) }
+            IsTopologicalOrder (graph_of own) counted.1.items) }
         ensures refused { IfErr result (λ e. (e ≡ out_of_memory) ⊎
-            (IsFaultOf (file_of raw.entry) e × (IsAccepted (file_of raw.entry) → ⊥))) }
+            (IsFirstErrorOf (file_of raw.entry) e × (IsAccepted (file_of raw.entry) → ⊥))) }
     {
         let spans = spans(alloc, &raw.entries)?;
         let (mut entries, names) = load(alloc, raw)?;
@@ -156,9 +156,9 @@ impl Bibliography {
         Ok((Self::from_names(entries, names), turns))
     }
 
-    // These entries and names. Takes no memory.
+    // These entries and names. Does not allocate.
     pub(crate) fn from_names(entries: Vec<Entry>, names: Names) -> Self
-        requires { ArePlacesBelow (length entries.items) names }
+        requires { AreIndicesBelow (length entries.items) names }
         ensures { result ≡ record { entries = entries.items; names = names } }
     {
         Bibliography { entries, names }
@@ -181,7 +181,7 @@ impl Bibliography {
     /// How many entries there are. Each name points below this.
     pub fn len(&self) -> usize
         ensures count { result ≡ length self.now.entries }
-        ensures places { ArePlacesBelow result self.now.names }
+        ensures indices { AreIndicesBelow result self.now.names }
     {
         self.entries.len()
     }
@@ -196,10 +196,10 @@ impl Bibliography {
     /// The entry that a name points to: a key, or another name.
     pub fn get(&self, key: &str) -> Option<&Entry>
         ensures value { option_copied result ≡ entry_of self.now key.now }
-        ensures named { IsSome (place_of self.now key.now) → IsSome result }
+        ensures named { IsSome (index_of self.now key.now) → IsSome result }
     {
-        let place = self.names.get(key)?;
-        Some(&self.entries[place])
+        let index = self.names.get(key)?;
+        Some(&self.entries[index])
     }
 
     /// The entry that a name points to, to be changed. This changes no names.
@@ -207,22 +207,22 @@ impl Bibliography {
         ensures* writes_back { sem 𝓛 (LendsEntry self.entry key.now result) }
         ensures value { option_copied_mut result ≡ entry_of self.old key.now }
     {
-        let place = self.names.get(key)?;
-        self.entries.get_mut(place)
+        let index = self.names.get(key)?;
+        self.entries.get_mut(index)
     }
 
-    /// Adds an entry. If its key is a name, the entry takes the place that this name points to, the entry that stood
-    /// there is handed back, and all names stay. Otherwise it is added behind the others, and its key and the names in
+    /// Adds an entry. If its key is a name, the entry takes the index that this name points to, the entry that stood
+    /// there is handed back, and all names stay. Otherwise it is added after the others, and its key and the names in
     /// its field `ids` point to it from now on. A refusal changes nothing, and gives the entry back.
     pub fn insert(&mut self, entry: Entry) -> Result<Option<Entry>, InsertError>
         ensures had { IfOk result (λ had. had ≡ entry_of self.old entry.key) }
         ensures inserted { OnOk result (self.new ≡ inserted self.old entry) }
         ensures refused { OnErr result (self.new ≡ self.old) }
         ensures returned { IfErr result (λ e. e.entry ≡ entry) }
-        ensures present { IsSome (place_of self.old entry.key) → IsOk result }
+        ensures present { IsSome (index_of self.old entry.key) → IsOk result }
     {
-        if let Some(place) = self.names.get(entry.key.as_str()) {
-            let had = mem::replace(&mut self.entries[place], entry);
+        if let Some(index) = self.names.get(entry.key.as_str()) {
+            let had = mem::replace(&mut self.entries[index], entry);
             return Ok(Some(had));
         }
         if let Err(error) = claim_next(&mut self.entries, &mut self.names, &entry) {
@@ -232,28 +232,28 @@ impl Bibliography {
         Ok(None)
     }
 
-    /// Takes the entry out that a name points to, with all names that point to it. The entries behind it move up by
-    /// one. Takes no memory.
+    /// Takes the entry out that a name points to, with all names that point to it. The entries after it move up by
+    /// one. Does not allocate.
     pub fn remove(&mut self, key: &str) -> Option<Entry>
         ensures had { result ≡ entry_of self.old key.now }
         ensures removed { self.new ≡ removed self.old key.now }
     {
-        let place = self.names.get(key)?;
-        self.names.close_gap(place);
-        Some(self.entries.remove(place))
+        let index = self.names.get(key)?;
+        self.names.close_gap(index);
+        Some(self.entries.remove(index))
     }
 
     /// Lets another name point to the entry that a name points to, if there is one. A refusal changes nothing.
     pub fn alias(&mut self, key: &str, alias: &str) -> Result<(), AllocError>
         ensures aliased { OnOk result (self.new ≡ aliased self.old key.now alias.now) }
         ensures refused { OnErr result (self.new ≡ self.old) }
-        ensures unknown { IsNone (place_of self.old key.now) → IsOk result }
+        ensures unknown { IsNone (index_of self.old key.now) → IsOk result }
     {
-        let Some(place) = self.names.get(key) else {
+        let Some(index) = self.names.get(key) else {
             return Ok(());
         };
         let name = Text::from_str(*self.entries.allocator(), alias)?;
-        self.names.claim(name, place)?;
+        self.names.claim(name, index)?;
         Ok(())
     }
 
@@ -281,7 +281,7 @@ impl Bibliography {
         }
     }
 
-    /// The vector of the entries in order. Takes no memory.
+    /// The vector of the entries in order. Does not allocate.
     pub fn into_vec(self) -> Vec<Entry>
         ensures { result.items ≡ self.entries }
     {
@@ -291,7 +291,7 @@ impl Bibliography {
 }
 
 impl Clone for Bibliography {
-    ghost is_clone = { λ library copy. copy ≡ library };
+    ghost is_clone = { λ bibliography copy. copy ≡ bibliography };
 
     fn clone(&self) -> Result<Self, AllocError> {
         let entries = self.entries.clone()?;
@@ -301,9 +301,9 @@ impl Clone for Bibliography {
 }
 
 impl PartialEq for Bibliography {
-    ghost eq = { same_library };
+    ghost eq = { same_bibliography };
 
-    ghost laws = { same_library_per };
+    ghost laws = { same_bibliography_per };
 
     fn eq(&self, other: &Self) -> bool {
         self.entries == other.entries && self.names == other.names
@@ -311,7 +311,7 @@ impl PartialEq for Bibliography {
 }
 
 impl Eq for Bibliography {
-    ghost laws = { same_library_equiv };
+    ghost laws = { same_bibliography_equiv };
 }
 
 /// The keys of entries, in order.
@@ -338,7 +338,7 @@ impl IntoIterator for Bibliography {
 
     type IntoIter = IntoIter<Entry>;
 
-    ghost into_iter_gives = { λ library it. into_iter_items it ≡ library.entries };
+    ghost into_iter_gives = { λ bibliography it. into_iter_items it ≡ bibliography.entries };
 
     fn into_iter(self) -> Self::IntoIter {
         self.into_vec().into_iter()
@@ -350,7 +350,7 @@ impl<'a> IntoIterator for &'a mut Bibliography {
 
     type IntoIter = IterMut<'a, Entry>;
 
-    ghost into_iter_gives = { λ library it. iter_mut_rest it ≡ library.now.entries };
+    ghost into_iter_gives = { λ bibliography it. iter_mut_rest it ≡ bibliography.now.entries };
 
     fn into_iter(self) -> Self::IntoIter
         ensures* writes_back { sem 𝓛 (LendsEntries self.entry result) }
@@ -365,7 +365,7 @@ impl<'a> IntoIterator for &'a Bibliography {
 
     type IntoIter = Iter<'a, Entry>;
 
-    ghost into_iter_gives = { λ library it. iter_rest it ≡ library.now.entries };
+    ghost into_iter_gives = { λ bibliography it. iter_rest it ≡ bibliography.now.entries };
 
     fn into_iter(self) -> Self::IntoIter {
         self.iter()

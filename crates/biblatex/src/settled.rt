@@ -18,35 +18,35 @@ fn is_key_among(entries: &[Entry], key: &str) -> bool
     entries.iter().any(|entry| key == entry.key.as_str())
 }
 
-// Whether the key of the entry at a place is the key of another.
-fn is_repeated(entries: &[Entry], place: usize) -> bool
-    requires { place < length entries.now }
-    ensures { result ≡ stands_elsewhere (map (λ e. e.key) entries.now) place }
+// Whether the key of the entry at an index is the key of another.
+fn is_repeated(entries: &[Entry], index: usize) -> bool
+    requires { index < length entries.now }
+    ensures { result ≡ stands_elsewhere (map (λ e. e.key) entries.now) index }
 {
-    let key = entries[place].key.as_str();
-    is_key_among(&entries[..place], key) || is_key_among(&entries[place + 1..], key)
+    let key = entries[index].key.as_str();
+    is_key_among(&entries[..index], key) || is_key_among(&entries[index + 1..], key)
 }
 
-// Whether a name points to this place.
-fn points_to(names: &Names, name: &str, place: usize) -> bool
-    ensures { IsTrue result ↔ by_name.get names.now name.now ≡ Some place }
+// Whether a name points to this index.
+fn points_to(names: &Names, name: &str, index: usize) -> bool
+    ensures { IsTrue result ↔ by_name.get names.now name.now ≡ Some index }
 {
     match names.get(name) {
-        Some(found) => found == place,
+        Some(found) => found == index,
         None => false,
     }
 }
 
-// Whether no two entries have one key. A key that points to its own place is the key of no other that does so: only the
-// keys that don't are looked for at all places.
+// Whether no two entries have one key. A key that points to its own index is the key of no other that does so: only the
+// keys that don't are looked for at all indices.
 fn has_distinct_keys(entries: &[Entry], names: &Names) -> bool
     ensures { IsTrue result ↔ IsDistinct bytes_eq (map (λ e. e.key) entries.now) }
 {
-    'places: for place in 0..entries.len() {
-        if points_to(names, entries[place].key.as_str(), place) {
-            continue 'places;
+    'indices: for index in 0..entries.len() {
+        if points_to(names, entries[index].key.as_str(), index) {
+            continue 'indices;
         }
-        if is_repeated(entries, place) {
+        if is_repeated(entries, index) {
             return false;
         }
     }
@@ -67,8 +67,8 @@ fn are_settled(entries: &[Entry]) -> bool
 
 impl Bibliography {
     /// Whether the bibliography is read again as it is, once [`Self::to_biblatex_string`] has written it: no two keys are
-    /// equal, keys are of key characters, field names are identifiers without capitals of ASCII and none of `ids`,
-    /// `crossref` and `xdata`, and each value is settled. Takes no memory.
+    /// equal, keys are of key characters, field names are identifiers without uppercase letters of ASCII and none of `ids`,
+    /// `crossref` and `xdata`, and each value is settled. Does not allocate.
     pub fn is_settled(&self) -> bool
         ensures { IsTrue result ↔ AreSettled self.now.entries }
     {

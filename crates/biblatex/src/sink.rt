@@ -7,7 +7,7 @@ ghost use Rattle.std.specs.declared.option.Option.{Option};
 
 /// Takes text, or refuses it.
 pub trait Sink {
-    // The text taken so far, where the type tells it.
+    // The text taken so far, where the type says it.
     ghost taken: { Self → Option (List ℕ) };
 
     // How many texts were refused so far. The count may stop at its greatest value.

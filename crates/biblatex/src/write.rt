@@ -37,7 +37,7 @@ impl From<AllocError> for WriteError {
     }
 }
 
-// Writes an entry at the end of a text, behind an empty line where it isn't the first, and before a line feed.
+// Writes an entry at the end of a text, after an empty line where it isn't the first, and before a line feed.
 fn write_next(
     alloc: Global,
     out: &mut String,
@@ -69,7 +69,7 @@ fn text_of(alloc: Global, entries: &[Entry], format: Format) -> Result<String, A
     Ok(out)
 }
 
-// Hands a sink an entry, behind an empty line where it isn't the first, and before a line feed.
+// Hands a sink an entry, after an empty line where it isn't the first, and before a line feed.
 fn hand_next<K: Sink>(
     alloc: Global,
     sink: &mut K,

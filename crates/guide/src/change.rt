@@ -7,20 +7,20 @@ use std::test::Fail;
 #[test]
 fn another_name(rt: HostRuntime) -> Result<(), Fail> {
     let alloc = rt.alloc();
-    let mut library = parsed(alloc, "@book{tolkien1937, title={The Hobbit}}")?;
-    library.alias("tolkien1937", "hobbit")?;
-    assert!(rt; library.get("hobbit").is_some());
+    let mut bibliography = parsed(alloc, "@book{tolkien1937, title={The Hobbit}}")?;
+    bibliography.alias("tolkien1937", "hobbit")?;
+    assert!(rt; bibliography.get("hobbit").is_some());
     Ok(())
 }
 
 #[test]
 fn set_a_field_and_write(rt: HostRuntime) -> Result<(), Fail> {
     let alloc = rt.alloc();
-    let mut library = parsed(alloc, "@book{k, title={A}}")?;
-    if let Some(book) = library.get_mut("k") {
+    let mut bibliography = parsed(alloc, "@book{k, title={A}}")?;
+    if let Some(book) = bibliography.get_mut("k") {
         book.set_edition(&PermissiveType::Typed(2))?;
     }
-    let text = library.to_biblatex_string(alloc)?;
+    let text = bibliography.to_biblatex_string(alloc)?;
     assert!(rt; text.as_str() == "@book{k,\nedition = {2},\ntitle = {A},\n}\n");
     Ok(())
 }
@@ -28,22 +28,22 @@ fn set_a_field_and_write(rt: HostRuntime) -> Result<(), Fail> {
 #[test]
 fn insert_an_entry(rt: HostRuntime) -> Result<(), Fail> {
     let alloc = rt.alloc();
-    let mut library = Bibliography::new(alloc);
+    let mut bibliography = Bibliography::new(alloc);
     let mut entry = Entry::new(alloc, Text::from_str(alloc, "k")?, EntryType::Article);
     entry.set_doi(&String::from_str(alloc, "10.1000/182")?)?;
-    let had = library.insert(entry)?;
+    let had = bibliography.insert(entry)?;
     assert!(rt; had.is_none());
-    assert!(rt; library.len() == 1);
+    assert!(rt; bibliography.len() == 1);
     Ok(())
 }
 
 #[test]
 fn write_a_file(rt: HostRuntime) -> Result<(), Fail> {
     let alloc = rt.alloc();
-    let library = parsed(alloc, "@thesis{t, institution={TU}, date={2019-10}}")?;
-    let text = library.to_bibtex_string(alloc)?;
+    let bibliography = parsed(alloc, "@thesis{t, institution={TU}, date={2019-10}}")?;
+    let text = bibliography.to_bibtex_string(alloc)?;
     let want = "@phdthesis{t,\nyear = {2019},\nmonth = {10},\nschool = {TU},\n}\n";
     assert!(rt; text.as_str() == want);
-    assert!(rt; library.is_settled());
+    assert!(rt; bibliography.is_settled());
     Ok(())
 }

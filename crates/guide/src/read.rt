@@ -1,4 +1,4 @@
-//! Reading: files, faults, people, dates, pages.
+//! Reading: files, errors, people, dates, pages.
 
 use biblatex::{Bibliography, ChunksExt, DateValue, Entry, ParseError, PermissiveType};
 use std::alloc::Global;
@@ -11,8 +11,8 @@ pub(crate) fn parsed(alloc: Global, src: &str) -> Result<Bibliography, ParseErro
 
 // The one entry of a file.
 fn only_entry(alloc: Global, src: &str) -> Result<Entry, Fail> {
-    let library = parsed(alloc, src)?;
-    let mut entries = library.into_vec();
+    let bibliography = parsed(alloc, src)?;
+    let mut entries = bibliography.into_vec();
     let Some(entry) = entries.pop() else {
         return Err(Fail::from("no entry"));
     };
@@ -23,8 +23,8 @@ fn only_entry(alloc: Global, src: &str) -> Result<Entry, Fail> {
 fn parse_a_file(rt: HostRuntime) -> Result<(), Fail> {
     let alloc = rt.alloc();
     let src = "@book{tolkien1937, title = {The {Hobbit}}}";
-    let library = parsed(alloc, src)?;
-    let Some(book) = library.get("tolkien1937") else {
+    let bibliography = parsed(alloc, src)?;
+    let Some(book) = bibliography.get("tolkien1937") else {
         return Err(Fail::from("no such entry"));
     };
     let title = book.title(alloc)?.format_verbatim(alloc)?;
@@ -51,14 +51,14 @@ fn line_and_column(src: &str, at: usize) -> (usize, usize) {
 }
 
 #[test]
-fn tell_a_fault(rt: HostRuntime) -> Result<(), Fail> {
+fn tell_a_error(rt: HostRuntime) -> Result<(), Fail> {
     let alloc = rt.alloc();
     let src = "@misc{a, title={A}}\n@misc{b, title={B}";
-    let Err(fault) = parsed(alloc, src) else {
+    let Err(error) = parsed(alloc, src) else {
         return Err(Fail::from("this file has a fault"));
     };
-    assert!(rt; line_and_column(src, fault.span.start) == (2, 19));
-    let text = fault.to_string(alloc)?;
+    assert!(rt; line_and_column(src, error.span.start) == (2, 19));
+    let text = error.to_string(alloc)?;
     assert!(rt; text.as_str() == "expected comma: 38-38");
     Ok(())
 }
@@ -119,11 +119,11 @@ fn what_is_wrong(rt: HostRuntime) -> Result<(), Fail> {
     let report = entry.verify(alloc)?;
     assert!(rt; report.missing.as_slice() == ["author", "year"].as_slice());
     assert!(rt; report.superfluous.as_slice() == ["volume"].as_slice());
-    let mut faults = String::new(alloc);
-    for (name, fault) in &report.malformed {
-        let told = format!(in alloc; "{}: {}; ", name.as_str(), fault.kind)?;
-        faults.push_str(told.as_str())?;
+    let mut errors = String::new(alloc);
+    for (name, error) in &report.malformed {
+        let reported = format!(in alloc; "{}: {}; ", name.as_str(), error.kind)?;
+        errors.push_str(reported.as_str())?;
     }
-    assert!(rt; faults.as_str() == "volume: invalid number; ");
+    assert!(rt; errors.as_str() == "volume: invalid number; ");
     Ok(())
 }

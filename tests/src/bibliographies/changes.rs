@@ -36,16 +36,16 @@ fn unset(entry: &mut Entry, name: &str) -> Option<Chunks> {
 }
 
 // Adds an entry, and hands out the one that it exchanged.
-fn put(library: &mut Bibliography, entry: Entry) -> Result<Option<Entry>, AllocError> {
-    match library.insert(entry) {
+fn put(bibliography: &mut Bibliography, entry: Entry) -> Result<Option<Entry>, AllocError> {
+    match bibliography.insert(entry) {
         Ok(had) => Ok(had),
         Err(_) => Err(AllocError),
     }
 }
 
 // Takes an entry out.
-fn take(library: &mut Bibliography, name: &str) -> Option<Entry> {
-    library.remove(name)
+fn take(bibliography: &mut Bibliography, name: &str) -> Option<Entry> {
+    bibliography.remove(name)
 }
 
 // Sets a field, `name=text`; what it held.
@@ -57,33 +57,33 @@ fn set_field(alloc: Global, entry: &mut Entry, field: &str) -> Result<String, Al
 }
 
 // `KEY FIELD=TEXT`: adds an entry with this field, or with none; the one that it exchanged.
-fn insert(alloc: Global, library: &mut Bibliography, words: &str) -> Result<String, AllocError> {
+fn insert(alloc: Global, bibliography: &mut Bibliography, words: &str) -> Result<String, AllocError> {
     let (key, field) = cut(words, ' ');
     let mut entry = misc(alloc, key)?;
     if !field.is_empty() {
         set_field(alloc, &mut entry, field)?;
     }
-    let had = put(library, entry)?;
+    let had = put(bibliography, entry)?;
     entry_or_dash(alloc, had.as_ref())
 }
 
 // `NAME`: takes an entry out.
-fn remove(alloc: Global, library: &mut Bibliography, name: &str) -> Result<String, AllocError> {
-    let had = take(library, name);
+fn remove(alloc: Global, bibliography: &mut Bibliography, name: &str) -> Result<String, AllocError> {
+    let had = take(bibliography, name);
     entry_or_dash(alloc, had.as_ref())
 }
 
 // `NAME OTHER`: lets another name point to an entry.
-fn alias(alloc: Global, library: &mut Bibliography, words: &str) -> Result<String, AllocError> {
+fn alias(alloc: Global, bibliography: &mut Bibliography, words: &str) -> Result<String, AllocError> {
     let (name, other) = cut(words, ' ');
-    library.alias(name, other)?;
+    bibliography.alias(name, other)?;
     String::from_str(alloc, "done")
 }
 
 // `NAME FIELD=TEXT`: sets a field of an entry that is lent; what it held.
-fn set_lent(alloc: Global, library: &mut Bibliography, words: &str) -> Result<String, AllocError> {
+fn set_lent(alloc: Global, bibliography: &mut Bibliography, words: &str) -> Result<String, AllocError> {
     let (name, field) = cut(words, ' ');
-    match library.get_mut(name) {
+    match bibliography.get_mut(name) {
         Some(entry) => set_field(alloc, entry, field),
         None => String::from_str(alloc, "no entry"),
     }
@@ -92,11 +92,11 @@ fn set_lent(alloc: Global, library: &mut Bibliography, words: &str) -> Result<St
 // `NAME FIELD`: takes a field out of an entry that is lent; what it held.
 fn unset_lent(
     alloc: Global,
-    library: &mut Bibliography,
+    bibliography: &mut Bibliography,
     words: &str,
 ) -> Result<String, AllocError> {
     let (name, field) = cut(words, ' ');
-    match library.get_mut(name) {
+    match bibliography.get_mut(name) {
         Some(entry) => {
             let had = unset(entry, field);
             text_or_dash(alloc, had.as_ref().map(|it| it.as_slice()))
@@ -106,10 +106,10 @@ fn unset_lent(
 }
 
 // `NAME KEY`: gives an entry that is lent another key.
-fn rename(alloc: Global, library: &mut Bibliography, words: &str) -> Result<String, AllocError> {
+fn rename(alloc: Global, bibliography: &mut Bibliography, words: &str) -> Result<String, AllocError> {
     let (name, key) = cut(words, ' ');
     let key = Text::from_str(alloc, key)?;
-    match library.get_mut(name) {
+    match bibliography.get_mut(name) {
         Some(entry) => {
             entry.key = key;
             String::from_str(alloc, "done")
@@ -119,9 +119,9 @@ fn rename(alloc: Global, library: &mut Bibliography, words: &str) -> Result<Stri
 }
 
 // `FIELD=TEXT`: sets a field of each entry; what each held, with a bar after it.
-fn set_each(alloc: Global, library: &mut Bibliography, field: &str) -> Result<String, AllocError> {
+fn set_each(alloc: Global, bibliography: &mut Bibliography, field: &str) -> Result<String, AllocError> {
     let mut out = String::new(alloc);
-    for entry in library.iter_mut() {
+    for entry in bibliography.iter_mut() {
         let had = set_field(alloc, entry, field)?;
         out.push_str(had.as_str())?;
         out.push('|')?;
@@ -130,16 +130,16 @@ fn set_each(alloc: Global, library: &mut Bibliography, field: &str) -> Result<St
 }
 
 // Exchanges the bibliography for its clone.
-fn exchange_clone(alloc: Global, library: &mut Bibliography) -> Result<String, AllocError> {
-    *library = library.clone()?;
+fn exchange_clone(alloc: Global, bibliography: &mut Bibliography) -> Result<String, AllocError> {
+    *bibliography = bibliography.clone()?;
     String::from_str(alloc, "done")
 }
 
 // Exchanges the bibliography for what is written and read again of it.
-fn exchange_again(alloc: Global, library: &mut Bibliography) -> Result<String, AllocError> {
-    match read_again(alloc, library) {
+fn exchange_again(alloc: Global, bibliography: &mut Bibliography) -> Result<String, AllocError> {
+    match read_again(alloc, bibliography) {
         Some(Ok(again)) => {
-            *library = again;
+            *bibliography = again;
             String::from_str(alloc, "done")
         }
         Some(Err(error)) => error.to_string(alloc),
@@ -148,8 +148,8 @@ fn exchange_again(alloc: Global, library: &mut Bibliography) -> Result<String, A
 }
 
 // The keys of the entries that a bibliography gives away, one after another.
-fn give_away(alloc: Global, library: &mut Bibliography) -> Result<String, AllocError> {
-    let given = mem::replace(library, Bibliography::new(alloc));
+fn give_away(alloc: Global, bibliography: &mut Bibliography) -> Result<String, AllocError> {
+    let given = mem::replace(bibliography, Bibliography::new(alloc));
     let mut keys = String::new(alloc);
     for entry in given.into_vec() {
         keys.push_str(entry.key.as_str())?;
@@ -158,33 +158,33 @@ fn give_away(alloc: Global, library: &mut Bibliography) -> Result<String, AllocE
 }
 
 // Takes a step: its verb, and words after it. A step that changes nothing asks.
-fn step(alloc: Global, library: &mut Bibliography, step: &str) -> Result<String, AllocError> {
+fn step(alloc: Global, bibliography: &mut Bibliography, step: &str) -> Result<String, AllocError> {
     let (verb, words) = cut(step, ' ');
     match verb {
-        "insert" => insert(alloc, library, words),
-        "remove" => remove(alloc, library, words),
-        "alias" => alias(alloc, library, words),
-        "set" => set_lent(alloc, library, words),
-        "unset" => unset_lent(alloc, library, words),
-        "rename" => rename(alloc, library, words),
-        "set_each" => set_each(alloc, library, words),
-        "clone" => exchange_clone(alloc, library),
-        "again" => exchange_again(alloc, library),
-        "give_away" => give_away(alloc, library),
-        _ => asked(alloc, library, verb, words),
+        "insert" => insert(alloc, bibliography, words),
+        "remove" => remove(alloc, bibliography, words),
+        "alias" => alias(alloc, bibliography, words),
+        "set" => set_lent(alloc, bibliography, words),
+        "unset" => unset_lent(alloc, bibliography, words),
+        "rename" => rename(alloc, bibliography, words),
+        "set_each" => set_each(alloc, bibliography, words),
+        "clone" => exchange_clone(alloc, bibliography),
+        "again" => exchange_again(alloc, bibliography),
+        "give_away" => give_away(alloc, bibliography),
+        _ => asked(alloc, bibliography, verb, words),
     }
 }
 
 /// The answer of each step, separated by semicolons.
 pub(crate) fn changes(alloc: Global, text: &str) -> Result<String, ParseError> {
     let (file, steps) = cut(text, ';');
-    let mut library = parsed(alloc, file)?;
+    let mut bibliography = parsed(alloc, file)?;
     let mut out = String::new(alloc);
     for words in steps.split(';') {
         if !out.is_empty() {
             out.push_str("; ")?;
         }
-        let answer = step(alloc, &mut library, words)?;
+        let answer = step(alloc, &mut bibliography, words)?;
         out.push_str(answer.as_str())?;
     }
     Ok(out)

@@ -30,7 +30,7 @@ fn may_be_reported(error: &ParseError, text: &str) -> bool {
 // What becomes of a text.
 fn outcome_of(alloc: Global, text: &str) -> Outcome {
     let error = match parsed(alloc, text) {
-        Ok(_library) => return Outcome::Read,
+        Ok(_bibliography) => return Outcome::Read,
         Err(error) => error,
     };
     if may_be_reported(&error, text) {

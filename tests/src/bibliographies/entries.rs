@@ -48,9 +48,9 @@ pub(crate) fn entry_or_dash(alloc: Global, entry: Option<&Entry>) -> Result<Stri
 }
 
 /// The entries, separated by bars.
-pub(crate) fn entries(alloc: Global, library: &Bibliography) -> Result<String, AllocError> {
+pub(crate) fn entries(alloc: Global, bibliography: &Bibliography) -> Result<String, AllocError> {
     let mut out = String::new(alloc);
-    for entry in library.iter() {
+    for entry in bibliography.iter() {
         if !out.is_empty() {
             out.push_str(" | ")?;
         }
@@ -60,9 +60,9 @@ pub(crate) fn entries(alloc: Global, library: &Bibliography) -> Result<String, A
 }
 
 /// The key of each entry and the name of its type.
-pub(crate) fn types(alloc: Global, library: &Bibliography) -> Result<String, AllocError> {
+pub(crate) fn types(alloc: Global, bibliography: &Bibliography) -> Result<String, AllocError> {
     let mut out = String::new(alloc);
-    for entry in library.iter() {
+    for entry in bibliography.iter() {
         if !out.is_empty() {
             out.push_str(" | ")?;
         }
@@ -73,8 +73,8 @@ pub(crate) fn types(alloc: Global, library: &Bibliography) -> Result<String, All
 }
 
 /// The chunks of the field `t` of the entry `k`.
-pub(crate) fn chunks(alloc: Global, library: &Bibliography) -> Result<String, AllocError> {
-    let chunks = library.get("k").and_then(|entry| entry.get("t"));
+pub(crate) fn chunks(alloc: Global, bibliography: &Bibliography) -> Result<String, AllocError> {
+    let chunks = bibliography.get("k").and_then(|entry| entry.get("t"));
     match chunks {
         Some(chunks) => chunks_text(alloc, chunks),
         None => String::from_str(alloc, "-"),
@@ -87,8 +87,8 @@ fn read_number(alloc: Global, entry: &Entry) -> Result<i64, RetrievalError> {
 }
 
 /// What the field `f` of the entry `k` is read as, as a number.
-pub(crate) fn number(alloc: Global, library: &Bibliography) -> Result<String, AllocError> {
-    let Some(entry) = library.get("k") else {
+pub(crate) fn number(alloc: Global, bibliography: &Bibliography) -> Result<String, AllocError> {
+    let Some(entry) = bibliography.get("k") else {
         return String::from_str(alloc, "-");
     };
     match read_number(alloc, entry) {

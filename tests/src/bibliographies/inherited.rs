@@ -20,9 +20,9 @@ fn file(alloc: Global, kind: &str, names: &str) -> Result<String, AllocError> {
 }
 
 // Those of the names that the entry has.
-fn held(alloc: Global, library: &Bibliography, names: &str) -> Result<String, AllocError> {
+fn held(alloc: Global, bibliography: &Bibliography, names: &str) -> Result<String, AllocError> {
     let mut out = String::new(alloc);
-    let Some(entry) = library.get("a") else {
+    let Some(entry) = bibliography.get("a") else {
         return Ok(out);
     };
     for name in names.split(' ') {
@@ -40,6 +40,6 @@ fn held(alloc: Global, library: &Bibliography, names: &str) -> Result<String, Al
 pub(crate) fn inherited(alloc: Global, text: &str) -> Result<String, ParseError> {
     let (kind, names) = cut(text, ' ');
     let file = file(alloc, kind, names)?;
-    let library = parsed(alloc, file.as_str())?;
-    Ok(held(alloc, &library, names)?)
+    let bibliography = parsed(alloc, file.as_str())?;
+    Ok(held(alloc, &bibliography, names)?)
 }

@@ -28,21 +28,21 @@ fn from_raw_counted(
 
 /// The entries of a file by way of its raw reading.
 pub(crate) fn entries(alloc: Global, file: &str) -> Result<String, ParseError> {
-    let library = from_raw(alloc, raw_of(alloc, file)?)?;
-    Ok(entries_text(alloc, &library)?)
+    let bibliography = from_raw(alloc, raw_of(alloc, file)?)?;
+    Ok(entries_text(alloc, &bibliography)?)
 }
 
 /// The entries of a file by way of its raw reading, and how many turns there were.
 pub(crate) fn counted_entries(alloc: Global, file: &str) -> Result<String, ParseError> {
-    let (library, turns) = from_raw_counted(alloc, raw_of(alloc, file)?)?;
-    let entries = entries_text(alloc, &library)?;
+    let (bibliography, turns) = from_raw_counted(alloc, raw_of(alloc, file)?)?;
+    let entries = entries_text(alloc, &bibliography)?;
     let count = turns.len();
     Ok(format!(in alloc; "{}; {count} turns", entries.as_str())?)
 }
 
 /// The turns in which the entries of a file took over what they inherit.
 pub(crate) fn turns(alloc: Global, file: &str) -> Result<String, ParseError> {
-    let (_library, turns) = from_raw_counted(alloc, raw_of(alloc, file)?)?;
+    let (_bibliography, turns) = from_raw_counted(alloc, raw_of(alloc, file)?)?;
     let mut out = String::new(alloc);
     for turn in &turns {
         if !out.is_empty() {
@@ -112,13 +112,13 @@ pub(crate) fn field(alloc: Global, text: &str) -> Result<String, ParseError> {
     let Some(chunk) = chunks.as_slice().first() else {
         return Ok(String::from_str(alloc, "no element")?);
     };
-    let library = of_element(
+    let bibliography = of_element(
         alloc,
         key,
         name,
         element_of(chunk, element.starts_with('A')),
     )?;
-    let chunks = library.get(key).and_then(|entry| entry.get(name));
+    let chunks = bibliography.get(key).and_then(|entry| entry.get(name));
     Ok(chunks_text(alloc, chunks.unwrap_or(&[]))?)
 }
 
@@ -126,8 +126,8 @@ pub(crate) fn field(alloc: Global, text: &str) -> Result<String, ParseError> {
 pub(crate) fn settled(alloc: Global, key: &str) -> Result<String, ParseError> {
     let mut entries = Vec::new(alloc);
     entries.push(entry(alloc, key, 0..1))?;
-    let library = of_entries(alloc, entries)?;
-    Ok(truth(alloc, library.is_settled())?)
+    let bibliography = of_entries(alloc, entries)?;
+    Ok(truth(alloc, bibliography.is_settled())?)
 }
 
 /// The entries of two raw ones with one key, of which the second stands at the bytes beside it: `N<key>[4-9]`.
@@ -139,6 +139,6 @@ pub(crate) fn twice(alloc: Global, text: &str) -> Result<String, ParseError> {
     let mut entries = Vec::new(alloc);
     entries.push(entry(alloc, chunk.v.get(), 0..1))?;
     entries.push(entry(alloc, chunk.v.get(), chunk.span.start..chunk.span.end))?;
-    let library = of_entries(alloc, entries)?;
-    Ok(entries_text(alloc, &library)?)
+    let bibliography = of_entries(alloc, entries)?;
+    Ok(entries_text(alloc, &bibliography)?)
 }

@@ -42,8 +42,8 @@ fn read_parents(alloc: Global, entry: &Entry) -> Result<Vec<String>, TypeError> 
 }
 
 /// The report on the entry `e`.
-pub(crate) fn report(alloc: Global, library: &Bibliography) -> Result<String, AllocError> {
-    let Some(entry) = library.get("e") else {
+pub(crate) fn report(alloc: Global, bibliography: &Bibliography) -> Result<String, AllocError> {
+    let Some(entry) = bibliography.get("e") else {
         return String::from_str(alloc, "no entry");
     };
     let report = verify(alloc, entry)?;
@@ -80,8 +80,8 @@ fn editors_text(
 }
 
 /// The editors of the entry `e`.
-pub(crate) fn editors(alloc: Global, library: &Bibliography) -> Result<String, AllocError> {
-    let Some(entry) = library.get("e") else {
+pub(crate) fn editors(alloc: Global, bibliography: &Bibliography) -> Result<String, AllocError> {
+    let Some(entry) = bibliography.get("e") else {
         return String::from_str(alloc, "no entry");
     };
     match read_editors(alloc, entry) {
@@ -103,8 +103,8 @@ fn joined(alloc: Global, texts: &[String]) -> Result<String, AllocError> {
 }
 
 /// The parents of the entry `c`.
-pub(crate) fn parents(alloc: Global, library: &Bibliography) -> Result<String, AllocError> {
-    let Some(entry) = library.get("c") else {
+pub(crate) fn parents(alloc: Global, bibliography: &Bibliography) -> Result<String, AllocError> {
+    let Some(entry) = bibliography.get("c") else {
         return String::from_str(alloc, "no entry");
     };
     match read_parents(alloc, entry) {

@@ -8,14 +8,14 @@ use biblatex::{Bibliography, Entry};
 use std::alloc::{AllocError, Global};
 
 // The entry that a name points to. (It has no contract, so that who calls it proves nothing again.)
-fn found<'a>(library: &'a Bibliography, name: &str) -> Option<&'a Entry> {
-    library.get(name)
+fn found<'a>(bibliography: &'a Bibliography, name: &str) -> Option<&'a Entry> {
+    bibliography.get(name)
 }
 
 // The key of each entry, after a bar.
-fn keys(alloc: Global, library: &Bibliography) -> Result<String, AllocError> {
+fn keys(alloc: Global, bibliography: &Bibliography) -> Result<String, AllocError> {
     let mut out = String::new(alloc);
-    for key in library.keys() {
+    for key in bibliography.keys() {
         out.push('|')?;
         out.push_str(key)?;
     }
@@ -23,26 +23,26 @@ fn keys(alloc: Global, library: &Bibliography) -> Result<String, AllocError> {
 }
 
 // The keys of the entries as they are handed out, one after another.
-fn in_order(alloc: Global, library: &Bibliography) -> Result<String, AllocError> {
+fn in_order(alloc: Global, bibliography: &Bibliography) -> Result<String, AllocError> {
     let mut out = String::new(alloc);
-    for entry in library.iter() {
+    for entry in bibliography.iter() {
         out.push_str(entry.key.as_str())?;
     }
     Ok(out)
 }
 
 // The key of the entry that a name points to.
-fn key(alloc: Global, library: &Bibliography, name: &str) -> Result<String, AllocError> {
-    match found(library, name) {
+fn key(alloc: Global, bibliography: &Bibliography, name: &str) -> Result<String, AllocError> {
+    match found(bibliography, name) {
         Some(entry) => String::from_str(alloc, entry.key.as_str()),
         None => String::from_str(alloc, "-"),
     }
 }
 
 // `NAME FIELD`: the text of a field.
-fn field(alloc: Global, library: &Bibliography, words: &str) -> Result<String, AllocError> {
+fn field(alloc: Global, bibliography: &Bibliography, words: &str) -> Result<String, AllocError> {
     let (name, field) = cut(words, ' ');
-    match found(library, name) {
+    match found(bibliography, name) {
         Some(entry) => text_or_dash(alloc, entry.get(field)),
         None => String::from_str(alloc, "-"),
     }
@@ -55,8 +55,8 @@ fn typed_text(alloc: Global, entry: &Entry) -> Result<String, AllocError> {
 }
 
 // A copy of the entry that a name points to.
-fn copied(alloc: Global, library: &Bibliography, name: &str) -> Result<String, AllocError> {
-    let Some(entry) = found(library, name) else {
+fn copied(alloc: Global, bibliography: &Bibliography, name: &str) -> Result<String, AllocError> {
+    let Some(entry) = found(bibliography, name) else {
         return String::from_str(alloc, "-");
     };
     let copy = entry.clone()?;
@@ -66,11 +66,11 @@ fn copied(alloc: Global, library: &Bibliography, name: &str) -> Result<String, A
 // What is written of the entry that a name points to, with BibTeX's names or with BibLaTeX's.
 fn written(
     alloc: Global,
-    library: &Bibliography,
+    bibliography: &Bibliography,
     name: &str,
     for_bibtex: bool,
 ) -> Result<String, AllocError> {
-    match found(library, name) {
+    match found(bibliography, name) {
         Some(entry) if for_bibtex => entry_bibtex(alloc, entry),
         Some(entry) => entry_biblatex(alloc, entry),
         None => String::from_str(alloc, "-"),
@@ -80,23 +80,23 @@ fn written(
 /// The answer to a step that changes nothing.
 pub(crate) fn asked(
     alloc: Global,
-    library: &Bibliography,
+    bibliography: &Bibliography,
     verb: &str,
     words: &str,
 ) -> Result<String, AllocError> {
     match verb {
-        "len" => library.len().to_string(alloc),
-        "is_empty" => truth(alloc, library.is_empty()),
-        "keys" => keys(alloc, library),
-        "order" => in_order(alloc, library),
-        "find" => key(alloc, library, words),
-        "entry" => entry_or_dash(alloc, found(library, words)),
-        "get" => field(alloc, library, words),
-        "copy" => copied(alloc, library, words),
-        "settled" => settled(alloc, library),
-        "biblatex" => biblatex(alloc, library),
-        "entry_biblatex" => written(alloc, library, words, false),
-        "entry_bibtex" => written(alloc, library, words, true),
+        "len" => bibliography.len().to_string(alloc),
+        "is_empty" => truth(alloc, bibliography.is_empty()),
+        "keys" => keys(alloc, bibliography),
+        "order" => in_order(alloc, bibliography),
+        "find" => key(alloc, bibliography, words),
+        "entry" => entry_or_dash(alloc, found(bibliography, words)),
+        "get" => field(alloc, bibliography, words),
+        "copy" => copied(alloc, bibliography, words),
+        "settled" => settled(alloc, bibliography),
+        "biblatex" => biblatex(alloc, bibliography),
+        "entry_biblatex" => written(alloc, bibliography, words, false),
+        "entry_bibtex" => written(alloc, bibliography, words, true),
         _ => String::from_str(alloc, "there is no such step"),
     }
 }

@@ -6,13 +6,13 @@ use biblatex::{Bibliography, Entry, ParseError};
 use std::alloc::{AllocError, Global};
 
 /// A bibliography with BibLaTeX's names.
-pub(crate) fn biblatex(alloc: Global, library: &Bibliography) -> Result<String, AllocError> {
-    library.to_biblatex_string(alloc)
+pub(crate) fn biblatex(alloc: Global, bibliography: &Bibliography) -> Result<String, AllocError> {
+    bibliography.to_biblatex_string(alloc)
 }
 
 /// A bibliography with BibTeX's names.
-pub(crate) fn bibtex(alloc: Global, library: &Bibliography) -> Result<String, AllocError> {
-    library.to_bibtex_string(alloc)
+pub(crate) fn bibtex(alloc: Global, bibliography: &Bibliography) -> Result<String, AllocError> {
+    bibliography.to_bibtex_string(alloc)
 }
 
 /// An entry with BibLaTeX's names.
@@ -26,26 +26,26 @@ pub(crate) fn entry_bibtex(alloc: Global, entry: &Entry) -> Result<String, Alloc
 }
 
 /// Whether a bibliography is settled.
-pub(crate) fn settled(alloc: Global, library: &Bibliography) -> Result<String, AllocError> {
-    truth(alloc, library.is_settled())
+pub(crate) fn settled(alloc: Global, bibliography: &Bibliography) -> Result<String, AllocError> {
+    truth(alloc, bibliography.is_settled())
 }
 
 /// What is written and read again of a settled bibliography. (It has no contract, so that who calls it proves nothing
 /// of the reading again.)
 pub(crate) fn read_again(
     alloc: Global,
-    library: &Bibliography,
+    bibliography: &Bibliography,
 ) -> Option<Result<Bibliography, ParseError>> {
-    reread(alloc, library)
+    reread(alloc, bibliography)
 }
 
 // The text of a bibliography, or that the one that was read again has another.
 fn compared(
     alloc: Global,
-    library: &Bibliography,
+    bibliography: &Bibliography,
     again: &Bibliography,
 ) -> Result<String, AllocError> {
-    let (text, other) = (biblatex(alloc, library)?, biblatex(alloc, again)?);
+    let (text, other) = (biblatex(alloc, bibliography)?, biblatex(alloc, again)?);
     if text == other {
         return Ok(text);
     }
@@ -53,9 +53,9 @@ fn compared(
 }
 
 /// What is written of a settled bibliography, where it is read again and written as the same.
-pub(crate) fn again(alloc: Global, library: &Bibliography) -> Result<String, AllocError> {
-    match read_again(alloc, library) {
-        Some(Ok(again)) => compared(alloc, library, &again),
+pub(crate) fn again(alloc: Global, bibliography: &Bibliography) -> Result<String, AllocError> {
+    match read_again(alloc, bibliography) {
+        Some(Ok(again)) => compared(alloc, bibliography, &again),
         Some(Err(error)) => error.to_string(alloc),
         None => String::from_str(alloc, "not settled"),
     }

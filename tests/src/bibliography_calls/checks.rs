@@ -15,17 +15,17 @@ pub(crate) fn parsed(alloc: Global, file: &str) -> Result<Bibliography, ParseErr
 }
 
 // The key of the entry that a name points to, or a dash.
-pub(crate) fn key_of<'a>(library: &'a Bibliography, name: &str) -> &'a str {
-    match library.get(name) {
+pub(crate) fn key_of<'a>(bibliography: &'a Bibliography, name: &str) -> &'a str {
+    match bibliography.get(name) {
         Some(entry) => entry.key.as_str(),
         None => "-",
     }
 }
 
 // The keys of the entries, each after a bar.
-pub(crate) fn keys(alloc: Global, library: &Bibliography) -> Result<String, AllocError> {
+pub(crate) fn keys(alloc: Global, bibliography: &Bibliography) -> Result<String, AllocError> {
     let mut out = String::new(alloc);
-    for key in library.keys() {
+    for key in bibliography.keys() {
         out.push('|')?;
         out.push_str(key)?;
     }

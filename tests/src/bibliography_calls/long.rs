@@ -109,20 +109,20 @@ fn fields(alloc: Global, entry: &Entry) -> Result<String, AllocError> {
 }
 
 // How many entries there are, the first key, and the fields of the entry that a name points to.
-fn shown(alloc: Global, library: &Bibliography, name: &str) -> Result<String, AllocError> {
-    let first = library.keys().next().unwrap_or("-");
-    let fields = match library.get(name) {
+fn shown(alloc: Global, bibliography: &Bibliography, name: &str) -> Result<String, AllocError> {
+    let first = bibliography.keys().next().unwrap_or("-");
+    let fields = match bibliography.get(name) {
         Some(entry) => fields(alloc, entry)?,
         None => String::from_str(alloc, " nothing")?,
     };
-    let count = library.len();
+    let count = bibliography.len();
     format!(in alloc; "{count} from {first}, {name}:{}", fields.as_str())
 }
 
 // The same of a file, or the kind of its error.
 fn read(alloc: Global, file: &str, name: &str) -> Result<String, AllocError> {
     match parsed(alloc, file) {
-        Ok(library) => shown(alloc, &library, name),
+        Ok(bibliography) => shown(alloc, &bibliography, name),
         Err(error) => error.kind.to_string(alloc),
     }
 }
@@ -220,7 +220,7 @@ fn reads_long_values(rt: HostRuntime) -> Result<(), AllocError> {
 // How many turns the entries of a file took over what they inherit in.
 fn turns(alloc: Global, file: &str) -> Result<usize, ParseError> {
     let raw = RawBibliography::parse(alloc, file)?;
-    let (_library, turns) = Bibliography::from_raw_counted(alloc, raw)?;
+    let (_bibliography, turns) = Bibliography::from_raw_counted(alloc, raw)?;
     Ok(turns.len())
 }
 

@@ -99,46 +99,46 @@ fn drawn_name(seed: &mut u32) -> Result<&'static str, Fail> {
 fn check_same(
     rt: &impl Abort,
     alloc: Global,
-    library: &Bibliography,
+    bibliography: &Bibliography,
     plain: &Plain,
 ) -> Result<(), Fail> {
-    assert!(rt; library.len() == plain.keys.len());
+    assert!(rt; bibliography.len() == plain.keys.len());
     agrees(
         rt,
-        keys(alloc, library)?.as_str(),
+        keys(alloc, bibliography)?.as_str(),
         plain.keys(alloc)?.as_str(),
     );
     for name in &NAMES {
-        agrees(rt, key_of(library, *name), plain.key_of(*name)?);
+        agrees(rt, key_of(bibliography, *name), plain.key_of(*name)?);
     }
     Ok(())
 }
 
 // Adds an entry of this key and of no fields. (It and the next two have no contracts, so that who calls them proves nothing
 // again.)
-fn insert(alloc: Global, library: &mut Bibliography, key: &str) -> Result<(), AllocError> {
+fn insert(alloc: Global, bibliography: &mut Bibliography, key: &str) -> Result<(), AllocError> {
     let key = Text::from_str(alloc, key)?;
-    match library.insert(Entry::new(alloc, key, EntryType::Misc)) {
+    match bibliography.insert(Entry::new(alloc, key, EntryType::Misc)) {
         Ok(_) => Ok(()),
         Err(_) => Err(AllocError),
     }
 }
 
 // Lets another name point where a name points.
-fn alias(library: &mut Bibliography, name: &str, alias: &str) -> Result<(), AllocError> {
-    library.alias(name, alias)
+fn alias(bibliography: &mut Bibliography, name: &str, alias: &str) -> Result<(), AllocError> {
+    bibliography.alias(name, alias)
 }
 
 // Takes an entry out.
-fn remove(library: &mut Bibliography, name: &str) {
-    library.remove(name);
+fn remove(bibliography: &mut Bibliography, name: &str) {
+    bibliography.remove(name);
 }
 
 // One call, chosen by the generator, of the bibliography and of its model.
 fn step(
     alloc: Global,
     seed: &mut u32,
-    library: &mut Bibliography,
+    bibliography: &mut Bibliography,
     plain: &mut Plain,
 ) -> Result<(), Fail> {
     let call = drawn(seed) % 4;
@@ -146,15 +146,15 @@ fn step(
     match call {
         0 => {
             let other = drawn_name(seed)?;
-            alias(library, name, other)?;
+            alias(bibliography, name, other)?;
             plain.alias(name, other)
         }
         1 => {
-            remove(library, name);
+            remove(bibliography, name);
             plain.remove(alloc, name)
         }
         _ => {
-            insert(alloc, library, name)?;
+            insert(alloc, bibliography, name)?;
             plain.insert(name)
         }
     }
@@ -164,14 +164,14 @@ fn step(
 fn changes_as_a_plain_list_does(rt: HostRuntime) -> Result<(), Fail> {
     let alloc = rt.alloc();
     let mut seed = 1;
-    let mut library = Bibliography::new(alloc);
+    let mut bibliography = Bibliography::new(alloc);
     let mut plain = Plain {
         keys: Vec::new(alloc),
         places: BTreeMap::new(alloc),
     };
     for _ in 0..1_000 {
-        step(alloc, &mut seed, &mut library, &mut plain)?;
-        check_same(&rt, alloc, &library, &plain)?;
+        step(alloc, &mut seed, &mut bibliography, &mut plain)?;
+        check_same(&rt, alloc, &bibliography, &plain)?;
     }
     Ok(())
 }

@@ -63,16 +63,16 @@ fn outcome(
 }
 
 // Writes a bibliography with BibLaTeX's names to a sink that takes so many texts.
-fn biblatex(alloc: Global, library: &Bibliography, left: u8) -> Result<String, AllocError> {
+fn biblatex(alloc: Global, bibliography: &Bibliography, left: u8) -> Result<String, AllocError> {
     let mut sink = taking(alloc, left);
-    let written = library.write_biblatex(alloc, &mut sink);
+    let written = bibliography.write_biblatex(alloc, &mut sink);
     outcome(alloc, written, &sink)
 }
 
 // Writes a bibliography with BibTeX's names to a sink that takes so many texts.
-fn bibtex(alloc: Global, library: &Bibliography, left: u8) -> Result<String, AllocError> {
+fn bibtex(alloc: Global, bibliography: &Bibliography, left: u8) -> Result<String, AllocError> {
     let mut sink = taking(alloc, left);
-    let written = library.write_bibtex(alloc, &mut sink);
+    let written = bibliography.write_bibtex(alloc, &mut sink);
     outcome(alloc, written, &sink)
 }
 
@@ -88,11 +88,11 @@ const TAKEN: [&str; 3] = [
 #[test]
 fn reports_that_a_text_was_refused(rt: HostRuntime) -> Result<(), Fail> {
     let alloc = rt.alloc();
-    let library = parsed(alloc, FILE)?;
+    let bibliography = parsed(alloc, FILE)?;
     for (left, want) in [0u8, 1, 2].iter().zip(TAKEN) {
-        let found = biblatex(alloc, &library, *left)?;
+        let found = biblatex(alloc, &bibliography, *left)?;
         agrees(&rt, found.as_str(), want);
-        let found = bibtex(alloc, &library, *left)?;
+        let found = bibtex(alloc, &bibliography, *left)?;
         agrees(&rt, found.as_str(), want);
     }
     Ok(())
@@ -101,11 +101,11 @@ fn reports_that_a_text_was_refused(rt: HostRuntime) -> Result<(), Fail> {
 #[test]
 fn hands_one_text_for_each_entry(rt: HostRuntime) -> Result<(), Fail> {
     let alloc = rt.alloc();
-    let library = parsed(alloc, FILE)?;
-    let want = format!(in alloc; "done: {}", library.to_biblatex_string(alloc)?.as_str())?;
-    agrees(&rt, biblatex(alloc, &library, 3)?.as_str(), want.as_str());
-    let want = format!(in alloc; "done: {}", library.to_bibtex_string(alloc)?.as_str())?;
-    agrees(&rt, bibtex(alloc, &library, 3)?.as_str(), want.as_str());
+    let bibliography = parsed(alloc, FILE)?;
+    let want = format!(in alloc; "done: {}", bibliography.to_biblatex_string(alloc)?.as_str())?;
+    agrees(&rt, biblatex(alloc, &bibliography, 3)?.as_str(), want.as_str());
+    let want = format!(in alloc; "done: {}", bibliography.to_bibtex_string(alloc)?.as_str())?;
+    agrees(&rt, bibtex(alloc, &bibliography, 3)?.as_str(), want.as_str());
     let nothing = parsed(alloc, "")?;
     agrees(&rt, biblatex(alloc, &nothing, 0)?.as_str(), "done: ");
     agrees(&rt, bibtex(alloc, &nothing, 0)?.as_str(), "done: ");

@@ -106,7 +106,7 @@ fn refuses_what_is_not_utf_8(rt: HostRuntime) -> Result<(), Fail> {
 }
 
 #[test]
-fn takes_the_words_behind_its_name(rt: HostRuntime) -> Result<(), Fail> {
+fn takes_the_words_after_its_name(rt: HostRuntime) -> Result<(), Fail> {
     let rows: [(&[&str], &str, u8); 6] = [
         (&[], USAGE, 2),
         (&["bib"], USAGE, 2),

@@ -34,11 +34,11 @@ fn error_outside(alloc: Global, text: &str) -> Option<ParseError> {
     if is_within { None } else { Some(error) }
 }
 
-/// Whether the error of each front of a text lies within that front: the first that doesn't, with the front's length.
-pub fn fronts(alloc: Global, text: &str) -> Result<String, AllocError> {
+/// Whether the error of each prefix of a text lies within that start: the first that doesn't, with the front's length.
+pub fn prefixes(alloc: Global, text: &str) -> Result<String, AllocError> {
     for length in 0..=text.len() {
-        let front = text.get(..length).unwrap_or("");
-        if let Some(error) = error_outside(alloc, front) {
+        let leading_run = text.get(..length).unwrap_or("");
+        if let Some(error) = error_outside(alloc, leading_run) {
             return Ok(format!(in alloc; "{error} in {length} bytes")?);
         }
     }

@@ -87,7 +87,7 @@ pub fn value_of(text: &str) -> DateValue {
     }
 }
 
-// Whether a mark stands at the front, and what stands after it.
+// Whether a mark stands at the start, and what stands after it.
 fn marked(text: &str, mark: char) -> (bool, &str) {
     match text.strip_prefix(mark) {
         Some(rest) => (true, rest),

@@ -4,16 +4,16 @@ ghost use Rattle.std.specs.Prelude.{◌≡◌, ℕ, ◌+◌, ◌≤◌, ◌⊎�
 ghost use Rattle.std.specs.Option.{option_map};
 ghost use Rattle.bib_chunks.specs.Styled.{Atom, styled};
 ghost use Rattle.bib_abbreviations.specs.Abbreviations as abbreviations;
-ghost use Rattle.bib_abbreviations.specs.Abbreviations.{Definitions, Evaluates, IsFirstFault, defined_in};
-ghost use Rattle.bib_abbreviations.specs.Expanding.{known_to, progress, noted, part_at, chunks_between, Adds, AreWithin, IsSoundFor, IsTaken, Opens, Says, Stops, StopsAt};
-ghost use Rattle.bib_syntax.specs.Faults.{out_of_memory};
+ghost use Rattle.bib_abbreviations.specs.Abbreviations.{Definitions, Evaluates, IsFirstError, defined_in};
+ghost use Rattle.bib_abbreviations.specs.Expanding.{known_to, progress, noted, part_at, chunks_between, AddsPieces, AreWithin, IsSoundFor, IsTaken, Opens, PiecesSay, FailsWith, StopsAt};
+ghost use Rattle.bib_syntax.specs.Errors.{out_of_memory};
 ghost use Rattle.bib_styled.specs.Joined.{AreJoined, ArePlaced};
 ghost use Rattle.bib_syntax.specs.Reading.{Part, Piece};
 ghost use Rattle.bib_syntax.specs.Reading.Piece.{abbreviation, literal};
 ghost use Rattle.bib_syntax.specs.Views.{piece_of};
 ghost use Rattle.bib_abbreviations.specs.declared.resolve.abbreviations.Progress.TheVariants.{Begun, Done};
 
-use crate::resolve::definitions::LookUp;
+use crate::resolve::definitions::Lookup;
 use bib_chunks::chunk::{Chunk, Chunks, Span, Spanned};
 use bib_contents::contents::contents;
 use bib_styled::joining::append_copies;
@@ -33,14 +33,14 @@ pub(crate) fn field_contents<'a>(
     ensures read { IfOk result (λ chunks. Evaluates (defined_in definitions.now) is_verbatim
         (map piece_of field.now.items) (styled chunks)) }
     ensures refused { IfErr result (λ e. (e ≡ out_of_memory) ⊎
-        IsFirstFault (defined_in definitions.now) is_verbatim [] (map piece_of field.now.items) e) }
+        IsFirstError (defined_in definitions.now) is_verbatim [] (map piece_of field.now.items) e) }
     ensures joined { IfOk result AreJoined }
     ensures placed { (p : Part) → map piece_of field.now.items ≡ literal p ∷ [] →
         p.end ≡ p.start + length p.text → IfOk result (ArePlaced p.start p.end) }
 {
     let source = Source {
         alloc,
-        definitions: LookUp::Hashed(definitions),
+        definitions: Lookup::Hashed(definitions),
         is_verbatim,
     };
     source.field(&mut Memo::new(alloc), field)
@@ -50,7 +50,7 @@ pub(crate) fn field_contents<'a>(
 #[derive(Clone, Copy)]
 pub(crate) struct Source<'m, 'f, 's> {
     pub(crate) alloc: Global,
-    pub(crate) definitions: LookUp<'m, 'f, 's>,
+    pub(crate) definitions: Lookup<'m, 'f, 's>,
     pub(crate) is_verbatim: bool,
 }
 
@@ -148,10 +148,10 @@ impl<'m, 'f, 's> Source<'m, 'f, 's> {
     // Reads the contents of a field.
     pub(crate) fn field(self, memo: &mut Memo<'s>, field: &Field<'s>) -> Result<Chunks, ParseError>
         requires sound { IsSoundFor self memo.old [] }
-        ensures read { IfOk result (λ chunks. Says self.entry (map piece_of field.now.items)
+        ensures read { IfOk result (λ chunks. PiecesSay self.entry (map piece_of field.now.items)
             (styled chunks)) }
         ensures sound { OnOk result (IsSoundFor self.entry memo.new []) }
-        ensures refused { IfErr result (λ e. Stops self.entry [] (map piece_of field.now.items) e) }
+        ensures refused { IfErr result (λ e. FailsWith self.entry [] (map piece_of field.now.items) e) }
         ensures joined { IfOk result AreJoined }
         ensures placed { (p : Part) → map piece_of field.now.items ≡ literal p ∷ [] →
             p.end ≡ p.start + length p.text → IfOk result (ArePlaced p.start p.end) }
@@ -164,13 +164,13 @@ impl<'m, 'f, 's> Source<'m, 'f, 's> {
         Ok(out)
     }
 
-    // Reads the contents of a field. At a fault the memo forgets what it has.
+    // Reads the contents of a field. At an error the memo forgets what it has.
     pub(crate) fn read(self, memo: &mut Memo<'s>, field: &Field<'s>) -> Result<Chunks, ParseError>
         requires sound { IsSoundFor self memo.old [] }
         ensures sound { IsSoundFor self.entry memo.new [] }
-        ensures read { IfOk result (λ chunks. Says self.entry (map piece_of field.now.items)
+        ensures read { IfOk result (λ chunks. PiecesSay self.entry (map piece_of field.now.items)
             (styled chunks)) }
-        ensures refused { IfErr result (λ e. Stops self.entry [] (map piece_of field.now.items) e) }
+        ensures refused { IfErr result (λ e. FailsWith self.entry [] (map piece_of field.now.items) e) }
         ensures joined { IfOk result AreJoined }
         ensures placed { (p : Part) → map piece_of field.now.items ≡ literal p ∷ [] →
             p.end ≡ p.start + length p.text → IfOk result (ArePlaced p.start p.end) }
@@ -191,7 +191,7 @@ impl<'m, 'f, 's> Source<'m, 'f, 's> {
     ) -> Result<(), ParseError>
         requires sound { IsSoundFor self memo.old [] }
         ensures said { OnOk result ((atoms : List Atom) ×
-            Says self.entry (piece_of piece.now ∷ []) atoms ×
+            PiecesSay self.entry (piece_of piece.now ∷ []) atoms ×
             (styled out.new ≡ styled out.old ++ atoms)) }
         ensures sound { OnOk result (IsSoundFor self.entry memo.new []) }
         ensures joined { OnOk result (AreJoined out.old → AreJoined out.new) }
@@ -216,7 +216,7 @@ impl<'m, 'f, 's> Source<'m, 'f, 's> {
     ) -> Result<(), ParseError>
         requires sound { IsSoundFor self memo.old [] }
         ensures said { OnOk result ((atoms : List Atom) ×
-            Says self.entry (piece_of piece.now ∷ []) atoms ×
+            PiecesSay self.entry (piece_of piece.now ∷ []) atoms ×
             (styled out.new ≡ styled out.old ++ atoms)) }
         ensures sound { OnOk result (IsSoundFor self.entry memo.new []) }
         ensures joined { OnOk result (AreJoined out.old → AreJoined out.new) }
@@ -238,10 +238,10 @@ impl<'m, 'f, 's> Source<'m, 'f, 's> {
         requires sound { IsSoundFor self memo.old (first.name.now ∷ []) }
         requires defined { known_to self first.name.now ≡ Some (map piece_of first.rest.now) }
         requires start { first.start ≡ length memo.old.values.items }
-        ensures said { OnOk result (Adds self.entry memo.old memo.new
+        ensures said { OnOk result (AddsPieces self.entry memo.old memo.new
             (map piece_of first.entry.rest.now)) }
         ensures sound { OnOk result (IsSoundFor self.entry memo.new []) }
-        ensures refused { IfErr result (λ e. Stops self.entry (first.entry.name.now ∷ [])
+        ensures refused { IfErr result (λ e. FailsWith self.entry (first.entry.name.now ∷ [])
             (map piece_of first.entry.rest.now) e) }
     {
         let mut frames: Vec<Frame<'f, 's>> = Vec::new(self.alloc);
@@ -263,7 +263,7 @@ impl<'m, 'f, 's> Source<'m, 'f, 's> {
         }
     }
 
-    // Takes an element: what it says goes behind the chunks, or the expansion of its name begins.
+    // Takes an element: what it says goes after the chunks, or the expansion of its name begins.
     fn take(
         self,
         memo: &mut Memo<'s>,
@@ -288,10 +288,10 @@ impl<'m, 'f, 's> Source<'m, 'f, 's> {
     fn text(self, memo: &mut Memo<'s>, text: &str, offset: usize) -> Result<(), ParseError>
         ensures names { memo.new.names ≡ memo.old.names }
         ensures said { OnOk result ((p : Part) → p.text ≡ text.now →
-            Adds self.entry memo.old memo.new (literal p ∷ [])) }
+            AddsPieces self.entry memo.old memo.new (literal p ∷ [])) }
         ensures refused { IfErr result (λ e. (e ≡ out_of_memory) ⊎
             ((p : Part) (path : List (List ℕ)) (rest : List Piece) → p.text ≡ text.now →
-            p.start ≡ offset → IsFirstFault (known_to self.entry) self.entry.is_verbatim path (literal p ∷ rest) e)) }
+            p.start ≡ offset → IsFirstError (known_to self.entry) self.entry.is_verbatim path (literal p ∷ rest) e)) }
     {
         let mut part = Chunks::new(self.alloc);
         contents(&mut part, self.alloc, text, offset, self.is_verbatim)?;
@@ -340,7 +340,7 @@ impl<'m, 'f, 's> Source<'m, 'f, 's> {
             (abbreviation (part_at name.now span.now))) }
         ensures refused { IfErr result (λ e. (e ≡ out_of_memory) ⊎
             ((path : List (List ℕ)) (rest : List Piece) →
-            IsFirstFault (known_to self.entry) self.entry.is_verbatim path
+            IsFirstError (known_to self.entry) self.entry.is_verbatim path
             (abbreviation (part_at name.now span.now) ∷ rest) e)) }
     {
         if let Some(definition) = self.definitions.get(name) {

@@ -10,22 +10,22 @@ use std::collections::{BTreeMap, HashMap};
 
 // A caller's map, or one whose look-ups no choice of names makes slow.
 #[derive(Clone, Copy)]
-pub(crate) enum LookUp<'m, 'f, 's> {
+pub(crate) enum Lookup<'m, 'f, 's> {
     // By the names' hashes.
     Hashed(&'m HashMap<&'s str, &'f Field<'s>>),
     // By the names' order.
     Sorted(&'m BTreeMap<&'s str, &'f Field<'s>>),
 }
 
-impl<'m, 'f, 's> LookUp<'m, 'f, 's> {
+impl<'m, 'f, 's> Lookup<'m, 'f, 's> {
     // The definition of a name.
     pub(crate) fn get(self, name: &str) -> Option<&'f Field<'s>>
         ensures { option_map (λ field. map piece_of field.now.items) result ≡
             found_in self.entry name.now }
     {
         match self {
-            LookUp::Hashed(definitions) => definitions.get(name).copied(),
-            LookUp::Sorted(definitions) => definitions.get(name).copied(),
+            Lookup::Hashed(definitions) => definitions.get(name).copied(),
+            Lookup::Sorted(definitions) => definitions.get(name).copied(),
         }
     }
 }

@@ -2,8 +2,8 @@
 
 ghost use Rattle.std.specs.Prelude.{◌≡◌, ◌+◌, ◌⊎◌, [], ◌∷◌, map, length, OnOk, IfOk, IfErr};
 ghost use Rattle.bib_chunks.specs.Styled.{styled};
-ghost use Rattle.bib_abbreviations.specs.Abbreviations.{Evaluates, IsFirstFault, IsReadable, given_by, pairs_in};
-ghost use Rattle.bib_syntax.specs.Faults.{out_of_memory};
+ghost use Rattle.bib_abbreviations.specs.Abbreviations.{Evaluates, IsFirstError, IsReadable, given_by, pairs_in};
+ghost use Rattle.bib_syntax.specs.Errors.{out_of_memory};
 ghost use Rattle.bib_styled.specs.Joined.{AreJoined, ArePlaced};
 ghost use Rattle.bib_syntax.specs.Reading.{Part};
 ghost use Rattle.bib_syntax.specs.Reading.Piece.{literal};
@@ -11,7 +11,7 @@ ghost use Rattle.bib_syntax.specs.Views.{piece_of};
 ghost use Rattle.bib_entry_types.specs.VerbatimFields as names;
 
 use crate::resolve::abbreviations::{Memo, Source};
-use crate::resolve::definitions::LookUp;
+use crate::resolve::definitions::Lookup;
 use bib_chunks::chunk::Chunks;
 use bib_entry_types::fields::is_verbatim_field;
 use bib_syntax::raw::{Field, ParseError};
@@ -44,7 +44,7 @@ impl<'f, 's> Model for FieldReader<'f, 's> {
 }
 
 impl<'f, 's> FieldReader<'f, 's> {
-    /// No field was read yet. Takes no memory.
+    /// No field was read yet. Does not allocate.
     pub fn new(alloc: Global, definitions: BTreeMap<&'s str, &'f Field<'s>>) -> Self
         ensures { result ≡ pairs_in definitions.entry }
     {
@@ -65,7 +65,7 @@ impl<'f, 's> FieldReader<'f, 's> {
         ensures readable { OnOk result (IsReadable (given_by self.old)
             (names.is_verbatim_field key.now) (map piece_of field.now.items)) }
         ensures refused { IfErr result (λ e. (e ≡ out_of_memory) ⊎
-            (IsFirstFault (given_by self.old) (names.is_verbatim_field key.now) []
+            (IsFirstError (given_by self.old) (names.is_verbatim_field key.now) []
             (map piece_of field.now.items) e ×
             (IsReadable (given_by self.old) (names.is_verbatim_field key.now)
             (map piece_of field.now.items) → ⊥))) }
@@ -76,7 +76,7 @@ impl<'f, 's> FieldReader<'f, 's> {
         let is_verbatim = is_verbatim_field(key);
         let source = Source {
             alloc: self.alloc,
-            definitions: LookUp::Sorted(&self.definitions),
+            definitions: Lookup::Sorted(&self.definitions),
             is_verbatim,
         };
         if is_verbatim {

@@ -2,8 +2,8 @@
 
 ghost use Rattle.std.specs.Prelude.{◌≡◌, ◌∷◌, [], ◌++◌, ◌≤◌, length, false, OnOk, IfOk, MatchOption};
 ghost use Rattle.std.specs.Str.{chars};
-ghost use Rattle.bib_chunks.specs.Cuts.{placed, trimmed_start, trimmed_end, part_of, piece, pieces, pieces_between, list_parts, comma_list, halves, cut_at, begins_with_space, between_ands, trimmed, trimmed_ends, and_list};
-ghost use Rattle.bib_chunks.specs.Cutting.{between, width, Reads, IsFirstCut, NoAnd, IsAnd, IsFirstAnd};
+ghost use Rattle.bib_chunks.specs.Cuts.{placed, trimmed_start, trimmed_end, chunk_part, piece, pieces, pieces_between, list_parts, comma_list, halves, cut_at, begins_with_space, between_ands, trimmed, trimmed_ends, and_list};
+ghost use Rattle.bib_chunks.specs.Cutting.{between_cuts, width, ReadsPieces, IsFirstCut, NoAnd, IsAnd, IsFirstAnd};
 
 use super::{Chunk, Chunks, ChunksRef, Span, Spanned};
 use bib_text::items::Items;
@@ -101,14 +101,14 @@ fn trimmed_end(text: &str, last: bool) -> &str
 }
 
 // A part of the text of a normal chunk, before which so many bytes of that text stand, as a chunk.
-fn part_of(
+fn chunk_part(
     alloc: Global,
     whole: &str,
     span: &Span,
     at: usize,
     text: &str,
 ) -> Result<Spanned<Chunk>, AllocError>
-    ensures { IfOk result (λ c. c ≡ part_of whole.now span.now at text.now) }
+    ensures { IfOk result (λ c. c ≡ chunk_part whole.now span.now at text.now) }
 {
     if text.len() == whole.len() {
         return normal(alloc, text, span.start, span.end);
@@ -131,7 +131,7 @@ fn piece(
 {
     let begun = trimmed_start(text, first);
     let at = at.saturating_add(text.len() - begun.len());
-    part_of(alloc, whole, span, at, trimmed_end(begun, last))
+    chunk_part(alloc, whole, span, at, trimmed_end(begun, last))
 }
 
 // Whether the text begins with white space.
@@ -144,18 +144,18 @@ fn begins_with_space(text: &str) -> bool
     c.is_whitespace()
 }
 
-// What stands behind the word `and` at the start of a text, if white space follows it.
+// What stands after the word `and` at the start of a text, if white space follows it.
 fn after_and(text: &str) -> Option<&str>
-    ensures { MatchOption result (NoAnd text.now) (λ behind. IsAnd text.now behind.now) }
+    ensures { MatchOption result (NoAnd text.now) (λ following. IsAnd text.now following.now) }
 {
-    let behind = text.strip_prefix("and")?;
-    if !begins_with_space(behind) {
+    let following = text.strip_prefix("and")?;
+    if !begins_with_space(following) {
         return None;
     }
-    Some(behind)
+    Some(following)
 }
 
-// What stands before and behind the first word `and` of a text that has white space just before it and just behind it.
+// What stands before and after the first word `and` of a text that has white space just before it and just after it.
 fn first_and(text: &str) -> Option<(&str, &str)>
     ensures { MatchOption result (between_ands false (chars text.now) ≡ chars text.now ∷ [])
         (λ both. IsFirstAnd text.now both.0.now both.1.now) }
@@ -165,8 +165,8 @@ fn first_and(text: &str) -> Option<(&str, &str)>
     'text: while at < text.len() {
         let rest = &text[at..];
         if space {
-            if let Some(behind) = after_and(rest) {
-                return Some((&text[..at], behind));
+            if let Some(following) = after_and(rest) {
+                return Some((&text[..at], following));
             }
         }
         let Some(c) = rest.chars().next() else {
@@ -178,9 +178,9 @@ fn first_and(text: &str) -> Option<(&str, &str)>
     None
 }
 
-// What stands before and behind the first separator of a text.
+// What stands before and after the first separator of a text.
 fn first_cut(text: &str, separator: Separator) -> Option<(&str, &str)>
-    ensures { MatchOption result (between separator (chars text.now) ≡ chars text.now ∷ [])
+    ensures { MatchOption result (between_cuts separator (chars text.now) ≡ chars text.now ∷ [])
         (λ both. IsFirstCut separator text.now both.0.now both.1.now) }
 {
     match separator {
@@ -197,20 +197,20 @@ fn cut_text(
     span: &Span,
     separator: Separator,
 ) -> Result<(), AllocError>
-    ensures { OnOk result (Reads parts.old parts.new (pieces_between (width separator) whole.now
-        span.now 0 false (between separator (chars whole.now)))) }
+    ensures { OnOk result (ReadsPieces parts.old parts.new (pieces_between (width separator) whole.now
+        span.now 0 false (between_cuts separator (chars whole.now)))) }
 {
     let mut rest = whole;
-    let mut behind = false;
+    let mut following = false;
     'pieces: while let Some((before, after)) = first_cut(rest, separator) {
         let at = whole.len() - rest.len();
-        parts.add(piece(alloc, whole, span, at, before, behind, true)?)?;
+        parts.add(piece(alloc, whole, span, at, before, following, true)?)?;
         parts.end(alloc)?;
         rest = after;
-        behind = true;
+        following = true;
     }
     let at = whole.len() - rest.len();
-    parts.add(piece(alloc, whole, span, at, rest, behind, false)?)?;
+    parts.add(piece(alloc, whole, span, at, rest, following, false)?)?;
     Ok(())
 }
 
@@ -221,8 +221,8 @@ fn cut_chunk(
     chunk: &Spanned<Chunk>,
     separator: Separator,
 ) -> Result<(), AllocError>
-    ensures { OnOk result (Reads parts.old parts.new
-        (pieces (width separator) (between separator) chunk.now.v chunk.now.span)) }
+    ensures { OnOk result (ReadsPieces parts.old parts.new
+        (pieces (width separator) (between_cuts separator) chunk.now.v chunk.now.span)) }
 {
     if let Chunk::Normal(list) = &chunk.v {
         return cut_text(alloc, parts, list.as_str(), &chunk.span, separator);
@@ -237,7 +237,7 @@ fn list_parts(
     separator: Separator,
 ) -> Result<Items<Chunks>, AllocError>
     ensures { IfOk result (λ parts. parts ≡
-        list_parts (width separator) (between separator) chunks.now) }
+        list_parts (width separator) (between_cuts separator) chunks.now) }
 {
     let mut parts = Parts::new(alloc);
     'chunks: for chunk in chunks {
@@ -285,7 +285,7 @@ fn trimmed_ends(alloc: Global, chunks: ChunksRef<'_>) -> Result<Chunks, AllocErr
     Ok(all)
 }
 
-/// The parts of an `and` list. It is cut at each word `and` that has white space just before it and just behind it inside
+/// The parts of an `and` list. It is cut at each word `and` that has white space just before it and just after it inside
 /// one normal chunk. The white space at both ends of the list and of each part is left out, where it is normal; no
 /// chunks are one empty part. Each piece of a chunk stands where its text does.
 pub fn and_list(alloc: Global, chunks: ChunksRef<'_>) -> Result<Items<Chunks>, AllocError>
@@ -307,12 +307,12 @@ fn halves(
         return Ok(None);
     };
     let whole = text.as_str();
-    let Some((before, behind)) = whole.split_once(separator) else {
+    let Some((before, following)) = whole.split_once(separator) else {
         return Ok(None);
     };
     let first = piece(alloc, whole, &chunk.span, 0, before, false, true)?;
-    let at = whole.len() - behind.len();
-    let second = piece(alloc, whole, &chunk.span, at, behind, true, false)?;
+    let at = whole.len() - following.len();
+    let second = piece(alloc, whole, &chunk.span, at, following, true, false)?;
     Ok(Some((first, second)))
 }
 
@@ -326,8 +326,8 @@ pub fn append(all: &mut Chunks, chunks: ChunksRef<'_>) -> Result<(), AllocError>
     Ok(())
 }
 
-// What follows a cut: the second half of a chunk, and copies of the chunks behind it.
-fn behind_cut(
+// What follows a cut: the second half of a chunk, and copies of the chunks after it.
+fn after_cut(
     alloc: Global,
     second: Spanned<Chunk>,
     rest: ChunksRef<'_>,
@@ -340,7 +340,7 @@ fn behind_cut(
     Ok(chunks)
 }
 
-/// What stands before and behind the first such character of a normal chunk; the white space next to it in that chunk is
+/// What stands before and after the first such character of a normal chunk; the white space next to it in that chunk is
 /// left out, and both pieces of the chunk stand where their text does. `None` where no normal chunk holds it.
 pub fn cut_at(
     alloc: Global,
@@ -353,8 +353,8 @@ pub fn cut_at(
     'chunks: for (i, chunk) in chunks.iter().enumerate() {
         if let Some((first, second)) = halves(alloc, chunk, separator)? {
             before.push(first)?;
-            let behind = behind_cut(alloc, second, &chunks[i + 1..])?;
-            return Ok(Some((before, behind)));
+            let following = after_cut(alloc, second, &chunks[i + 1..])?;
+            return Ok(Some((before, following)));
         }
         before.push(copy(chunk)?)?;
     }

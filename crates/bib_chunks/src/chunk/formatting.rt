@@ -3,7 +3,7 @@
 ghost use Rattle.std.specs.Prelude.{◌≡◌, false, ◌∷◌, [], ◌++◌, OnOk, IfOk, option_to_list, if◌then◌else◌, string_bytes, encode_utf8_all};
 ghost use Rattle.std.specs.Char.Iter.{case_mapping_chars};
 ghost use Rattle.std.specs.Str.{IsUtf8, chars};
-ghost use Rattle.bib_chunks.specs.Formatted.{is_break, ends_in_space, unbroken, flowing, formatted, formatted_atoms, formatted_chunk, space_behind, cased, sentence_case, sentence};
+ghost use Rattle.bib_chunks.specs.Formatted.{is_break, ends_in_space, unbroken, flowing, formatted, formatted_atoms, formatted_chunk, space_after, cased, sentence_case, sentence};
 ghost use Rattle.bib_chunks.specs.Styled.{styled, text_of, is_shown};
 ghost use Rattle.bib_chunks.specs.Writing.{Writes};
 
@@ -27,7 +27,7 @@ fn ends_in_space(text: &str, empty: bool) -> bool
     let Some(c) = chars.next_back() else {
         return empty;
     };
-    // That what stands before the last character is a text too tells where that character begins.
+    // That what stands before the last character is a text too says where that character begins.
     let _before = chars.as_str();
     c.is_whitespace()
 }
@@ -42,10 +42,10 @@ fn write_break(out: &mut String, space: bool) -> Result<(), AllocError>
     Ok(())
 }
 
-// Writes a normal text on one line, behind white space or not, and answers whether white space stands behind it.
+// Writes a normal text on one line, after white space or not, and answers whether white space stands after it.
 fn write_flowing(out: &mut String, text: &str, space: bool) -> Result<bool, AllocError>
     ensures written { OnOk result (Writes out.old out.new (flowing space (chars text.now))) }
-    ensures behind { IfOk result (λ after. after ≡
+    ensures following { IfOk result (λ after. after ≡
         ends_in_space space (flowing space (chars text.now))) }
 {
     let mut scanner = Scanner::new(text);
@@ -62,11 +62,11 @@ fn write_flowing(out: &mut String, text: &str, space: bool) -> Result<bool, Allo
     }
 }
 
-// Writes a chunk behind white space or not, and answers whether white space stands behind it.
+// Writes a chunk after white space or not, and answers whether white space stands after it.
 fn write_chunk(out: &mut String, chunk: &Chunk, space: bool) -> Result<bool, AllocError>
     ensures written { OnOk result (Writes out.old out.new
         (formatted_chunk (λ cs. cs) space chunk.now)) }
-    ensures behind { IfOk result (λ after. after ≡ space_behind space chunk.now) }
+    ensures following { IfOk result (λ after. after ≡ space_after space chunk.now) }
 {
     match chunk {
         Chunk::Normal(text) => write_flowing(out, text.as_str(), space),
@@ -91,7 +91,7 @@ fn write_math(out: &mut String, text: &str) -> Result<(), AllocError>
     Ok(())
 }
 
-/// The text of the chunks: math between dollar signs, and in normal text a line break as a space, or as nothing behind
+/// The text of the chunks: math between dollar signs, and in normal text a line break as a space, or as nothing after
 /// white space.
 pub fn format_verbatim(alloc: Global, chunks: ChunksRef<'_>) -> Result<String, AllocError>
     ensures { IfOk result (λ text. string_bytes text ≡ encode_utf8_all (formatted chunks.now)) }
@@ -176,7 +176,7 @@ fn write_cased(out: &mut String, c: char, begins: bool) -> Result<(), AllocError
     write_changed(out, c.to_lowercase())
 }
 
-// Writes a normal text on one line and in the case of a sentence, and answers whether white space stands behind it.
+// Writes a normal text on one line and in the case of a sentence, and answers whether white space stands after it.
 fn write_sentence_text(
     out: &mut String,
     text: &str,
@@ -185,7 +185,7 @@ fn write_sentence_text(
 ) -> Result<bool, AllocError>
     ensures written { OnOk result (Writes out.old out.new
         (sentence_case begins (flowing space (chars text.now)))) }
-    ensures behind { IfOk result (λ after. after ≡
+    ensures following { IfOk result (λ after. after ≡
         ends_in_space space (flowing space (chars text.now))) }
 {
     let mut scanner = Scanner::new(text);
@@ -202,7 +202,7 @@ fn write_sentence_text(
     Ok(after)
 }
 
-// Writes a chunk of a sentence, and answers whether white space stands behind it.
+// Writes a chunk of a sentence, and answers whether white space stands after it.
 fn write_sentence_chunk(
     out: &mut String,
     chunk: &Chunk,
@@ -211,7 +211,7 @@ fn write_sentence_chunk(
 ) -> Result<bool, AllocError>
     ensures written { OnOk result (Writes out.old out.new
         (formatted_chunk (sentence_case begins) space chunk.now)) }
-    ensures behind { IfOk result (λ after. after ≡ space_behind space chunk.now) }
+    ensures following { IfOk result (λ after. after ≡ space_after space chunk.now) }
 {
     match chunk {
         Chunk::Normal(text) => write_sentence_text(out, text.as_str(), begins, space),

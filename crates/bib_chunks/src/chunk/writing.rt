@@ -2,7 +2,7 @@
 
 ghost use Rattle.std.specs.Prelude.{◌≡◌, ◌∷◌, [], ◌++◌, false, OnOk, IfOk, string_bytes, encode_utf8_all};
 ghost use Rattle.std.specs.Str.{chars};
-ghost use Rattle.bib_chunks.specs.Written.{is_grouping, is_reserved, is_bare, spelled, spelling, lead, trail, is_open_behind, written_chunk, written_chunks, written_value};
+ghost use Rattle.bib_chunks.specs.Written.{is_grouping, is_reserved, is_bare, spelled, spelling, lead, trail, is_open_after, written_chunk, written_chunks, written_value};
 ghost use Rattle.bib_chunks.specs.Writing.{Writes};
 
 use super::{Chunk, ChunksRef};
@@ -42,7 +42,7 @@ fn is_bare(is_verbatim: bool, c: char) -> bool
     !is_reserved(c) && c != '~' && c != '^'
 }
 
-// Writes a character behind a backslash.
+// Writes a character after a backslash.
 fn write_hidden(out: &mut String, c: char) -> Result<(), AllocError>
     ensures { OnOk result (Writes out.old out.new (92 ∷ c ∷ [])) }
 {
@@ -112,7 +112,7 @@ fn lead(chunk: &Chunk, is_open: bool) -> &'static str
     }
 }
 
-// What stands behind a chunk.
+// What stands after a chunk.
 fn trail(chunk: &Chunk) -> &'static str
     ensures { result.now ≡ trail chunk.now }
 {
@@ -122,9 +122,9 @@ fn trail(chunk: &Chunk) -> &'static str
     }
 }
 
-// Whether the pair of braces round verbatim chunks is open behind a chunk.
-fn is_open_behind(chunk: &Chunk, is_open: bool) -> bool
-    ensures { result ≡ is_open_behind is_open chunk.now }
+// Whether the pair of braces round verbatim chunks is open after a chunk.
+fn is_open_after(chunk: &Chunk, is_open: bool) -> bool
+    ensures { result ≡ is_open_after is_open chunk.now }
 {
     match chunk {
         Chunk::Normal(_) => false,
@@ -173,7 +173,7 @@ fn write_parts(out: &mut String, chunks: ChunksRef<'_>, is_verbatim: bool) -> Re
     let mut is_open = false;
     'parts: for chunk in chunks {
         write_part(out, &chunk.v, is_open, is_verbatim)?;
-        is_open = is_open_behind(&chunk.v, is_open);
+        is_open = is_open_after(&chunk.v, is_open);
     }
     if is_open {
         out.push('}')?;

@@ -2,7 +2,7 @@
 //! where it isn't there, `Missing` with its name. A setter that is refused changes nothing.
 
 ghost use Rattle.std.specs.Prelude.{codes};
-ghost use Rattle.bib_entry.specs.Fields.{IsGetOr, IsGotOr, IsPut, IsSet};
+ghost use Rattle.bib_entry.specs.Fields.{GetsEitherValue, GetsEitherChunks, SetsChunks, SetsValue};
 
 use crate::entry::Entry;
 use bib_chunks::chunk::{Chunks, ChunksRef};
@@ -14,112 +14,112 @@ use std::alloc::{AllocError, Global};
 impl Entry {
     /// The field `address`, or else `location`: the place of the publisher, in BibTeX.
     pub fn address(&self, alloc: Global) -> Result<ChunksRef<'_>, RetrievalError>
-        ensures { IsGotOr self.now (codes "address") (codes "location") result }
+        ensures { GetsEitherChunks self.now (codes "address") (codes "location") result }
     {
-        self.got_or(alloc, "address", "location")
+        self.chunks_of_either(alloc, "address", "location")
     }
 
     /// Sets the field `address`: the place of the publisher, in BibTeX.
     pub fn set_address(&mut self, chunks: Chunks) -> Result<Option<Chunks>, SetError>
-        ensures { IsPut chunks (codes "address") self.old self.new result }
+        ensures { SetsChunks chunks (codes "address") self.old self.new result }
     {
         self.set("address", chunks)
     }
 
     /// The field `location`, or else `address`: the place of publication.
     pub fn location(&self, alloc: Global) -> Result<ChunksRef<'_>, RetrievalError>
-        ensures { IsGotOr self.now (codes "location") (codes "address") result }
+        ensures { GetsEitherChunks self.now (codes "location") (codes "address") result }
     {
-        self.got_or(alloc, "location", "address")
+        self.chunks_of_either(alloc, "location", "address")
     }
 
     /// Sets the field `location`: the place of publication.
     pub fn set_location(&mut self, chunks: Chunks) -> Result<Option<Chunks>, SetError>
-        ensures { IsPut chunks (codes "location") self.old self.new result }
+        ensures { SetsChunks chunks (codes "location") self.old self.new result }
     {
         self.set("location", chunks)
     }
 
     /// The field `annotation`, or else `annote`: what an annotated bibliography says of the work.
     pub fn annotation(&self, alloc: Global) -> Result<ChunksRef<'_>, RetrievalError>
-        ensures { IsGotOr self.now (codes "annotation") (codes "annote") result }
+        ensures { GetsEitherChunks self.now (codes "annotation") (codes "annote") result }
     {
-        self.got_or(alloc, "annotation", "annote")
+        self.chunks_of_either(alloc, "annotation", "annote")
     }
 
     /// Sets the field `annotation`: what an annotated bibliography says of the work.
     pub fn set_annotation(&mut self, chunks: Chunks) -> Result<Option<Chunks>, SetError>
-        ensures { IsPut chunks (codes "annotation") self.old self.new result }
+        ensures { SetsChunks chunks (codes "annotation") self.old self.new result }
     {
         self.set("annotation", chunks)
     }
 
     /// The field `eprinttype`, or else `archiveprefix`: the archive of the electronic version.
     pub fn eprint_type(&self, alloc: Global) -> Result<ChunksRef<'_>, RetrievalError>
-        ensures { IsGotOr self.now (codes "eprinttype") (codes "archiveprefix") result }
+        ensures { GetsEitherChunks self.now (codes "eprinttype") (codes "archiveprefix") result }
     {
-        self.got_or(alloc, "eprinttype", "archiveprefix")
+        self.chunks_of_either(alloc, "eprinttype", "archiveprefix")
     }
 
     /// Sets the field `eprinttype`: the archive of the electronic version.
     pub fn set_eprint_type(&mut self, chunks: Chunks) -> Result<Option<Chunks>, SetError>
-        ensures { IsPut chunks (codes "eprinttype") self.old self.new result }
+        ensures { SetsChunks chunks (codes "eprinttype") self.old self.new result }
     {
         self.set("eprinttype", chunks)
     }
 
     /// The field `eprintclass`, or else `primaryclass`: the class or section within that archive.
     pub fn eprint_class(&self, alloc: Global) -> Result<ChunksRef<'_>, RetrievalError>
-        ensures { IsGotOr self.now (codes "eprintclass") (codes "primaryclass") result }
+        ensures { GetsEitherChunks self.now (codes "eprintclass") (codes "primaryclass") result }
     {
-        self.got_or(alloc, "eprintclass", "primaryclass")
+        self.chunks_of_either(alloc, "eprintclass", "primaryclass")
     }
 
     /// Sets the field `eprintclass`: the class or section within that archive.
     pub fn set_eprint_class(&mut self, chunks: Chunks) -> Result<Option<Chunks>, SetError>
-        ensures { IsPut chunks (codes "eprintclass") self.old self.new result }
+        ensures { SetsChunks chunks (codes "eprintclass") self.old self.new result }
     {
         self.set("eprintclass", chunks)
     }
 
     /// The field `journal`, or else `journaltitle`: the name of the journal, in BibTeX.
     pub fn journal(&self, alloc: Global) -> Result<ChunksRef<'_>, RetrievalError>
-        ensures { IsGotOr self.now (codes "journal") (codes "journaltitle") result }
+        ensures { GetsEitherChunks self.now (codes "journal") (codes "journaltitle") result }
     {
-        self.got_or(alloc, "journal", "journaltitle")
+        self.chunks_of_either(alloc, "journal", "journaltitle")
     }
 
     /// Sets the field `journal`: the name of the journal, in BibTeX.
     pub fn set_journal(&mut self, chunks: Chunks) -> Result<Option<Chunks>, SetError>
-        ensures { IsPut chunks (codes "journal") self.old self.new result }
+        ensures { SetsChunks chunks (codes "journal") self.old self.new result }
     {
         self.set("journal", chunks)
     }
 
     /// The field `journaltitle`, or else `journal`: the name of the journal.
     pub fn journal_title(&self, alloc: Global) -> Result<ChunksRef<'_>, RetrievalError>
-        ensures { IsGotOr self.now (codes "journaltitle") (codes "journal") result }
+        ensures { GetsEitherChunks self.now (codes "journaltitle") (codes "journal") result }
     {
-        self.got_or(alloc, "journaltitle", "journal")
+        self.chunks_of_either(alloc, "journaltitle", "journal")
     }
 
     /// Sets the field `journaltitle`: the name of the journal.
     pub fn set_journal_title(&mut self, chunks: Chunks) -> Result<Option<Chunks>, SetError>
-        ensures { IsPut chunks (codes "journaltitle") self.old self.new result }
+        ensures { SetsChunks chunks (codes "journaltitle") self.old self.new result }
     {
         self.set("journaltitle", chunks)
     }
 
     /// The field `key`, or else `sortkey`: what the entry is sorted by.
     pub fn sort_key(&self, alloc: Global) -> Result<String, RetrievalError>
-        ensures { IsGetOr ⟦<String as Type>⟧ self.now (codes "key") (codes "sortkey") result }
+        ensures { GetsEitherValue ⟦<String as Type>⟧ self.now (codes "key") (codes "sortkey") result }
     {
         self.get_as_or(alloc, "key", "sortkey")
     }
 
     /// Sets the field `key`: what the entry is sorted by.
     pub fn set_sort_key(&mut self, value: &String) -> Result<(), AllocError>
-        ensures { IsSet ⟦<String as Type>⟧ (⟦<String as Type>⟧.meaning value.now)
+        ensures { SetsValue ⟦<String as Type>⟧ (⟦<String as Type>⟧.meaning value.now)
             (codes "key") self.old self.new result }
     {
         self.set_as("key", value)
@@ -127,14 +127,14 @@ impl Entry {
 
     /// The field `file`, or else `pdf`: the file of a local copy.
     pub fn file(&self, alloc: Global) -> Result<String, RetrievalError>
-        ensures { IsGetOr ⟦<String as Type>⟧ self.now (codes "file") (codes "pdf") result }
+        ensures { GetsEitherValue ⟦<String as Type>⟧ self.now (codes "file") (codes "pdf") result }
     {
         self.get_as_or(alloc, "file", "pdf")
     }
 
     /// Sets the field `file`: the file of a local copy.
     pub fn set_file(&mut self, value: &String) -> Result<(), AllocError>
-        ensures { IsSet ⟦<String as Type>⟧ (⟦<String as Type>⟧.meaning value.now)
+        ensures { SetsValue ⟦<String as Type>⟧ (⟦<String as Type>⟧.meaning value.now)
             (codes "file") self.old self.new result }
     {
         self.set_as("file", value)
@@ -142,28 +142,28 @@ impl Entry {
 
     /// The field `school`, or else `institution`: the university of a thesis, in BibTeX.
     pub fn school(&self, alloc: Global) -> Result<ChunksRef<'_>, RetrievalError>
-        ensures { IsGotOr self.now (codes "school") (codes "institution") result }
+        ensures { GetsEitherChunks self.now (codes "school") (codes "institution") result }
     {
-        self.got_or(alloc, "school", "institution")
+        self.chunks_of_either(alloc, "school", "institution")
     }
 
     /// Sets the field `school`: the university of a thesis, in BibTeX.
     pub fn set_school(&mut self, chunks: Chunks) -> Result<Option<Chunks>, SetError>
-        ensures { IsPut chunks (codes "school") self.old self.new result }
+        ensures { SetsChunks chunks (codes "school") self.old self.new result }
     {
         self.set("school", chunks)
     }
 
     /// The field `institution`, or else `school`: the university or other institution.
     pub fn institution(&self, alloc: Global) -> Result<ChunksRef<'_>, RetrievalError>
-        ensures { IsGotOr self.now (codes "institution") (codes "school") result }
+        ensures { GetsEitherChunks self.now (codes "institution") (codes "school") result }
     {
-        self.got_or(alloc, "institution", "school")
+        self.chunks_of_either(alloc, "institution", "school")
     }
 
     /// Sets the field `institution`: the university or other institution.
     pub fn set_institution(&mut self, chunks: Chunks) -> Result<Option<Chunks>, SetError>
-        ensures { IsPut chunks (codes "institution") self.old self.new result }
+        ensures { SetsChunks chunks (codes "institution") self.old self.new result }
     {
         self.set("institution", chunks)
     }

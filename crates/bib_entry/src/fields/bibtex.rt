@@ -2,7 +2,7 @@
 //! where it isn't there, `Missing` with its name. A setter that is refused changes nothing.
 
 ghost use Rattle.std.specs.Prelude.{codes};
-ghost use Rattle.bib_entry.specs.Fields.{IsGet, IsGot, IsPut, IsSet};
+ghost use Rattle.bib_entry.specs.Fields.{GetsValue, GetsChunks, SetsChunks, SetsValue};
 
 use crate::entry::Entry;
 use bib_chunks::chunk::{Chunks, ChunksRef};
@@ -16,14 +16,14 @@ use std::ops::Range;
 impl Entry {
     /// The field `author`: the authors.
     pub fn author(&self, alloc: Global) -> Result<Vec<Person>, RetrievalError>
-        ensures { IsGet ⟦<Vec<Person> as Type>⟧ self.now (codes "author") result }
+        ensures { GetsValue ⟦<Vec<Person> as Type>⟧ self.now (codes "author") result }
     {
         self.get_as(alloc, "author")
     }
 
     /// Sets the field `author`: the authors.
     pub fn set_author(&mut self, value: &Vec<Person>) -> Result<(), AllocError>
-        ensures { IsSet ⟦<Vec<Person> as Type>⟧ (⟦<Vec<Person> as Type>⟧.meaning value.now)
+        ensures { SetsValue ⟦<Vec<Person> as Type>⟧ (⟦<Vec<Person> as Type>⟧.meaning value.now)
             (codes "author") self.old self.new result }
     {
         self.set_as("author", value)
@@ -31,42 +31,42 @@ impl Entry {
 
     /// The field `booktitle`: the title of the book that the work is a part of.
     pub fn book_title(&self, alloc: Global) -> Result<ChunksRef<'_>, RetrievalError>
-        ensures { IsGot self.now (codes "booktitle") result }
+        ensures { GetsChunks self.now (codes "booktitle") result }
     {
-        self.got(alloc, "booktitle")
+        self.chunks_of_field(alloc, "booktitle")
     }
 
     /// Sets the field `booktitle`: the title of the book that the work is a part of.
     pub fn set_book_title(&mut self, chunks: Chunks) -> Result<Option<Chunks>, SetError>
-        ensures { IsPut chunks (codes "booktitle") self.old self.new result }
+        ensures { SetsChunks chunks (codes "booktitle") self.old self.new result }
     {
         self.set("booktitle", chunks)
     }
 
     /// The field `chapter`: the chapter, or another part of a work.
     pub fn chapter(&self, alloc: Global) -> Result<ChunksRef<'_>, RetrievalError>
-        ensures { IsGot self.now (codes "chapter") result }
+        ensures { GetsChunks self.now (codes "chapter") result }
     {
-        self.got(alloc, "chapter")
+        self.chunks_of_field(alloc, "chapter")
     }
 
     /// Sets the field `chapter`: the chapter, or another part of a work.
     pub fn set_chapter(&mut self, chunks: Chunks) -> Result<Option<Chunks>, SetError>
-        ensures { IsPut chunks (codes "chapter") self.old self.new result }
+        ensures { SetsChunks chunks (codes "chapter") self.old self.new result }
     {
         self.set("chapter", chunks)
     }
 
     /// The field `edition`: which edition it is.
     pub fn edition(&self, alloc: Global) -> Result<PermissiveType<i64>, RetrievalError>
-        ensures { IsGet ⟦<PermissiveType<i64> as Type>⟧ self.now (codes "edition") result }
+        ensures { GetsValue ⟦<PermissiveType<i64> as Type>⟧ self.now (codes "edition") result }
     {
         self.get_as(alloc, "edition")
     }
 
     /// Sets the field `edition`: which edition it is.
     pub fn set_edition(&mut self, value: &PermissiveType<i64>) -> Result<(), AllocError>
-        ensures { IsSet ⟦<PermissiveType<i64> as Type>⟧ (⟦<PermissiveType<i64> as Type>⟧.meaning value.now)
+        ensures { SetsValue ⟦<PermissiveType<i64> as Type>⟧ (⟦<PermissiveType<i64> as Type>⟧.meaning value.now)
             (codes "edition") self.old self.new result }
     {
         self.set_as("edition", value)
@@ -74,42 +74,42 @@ impl Entry {
 
     /// The field `howpublished`: how the work was published, where that is unusual.
     pub fn how_published(&self, alloc: Global) -> Result<ChunksRef<'_>, RetrievalError>
-        ensures { IsGot self.now (codes "howpublished") result }
+        ensures { GetsChunks self.now (codes "howpublished") result }
     {
-        self.got(alloc, "howpublished")
+        self.chunks_of_field(alloc, "howpublished")
     }
 
     /// Sets the field `howpublished`: how the work was published, where that is unusual.
     pub fn set_how_published(&mut self, chunks: Chunks) -> Result<Option<Chunks>, SetError>
-        ensures { IsPut chunks (codes "howpublished") self.old self.new result }
+        ensures { SetsChunks chunks (codes "howpublished") self.old self.new result }
     {
         self.set("howpublished", chunks)
     }
 
     /// The field `note`: what fits no other field.
     pub fn note(&self, alloc: Global) -> Result<ChunksRef<'_>, RetrievalError>
-        ensures { IsGot self.now (codes "note") result }
+        ensures { GetsChunks self.now (codes "note") result }
     {
-        self.got(alloc, "note")
+        self.chunks_of_field(alloc, "note")
     }
 
     /// Sets the field `note`: what fits no other field.
     pub fn set_note(&mut self, chunks: Chunks) -> Result<Option<Chunks>, SetError>
-        ensures { IsPut chunks (codes "note") self.old self.new result }
+        ensures { SetsChunks chunks (codes "note") self.old self.new result }
     {
         self.set("note", chunks)
     }
 
     /// The field `number`: the number of an issue, a report or a patent, or within a series.
     pub fn number(&self, alloc: Global) -> Result<ChunksRef<'_>, RetrievalError>
-        ensures { IsGot self.now (codes "number") result }
+        ensures { GetsChunks self.now (codes "number") result }
     {
-        self.got(alloc, "number")
+        self.chunks_of_field(alloc, "number")
     }
 
     /// Sets the field `number`: the number of an issue, a report or a patent, or within a series.
     pub fn set_number(&mut self, chunks: Chunks) -> Result<Option<Chunks>, SetError>
-        ensures { IsPut chunks (codes "number") self.old self.new result }
+        ensures { SetsChunks chunks (codes "number") self.old self.new result }
     {
         self.set("number", chunks)
     }
@@ -117,7 +117,7 @@ impl Entry {
     /// The field `organization`: the organizations that published a manual or website, or sponsored
     /// a conference.
     pub fn organization(&self, alloc: Global) -> Result<Vec<Chunks>, RetrievalError>
-        ensures { IsGet ⟦<Vec<Chunks> as Type>⟧ self.now (codes "organization") result }
+        ensures { GetsValue ⟦<Vec<Chunks> as Type>⟧ self.now (codes "organization") result }
     {
         self.get_as(alloc, "organization")
     }
@@ -125,7 +125,7 @@ impl Entry {
     /// Sets the field `organization`: the organizations that published a manual or website, or
     /// sponsored a conference.
     pub fn set_organization(&mut self, value: &Vec<Chunks>) -> Result<(), AllocError>
-        ensures { IsSet ⟦<Vec<Chunks> as Type>⟧ (⟦<Vec<Chunks> as Type>⟧.meaning value.now)
+        ensures { SetsValue ⟦<Vec<Chunks> as Type>⟧ (⟦<Vec<Chunks> as Type>⟧.meaning value.now)
             (codes "organization") self.old self.new result }
     {
         self.set_as("organization", value)
@@ -133,14 +133,14 @@ impl Entry {
 
     /// The field `pages`: the pages.
     pub fn pages(&self, alloc: Global) -> Result<PermissiveType<Vec<Range<u32>>>, RetrievalError>
-        ensures { IsGet ⟦<PermissiveType<Vec<Range<u32>>> as Type>⟧ self.now (codes "pages") result }
+        ensures { GetsValue ⟦<PermissiveType<Vec<Range<u32>>> as Type>⟧ self.now (codes "pages") result }
     {
         self.get_as(alloc, "pages")
     }
 
     /// Sets the field `pages`: the pages.
     pub fn set_pages(&mut self, value: &PermissiveType<Vec<Range<u32>>>) -> Result<(), AllocError>
-        ensures { IsSet ⟦<PermissiveType<Vec<Range<u32>>> as Type>⟧ (⟦<PermissiveType<Vec<Range<u32>>> as Type>⟧.meaning value.now)
+        ensures { SetsValue ⟦<PermissiveType<Vec<Range<u32>>> as Type>⟧ (⟦<PermissiveType<Vec<Range<u32>>> as Type>⟧.meaning value.now)
             (codes "pages") self.old self.new result }
     {
         self.set_as("pages", value)
@@ -148,14 +148,14 @@ impl Entry {
 
     /// The field `publisher`: the publishers.
     pub fn publisher(&self, alloc: Global) -> Result<Vec<Chunks>, RetrievalError>
-        ensures { IsGet ⟦<Vec<Chunks> as Type>⟧ self.now (codes "publisher") result }
+        ensures { GetsValue ⟦<Vec<Chunks> as Type>⟧ self.now (codes "publisher") result }
     {
         self.get_as(alloc, "publisher")
     }
 
     /// Sets the field `publisher`: the publishers.
     pub fn set_publisher(&mut self, value: &Vec<Chunks>) -> Result<(), AllocError>
-        ensures { IsSet ⟦<Vec<Chunks> as Type>⟧ (⟦<Vec<Chunks> as Type>⟧.meaning value.now)
+        ensures { SetsValue ⟦<Vec<Chunks> as Type>⟧ (⟦<Vec<Chunks> as Type>⟧.meaning value.now)
             (codes "publisher") self.old self.new result }
     {
         self.set_as("publisher", value)
@@ -163,42 +163,42 @@ impl Entry {
 
     /// The field `series`: the series that the work appeared in.
     pub fn series(&self, alloc: Global) -> Result<ChunksRef<'_>, RetrievalError>
-        ensures { IsGot self.now (codes "series") result }
+        ensures { GetsChunks self.now (codes "series") result }
     {
-        self.got(alloc, "series")
+        self.chunks_of_field(alloc, "series")
     }
 
     /// Sets the field `series`: the series that the work appeared in.
     pub fn set_series(&mut self, chunks: Chunks) -> Result<Option<Chunks>, SetError>
-        ensures { IsPut chunks (codes "series") self.old self.new result }
+        ensures { SetsChunks chunks (codes "series") self.old self.new result }
     {
         self.set("series", chunks)
     }
 
     /// The field `title`: the title.
     pub fn title(&self, alloc: Global) -> Result<ChunksRef<'_>, RetrievalError>
-        ensures { IsGot self.now (codes "title") result }
+        ensures { GetsChunks self.now (codes "title") result }
     {
-        self.got(alloc, "title")
+        self.chunks_of_field(alloc, "title")
     }
 
     /// Sets the field `title`: the title.
     pub fn set_title(&mut self, chunks: Chunks) -> Result<Option<Chunks>, SetError>
-        ensures { IsPut chunks (codes "title") self.old self.new result }
+        ensures { SetsChunks chunks (codes "title") self.old self.new result }
     {
         self.set("title", chunks)
     }
 
     /// The field `type`: which type of manual, patent, report or thesis it is.
     pub fn type_(&self, alloc: Global) -> Result<String, RetrievalError>
-        ensures { IsGet ⟦<String as Type>⟧ self.now (codes "type") result }
+        ensures { GetsValue ⟦<String as Type>⟧ self.now (codes "type") result }
     {
         self.get_as(alloc, "type")
     }
 
     /// Sets the field `type`: which type of manual, patent, report or thesis it is.
     pub fn set_type_(&mut self, value: &String) -> Result<(), AllocError>
-        ensures { IsSet ⟦<String as Type>⟧ (⟦<String as Type>⟧.meaning value.now)
+        ensures { SetsValue ⟦<String as Type>⟧ (⟦<String as Type>⟧.meaning value.now)
             (codes "type") self.old self.new result }
     {
         self.set_as("type", value)
@@ -206,14 +206,14 @@ impl Entry {
 
     /// The field `volume`: which volume of a journal or of a work it is.
     pub fn volume(&self, alloc: Global) -> Result<PermissiveType<i64>, RetrievalError>
-        ensures { IsGet ⟦<PermissiveType<i64> as Type>⟧ self.now (codes "volume") result }
+        ensures { GetsValue ⟦<PermissiveType<i64> as Type>⟧ self.now (codes "volume") result }
     {
         self.get_as(alloc, "volume")
     }
 
     /// Sets the field `volume`: which volume of a journal or of a work it is.
     pub fn set_volume(&mut self, value: &PermissiveType<i64>) -> Result<(), AllocError>
-        ensures { IsSet ⟦<PermissiveType<i64> as Type>⟧ (⟦<PermissiveType<i64> as Type>⟧.meaning value.now)
+        ensures { SetsValue ⟦<PermissiveType<i64> as Type>⟧ (⟦<PermissiveType<i64> as Type>⟧.meaning value.now)
             (codes "volume") self.old self.new result }
     {
         self.set_as("volume", value)

@@ -2,7 +2,7 @@
 //! where it isn't there, `Missing` with its name. A setter that is refused changes nothing.
 
 ghost use Rattle.std.specs.Prelude.{codes};
-ghost use Rattle.bib_entry.specs.Fields.{IsGet, IsSet};
+ghost use Rattle.bib_entry.specs.Fields.{GetsValue, SetsValue};
 
 use crate::entry::Entry;
 use bib_fields::retrieval::RetrievalError;
@@ -13,14 +13,14 @@ use std::alloc::{AllocError, Global};
 impl Entry {
     /// The field `afterword`: the authors of an afterword.
     pub fn afterword(&self, alloc: Global) -> Result<Vec<Person>, RetrievalError>
-        ensures { IsGet ⟦<Vec<Person> as Type>⟧ self.now (codes "afterword") result }
+        ensures { GetsValue ⟦<Vec<Person> as Type>⟧ self.now (codes "afterword") result }
     {
         self.get_as(alloc, "afterword")
     }
 
     /// Sets the field `afterword`: the authors of an afterword.
     pub fn set_afterword(&mut self, value: &Vec<Person>) -> Result<(), AllocError>
-        ensures { IsSet ⟦<Vec<Person> as Type>⟧ (⟦<Vec<Person> as Type>⟧.meaning value.now)
+        ensures { SetsValue ⟦<Vec<Person> as Type>⟧ (⟦<Vec<Person> as Type>⟧.meaning value.now)
             (codes "afterword") self.old self.new result }
     {
         self.set_as("afterword", value)
@@ -28,14 +28,14 @@ impl Entry {
 
     /// The field `annotator`: the authors of annotations.
     pub fn annotator(&self, alloc: Global) -> Result<Vec<Person>, RetrievalError>
-        ensures { IsGet ⟦<Vec<Person> as Type>⟧ self.now (codes "annotator") result }
+        ensures { GetsValue ⟦<Vec<Person> as Type>⟧ self.now (codes "annotator") result }
     {
         self.get_as(alloc, "annotator")
     }
 
     /// Sets the field `annotator`: the authors of annotations.
     pub fn set_annotator(&mut self, value: &Vec<Person>) -> Result<(), AllocError>
-        ensures { IsSet ⟦<Vec<Person> as Type>⟧ (⟦<Vec<Person> as Type>⟧.meaning value.now)
+        ensures { SetsValue ⟦<Vec<Person> as Type>⟧ (⟦<Vec<Person> as Type>⟧.meaning value.now)
             (codes "annotator") self.old self.new result }
     {
         self.set_as("annotator", value)
@@ -43,14 +43,14 @@ impl Entry {
 
     /// The field `bookauthor`: the authors of the book that the work is a part of.
     pub fn book_author(&self, alloc: Global) -> Result<Vec<Person>, RetrievalError>
-        ensures { IsGet ⟦<Vec<Person> as Type>⟧ self.now (codes "bookauthor") result }
+        ensures { GetsValue ⟦<Vec<Person> as Type>⟧ self.now (codes "bookauthor") result }
     {
         self.get_as(alloc, "bookauthor")
     }
 
     /// Sets the field `bookauthor`: the authors of the book that the work is a part of.
     pub fn set_book_author(&mut self, value: &Vec<Person>) -> Result<(), AllocError>
-        ensures { IsSet ⟦<Vec<Person> as Type>⟧ (⟦<Vec<Person> as Type>⟧.meaning value.now)
+        ensures { SetsValue ⟦<Vec<Person> as Type>⟧ (⟦<Vec<Person> as Type>⟧.meaning value.now)
             (codes "bookauthor") self.old self.new result }
     {
         self.set_as("bookauthor", value)
@@ -58,14 +58,14 @@ impl Entry {
 
     /// The field `commentator`: the authors of a commentary.
     pub fn commentator(&self, alloc: Global) -> Result<Vec<Person>, RetrievalError>
-        ensures { IsGet ⟦<Vec<Person> as Type>⟧ self.now (codes "commentator") result }
+        ensures { GetsValue ⟦<Vec<Person> as Type>⟧ self.now (codes "commentator") result }
     {
         self.get_as(alloc, "commentator")
     }
 
     /// Sets the field `commentator`: the authors of a commentary.
     pub fn set_commentator(&mut self, value: &Vec<Person>) -> Result<(), AllocError>
-        ensures { IsSet ⟦<Vec<Person> as Type>⟧ (⟦<Vec<Person> as Type>⟧.meaning value.now)
+        ensures { SetsValue ⟦<Vec<Person> as Type>⟧ (⟦<Vec<Person> as Type>⟧.meaning value.now)
             (codes "commentator") self.old self.new result }
     {
         self.set_as("commentator", value)
@@ -73,14 +73,14 @@ impl Entry {
 
     /// The field `foreword`: the authors of a foreword.
     pub fn foreword(&self, alloc: Global) -> Result<Vec<Person>, RetrievalError>
-        ensures { IsGet ⟦<Vec<Person> as Type>⟧ self.now (codes "foreword") result }
+        ensures { GetsValue ⟦<Vec<Person> as Type>⟧ self.now (codes "foreword") result }
     {
         self.get_as(alloc, "foreword")
     }
 
     /// Sets the field `foreword`: the authors of a foreword.
     pub fn set_foreword(&mut self, value: &Vec<Person>) -> Result<(), AllocError>
-        ensures { IsSet ⟦<Vec<Person> as Type>⟧ (⟦<Vec<Person> as Type>⟧.meaning value.now)
+        ensures { SetsValue ⟦<Vec<Person> as Type>⟧ (⟦<Vec<Person> as Type>⟧.meaning value.now)
             (codes "foreword") self.old self.new result }
     {
         self.set_as("foreword", value)
@@ -88,14 +88,14 @@ impl Entry {
 
     /// The field `holder`: the holders of a patent.
     pub fn holder(&self, alloc: Global) -> Result<Vec<Person>, RetrievalError>
-        ensures { IsGet ⟦<Vec<Person> as Type>⟧ self.now (codes "holder") result }
+        ensures { GetsValue ⟦<Vec<Person> as Type>⟧ self.now (codes "holder") result }
     {
         self.get_as(alloc, "holder")
     }
 
     /// Sets the field `holder`: the holders of a patent.
     pub fn set_holder(&mut self, value: &Vec<Person>) -> Result<(), AllocError>
-        ensures { IsSet ⟦<Vec<Person> as Type>⟧ (⟦<Vec<Person> as Type>⟧.meaning value.now)
+        ensures { SetsValue ⟦<Vec<Person> as Type>⟧ (⟦<Vec<Person> as Type>⟧.meaning value.now)
             (codes "holder") self.old self.new result }
     {
         self.set_as("holder", value)
@@ -103,14 +103,14 @@ impl Entry {
 
     /// The field `introduction`: the authors of an introduction.
     pub fn introduction(&self, alloc: Global) -> Result<Vec<Person>, RetrievalError>
-        ensures { IsGet ⟦<Vec<Person> as Type>⟧ self.now (codes "introduction") result }
+        ensures { GetsValue ⟦<Vec<Person> as Type>⟧ self.now (codes "introduction") result }
     {
         self.get_as(alloc, "introduction")
     }
 
     /// Sets the field `introduction`: the authors of an introduction.
     pub fn set_introduction(&mut self, value: &Vec<Person>) -> Result<(), AllocError>
-        ensures { IsSet ⟦<Vec<Person> as Type>⟧ (⟦<Vec<Person> as Type>⟧.meaning value.now)
+        ensures { SetsValue ⟦<Vec<Person> as Type>⟧ (⟦<Vec<Person> as Type>⟧.meaning value.now)
             (codes "introduction") self.old self.new result }
     {
         self.set_as("introduction", value)
@@ -118,14 +118,14 @@ impl Entry {
 
     /// The field `shortauthor`: the authors, abridged.
     pub fn short_author(&self, alloc: Global) -> Result<Vec<Person>, RetrievalError>
-        ensures { IsGet ⟦<Vec<Person> as Type>⟧ self.now (codes "shortauthor") result }
+        ensures { GetsValue ⟦<Vec<Person> as Type>⟧ self.now (codes "shortauthor") result }
     {
         self.get_as(alloc, "shortauthor")
     }
 
     /// Sets the field `shortauthor`: the authors, abridged.
     pub fn set_short_author(&mut self, value: &Vec<Person>) -> Result<(), AllocError>
-        ensures { IsSet ⟦<Vec<Person> as Type>⟧ (⟦<Vec<Person> as Type>⟧.meaning value.now)
+        ensures { SetsValue ⟦<Vec<Person> as Type>⟧ (⟦<Vec<Person> as Type>⟧.meaning value.now)
             (codes "shortauthor") self.old self.new result }
     {
         self.set_as("shortauthor", value)
@@ -133,14 +133,14 @@ impl Entry {
 
     /// The field `shorteditor`: the editors, abridged.
     pub fn short_editor(&self, alloc: Global) -> Result<Vec<Person>, RetrievalError>
-        ensures { IsGet ⟦<Vec<Person> as Type>⟧ self.now (codes "shorteditor") result }
+        ensures { GetsValue ⟦<Vec<Person> as Type>⟧ self.now (codes "shorteditor") result }
     {
         self.get_as(alloc, "shorteditor")
     }
 
     /// Sets the field `shorteditor`: the editors, abridged.
     pub fn set_short_editor(&mut self, value: &Vec<Person>) -> Result<(), AllocError>
-        ensures { IsSet ⟦<Vec<Person> as Type>⟧ (⟦<Vec<Person> as Type>⟧.meaning value.now)
+        ensures { SetsValue ⟦<Vec<Person> as Type>⟧ (⟦<Vec<Person> as Type>⟧.meaning value.now)
             (codes "shorteditor") self.old self.new result }
     {
         self.set_as("shorteditor", value)
@@ -148,14 +148,14 @@ impl Entry {
 
     /// The field `translator`: the translators.
     pub fn translator(&self, alloc: Global) -> Result<Vec<Person>, RetrievalError>
-        ensures { IsGet ⟦<Vec<Person> as Type>⟧ self.now (codes "translator") result }
+        ensures { GetsValue ⟦<Vec<Person> as Type>⟧ self.now (codes "translator") result }
     {
         self.get_as(alloc, "translator")
     }
 
     /// Sets the field `translator`: the translators.
     pub fn set_translator(&mut self, value: &Vec<Person>) -> Result<(), AllocError>
-        ensures { IsSet ⟦<Vec<Person> as Type>⟧ (⟦<Vec<Person> as Type>⟧.meaning value.now)
+        ensures { SetsValue ⟦<Vec<Person> as Type>⟧ (⟦<Vec<Person> as Type>⟧.meaning value.now)
             (codes "translator") self.old self.new result }
     {
         self.set_as("translator", value)

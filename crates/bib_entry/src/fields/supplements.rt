@@ -2,7 +2,7 @@
 //! where it isn't there, `Missing` with its name. A setter that is refused changes nothing.
 
 ghost use Rattle.std.specs.Prelude.{codes};
-ghost use Rattle.bib_entry.specs.Fields.{IsGet, IsGot, IsPut, IsSet};
+ghost use Rattle.bib_entry.specs.Fields.{GetsValue, GetsChunks, SetsChunks, SetsValue};
 
 use crate::entry::Entry;
 use bib_chunks::chunk::{Chunks, ChunksRef};
@@ -16,42 +16,42 @@ use std::alloc::{AllocError, Global};
 impl Entry {
     /// The field `abstract`: the abstract.
     pub fn abstract_(&self, alloc: Global) -> Result<ChunksRef<'_>, RetrievalError>
-        ensures { IsGot self.now (codes "abstract") result }
+        ensures { GetsChunks self.now (codes "abstract") result }
     {
-        self.got(alloc, "abstract")
+        self.chunks_of_field(alloc, "abstract")
     }
 
     /// Sets the field `abstract`: the abstract.
     pub fn set_abstract_(&mut self, chunks: Chunks) -> Result<Option<Chunks>, SetError>
-        ensures { IsPut chunks (codes "abstract") self.old self.new result }
+        ensures { SetsChunks chunks (codes "abstract") self.old self.new result }
     {
         self.set("abstract", chunks)
     }
 
     /// The field `addendum`: what is printed at the very end of the entry.
     pub fn addendum(&self, alloc: Global) -> Result<ChunksRef<'_>, RetrievalError>
-        ensures { IsGot self.now (codes "addendum") result }
+        ensures { GetsChunks self.now (codes "addendum") result }
     {
-        self.got(alloc, "addendum")
+        self.chunks_of_field(alloc, "addendum")
     }
 
     /// Sets the field `addendum`: what is printed at the very end of the entry.
     pub fn set_addendum(&mut self, chunks: Chunks) -> Result<Option<Chunks>, SetError>
-        ensures { IsPut chunks (codes "addendum") self.old self.new result }
+        ensures { SetsChunks chunks (codes "addendum") self.old self.new result }
     {
         self.set("addendum", chunks)
     }
 
     /// The field `authortype`: what kind of authors these are.
     pub fn author_type(&self, alloc: Global) -> Result<String, RetrievalError>
-        ensures { IsGet ⟦<String as Type>⟧ self.now (codes "authortype") result }
+        ensures { GetsValue ⟦<String as Type>⟧ self.now (codes "authortype") result }
     {
         self.get_as(alloc, "authortype")
     }
 
     /// Sets the field `authortype`: what kind of authors these are.
     pub fn set_author_type(&mut self, value: &String) -> Result<(), AllocError>
-        ensures { IsSet ⟦<String as Type>⟧ (⟦<String as Type>⟧.meaning value.now)
+        ensures { SetsValue ⟦<String as Type>⟧ (⟦<String as Type>⟧.meaning value.now)
             (codes "authortype") self.old self.new result }
     {
         self.set_as("authortype", value)
@@ -59,14 +59,14 @@ impl Entry {
 
     /// The field `bookpagination`: what the book that the work is a part of is counted in.
     pub fn book_pagination(&self, alloc: Global) -> Result<Pagination, RetrievalError>
-        ensures { IsGet ⟦<Pagination as Type>⟧ self.now (codes "bookpagination") result }
+        ensures { GetsValue ⟦<Pagination as Type>⟧ self.now (codes "bookpagination") result }
     {
         self.get_as(alloc, "bookpagination")
     }
 
     /// Sets the field `bookpagination`: what the book that the work is a part of is counted in.
     pub fn set_book_pagination(&mut self, value: &Pagination) -> Result<(), AllocError>
-        ensures { IsSet ⟦<Pagination as Type>⟧ (⟦<Pagination as Type>⟧.meaning value.now)
+        ensures { SetsValue ⟦<Pagination as Type>⟧ (⟦<Pagination as Type>⟧.meaning value.now)
             (codes "bookpagination") self.old self.new result }
     {
         self.set_as("bookpagination", value)
@@ -74,14 +74,14 @@ impl Entry {
 
     /// The field `doi`: the Digital Object Identifier.
     pub fn doi(&self, alloc: Global) -> Result<String, RetrievalError>
-        ensures { IsGet ⟦<String as Type>⟧ self.now (codes "doi") result }
+        ensures { GetsValue ⟦<String as Type>⟧ self.now (codes "doi") result }
     {
         self.get_as(alloc, "doi")
     }
 
     /// Sets the field `doi`: the Digital Object Identifier.
     pub fn set_doi(&mut self, value: &String) -> Result<(), AllocError>
-        ensures { IsSet ⟦<String as Type>⟧ (⟦<String as Type>⟧.meaning value.now)
+        ensures { SetsValue ⟦<String as Type>⟧ (⟦<String as Type>⟧.meaning value.now)
             (codes "doi") self.old self.new result }
     {
         self.set_as("doi", value)
@@ -89,42 +89,42 @@ impl Entry {
 
     /// The field `eid`: the electronic identifier of an article.
     pub fn eid(&self, alloc: Global) -> Result<ChunksRef<'_>, RetrievalError>
-        ensures { IsGot self.now (codes "eid") result }
+        ensures { GetsChunks self.now (codes "eid") result }
     {
-        self.got(alloc, "eid")
+        self.chunks_of_field(alloc, "eid")
     }
 
     /// Sets the field `eid`: the electronic identifier of an article.
     pub fn set_eid(&mut self, chunks: Chunks) -> Result<Option<Chunks>, SetError>
-        ensures { IsPut chunks (codes "eid") self.old self.new result }
+        ensures { SetsChunks chunks (codes "eid") self.old self.new result }
     {
         self.set("eid", chunks)
     }
 
     /// The field `entrysubtype`: a finer type of the entry.
     pub fn entry_subtype(&self, alloc: Global) -> Result<ChunksRef<'_>, RetrievalError>
-        ensures { IsGot self.now (codes "entrysubtype") result }
+        ensures { GetsChunks self.now (codes "entrysubtype") result }
     {
-        self.got(alloc, "entrysubtype")
+        self.chunks_of_field(alloc, "entrysubtype")
     }
 
     /// Sets the field `entrysubtype`: a finer type of the entry.
     pub fn set_entry_subtype(&mut self, chunks: Chunks) -> Result<Option<Chunks>, SetError>
-        ensures { IsPut chunks (codes "entrysubtype") self.old self.new result }
+        ensures { SetsChunks chunks (codes "entrysubtype") self.old self.new result }
     {
         self.set("entrysubtype", chunks)
     }
 
     /// The field `eprint`: the identifier of the electronic version in its archive.
     pub fn eprint(&self, alloc: Global) -> Result<String, RetrievalError>
-        ensures { IsGet ⟦<String as Type>⟧ self.now (codes "eprint") result }
+        ensures { GetsValue ⟦<String as Type>⟧ self.now (codes "eprint") result }
     {
         self.get_as(alloc, "eprint")
     }
 
     /// Sets the field `eprint`: the identifier of the electronic version in its archive.
     pub fn set_eprint(&mut self, value: &String) -> Result<(), AllocError>
-        ensures { IsSet ⟦<String as Type>⟧ (⟦<String as Type>⟧.meaning value.now)
+        ensures { SetsValue ⟦<String as Type>⟧ (⟦<String as Type>⟧.meaning value.now)
             (codes "eprint") self.old self.new result }
     {
         self.set_as("eprint", value)
@@ -132,140 +132,140 @@ impl Entry {
 
     /// The field `isan`: the International Standard Audiovisual Number.
     pub fn isan(&self, alloc: Global) -> Result<ChunksRef<'_>, RetrievalError>
-        ensures { IsGot self.now (codes "isan") result }
+        ensures { GetsChunks self.now (codes "isan") result }
     {
-        self.got(alloc, "isan")
+        self.chunks_of_field(alloc, "isan")
     }
 
     /// Sets the field `isan`: the International Standard Audiovisual Number.
     pub fn set_isan(&mut self, chunks: Chunks) -> Result<Option<Chunks>, SetError>
-        ensures { IsPut chunks (codes "isan") self.old self.new result }
+        ensures { SetsChunks chunks (codes "isan") self.old self.new result }
     {
         self.set("isan", chunks)
     }
 
     /// The field `isbn`: the International Standard Book Number.
     pub fn isbn(&self, alloc: Global) -> Result<ChunksRef<'_>, RetrievalError>
-        ensures { IsGot self.now (codes "isbn") result }
+        ensures { GetsChunks self.now (codes "isbn") result }
     {
-        self.got(alloc, "isbn")
+        self.chunks_of_field(alloc, "isbn")
     }
 
     /// Sets the field `isbn`: the International Standard Book Number.
     pub fn set_isbn(&mut self, chunks: Chunks) -> Result<Option<Chunks>, SetError>
-        ensures { IsPut chunks (codes "isbn") self.old self.new result }
+        ensures { SetsChunks chunks (codes "isbn") self.old self.new result }
     {
         self.set("isbn", chunks)
     }
 
     /// The field `ismn`: the International Standard Music Number.
     pub fn ismn(&self, alloc: Global) -> Result<ChunksRef<'_>, RetrievalError>
-        ensures { IsGot self.now (codes "ismn") result }
+        ensures { GetsChunks self.now (codes "ismn") result }
     {
-        self.got(alloc, "ismn")
+        self.chunks_of_field(alloc, "ismn")
     }
 
     /// Sets the field `ismn`: the International Standard Music Number.
     pub fn set_ismn(&mut self, chunks: Chunks) -> Result<Option<Chunks>, SetError>
-        ensures { IsPut chunks (codes "ismn") self.old self.new result }
+        ensures { SetsChunks chunks (codes "ismn") self.old self.new result }
     {
         self.set("ismn", chunks)
     }
 
     /// The field `isrn`: the International Standard Technical Report Number.
     pub fn isrn(&self, alloc: Global) -> Result<ChunksRef<'_>, RetrievalError>
-        ensures { IsGot self.now (codes "isrn") result }
+        ensures { GetsChunks self.now (codes "isrn") result }
     {
-        self.got(alloc, "isrn")
+        self.chunks_of_field(alloc, "isrn")
     }
 
     /// Sets the field `isrn`: the International Standard Technical Report Number.
     pub fn set_isrn(&mut self, chunks: Chunks) -> Result<Option<Chunks>, SetError>
-        ensures { IsPut chunks (codes "isrn") self.old self.new result }
+        ensures { SetsChunks chunks (codes "isrn") self.old self.new result }
     {
         self.set("isrn", chunks)
     }
 
     /// The field `issn`: the International Standard Serial Number.
     pub fn issn(&self, alloc: Global) -> Result<ChunksRef<'_>, RetrievalError>
-        ensures { IsGot self.now (codes "issn") result }
+        ensures { GetsChunks self.now (codes "issn") result }
     {
-        self.got(alloc, "issn")
+        self.chunks_of_field(alloc, "issn")
     }
 
     /// Sets the field `issn`: the International Standard Serial Number.
     pub fn set_issn(&mut self, chunks: Chunks) -> Result<Option<Chunks>, SetError>
-        ensures { IsPut chunks (codes "issn") self.old self.new result }
+        ensures { SetsChunks chunks (codes "issn") self.old self.new result }
     {
         self.set("issn", chunks)
     }
 
     /// The field `issue`: the issue of a journal that has a name, as a season.
     pub fn issue(&self, alloc: Global) -> Result<ChunksRef<'_>, RetrievalError>
-        ensures { IsGot self.now (codes "issue") result }
+        ensures { GetsChunks self.now (codes "issue") result }
     {
-        self.got(alloc, "issue")
+        self.chunks_of_field(alloc, "issue")
     }
 
     /// Sets the field `issue`: the issue of a journal that has a name, as a season.
     pub fn set_issue(&mut self, chunks: Chunks) -> Result<Option<Chunks>, SetError>
-        ensures { IsPut chunks (codes "issue") self.old self.new result }
+        ensures { SetsChunks chunks (codes "issue") self.old self.new result }
     {
         self.set("issue", chunks)
     }
 
     /// The field `iswc`: the International Standard Work Code.
     pub fn iswc(&self, alloc: Global) -> Result<ChunksRef<'_>, RetrievalError>
-        ensures { IsGot self.now (codes "iswc") result }
+        ensures { GetsChunks self.now (codes "iswc") result }
     {
-        self.got(alloc, "iswc")
+        self.chunks_of_field(alloc, "iswc")
     }
 
     /// Sets the field `iswc`: the International Standard Work Code.
     pub fn set_iswc(&mut self, chunks: Chunks) -> Result<Option<Chunks>, SetError>
-        ensures { IsPut chunks (codes "iswc") self.old self.new result }
+        ensures { SetsChunks chunks (codes "iswc") self.old self.new result }
     {
         self.set("iswc", chunks)
     }
 
     /// The field `keywords`: keywords.
     pub fn keywords(&self, alloc: Global) -> Result<ChunksRef<'_>, RetrievalError>
-        ensures { IsGot self.now (codes "keywords") result }
+        ensures { GetsChunks self.now (codes "keywords") result }
     {
-        self.got(alloc, "keywords")
+        self.chunks_of_field(alloc, "keywords")
     }
 
     /// Sets the field `keywords`: keywords.
     pub fn set_keywords(&mut self, chunks: Chunks) -> Result<Option<Chunks>, SetError>
-        ensures { IsPut chunks (codes "keywords") self.old self.new result }
+        ensures { SetsChunks chunks (codes "keywords") self.old self.new result }
     {
         self.set("keywords", chunks)
     }
 
     /// The field `label`: what stands for a label where a style has nothing else.
     pub fn label(&self, alloc: Global) -> Result<ChunksRef<'_>, RetrievalError>
-        ensures { IsGot self.now (codes "label") result }
+        ensures { GetsChunks self.now (codes "label") result }
     {
-        self.got(alloc, "label")
+        self.chunks_of_field(alloc, "label")
     }
 
     /// Sets the field `label`: what stands for a label where a style has nothing else.
     pub fn set_label(&mut self, chunks: Chunks) -> Result<Option<Chunks>, SetError>
-        ensures { IsPut chunks (codes "label") self.old self.new result }
+        ensures { SetsChunks chunks (codes "label") self.old self.new result }
     {
         self.set("label", chunks)
     }
 
     /// The field `langid`: the language that the entry is printed in.
     pub fn langid(&self, alloc: Global) -> Result<PermissiveType<Language>, RetrievalError>
-        ensures { IsGet ⟦<PermissiveType<Language> as Type>⟧ self.now (codes "langid") result }
+        ensures { GetsValue ⟦<PermissiveType<Language> as Type>⟧ self.now (codes "langid") result }
     {
         self.get_as(alloc, "langid")
     }
 
     /// Sets the field `langid`: the language that the entry is printed in.
     pub fn set_langid(&mut self, value: &PermissiveType<Language>) -> Result<(), AllocError>
-        ensures { IsSet ⟦<PermissiveType<Language> as Type>⟧ (⟦<PermissiveType<Language> as Type>⟧.meaning value.now)
+        ensures { SetsValue ⟦<PermissiveType<Language> as Type>⟧ (⟦<PermissiveType<Language> as Type>⟧.meaning value.now)
             (codes "langid") self.old self.new result }
     {
         self.set_as("langid", value)
@@ -273,71 +273,71 @@ impl Entry {
 
     /// The field `language`: the languages of the work.
     pub fn language(&self, alloc: Global) -> Result<Vec<PermissiveType<Language>>, RetrievalError>
-        ensures { IsGet ⟦<Vec<PermissiveType<Language>> as Type>⟧ self.now (codes "language") result }
+        ensures { GetsValue ⟦<Vec<PermissiveType<Language>> as Type>⟧ self.now (codes "language") result }
     {
         self.get_as(alloc, "language")
     }
 
     /// Sets the field `language`: the languages of the work.
     pub fn set_language(&mut self, value: &Vec<PermissiveType<Language>>) -> Result<(), AllocError>
-        ensures { IsSet ⟦<Vec<PermissiveType<Language>> as Type>⟧ (⟦<Vec<PermissiveType<Language>> as Type>⟧.meaning value.now)
+        ensures { SetsValue ⟦<Vec<PermissiveType<Language>> as Type>⟧ (⟦<Vec<PermissiveType<Language>> as Type>⟧.meaning value.now)
             (codes "language") self.old self.new result }
     {
         self.set_as("language", value)
     }
 
-    /// The field `library`: the library where the work is found.
-    pub fn library(&self, alloc: Global) -> Result<ChunksRef<'_>, RetrievalError>
-        ensures { IsGot self.now (codes "library") result }
+    /// The field `bibliography`: the library where the work is found.
+    pub fn bibliography(&self, alloc: Global) -> Result<ChunksRef<'_>, RetrievalError>
+        ensures { GetsChunks self.now (codes "library") result }
     {
-        self.got(alloc, "library")
+        self.chunks_of_field(alloc, "library")
     }
 
-    /// Sets the field `library`: the library where the work is found.
-    pub fn set_library(&mut self, chunks: Chunks) -> Result<Option<Chunks>, SetError>
-        ensures { IsPut chunks (codes "library") self.old self.new result }
+    /// Sets the field `bibliography`: the library where the work is found.
+    pub fn set_bibliography(&mut self, chunks: Chunks) -> Result<Option<Chunks>, SetError>
+        ensures { SetsChunks chunks (codes "library") self.old self.new result }
     {
         self.set("library", chunks)
     }
 
-    /// The field `nameaddon`: what is printed behind the name of the author.
+    /// The field `nameaddon`: what is printed after the name of the author.
     pub fn name_addon(&self, alloc: Global) -> Result<ChunksRef<'_>, RetrievalError>
-        ensures { IsGot self.now (codes "nameaddon") result }
+        ensures { GetsChunks self.now (codes "nameaddon") result }
     {
-        self.got(alloc, "nameaddon")
+        self.chunks_of_field(alloc, "nameaddon")
     }
 
-    /// Sets the field `nameaddon`: what is printed behind the name of the author.
+    /// Sets the field `nameaddon`: what is printed after the name of the author.
     pub fn set_name_addon(&mut self, chunks: Chunks) -> Result<Option<Chunks>, SetError>
-        ensures { IsPut chunks (codes "nameaddon") self.old self.new result }
+        ensures { SetsChunks chunks (codes "nameaddon") self.old self.new result }
     {
         self.set("nameaddon", chunks)
     }
 
     /// The field `options`: options of the entry.
     pub fn options(&self, alloc: Global) -> Result<ChunksRef<'_>, RetrievalError>
-        ensures { IsGot self.now (codes "options") result }
+        ensures { GetsChunks self.now (codes "options") result }
     {
-        self.got(alloc, "options")
+        self.chunks_of_field(alloc, "options")
     }
 
     /// Sets the field `options`: options of the entry.
     pub fn set_options(&mut self, chunks: Chunks) -> Result<Option<Chunks>, SetError>
-        ensures { IsPut chunks (codes "options") self.old self.new result }
+        ensures { SetsChunks chunks (codes "options") self.old self.new result }
     {
         self.set("options", chunks)
     }
 
     /// The field `origlanguage`: the languages of the original of a translation.
     pub fn orig_language(&self, alloc: Global) -> Result<Vec<String>, RetrievalError>
-        ensures { IsGet ⟦<Vec<String> as Type>⟧ self.now (codes "origlanguage") result }
+        ensures { GetsValue ⟦<Vec<String> as Type>⟧ self.now (codes "origlanguage") result }
     {
         self.get_as(alloc, "origlanguage")
     }
 
     /// Sets the field `origlanguage`: the languages of the original of a translation.
     pub fn set_orig_language(&mut self, value: &Vec<String>) -> Result<(), AllocError>
-        ensures { IsSet ⟦<Vec<String> as Type>⟧ (⟦<Vec<String> as Type>⟧.meaning value.now)
+        ensures { SetsValue ⟦<Vec<String> as Type>⟧ (⟦<Vec<String> as Type>⟧.meaning value.now)
             (codes "origlanguage") self.old self.new result }
     {
         self.set_as("origlanguage", value)
@@ -345,14 +345,14 @@ impl Entry {
 
     /// The field `origlocation`: the places where the original was published.
     pub fn orig_location(&self, alloc: Global) -> Result<Vec<Chunks>, RetrievalError>
-        ensures { IsGet ⟦<Vec<Chunks> as Type>⟧ self.now (codes "origlocation") result }
+        ensures { GetsValue ⟦<Vec<Chunks> as Type>⟧ self.now (codes "origlocation") result }
     {
         self.get_as(alloc, "origlocation")
     }
 
     /// Sets the field `origlocation`: the places where the original was published.
     pub fn set_orig_location(&mut self, value: &Vec<Chunks>) -> Result<(), AllocError>
-        ensures { IsSet ⟦<Vec<Chunks> as Type>⟧ (⟦<Vec<Chunks> as Type>⟧.meaning value.now)
+        ensures { SetsValue ⟦<Vec<Chunks> as Type>⟧ (⟦<Vec<Chunks> as Type>⟧.meaning value.now)
             (codes "origlocation") self.old self.new result }
     {
         self.set_as("origlocation", value)
@@ -360,28 +360,28 @@ impl Entry {
 
     /// The field `pagetotal`: how many pages there are.
     pub fn page_total(&self, alloc: Global) -> Result<ChunksRef<'_>, RetrievalError>
-        ensures { IsGot self.now (codes "pagetotal") result }
+        ensures { GetsChunks self.now (codes "pagetotal") result }
     {
-        self.got(alloc, "pagetotal")
+        self.chunks_of_field(alloc, "pagetotal")
     }
 
     /// Sets the field `pagetotal`: how many pages there are.
     pub fn set_page_total(&mut self, chunks: Chunks) -> Result<Option<Chunks>, SetError>
-        ensures { IsPut chunks (codes "pagetotal") self.old self.new result }
+        ensures { SetsChunks chunks (codes "pagetotal") self.old self.new result }
     {
         self.set("pagetotal", chunks)
     }
 
     /// The field `pagination`: what the work is counted in.
     pub fn pagination(&self, alloc: Global) -> Result<Pagination, RetrievalError>
-        ensures { IsGet ⟦<Pagination as Type>⟧ self.now (codes "pagination") result }
+        ensures { GetsValue ⟦<Pagination as Type>⟧ self.now (codes "pagination") result }
     {
         self.get_as(alloc, "pagination")
     }
 
     /// Sets the field `pagination`: what the work is counted in.
     pub fn set_pagination(&mut self, value: &Pagination) -> Result<(), AllocError>
-        ensures { IsSet ⟦<Pagination as Type>⟧ (⟦<Pagination as Type>⟧.meaning value.now)
+        ensures { SetsValue ⟦<Pagination as Type>⟧ (⟦<Pagination as Type>⟧.meaning value.now)
             (codes "pagination") self.old self.new result }
     {
         self.set_as("pagination", value)
@@ -389,70 +389,70 @@ impl Entry {
 
     /// The field `part`: the number of a part of a volume.
     pub fn part(&self, alloc: Global) -> Result<ChunksRef<'_>, RetrievalError>
-        ensures { IsGot self.now (codes "part") result }
+        ensures { GetsChunks self.now (codes "part") result }
     {
-        self.got(alloc, "part")
+        self.chunks_of_field(alloc, "part")
     }
 
     /// Sets the field `part`: the number of a part of a volume.
     pub fn set_part(&mut self, chunks: Chunks) -> Result<Option<Chunks>, SetError>
-        ensures { IsPut chunks (codes "part") self.old self.new result }
+        ensures { SetsChunks chunks (codes "part") self.old self.new result }
     {
         self.set("part", chunks)
     }
 
     /// The field `pubstate`: the state of publication.
     pub fn pubstate(&self, alloc: Global) -> Result<ChunksRef<'_>, RetrievalError>
-        ensures { IsGot self.now (codes "pubstate") result }
+        ensures { GetsChunks self.now (codes "pubstate") result }
     {
-        self.got(alloc, "pubstate")
+        self.chunks_of_field(alloc, "pubstate")
     }
 
     /// Sets the field `pubstate`: the state of publication.
     pub fn set_pubstate(&mut self, chunks: Chunks) -> Result<Option<Chunks>, SetError>
-        ensures { IsPut chunks (codes "pubstate") self.old self.new result }
+        ensures { SetsChunks chunks (codes "pubstate") self.old self.new result }
     {
         self.set("pubstate", chunks)
     }
 
     /// The field `shorthand`: what is cited in the place of a label.
     pub fn shorthand(&self, alloc: Global) -> Result<ChunksRef<'_>, RetrievalError>
-        ensures { IsGot self.now (codes "shorthand") result }
+        ensures { GetsChunks self.now (codes "shorthand") result }
     {
-        self.got(alloc, "shorthand")
+        self.chunks_of_field(alloc, "shorthand")
     }
 
     /// Sets the field `shorthand`: what is cited in the place of a label.
     pub fn set_shorthand(&mut self, chunks: Chunks) -> Result<Option<Chunks>, SetError>
-        ensures { IsPut chunks (codes "shorthand") self.old self.new result }
+        ensures { SetsChunks chunks (codes "shorthand") self.old self.new result }
     {
         self.set("shorthand", chunks)
     }
 
     /// The field `shorthandintro`: how that is introduced at the first citation.
     pub fn shorthand_intro(&self, alloc: Global) -> Result<ChunksRef<'_>, RetrievalError>
-        ensures { IsGot self.now (codes "shorthandintro") result }
+        ensures { GetsChunks self.now (codes "shorthandintro") result }
     {
-        self.got(alloc, "shorthandintro")
+        self.chunks_of_field(alloc, "shorthandintro")
     }
 
     /// Sets the field `shorthandintro`: how that is introduced at the first citation.
     pub fn set_shorthand_intro(&mut self, chunks: Chunks) -> Result<Option<Chunks>, SetError>
-        ensures { IsPut chunks (codes "shorthandintro") self.old self.new result }
+        ensures { SetsChunks chunks (codes "shorthandintro") self.old self.new result }
     {
         self.set("shorthandintro", chunks)
     }
 
     /// The field `url`: the address on the web.
     pub fn url(&self, alloc: Global) -> Result<String, RetrievalError>
-        ensures { IsGet ⟦<String as Type>⟧ self.now (codes "url") result }
+        ensures { GetsValue ⟦<String as Type>⟧ self.now (codes "url") result }
     {
         self.get_as(alloc, "url")
     }
 
     /// Sets the field `url`: the address on the web.
     pub fn set_url(&mut self, value: &String) -> Result<(), AllocError>
-        ensures { IsSet ⟦<String as Type>⟧ (⟦<String as Type>⟧.meaning value.now)
+        ensures { SetsValue ⟦<String as Type>⟧ (⟦<String as Type>⟧.meaning value.now)
             (codes "url") self.old self.new result }
     {
         self.set_as("url", value)
@@ -460,42 +460,42 @@ impl Entry {
 
     /// The field `venue`: the place of the conference.
     pub fn venue(&self, alloc: Global) -> Result<ChunksRef<'_>, RetrievalError>
-        ensures { IsGot self.now (codes "venue") result }
+        ensures { GetsChunks self.now (codes "venue") result }
     {
-        self.got(alloc, "venue")
+        self.chunks_of_field(alloc, "venue")
     }
 
     /// Sets the field `venue`: the place of the conference.
     pub fn set_venue(&mut self, chunks: Chunks) -> Result<Option<Chunks>, SetError>
-        ensures { IsPut chunks (codes "venue") self.old self.new result }
+        ensures { SetsChunks chunks (codes "venue") self.old self.new result }
     {
         self.set("venue", chunks)
     }
 
     /// The field `version`: the version of software or of a manual.
     pub fn version(&self, alloc: Global) -> Result<ChunksRef<'_>, RetrievalError>
-        ensures { IsGot self.now (codes "version") result }
+        ensures { GetsChunks self.now (codes "version") result }
     {
-        self.got(alloc, "version")
+        self.chunks_of_field(alloc, "version")
     }
 
     /// Sets the field `version`: the version of software or of a manual.
     pub fn set_version(&mut self, chunks: Chunks) -> Result<Option<Chunks>, SetError>
-        ensures { IsPut chunks (codes "version") self.old self.new result }
+        ensures { SetsChunks chunks (codes "version") self.old self.new result }
     {
         self.set("version", chunks)
     }
 
     /// The field `volumes`: how many volumes there are.
     pub fn volumes(&self, alloc: Global) -> Result<i64, RetrievalError>
-        ensures { IsGet ⟦<i64 as Type>⟧ self.now (codes "volumes") result }
+        ensures { GetsValue ⟦<i64 as Type>⟧ self.now (codes "volumes") result }
     {
         self.get_as(alloc, "volumes")
     }
 
     /// Sets the field `volumes`: how many volumes there are.
     pub fn set_volumes(&mut self, value: &i64) -> Result<(), AllocError>
-        ensures { IsSet ⟦<i64 as Type>⟧ (⟦<i64 as Type>⟧.meaning value.now)
+        ensures { SetsValue ⟦<i64 as Type>⟧ (⟦<i64 as Type>⟧.meaning value.now)
             (codes "volumes") self.old self.new result }
     {
         self.set_as("volumes", value)
@@ -503,14 +503,14 @@ impl Entry {
 
     /// The field `gender`: the gender of the author, or of the editor.
     pub fn gender(&self, alloc: Global) -> Result<Gender, RetrievalError>
-        ensures { IsGet ⟦<Gender as Type>⟧ self.now (codes "gender") result }
+        ensures { GetsValue ⟦<Gender as Type>⟧ self.now (codes "gender") result }
     {
         self.get_as(alloc, "gender")
     }
 
     /// Sets the field `gender`: the gender of the author, or of the editor.
     pub fn set_gender(&mut self, value: &Gender) -> Result<(), AllocError>
-        ensures { IsSet ⟦<Gender as Type>⟧ (⟦<Gender as Type>⟧.meaning value.now)
+        ensures { SetsValue ⟦<Gender as Type>⟧ (⟦<Gender as Type>⟧.meaning value.now)
             (codes "gender") self.old self.new result }
     {
         self.set_as("gender", value)

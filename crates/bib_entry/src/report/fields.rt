@@ -5,21 +5,21 @@ ghost use Rattle.std.specs.List.{filter};
 ghost use Rattle.std.specs.Option.{option_copied};
 ghost use Rattle.bib_entry_types.specs.Requirements.{texts};
 ghost use Rattle.bib_text.specs.Enums.{named};
-ghost use Rattle.bib_entry.specs.Reports.{lacks, has_chunks, has_field, has_editor, has_other, other_names, only_if, missing_people, missing_pages, missing_date, superfluous_people, superfluous_pages};
+ghost use Rattle.bib_entry.specs.Reports.{lacks, has_chunks, has_field, has_editor, has_other, other_required_names, only_if, missing_people, missing_pages, missing_date, superfluous_people, superfluous_pages};
 
 use crate::entry::Entry;
 use bib_entry_types::mechanics::{AuthorMode, PagesChapterMode, Requirements};
 use std::alloc::{AllocError, Global};
 
-// Appends a name, where it is told.
+// Appends a name, where it is reported.
 fn push_if(
     names: &mut Vec<&'static str>,
-    is_told: bool,
+    is_reported: bool,
     name: &'static str,
 ) -> Result<(), AllocError>
-    ensures { OnOk result (texts names.new.items ≡ texts names.old.items ++ only_if is_told name.now) }
+    ensures { OnOk result (texts names.new.items ≡ texts names.old.items ++ only_if is_reported name.now) }
 {
-    if is_told {
+    if is_reported {
         names.push(name)?;
     }
     Ok(())
@@ -220,7 +220,7 @@ impl Entry {
 
 // The other name of a required field, if it has one.
 fn other_name(name: &str) -> Option<&'static str>
-    ensures { option_copied result ≡ named other_names name.now }
+    ensures { option_copied result ≡ named other_required_names name.now }
 {
     match name {
         "journaltitle" => Some("journal"),

@@ -92,7 +92,7 @@ pub struct Requirements {
 }
 
 impl Requirements {
-    /// No requirements but an author. It takes no memory.
+    /// No requirements but an author. It does not allocate.
     pub fn new(alloc: Global) -> Self
         ensures required { result.required.items ≡ [] }
         ensures optional { result.optional.items ≡ [] }
@@ -138,7 +138,7 @@ impl EntryType {
         })
     }
 
-    /// What this type asks for, lent by the table of types. It takes no memory.
+    /// What this type asks for, lent by the table of types. It does not allocate.
     pub fn row(&self) -> &'static Row
         ensures { rules_of_row result.now ≡ rules_of self.now }
     {

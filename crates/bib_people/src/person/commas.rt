@@ -2,8 +2,8 @@
 
 ghost use Rattle.std.specs.Prelude.{false, MatchOption, ◌≡◌, ◌≤◌, ◌+◌, length, IfOk};
 ghost use Rattle.std.specs.List.{list_any};
-ghost use Rattle.bib_people.specs.Told.{IsLastSpace, cuts_of};
-ghost use Rattle.bib_people.specs.Names.{is_space, person, shown, is_blank, at_last_space, whole_person, cut_person, without_comma, with_comma, by_commas};
+ghost use Rattle.bib_people.specs.WordKinds.{IsLastSpace, cuts_of};
+ghost use Rattle.bib_people.specs.Names.{is_space_byte, person, shown, formats_to_nothing, at_last_space, whole_person, cut_person, without_comma, with_comma, by_commas};
 
 use super::Person;
 use super::cuts::{Cuts, before_comma, whole_name};
@@ -42,10 +42,10 @@ fn whole_person(alloc: Global, words: &[Word<'_>], cuts: Cuts) -> Result<Person,
     requires { cuts.given + cuts.prefix ≤ length words.now }
     ensures { IfOk result (λ person. person ≡ whole_person (cuts_of cuts) words.now) }
 {
-    let behind = &words[cuts.given..];
-    let name = text_of_words(alloc, &behind[cuts.prefix..])?;
+    let following = &words[cuts.given..];
+    let name = text_of_words(alloc, &following[cuts.prefix..])?;
     let given = text_of_words(alloc, &words[..cuts.given])?;
-    let prefix = text_of_words(alloc, &behind[..cuts.prefix])?;
+    let prefix = text_of_words(alloc, &following[..cuts.prefix])?;
     Ok(person(name, given, prefix, Text::new(alloc)))
 }
 
@@ -60,8 +60,8 @@ fn without_comma(alloc: Global, chunks: ChunksRef<'_>) -> Result<Person, AllocEr
 }
 
 // Whether chunks are a single one that formats to nothing.
-fn is_blank(alloc: Global, chunks: ChunksRef<'_>) -> Result<bool, AllocError>
-    ensures { IfOk result (λ blank. blank ≡ is_blank chunks.now) }
+fn formats_to_nothing(alloc: Global, chunks: ChunksRef<'_>) -> Result<bool, AllocError>
+    ensures { IfOk result (λ blank. blank ≡ formats_to_nothing chunks.now) }
 {
     if chunks.len() != 1 {
         return Ok(false);
@@ -72,7 +72,7 @@ fn is_blank(alloc: Global, chunks: ChunksRef<'_>) -> Result<bool, AllocError>
 
 // Where the last space of a text stands.
 fn last_space(text: &str) -> Option<usize>
-    ensures { MatchOption result (list_any is_space text.now ≡ false) (IsLastSpace text.now) }
+    ensures { MatchOption result (list_any is_space_byte text.now ≡ false) (IsLastSpace text.now) }
 {
     text.rfind(' ')
 }
@@ -102,9 +102,9 @@ fn cut_person(
     requires { cuts.given + cuts.prefix ≤ length words.now }
     ensures { IfOk result (λ person. person ≡ cut_person (cuts_of cuts) words.now given suffix) }
 {
-    let behind = &words[cuts.given..];
-    let name = text_of_words(alloc, &behind[cuts.prefix..])?;
-    let prefix = text_of_words(alloc, &behind[..cuts.prefix])?;
+    let following = &words[cuts.given..];
+    let name = text_of_words(alloc, &following[cuts.prefix..])?;
+    let prefix = text_of_words(alloc, &following[..cuts.prefix])?;
     Ok(person(name, given, prefix, suffix))
 }
 
@@ -117,7 +117,7 @@ fn with_comma(
 ) -> Result<Person, AllocError>
     ensures { IfOk result (λ person. person ≡ with_comma first.now second.now suffix) }
 {
-    if is_blank(alloc, second)? {
+    if formats_to_nothing(alloc, second)? {
         let text = format_verbatim(alloc, first)?;
         return at_last_space(alloc, text.as_str(), suffix);
     }

@@ -2,12 +2,12 @@
 
 ghost use Rattle.std.specs.Prelude.{◌≡◌, ◌+◌, ◌≤◌, length};
 ghost use Rattle.bib_people.specs.Names.{leading, through_last, whole_name, before_comma};
-ghost use Rattle.bib_people.specs.Told.{is_of, cuts_of};
+ghost use Rattle.bib_people.specs.WordKinds.{is_of, cuts_of};
 
 use super::words::Word;
 use unicode::properties::{is_lowercase, is_uppercase};
 
-// What a word is told by: a capital or verbatim first letter, none such, or a small or verbatim first letter.
+// What a word is reported by: a capital or verbatim first letter, none such, or a small or verbatim first letter.
 #[derive(Clone, Copy, PartialEq, Eq, Drop)]
 pub(crate) enum Kind {
     Capital,
@@ -15,7 +15,7 @@ pub(crate) enum Kind {
     Low,
 }
 
-// Of how many words the given name is, and of how many behind them the prefix; the rest are the name.
+// Of how many words the given name is, and of how many after them the prefix; the rest are the name.
 #[derive(Clone, Copy, Drop)]
 pub(crate) struct Cuts {
     pub(crate) given: usize,
@@ -36,7 +36,7 @@ fn is_of(word: &Word<'_>, kind: Kind) -> bool
     }
 }
 
-// How many words of this kind stand at the front.
+// How many words of this kind stand at the start.
 fn leading(words: &[Word<'_>], kind: Kind) -> usize
     ensures value { result ≡ leading (is_of kind) words.now }
     ensures within { result ≤ length words.now }
@@ -49,7 +49,7 @@ fn leading(words: &[Word<'_>], kind: Kind) -> usize
     words.len()
 }
 
-// How many words stand at the front through the last one of this kind.
+// How many words stand at the start through the last one of this kind.
 fn through_last(words: &[Word<'_>], kind: Kind) -> usize
     ensures value { result ≡ through_last (is_of kind) words.now }
     ensures within { result ≤ length words.now }

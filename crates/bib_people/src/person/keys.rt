@@ -1,10 +1,10 @@
-//! Names in parts, each behind a key.
+//! Names in parts, each after a key.
 
 ghost use Rattle.std.specs.Prelude.{codes, ◌≡◌, ◌==◌, [], map, IfOk, bytes_eq};
 ghost use Rattle.std.specs.List.{list_any};
 ghost use Rattle.std.specs.Option.{unwrap_or, option_map, option_copied};
 ghost use Rattle.bib_chunks.specs.Styled.{text_of};
-ghost use Rattle.bib_people.specs.Names.{part_of, parts_of, value_of, person_of_parts, in_parts, is_in_parts};
+ghost use Rattle.bib_people.specs.Names.{key_value_of, parts_of, last_value, person_of_parts, in_parts, is_in_parts};
 
 use super::Person;
 use super::commas::shown;
@@ -31,7 +31,7 @@ pub(crate) fn is_in_parts(chunks: ChunksRef<'_>) -> bool
 
 // A key and its value.
 fn read_part(alloc: Global, chunks: ChunksRef<'_>) -> Result<Part, AllocError>
-    ensures { IfOk result (λ part. part ≡ part_of chunks.now) }
+    ensures { IfOk result (λ part. part ≡ key_value_of chunks.now) }
 {
     let Some((key, value)) = cut_at(alloc, chunks, '=')? else {
         let key = shown(alloc, chunks)?;
@@ -55,8 +55,8 @@ fn parts(alloc: Global, chunks: ChunksRef<'_>) -> Result<Items<Part>, AllocError
 }
 
 // The value of a key; of two the last stands.
-fn value_of(alloc: Global, parts: &[Part], key: &str) -> Result<Option<Text>, AllocError>
-    ensures { IfOk result (λ value. value ≡ value_of key.now parts.now) }
+fn last_value(alloc: Global, parts: &[Part], key: &str) -> Result<Option<Text>, AllocError>
+    ensures { IfOk result (λ value. value ≡ last_value key.now parts.now) }
 {
     let mut found = None;
     'parts: for (name, value) in parts {
@@ -69,9 +69,9 @@ fn value_of(alloc: Global, parts: &[Part], key: &str) -> Result<Option<Text>, Al
 
 // The value of a key, or the empty text.
 fn text_of(alloc: Global, parts: &[Part], key: &str) -> Result<Text, AllocError>
-    ensures { IfOk result (λ text. text ≡ unwrap_or (value_of key.now parts.now) []) }
+    ensures { IfOk result (λ text. text ≡ unwrap_or (last_value key.now parts.now) []) }
 {
-    let Some(text) = value_of(alloc, parts, key)? else {
+    let Some(text) = last_value(alloc, parts, key)? else {
         return Ok(Text::new(alloc));
     };
     Ok(text)
@@ -79,9 +79,9 @@ fn text_of(alloc: Global, parts: &[Part], key: &str) -> Result<Text, AllocError>
 
 // Whether the prefix counts as part of the name.
 fn use_prefix(alloc: Global, parts: &[Part]) -> Result<Option<bool>, AllocError>
-    ensures { IfOk result (λ used. used ≡ option_map (λ v. bytes_eq v (codes "true")) (value_of (codes "useprefix") parts.now)) }
+    ensures { IfOk result (λ used. used ≡ option_map (λ v. bytes_eq v (codes "true")) (last_value (codes "useprefix") parts.now)) }
 {
-    let Some(value) = value_of(alloc, parts, "useprefix")? else {
+    let Some(value) = last_value(alloc, parts, "useprefix")? else {
         return Ok(None);
     };
     Ok(Some(value.as_str() == "true"))
@@ -97,9 +97,9 @@ fn person_of(alloc: Global, parts: &[Part]) -> Result<Person, AllocError>
         given_name: text_of(alloc, parts, "given")?,
         prefix: text_of(alloc, parts, "prefix")?,
         suffix: text_of(alloc, parts, "suffix")?,
-        id: value_of(alloc, parts, "id")?,
-        prefix_initials: value_of(alloc, parts, "prefix-i")?,
-        given_initials: value_of(alloc, parts, "given-i")?,
+        id: last_value(alloc, parts, "id")?,
+        prefix_initials: last_value(alloc, parts, "prefix-i")?,
+        given_initials: last_value(alloc, parts, "given-i")?,
         use_prefix: use_prefix(alloc, parts)?,
     })
 }

@@ -91,7 +91,7 @@ fn is_gap(letter: &Letter) -> bool
     letter.char.is_whitespace() && !letter.is_verbatim
 }
 
-// How many letters belong to the gap at the front.
+// How many letters belong to the gap at the start.
 fn gap_len(letters: &[Letter]) -> usize
     ensures value { result ≡ gap_len letters.now }
     ensures within { result ≤ length letters.now }
@@ -104,7 +104,7 @@ fn gap_len(letters: &[Letter]) -> usize
     letters.len()
 }
 
-// How many letters belong to the word at the front.
+// How many letters belong to the word at the start.
 fn word_len(letters: &[Letter]) -> usize
     ensures value { result ≡ word_len letters.now }
     ensures within { result ≤ length letters.now }
@@ -125,12 +125,12 @@ pub(crate) fn words<'a>(alloc: Global, letters: &'a [Letter]) -> Result<Items<Wo
     let mut rest = letters;
     'words: loop {
         let gap = gap_len(rest);
-        let (before, behind) = rest.split_at(gap);
-        if behind.is_empty() {
+        let (before, following) = rest.split_at(gap);
+        if following.is_empty() {
             return Ok(all);
         }
-        let word = word_len(behind);
-        let (inside, after) = behind.split_at(word);
+        let word = word_len(following);
+        let (inside, after) = following.split_at(word);
         all.push(Word {
             gap: before,
             letters: inside,

@@ -1,35 +1,35 @@
-//! Fields: names with values, parted by commas.
+//! Fields: names with values, separated by commas.
 
 ghost use Rattle.std.specs.Prelude.{◌≡◌, List, map, IfOk, IfErr, OnOk, OnErr};
 ghost use Rattle.std.specs.Char.{is_whitespace};
 ghost use Rattle.bib_text.specs.Places.{Place, CharAt, Longest};
-ghost use Rattle.bib_syntax.specs.Faults.{IsSyntaxFault, Refuses};
-ghost use Rattle.bib_syntax.specs.Grammar.{Elements, Field, Fields, Gap, Remark, longest};
+ghost use Rattle.bib_syntax.specs.Errors.{IsSyntaxError, Refuses};
+ghost use Rattle.bib_syntax.specs.Grammar.{Elements, Field, Fields, Gap, LineComment, longest};
 ghost use Rattle.bib_syntax.specs.Reading.{Piece, FieldReading};
 ghost use Rattle.bib_syntax.specs.Views.{piece_of, field_of};
 
-use crate::raw::words::{begins_identifier, element, expect, fault, identifier};
+use crate::raw::words::{begins_identifier, element, error, expect, identifier};
 use crate::raw::{Field, Pair, ParseError, ParseErrorKind, Token};
 use bib_text::scanner::Scanner;
 use bib_text::spanned::Spanned;
 use std::alloc::Global;
 
 // A percent sign and the rest of its line.
-pub(crate) fn remark(s: &mut Scanner<'_>)
+pub(crate) fn line_comment(s: &mut Scanner<'_>)
     requires { (v : Place) × CharAt s.old 37 v }
-    ensures { Remark s.old s.new }
+    ensures { LineComment s.old s.new }
 {
     s.eat_if('%');
     s.eat_until(|c| c == '\n');
 }
 
-// White space, in which one remark may stand.
+// White space, in which one comment may stand.
 pub(crate) fn gap(s: &mut Scanner<'_>)
     ensures { Gap longest s.old s.new }
 {
     s.eat_whitespace();
     if s.at('%') {
-        remark(s);
+        line_comment(s);
         s.eat_whitespace();
     }
 }
@@ -68,22 +68,22 @@ fn field<'s>(s: &mut Scanner<'s>, alloc: Global) -> Result<Pair<'s>, ParseError>
     Ok(Pair::new(name, Spanned::new(pieces, start..s.cursor())))
 }
 
-// The brace behind fields, with white space before it; `missing` is what is told where it doesn't stand.
+// The brace after fields, with white space before it; `missing` is what is reported where it doesn't stand.
 fn closed(s: &mut Scanner<'_>, missing: Token) -> Result<(), ParseError>
     ensures found { OnOk result (Longest is_whitespace s.old s.new ×
         ((v : Place) × CharAt s.new 125 v)) }
     ensures none { OnErr result ((v w : Place) → Longest is_whitespace s.old v →
         CharAt v 125 w → ⊥) }
-    ensures fault { IfErr result (IsSyntaxFault s.old.text) }
+    ensures error { IfErr result (IsSyntaxError s.old.text) }
 {
     s.eat_whitespace();
     if s.at('}') {
         return Ok(());
     }
     if missing == Token::Identifier && s.done() {
-        return Err(fault(s, ParseErrorKind::UnexpectedEof));
+        return Err(error(s, ParseErrorKind::UnexpectedEof));
     }
-    Err(fault(s, ParseErrorKind::Expected(missing)))
+    Err(error(s, ParseErrorKind::Expected(missing)))
 }
 
 // Fields up to the brace that closes their block.

@@ -2,15 +2,15 @@
 
 ghost use Rattle.std.specs.Prelude.{◌≡◌, ℕ, List, [], ◌∷◌, ◌==◌, ◌&&◌, ◌||◌, not, true, IfOk, IfErr, OnOk, OnErr};
 ghost use Rattle.bib_text.specs.Places.{Place, CharAt, place};
-ghost use Rattle.bib_syntax.specs.Blocks.{item_of, kind_of};
+ghost use Rattle.bib_syntax.specs.Blocks.{item_of, block_kind_of};
 ghost use Rattle.bib_syntax.specs.Grammar as grammar;
 ghost use Rattle.bib_syntax.specs.Grammar.{BlockKind as ABlock};
-ghost use Rattle.bib_syntax.specs.Grammar.{Head, Body, Block, Remark, File, Quoted, longest};
-ghost use Rattle.bib_syntax.specs.Reading.{Part, FileReading, nothing, then};
-ghost use Rattle.bib_syntax.specs.Faults.{IsSyntaxFault, Refuses, out_of_memory};
+ghost use Rattle.bib_syntax.specs.Grammar.{Head, Body, Block, LineComment, File, Quoted, longest};
+ghost use Rattle.bib_syntax.specs.Reading.{Part, FileReading, empty_reading, then};
+ghost use Rattle.bib_syntax.specs.Errors.{IsSyntaxError, Refuses, out_of_memory};
 ghost use Rattle.bib_syntax.specs.Views.{part_of, file_of};
 
-use crate::raw::fields::{fields, gap, remark};
+use crate::raw::fields::{fields, gap, line_comment};
 use crate::raw::words::{brace, expect, identifier, key, quoted};
 use crate::raw::{Pair, ParseError, RawBibliography, RawEntry, Token};
 use bib_text::scanner::Scanner;
@@ -33,7 +33,7 @@ pub fn is_word(name: &str, word: &str) -> bool
 }
 
 fn block_kind(name: &str) -> BlockKind
-    ensures { kind_of result ≡ grammar.block_kind name.now }
+    ensures { block_kind_of result ≡ grammar.block_kind name.now }
 {
     if is_word(name, "comment") {
         BlockKind::Comment
@@ -55,12 +55,12 @@ enum Item<'s> {
     Entry(Spanned<RawEntry<'s>>),
 }
 
-// The head of a block behind its at sign: its name and a brace.
+// The head of a block after its at sign: its name and a brace.
 fn head<'s>(s: &mut Scanner<'s>) -> Result<Spanned<&'s str>, ParseError>
     requires { (v : Place) × CharAt s.old 64 v }
     ensures found { IfOk result (λ kind. Head longest s.old (part_of kind) s.new) }
     ensures none { OnErr result ((p : Part) (v : Place) → Head longest s.old p v → ⊥) }
-    ensures fault { IfErr result (IsSyntaxFault s.old.text) }
+    ensures error { IfErr result (IsSyntaxError s.old.text) }
 {
     s.eat_if('@');
     let kind = identifier(s)?;
@@ -73,10 +73,10 @@ fn head<'s>(s: &mut Scanner<'s>) -> Result<Spanned<&'s str>, ParseError>
 // A comment, up to its first closing brace.
 fn comment(s: &mut Scanner<'_>) -> Result<(), ParseError>
     ensures found { OnOk result ((u : Place) (p : Part) →
-        Body longest u p ABlock.comment s.old nothing s.new) }
+        Body longest u p ABlock.comment s.old empty_reading s.new) }
     ensures none { OnErr result ((u : Place) (p : Part) (r : FileReading) (v : Place) →
         Body longest u p ABlock.comment s.old r v → ⊥) }
-    ensures fault { IfErr result (IsSyntaxFault s.old.text) }
+    ensures error { IfErr result (IsSyntaxError s.old.text) }
 {
     s.eat_until(|c| c == '}');
     expect(s, '}', Token::ClosingBrace)?;
@@ -89,7 +89,7 @@ fn preamble<'s>(s: &mut Scanner<'s>) -> Result<&'s str, ParseError>
         Body longest u p ABlock.preamble s.old (item_of (Item.Preamble text)) s.new) }
     ensures none { OnErr result ((u : Place) (p : Part) (r : FileReading) (v : Place) →
         Body longest u p ABlock.preamble s.old r v → ⊥) }
-    ensures fault { IfErr result (IsSyntaxFault s.old.text) }
+    ensures error { IfErr result (IsSyntaxError s.old.text) }
 {
     let start = s.cursor();
     quoted(s)?;
@@ -112,7 +112,7 @@ fn strings<'s>(s: &mut Scanner<'s>, alloc: Global) -> Result<Vec<Pair<'s>>, Pars
     Ok(pairs)
 }
 
-// The key of an entry and the comma behind it, and its fields. The entry began at `start`.
+// The key of an entry and the comma after it, and its fields. The entry began at `start`.
 fn entry<'s>(
     s: &mut Scanner<'s>,
     alloc: Global,
@@ -199,7 +199,7 @@ pub(crate) fn blocks<'s>(
             let item = block(s, alloc)?;
             add(&mut raw, item)?;
         } else if c == '%' {
-            remark(s);
+            line_comment(s);
         } else {
             s.eat_while(is_skipped);
         }

@@ -5,7 +5,7 @@ ghost use Rattle.std.specs.Char.{is_ascii_digit};
 ghost use Rattle.bib_text.specs.Places.{Place, CharAt, Longest};
 ghost use Rattle.bib_text.specs.Braces.{Parts, is_plain};
 ghost use Rattle.bib_syntax.specs.Characters as characters;
-ghost use Rattle.bib_syntax.specs.Faults.{IsSyntaxFault, is_syntax};
+ghost use Rattle.bib_syntax.specs.Errors.{IsSyntaxError, is_syntax};
 ghost use Rattle.bib_syntax.specs.Grammar.{Identifier, Number, Quoted, QuotedParts, Braced, Element, longest};
 ghost use Rattle.bib_syntax.specs.Reading.{Part, Piece, part};
 ghost use Rattle.bib_syntax.specs.Views.{part_of, piece_of};
@@ -16,10 +16,10 @@ use crate::raw::{
 use bib_text::scanner::Scanner;
 use bib_text::spanned::Spanned;
 
-// A fault of the grammar at this place.
-pub(crate) fn fault(s: &Scanner<'_>, kind: ParseErrorKind) -> ParseError
+// An error of the grammar at this place.
+pub(crate) fn error(s: &Scanner<'_>, kind: ParseErrorKind) -> ParseError
     requires { IsTrue (is_syntax kind) }
-    ensures { IsSyntaxFault s.now.text result }
+    ensures { IsSyntaxError s.now.text result }
 {
     let here = s.cursor();
     ParseError {
@@ -32,10 +32,10 @@ pub(crate) fn fault(s: &Scanner<'_>, kind: ParseErrorKind) -> ParseError
 pub(crate) fn expect(s: &mut Scanner<'_>, c: char, token: Token) -> Result<(), ParseError>
     ensures found { OnOk result (CharAt s.old c s.new) }
     ensures none { OnErr result ((v : Place) → CharAt s.old c v → ⊥) }
-    ensures fault { IfErr result (IsSyntaxFault s.old.text) }
+    ensures error { IfErr result (IsSyntaxError s.old.text) }
 {
     if !s.eat_if(c) {
-        return Err(fault(s, ParseErrorKind::Expected(token)));
+        return Err(error(s, ParseErrorKind::Expected(token)));
     }
     Ok(())
 }
@@ -45,12 +45,12 @@ pub(crate) fn brace(s: &mut Scanner<'_>, c: char, token: Token) -> Result<(), Pa
     ensures found { OnOk result ((d : ℕ) × CharAt s.old d s.new × (d == c || d == 34 ≡ true)) }
     ensures none { OnErr result ((d : ℕ) (v : Place) → CharAt s.old d v →
         d == c || d == 34 ≡ true → ⊥) }
-    ensures fault { IfErr result (IsSyntaxFault s.old.text) }
+    ensures error { IfErr result (IsSyntaxError s.old.text) }
 {
     if s.eat_if(c) || s.eat_if('"') {
         return Ok(());
     }
-    Err(fault(s, ParseErrorKind::Expected(token)))
+    Err(error(s, ParseErrorKind::Expected(token)))
 }
 
 // Whether an identifier begins here.
@@ -69,10 +69,10 @@ pub(crate) fn begins_identifier(s: &Scanner<'_>) -> bool
 pub(crate) fn identifier<'s>(s: &mut Scanner<'s>) -> Result<Spanned<&'s str>, ParseError>
     ensures found { IfOk result (λ name. Identifier longest s.old (part_of name) s.new) }
     ensures none { OnErr result ((p : Part) (v : Place) → Identifier longest s.old p v → ⊥) }
-    ensures fault { IfErr result (IsSyntaxFault s.old.text) }
+    ensures error { IfErr result (IsSyntaxError s.old.text) }
 {
     if !begins_identifier(s) {
-        return Err(fault(s, ParseErrorKind::Expected(Token::Identifier)));
+        return Err(error(s, ParseErrorKind::Expected(Token::Identifier)));
     }
     let start = s.cursor();
     let text = s.eat_while(is_id_continue);
@@ -100,7 +100,7 @@ fn digits(s: &mut Scanner<'_>) -> Result<(), ParseError>
     requires { (c : ℕ) × (v : Place) × CharAt s.old c v × (is_ascii_digit c ≡ true) }
     ensures found { OnOk result (Number longest s.old s.new) }
     ensures none { OnErr result ((v : Place) → Number longest s.old v → ⊥) }
-    ensures fault { IfErr result (IsSyntaxFault s.old.text) }
+    ensures error { IfErr result (IsSyntaxError s.old.text) }
 {
     s.eat_while(is_digit);
     if !s.eat_if('.') {
@@ -108,7 +108,7 @@ fn digits(s: &mut Scanner<'_>) -> Result<(), ParseError>
     }
     s.eat_while(is_digit);
     if s.at('.') {
-        return Err(fault(s, ParseErrorKind::Unexpected(Token::DecimalPoint)));
+        return Err(error(s, ParseErrorKind::Unexpected(Token::DecimalPoint)));
     }
     Ok(())
 }
@@ -119,7 +119,7 @@ fn number<'s>(s: &mut Scanner<'s>) -> Result<Spanned<&'s str>, ParseError>
     ensures found { OnOk result (Number longest s.old s.new) }
     ensures reading { IfOk result (λ text. part_of text ≡ part s.old s.new) }
     ensures none { OnErr result ((v : Place) → Number longest s.old v → ⊥) }
-    ensures fault { IfErr result (IsSyntaxFault s.old.text) }
+    ensures error { IfErr result (IsSyntaxError s.old.text) }
 {
     let start = s.cursor();
     digits(s)?;
@@ -138,7 +138,7 @@ fn quoted_parts<'s>(s: &mut Scanner<'s>) -> Result<Spanned<&'s str>, ParseError>
     ensures found { OnOk result (QuotedParts s.old s.new × ((v : Place) × CharAt s.new 34 v)) }
     ensures reading { IfOk result (λ text. part_of text ≡ part s.old s.new) }
     ensures none { OnErr result ((v w : Place) → QuotedParts s.old v → CharAt v 34 w → ⊥) }
-    ensures fault { IfErr result (IsSyntaxFault s.old.text) }
+    ensures error { IfErr result (IsSyntaxError s.old.text) }
 {
     let start = s.cursor();
     'parts: loop {
@@ -147,7 +147,7 @@ fn quoted_parts<'s>(s: &mut Scanner<'s>) -> Result<Spanned<&'s str>, ParseError>
             return Ok(Spanned::new(s.from(start), start..s.cursor()));
         }
         if !s.eat_if('\\') {
-            return Err(fault(s, ParseErrorKind::UnexpectedEof));
+            return Err(error(s, ParseErrorKind::UnexpectedEof));
         }
         s.eat();
     }
@@ -157,7 +157,7 @@ fn quoted_parts<'s>(s: &mut Scanner<'s>) -> Result<Spanned<&'s str>, ParseError>
 pub(crate) fn quoted<'s>(s: &mut Scanner<'s>) -> Result<Spanned<&'s str>, ParseError>
     ensures found { IfOk result (λ text. Quoted s.old (part_of text) s.new) }
     ensures none { OnErr result ((p : Part) (v : Place) → Quoted s.old p v → ⊥) }
-    ensures fault { IfErr result (IsSyntaxFault s.old.text) }
+    ensures error { IfErr result (IsSyntaxError s.old.text) }
 {
     expect(s, '"', Token::QuotationMark)?;
     let text = quoted_parts(s)?;
@@ -177,7 +177,7 @@ fn braced_parts<'s>(s: &mut Scanner<'s>) -> Result<Spanned<&'s str>, ParseError>
     ensures found { OnOk result (Parts s.old s.new × ((v : Place) × CharAt s.new 125 v)) }
     ensures reading { IfOk result (λ text. part_of text ≡ part s.old s.new) }
     ensures none { OnErr result ((v w : Place) → Parts s.old v → CharAt v 125 w → ⊥) }
-    ensures fault { IfErr result (IsSyntaxFault s.old.text) }
+    ensures error { IfErr result (IsSyntaxError s.old.text) }
 {
     let start = s.cursor();
     let mut depth = 0usize;
@@ -194,7 +194,7 @@ fn braced_parts<'s>(s: &mut Scanner<'s>) -> Result<Spanned<&'s str>, ParseError>
         } else if s.eat_if('\\') {
             s.eat();
         } else {
-            return Err(fault(s, ParseErrorKind::UnexpectedEof));
+            return Err(error(s, ParseErrorKind::UnexpectedEof));
         }
     }
 }
@@ -203,7 +203,7 @@ fn braced_parts<'s>(s: &mut Scanner<'s>) -> Result<Spanned<&'s str>, ParseError>
 fn braced<'s>(s: &mut Scanner<'s>) -> Result<Spanned<&'s str>, ParseError>
     ensures found { IfOk result (λ text. Braced s.old (part_of text) s.new) }
     ensures none { OnErr result ((p : Part) (v : Place) → Braced s.old p v → ⊥) }
-    ensures fault { IfErr result (IsSyntaxFault s.old.text) }
+    ensures error { IfErr result (IsSyntaxError s.old.text) }
 {
     expect(s, '{', Token::OpeningBrace)?;
     let text = braced_parts(s)?;
@@ -227,7 +227,7 @@ fn begins_number(s: &Scanner<'_>) -> bool
 pub(crate) fn element<'s>(s: &mut Scanner<'s>) -> Result<Spanned<RawChunk<'s>>, ParseError>
     ensures found { IfOk result (λ chunk. Element longest s.old (piece_of chunk) s.new) }
     ensures none { OnErr result ((e : Piece) (v : Place) → Element longest s.old e v → ⊥) }
-    ensures fault { IfErr result (IsSyntaxFault s.old.text) }
+    ensures error { IfErr result (IsSyntaxError s.old.text) }
 {
     if s.at('{') {
         return Ok(braced(s)?.map(RawChunk::Normal));
@@ -241,5 +241,5 @@ pub(crate) fn element<'s>(s: &mut Scanner<'s>) -> Result<Spanned<RawChunk<'s>>, 
     if begins_identifier(s) {
         return Ok(identifier(s)?.map(RawChunk::Abbreviation));
     }
-    Err(fault(s, ParseErrorKind::UnexpectedEof))
+    Err(error(s, ParseErrorKind::UnexpectedEof))
 }

@@ -6,7 +6,7 @@ use Rattle.bib.proofs.run.run.Goals as goal
 pub returns-in_default-clause-printed : goal.returns-in_default-clause-printed
 returns-in_default-clause-printed g c limit same =
     let p = c.print.ensures.printed limit same in
-    (_, p.0, rw p.1 (answer.usage_told c.in_default.ensures))
+    (_, p.0, rw p.1 (answer.usage_reported c.in_default.ensures))
 
 pub returns-in-Err-Failed-clause-printed : goal.returns-in-Err-Failed-clause-printed
 returns-in-Err-Failed-clause-printed g c limit same =
@@ -29,7 +29,7 @@ returns-in-Err-clause-printed g c limit same =
     (_, p.0, rw p.1 (answer.no_memory (c.in-Some.command, c.in-Some.ensures) (c.in-Ok.ensures.same (λ e. cc))))
 
 pub returns-in_default-clause-handed : goal.returns-in_default-clause-handed
-returns-in_default-clause-handed g c = record { text = _; status = _; answer = answer.usage_told c.in_default.ensures; printed = c.print.ensures.handed }
+returns-in_default-clause-handed g c = record { text = _; status = _; answer = answer.usage_reported c.in_default.ensures; printed = c.print.ensures.handed }
 
 pub returns-in-Err-Failed-clause-handed : goal.returns-in-Err-Failed-clause-handed
 returns-in-Err-Failed-clause-handed g c =

@@ -3,9 +3,9 @@ use Rattle.std.specs.Prelude.{encode_utf8_all, string_bytes}
 use Rattle.std.specs.Str.{chars}
 use Rattle.std.proofs.lemmas.Result.{err_from_is_err_and}
 use Rattle.std.proofs.lemmas.Str.{IsUtf8-string_bytes}
-use Rattle.bib_contents.specs.Arguments.{written}
+use Rattle.bib_contents.specs.Arguments.{argument_written}
 use Rattle.bib_contents.specs.Effects.{made_before}
-use Rattle.bib_contents.specs.Passing.{left}
+use Rattle.bib_contents.specs.Progress.{left}
 use Rattle.bib_contents.proofs.ArgumentReading.{name_plain}
 use Rattle.bib_contents.proofs.EffectFacts.{wrote_from}
 use Rattle.bib_contents.proofs.StackFacts.{reversed_push, no_elements}
@@ -53,7 +53,7 @@ end-requires c =
     let read = rw c.in-End.is at (c.in_ok-next.ensures.read inv.whole (inv.under ++ made_before c.units.frame.effect inv.name) inv.read) in
     let kept = c.in_ok-next.ensures.kept in
     let begun = begun_on inv.begun kept c.in_ok-next.ensures.right in
-    let said = written c.next.new.self.is_flat read.0.atoms in
+    let said = argument_written c.next.new.self.is_flat read.0.atoms in
     let now = read.0.wrote ∙ ap (λ e. encode_utf8_all ((inv.under ++ made_before e inv.name) ++ said)) (sym kept.effect) in
     record { fit = begun.fit; begun = (inv.under ++ made_before c.next.new.self.effect inv.name, said, begun.start, now) }
 
@@ -64,7 +64,7 @@ returns-in_default-clause-read c =
     let read = rw c.in-End.is at (c.in_ok-next.ensures.read inv.whole (inv.under ++ made_before c.units.frame.effect inv.name) inv.read) in
     let kept = c.in_ok-next.ensures.kept in
     let begun = begun_on inv.begun kept c.in_ok-next.ensures.right in
-    let said = written c.next.new.self.is_flat read.0.atoms in
+    let said = argument_written c.next.new.self.is_flat read.0.atoms in
     let now = read.0.wrote ∙ ap (λ e. encode_utf8_all ((inv.under ++ made_before e inv.name) ++ said)) (sym kept.effect) in
     let done = reading_done inv kept read.0 (c.in_ok-end-in-End.ensures inv.under inv.name said begun.start now) in
     (done.0, done.1, wrote_from (string_bytes c.args.text.now) _ _ (IsUtf8-string_bytes c.args.text.now) done.2)
@@ -76,7 +76,7 @@ units-preserved c =
     let read = rw c.in-End.is at (c.in_ok-next.ensures.read inv.whole (inv.under ++ made_before c.units.frame.effect inv.name) inv.read) in
     let kept = c.in_ok-next.ensures.kept in
     let begun = begun_on inv.begun kept c.in_ok-next.ensures.right in
-    let said = written c.next.new.self.is_flat read.0.atoms in
+    let said = argument_written c.next.new.self.is_flat read.0.atoms in
     let now = read.0.wrote ∙ ap (λ e. encode_utf8_all ((inv.under ++ made_before e inv.name) ++ said)) (sym kept.effect) in
     reading_below inv kept read.0 (c.in_ok-end-in-End.ensures inv.under inv.name said begun.start now)
 
@@ -99,6 +99,6 @@ pub returns-in_err-next-clause-within : goal.returns-in_err-next-clause-within
 returns-in_err-next-clause-within c fits =
     let inv = c.units.invariant in
     let p = err_from_is_err_and c.from_residual-in_err-next.result c.from_residual-in_err-next.ensures.1 in
-    let behind = inv.begun.behind in
+    let following = inv.begun.following in
     let within = inv.begun.within in
-    rw (p.1, p.2) (stays_wider (c.in_err-next.ensures.within (omega (arith, fits, within))) (omega (arith, behind)) (omega (arith, within)))
+    rw (p.1, p.2) (stays_wider (c.in_err-next.ensures.within (omega (arith, fits, within))) (omega (arith, following)) (omega (arith, within)))

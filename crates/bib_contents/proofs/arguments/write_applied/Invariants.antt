@@ -1,7 +1,7 @@
 use Rattle.std.proofs.Common.{◌∷◌, length, reverse}
 use Rattle.std.specs.Prelude.{string_bytes}
 use Rattle.std.specs.Str.{chars}
-use Rattle.bib_contents.specs.Passing.{left}
+use Rattle.bib_contents.specs.Progress.{left}
 use Rattle.bib_contents.proofs.FrameFacts.{IsReading, weight}
 use Rattle.bib_contents.proofs.arguments.write_applied.Given as goal
 

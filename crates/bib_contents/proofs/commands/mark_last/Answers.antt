@@ -1,7 +1,7 @@
 use Rattle.std.proofs.Common.{◌∷◌, [], arith}
 use Rattle.std.proofs.lemmas.Str.{IsUtf8-string_bytes}
 use Rattle.bib_text.proofs.TextFacts.{pushed_chars, encode_one}
-use Rattle.bib_contents.proofs.EffectFacts.{marked_none, marked_behind}
+use Rattle.bib_contents.proofs.EffectFacts.{marked_none, marked_after}
 use Rattle.bib_contents.proofs.commands.mark_last.Goals as goal
 
 pub returns-then-len-start : goal.returns-then-len-start
@@ -11,5 +11,5 @@ returns-then-len-start c base inside size is =
 
 pub returns : goal.returns
 returns c base inside size is =
-    marked_behind base inside c.args.mark c.in-Some.last _ _ _ size (omega (arith, c.len.ensures, c.if-len-start.false)) (IsUtf8-string_bytes c.args.out.now) (IsUtf8-string_bytes c.pop.new.self) is c.in-Some.ensures.bytes
+    marked_after base inside c.args.mark c.in-Some.last _ _ _ size (omega (arith, c.len.ensures, c.if-len-start.false)) (IsUtf8-string_bytes c.args.out.now) (IsUtf8-string_bytes c.pop.new.self) is c.in-Some.ensures.bytes
     (rw c.letter.ensures at c.in_ok-write_marked_letter.ensures)

@@ -5,9 +5,9 @@ use Rattle.std.proofs.lemmas.Result.{err_from_is_err_and}
 use Rattle.std.proofs.lemmas.Str.{IsUtf8-string_bytes}
 use Rattle.bib_text.proofs.TextFacts.{pushed_part}
 use Rattle.bib_contents.specs.Contents.{is_ordinary, unit_spelling}
-use Rattle.bib_contents.specs.Passing.{left}
+use Rattle.bib_contents.specs.Progress.{left}
 use Rattle.bib_contents.specs.UnitViews.{unit_of}
-use Rattle.bib_contents.specs.declared.growing.Open.{Open}
+use Rattle.bib_contents.specs.declared.growing.OpenChunk.{OpenChunk}
 use Rattle.bib_contents.proofs.ReaderFacts.{unit_shorter, stuck_unit, stuck_taken}
 use Rattle.bib_contents.proofs.ReadingContents.{Reading, reading_none, reading_run, reading_unit, reading_all, reading_ends, unit_place}
 use Rattle.bib_contents.proofs.TakingFacts.{stands_at, unit_named}
@@ -22,7 +22,7 @@ eat_while-run-requires-clause-is_test c = (is_ordinary c.args.is_verbatim, λ x 
 pub returns-then-done-clause-read : goal.returns-then-done-clause-read
 returns-then-done-clause-read c =
     let all = c.eat_while-run.ensures.longest (is_ordinary c.args.is_verbatim) (λ x r post. search rules) in
-    let grown : Open = record { text = c.push_str.new.self; depth = c.units.growing.depth; start = c.units.growing.start; is_first = c.units.growing.is_first } in
+    let grown : OpenChunk = record { text = c.push_str.new.self; depth = c.units.growing.depth; start = c.units.growing.start; is_first = c.units.growing.is_first } in
     let run : Reading c.args.is_verbatim c.args.text.now c.args.offset c.args.out.now c.eat_while-run.new.self grown c.units.out =
     reading_run c.units.growing grown c.eat_while-run.result.now c.units.invariant c.eat_while-run.ensures.passed all.0
     (pushed_part _ _ _ _ c.eat_while-run.result.now c.in_ok-push_str.was c.push_str.ensures.bytes refl) (IsUtf8-string_bytes c.units.growing.text) refl refl in
@@ -31,7 +31,7 @@ returns-then-done-clause-read c =
 pub returns-then-done-clause-placed : goal.returns-then-done-clause-placed
 returns-then-done-clause-placed c low placed =
     let all = c.eat_while-run.ensures.longest (is_ordinary c.args.is_verbatim) (λ x r post. search rules) in
-    let grown : Open = record { text = c.push_str.new.self; depth = c.units.growing.depth; start = c.units.growing.start; is_first = c.units.growing.is_first } in
+    let grown : OpenChunk = record { text = c.push_str.new.self; depth = c.units.growing.depth; start = c.units.growing.start; is_first = c.units.growing.is_first } in
     let run : Reading c.args.is_verbatim c.args.text.now c.args.offset c.args.out.now c.eat_while-run.new.self grown c.units.out =
     reading_run c.units.growing grown c.eat_while-run.result.now c.units.invariant c.eat_while-run.ensures.passed all.0
     (pushed_part _ _ _ _ c.eat_while-run.result.now c.in_ok-push_str.was c.push_str.ensures.bytes refl) (IsUtf8-string_bytes c.units.growing.text) refl refl in
@@ -41,7 +41,7 @@ returns-then-done-clause-placed c low placed =
 pub returns-in_default-clause-refused : goal.returns-in_default-clause-refused
 returns-in_default-clause-refused c =
     let all = c.eat_while-run.ensures.longest (is_ordinary c.args.is_verbatim) (λ x r post. search rules) in
-    let grown : Open = record { text = c.push_str.new.self; depth = c.units.growing.depth; start = c.units.growing.start; is_first = c.units.growing.is_first } in
+    let grown : OpenChunk = record { text = c.push_str.new.self; depth = c.units.growing.depth; start = c.units.growing.start; is_first = c.units.growing.is_first } in
     let run : Reading c.args.is_verbatim c.args.text.now c.args.offset c.args.out.now c.eat_while-run.new.self grown c.units.out =
     reading_run c.units.growing grown c.eat_while-run.result.now c.units.invariant c.eat_while-run.ensures.passed all.0
     (pushed_part _ _ _ _ c.eat_while-run.result.now c.in_ok-push_str.was c.push_str.ensures.bytes refl) (IsUtf8-string_bytes c.units.growing.text) refl refl in
@@ -50,7 +50,7 @@ returns-in_default-clause-refused c =
 pub take-requires : goal.take-requires
 take-requires c =
     let all = c.eat_while-run.ensures.longest (is_ordinary c.args.is_verbatim) (λ x r post. search rules) in
-    let grown : Open = record { text = c.push_str.new.self; depth = c.units.growing.depth; start = c.units.growing.start; is_first = c.units.growing.is_first } in
+    let grown : OpenChunk = record { text = c.push_str.new.self; depth = c.units.growing.depth; start = c.units.growing.start; is_first = c.units.growing.is_first } in
     let run : Reading c.args.is_verbatim c.args.text.now c.args.offset c.args.out.now c.eat_while-run.new.self grown c.units.out =
     reading_run c.units.growing grown c.eat_while-run.result.now c.units.invariant c.eat_while-run.ensures.passed all.0
     (pushed_part _ _ _ _ c.eat_while-run.result.now c.in_ok-push_str.was c.push_str.ensures.bytes refl) (IsUtf8-string_bytes c.units.growing.text) refl refl in
@@ -73,7 +73,7 @@ units-smaller c =
 pub units-preserved : goal.units-preserved
 units-preserved c =
     let all = c.eat_while-run.ensures.longest (is_ordinary c.args.is_verbatim) (λ x r post. search rules) in
-    let grown : Open = record { text = c.push_str.new.self; depth = c.units.growing.depth; start = c.units.growing.start; is_first = c.units.growing.is_first } in
+    let grown : OpenChunk = record { text = c.push_str.new.self; depth = c.units.growing.depth; start = c.units.growing.start; is_first = c.units.growing.is_first } in
     let run : Reading c.args.is_verbatim c.args.text.now c.args.offset c.args.out.now c.eat_while-run.new.self grown c.units.out =
     reading_run c.units.growing grown c.eat_while-run.result.now c.units.invariant c.eat_while-run.ensures.passed all.0
     (pushed_part _ _ _ _ c.eat_while-run.result.now c.in_ok-push_str.was c.push_str.ensures.bytes refl) (IsUtf8-string_bytes c.units.growing.text) refl refl in
@@ -84,7 +84,7 @@ units-preserved c =
 pub returns-in_err-take-clause-refused : goal.returns-in_err-take-clause-refused
 returns-in_err-take-clause-refused c =
     let all = c.eat_while-run.ensures.longest (is_ordinary c.args.is_verbatim) (λ x r post. search rules) in
-    let grown : Open = record { text = c.push_str.new.self; depth = c.units.growing.depth; start = c.units.growing.start; is_first = c.units.growing.is_first } in
+    let grown : OpenChunk = record { text = c.push_str.new.self; depth = c.units.growing.depth; start = c.units.growing.start; is_first = c.units.growing.is_first } in
     let run : Reading c.args.is_verbatim c.args.text.now c.args.offset c.args.out.now c.eat_while-run.new.self grown c.units.out =
     reading_run c.units.growing grown c.eat_while-run.result.now c.units.invariant c.eat_while-run.ensures.passed all.0
     (pushed_part _ _ _ _ c.eat_while-run.result.now c.in_ok-push_str.was c.push_str.ensures.bytes refl) (IsUtf8-string_bytes c.units.growing.text) refl refl in

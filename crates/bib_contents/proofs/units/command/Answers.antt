@@ -2,7 +2,7 @@ use Rattle.std.proofs.Common.{◌≡◌, ap, ◌∙◌, not}
 use Rattle.std.specs.Str.{chars}
 use Rattle.bib_contents.specs.Contents.{Argument, is_space, is_empty}
 use Rattle.bib_contents.specs.UnitViews.{argument_of}
-use Rattle.bib_contents.specs.Passing.{left}
+use Rattle.bib_contents.specs.Progress.{left}
 use Rattle.bib_contents.proofs.CommandUnitFacts.{command_found, command_none, spaced_chars}
 use Rattle.bib_contents.proofs.units.command.Goals as goal
 

@@ -1,9 +1,9 @@
 use Rattle.std.proofs.Common.{◌≡◌, ◌∷◌, [], sym}
 use Rattle.std.specs.Str.{chars}
 use Rattle.bib_contents.specs.Contents.{is_name_character}
-use Rattle.bib_contents.specs.Passing.{Passes}
+use Rattle.bib_contents.specs.Progress.{Passes}
 use Rattle.bib_contents.proofs.ArgumentFacts.{passes_text}
-use Rattle.bib_contents.proofs.PassingFacts.{passes_then}
+use Rattle.bib_contents.proofs.ProgressFacts.{passes_then}
 use Rattle.bib_contents.proofs.CommandUnitFacts.{eaten_first, sign_name, other_name, sign_whole, other_whole}
 use Rattle.bib_contents.proofs.units.eat_name.Goals as goal
 use Rattle.bib_contents.proofs.units.eat_name.Goals.{After-from, After-from-2}

@@ -1,6 +1,6 @@
 use Rattle.std.proofs.Common.{◌≡◌, ◌∷◌, [], ◌∙◌, ap}
 use Rattle.bib_contents.specs.Contents.{is_space}
-use Rattle.bib_contents.specs.Passing.{left, Passes}
+use Rattle.bib_contents.specs.Progress.{left, Passes}
 use Rattle.bib_contents.proofs.ContentFacts.{no_unit_at_end}
 use Rattle.bib_contents.proofs.CommandUnitFacts.{last_dollar, eaten_first}
 use Rattle.bib_contents.proofs.units.eat_unit.Goals as goal

@@ -1,4 +1,4 @@
-use Rattle.bib_contents.specs.Passing.{left}
+use Rattle.bib_contents.specs.Progress.{left}
 use Rattle.bib_contents.proofs.CommandUnitFacts.{no_escape}
 use Rattle.bib_contents.proofs.units.escape.Goals as goal
 

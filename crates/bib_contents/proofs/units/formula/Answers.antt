@@ -2,7 +2,7 @@ use Rattle.std.proofs.Common.{ap, ◌∙◌, ◌++◌, not, rules, ◌≡◌, []
 use Rattle.std.specs.Prelude.{◌==◌}
 use Rattle.std.specs.Str.{chars}
 use Rattle.std.proofs.lemmas.List.{append-nil}
-use Rattle.bib_contents.specs.Passing.{left}
+use Rattle.bib_contents.specs.Progress.{left}
 use Rattle.bib_contents.proofs.ArgumentFacts.{no_formula, formula_found, nothing_left}
 use Rattle.bib_contents.proofs.units.formula.Goals as goal
 

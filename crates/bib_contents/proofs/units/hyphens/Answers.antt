@@ -1,6 +1,6 @@
 use Rattle.std.proofs.Common.{ap, ◌∙◌, ◌++◌, rules}
 use Rattle.std.specs.Prelude.{◌==◌}
-use Rattle.bib_contents.specs.Passing.{left}
+use Rattle.bib_contents.specs.Progress.{left}
 use Rattle.bib_contents.proofs.ArgumentFacts.{hyphens_bytes}
 use Rattle.bib_contents.proofs.units.hyphens.Goals as goal
 

@@ -1,5 +1,5 @@
 use Rattle.std.proofs.Common.{length, ◌≤◌}
-use Rattle.bib_contents.specs.Passing.{left}
+use Rattle.bib_contents.specs.Progress.{left}
 use Rattle.bib_contents.proofs.ArgumentFacts.{BracedRead}
 use Rattle.bib_contents.proofs.units.search.Given as goal
 

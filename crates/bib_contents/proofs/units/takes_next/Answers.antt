@@ -1,6 +1,6 @@
 use Rattle.std.proofs.Common.{◌≡◌, refl, sym, ap, ◌∙◌, ◌∷◌, List, ℕ, []}
 use Rattle.std.specs.Str.{chars}
-use Rattle.bib_contents.specs.Passing.{left, Passes}
+use Rattle.bib_contents.specs.Progress.{left, Passes}
 use Rattle.bib_text.specs.Places.{Place, place}
 use Rattle.bib_contents.proofs.CommandUnitFacts.{takes_one, takes_none, takes_nothing}
 use Rattle.bib_contents.proofs.units.takes_next.Goals as goal

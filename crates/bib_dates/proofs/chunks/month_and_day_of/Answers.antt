@@ -17,24 +17,24 @@ pub returns-in_err-day : goal.returns-in_err-day
 returns-in_err-day c =
     let p = err_from_is_err_and c.from_residual-in_err-day.result c.from_residual-in_err-day.ensures.1 in
     let is = c.month_field.ensures ∙ ap month_field (c.as_str.ensures.value ∙ c.in_ok-text.ensures) in
-    let same = c.day_behind.ensures ∙ ap (λ d. day_of (option_map text (option_copied d)) c.in_ok-number.behind.now) (sym c.in_default.is) in
+    let same = c.day_after.ensures ∙ ap (λ d. day_of (option_map text (option_copied d)) c.in_ok-number.following.now) (sym c.in_default.is) in
     rw (p.1, p.2) (day_refused _ _ c.month_field.result _ _ _ is c.in_ok-number.ensures same c.in_err-day.ensures)
 
 pub returns-in_default : goal.returns-in_default
 returns-in_default c =
     let is = c.month_field.ensures ∙ ap month_field (c.as_str.ensures.value ∙ c.in_ok-text.ensures) in
-    let same = c.day_behind.ensures ∙ ap (λ d. day_of (option_map text (option_copied d)) c.in_ok-number.behind.now) (sym c.in_default.is) in
+    let same = c.day_after.ensures ∙ ap (λ d. day_of (option_map text (option_copied d)) c.in_ok-number.following.now) (sym c.in_default.is) in
     month_and_day_read _ _ c.month_field.result _ _ _ is c.in_ok-number.ensures same c.in_ok-day.ensures
 
 pub returns-in_err-day-2 : goal.returns-in_err-day-2
 returns-in_err-day-2 c =
     let p = err_from_is_err_and c.from_residual-in_err-day-2.result c.from_residual-in_err-day-2.ensures.1 in
     let is = c.month_field.ensures ∙ ap month_field (c.as_str.ensures.value ∙ c.in_ok-text.ensures) in
-    let same = ap (λ d. day_of (option_map text (option_copied d)) c.in_ok-number.behind.now) (sym c.in-Some.is) in
+    let same = ap (λ d. day_of (option_map text (option_copied d)) c.in_ok-number.following.now) (sym c.in-Some.is) in
     rw (p.1, p.2) (day_refused _ _ c.month_field.result _ (day_field (text c.in-Some.day.now)) _ is c.in_ok-number.ensures same c.in_err-day-2.ensures)
 
 pub returns : goal.returns
 returns c =
     let is = c.month_field.ensures ∙ ap month_field (c.as_str.ensures.value ∙ c.in_ok-text.ensures) in
-    let same = ap (λ d. day_of (option_map text (option_copied d)) c.in_ok-number.behind.now) (sym c.in-Some.is) in
+    let same = ap (λ d. day_of (option_map text (option_copied d)) c.in_ok-number.following.now) (sym c.in-Some.is) in
     month_and_day_read _ _ c.month_field.result _ (day_field (text c.in-Some.day.now)) _ is c.in_ok-number.ensures same c.in_ok-day-2.ensures

@@ -5,10 +5,10 @@ use Rattle.std.proofs.lemmas.List.{nil_from_length}
 use Rattle.std.proofs.lemmas.Result.{err_from_is_err_and}
 use Rattle.bib_abbreviations.specs.Abbreviations.{given_by, sorted_in}
 use Rattle.bib_abbreviations.proofs.AbbreviationFacts.{sorted_given}
-use Rattle.bib_file_entries.specs.Library.{claims}
+use Rattle.bib_file_entries.specs.Bibliography.{claims}
 use Rattle.bib_maps.specs.Names.{claimed, claims_for}
-use Rattle.bib_file_entries.proofs.LoadedFacts.{loaded_none, loaded_next, loaded_all, fault_duplicate, fault_unreadable}
-use Rattle.bib_file_entries.proofs.RawFacts.{entry_same, fault_same}
+use Rattle.bib_file_entries.proofs.LoadedFacts.{loaded_none, loaded_next, loaded_all, error_duplicate, error_unreadable}
+use Rattle.bib_file_entries.proofs.RawFacts.{entry_same, error_same}
 use Rattle.bib_file_entries.proofs.reading.load_entries.Goals as goal
 
 pub entries-init : goal.entries-init
@@ -22,7 +22,7 @@ entries-init c = record {
 pub returns-then-is_some-clause-refused : goal.returns-then-is_some-clause-refused
 returns-then-is_some-clause-refused c =
     let had : is_some (get c.entries.names c.in-Some.said.v.key.v.now) ≡ true = ap is_some (sym c.get.ensures) ∙ sym c.is_some.ensures ∙ c.if-is_some.true in
-    inr (fault_duplicate c.in_ok-duplicate.field-0 (rw c.in-Some.ensures.steps.0 at c.entries.invariant.loaded) had c.in_ok-duplicate.ensures)
+    inr (error_duplicate c.in_ok-duplicate.field-0 (rw c.in-Some.ensures.steps.0 at c.entries.invariant.loaded) had c.in_ok-duplicate.ensures)
 
 pub returns-in_err-entry-clause-refused : goal.returns-in_err-entry-clause-refused
 returns-in_err-entry-clause-refused c =
@@ -31,7 +31,7 @@ returns-in_err-entry-clause-refused c =
     let p = err_from_is_err_and c.from_residual-in_err-entry.result c.from_residual-in_err-entry.ensures.1 in
     rw (p.1, p.2) (elim c.in_err-entry.ensures.refused [
       | inl memory ↦ inl memory
-      | inr fault ↦ inr (fault_unreadable _ (rw c.in-Some.ensures.steps.0 at c.entries.invariant.loaded) absent (fault_same (rw same at fault)))
+      | inr error ↦ inr (error_unreadable _ (rw c.in-Some.ensures.steps.0 at c.entries.invariant.loaded) absent (error_same (rw same at error)))
     ])
 
 pub entries-preserved : goal.entries-preserved
@@ -52,4 +52,4 @@ pub returns-clause-loaded : goal.returns-clause-loaded
 returns-clause-loaded c =
     let none : into_iter_items c.entries.said-iterator ≡ [] = nil_from_length _ (sym c.entries.said-iterator.rest.ok.0 ∙ c.in-None.ensures.steps.0) in
     let all = rw (none, sym c.in_ok-into_names.ensures) at c.entries.invariant.loaded in
-    record { read = loaded_all all; library = all.library }
+    record { read = loaded_all all; bibliography = all.bibliography }

@@ -16,17 +16,17 @@ empty_rows n p = elim (cases_lt p n) [
   | inr t ↦ get_or_past (replicate n []) p [] (omega (arith, t, length-replicate {A = List ℕ} n []))
 ]
 
-pub loop-place-init : goal.loop-place-init
-loop-place-init c = ap rows c.new-waiting.ensures.items
+pub loop-index-init : goal.loop-index-init
+loop-index-init c = ap rows c.new-waiting.ensures.items
 
-pub loop-place-preserved : goal.loop-place-preserved
-loop-place-preserved c =
-    rw c.in_ok-push.ensures.items (map_push (λ (v : Vec ℕ Global). v.items) c.loop-place.waiting.items c.new.result ∙ rw (c.loop-place.invariant, c.new.ensures.items) (replicate_more c.loop-place._place []))
+pub loop-index-preserved : goal.loop-index-preserved
+loop-index-preserved c =
+    rw c.in_ok-push.ensures.items (map_push (λ (v : Vec ℕ Global). v.items) c.loop-index.waiting.items c.new.result ∙ rw (c.loop-index.invariant, c.new.ensures.items) (replicate_more c.loop-index._index []))
 
 pub loop-entry-init : goal.loop-entry-init
 loop-entry-init c =
-    let len : length (rows c.loop-place.waiting.items) ≡ length (rows c.args.refs.now) = omega (arith, length-rows c.args.refs.now, ap length c.loop-place.invariant, length-replicate {A = List ℕ} c.loop-place._place []) in
-    filled_none (rows c.args.refs.now) (rows c.loop-place.waiting.items) len (λ p. rw c.loop-place.invariant (empty_rows c.loop-place._place p))
+    let len : length (rows c.loop-index.waiting.items) ≡ length (rows c.args.refs.now) = omega (arith, length-rows c.args.refs.now, ap length c.loop-index.invariant, length-replicate {A = List ℕ} c.loop-index._index []) in
+    filled_none (rows c.args.refs.now) (rows c.loop-index.waiting.items) len (λ p. rw c.loop-index.invariant (empty_rows c.loop-index._index p))
 
 pub loop-entry-preserved : goal.loop-entry-preserved
 loop-entry-preserved c =

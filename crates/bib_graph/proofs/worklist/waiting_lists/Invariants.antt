@@ -3,8 +3,8 @@ use Rattle.bib_graph.specs.Rows.{rows}
 use Rattle.bib_graph.proofs.Fill.{IsFilled}
 use Rattle.bib_graph.proofs.worklist.waiting_lists.Given as goal
 
-abbrev pub invariant-loop-place : goal.invariant-loop-place
-invariant-loop-place l = rows l.waiting.items ≡ replicate l._place []
+abbrev pub invariant-loop-index : goal.invariant-loop-index
+invariant-loop-index l = rows l.waiting.items ≡ replicate l._index []
 
 abbrev pub invariant-loop-entry : goal.invariant-loop-entry
 invariant-loop-entry l = IsFilled (rows l.refs) (rows l.waiting.items) l.entry 0

@@ -4,8 +4,8 @@ use Rattle.bib_references.specs.Turning.{date_at}
 use Rattle.bib_references.proofs.dates.unread_dates.Given as goal
 
 -- so many dates that weren't read
-abbrev pub invariant-places : goal.invariant-places
-invariant-places l = record {
-  as_long : length l.dates.items ≡ l._place;
-  unread : (place : ℕ) → IsNone (date_at l.dates.items place);
+abbrev pub invariant-indices : goal.invariant-indices
+invariant-indices l = record {
+  as_long : length l.dates.items ≡ l._index;
+  unread : (index : ℕ) → IsNone (date_at l.dates.items index);
 }

@@ -1,5 +1,5 @@
 use Rattle.std.proofs.Common.{◌≡◌, map, take}
-use Rattle.bib_inheritance.specs.Dating.{looks_for_date}
+use Rattle.bib_inheritance.specs.InheritableDate.{looks_for_date}
 use Rattle.bib_references.specs.Resolving.{source_of_entry}
 use Rattle.bib_references.proofs.references.looks.Given as goal
 

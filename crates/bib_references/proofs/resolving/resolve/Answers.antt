@@ -1,9 +1,9 @@
 use Rattle.std.proofs.Common.{◌≡◌, ◌∙◌, ℕ, false, ap, sym, subst, inl, inr}
 use Rattle.std.specs.Prelude.{MatchOption}
 use Rattle.std.proofs.lemmas.Result.{err_from_is_err_and}
-use Rattle.bib_graph.specs.Graph.{HasNoCircle, IsFirstOnCircle, IsInRange}
+use Rattle.bib_graph.specs.Graph.{HasNoCycle, IsFirstOnCycle, IsInRange}
 use Rattle.bib_graph.specs.Rows.{rows}
-use Rattle.bib_references.specs.Resolving.{Inherits, IsResolvingFault, graph_by, sources_of}
+use Rattle.bib_references.specs.Resolving.{Inherits, IsResolvingError, graph_by, sources_of}
 use Rattle.bib_references.specs.Turning.{IsFirstUnread, is_unread_at}
 use Rattle.bib_references.proofs.DatesRead.{date_unread, dates_read}
 use Rattle.bib_references.proofs.RangeFacts.{graph_in_range}
@@ -27,7 +27,7 @@ returns-in_err-order-clause-refused c =
     let graph : rows c.deref.result.now ≡ graph_by c.args.names.now c.args.entries.now = ap rows c.deref.ensures.value ∙ c.in_ok-refs.ensures in
     rw (p.1, p.2) (elim c.in_err-order.ensures.refused [
       | inl memory ↦ inl memory
-      | inr fault ↦ inr (IsResolvingFault.circle (subst (λ g. IsFirstOnCircle g fault.0) graph fault.1) fault.2)
+      | inr error ↦ inr (IsResolvingError.cycle (subst (λ g. IsFirstOnCycle g error.0) graph error.1) error.2)
     ])
 
 pub returns-in-Some-clause-refused : goal.returns-in-Some-clause-refused
@@ -38,10 +38,10 @@ returns-in-Some-clause-refused c =
     let one : rows c.deref.result.now ≡ graph_by names own = ap rows c.deref.ensures.value ∙ c.in_ok-refs.ensures in
     let three : rows c.deref-3.result.now ≡ graph_by names own = ap rows c.deref-3.ensures.value ∙ c.in_ok-refs.ensures in
     let four : rows c.deref-4.result.now ≡ graph_by names own = ap rows c.deref-4.ensures.value ∙ c.in_ok-refs.ensures in
-    let first = subst (λ o. MatchOption o ((place : ℕ) → is_unread_at c.deref-5.result.now (rows c.deref-4.result.now) values place ≡ false) (IsFirstUnread c.deref-5.result.now (rows c.deref-4.result.now) values)) c.in-Some.is c.in_ok-fault.ensures in
-    inr (date_unread c.args.spans.now own c.deref-5.result.now (graph_by names own) values c.in-Some.fault c.unread.result (c.deref-5.ensures.value ∙ c.in_ok-looks.ensures)
-    (subst HasNoCircle one c.in_ok-order.ensures.no_circle) (subst (λ g. Inherits (sources_of own) g values) three c.in_ok-turns.ensures.inherits)
-    (subst (λ g. IsFirstUnread c.deref-5.result.now g values c.in-Some.fault) four first) c.unread.ensures)
+    let first = subst (λ o. MatchOption o ((index : ℕ) → is_unread_at c.deref-5.result.now (rows c.deref-4.result.now) values index ≡ false) (IsFirstUnread c.deref-5.result.now (rows c.deref-4.result.now) values)) c.in-Some.is c.in_ok-error.ensures in
+    inr (date_unread c.args.spans.now own c.deref-5.result.now (graph_by names own) values c.in-Some.error c.unread.result (c.deref-5.ensures.value ∙ c.in_ok-looks.ensures)
+    (subst HasNoCycle one c.in_ok-order.ensures.no_cycle) (subst (λ g. Inherits (sources_of own) g values) three c.in_ok-turns.ensures.inherits)
+    (subst (λ g. IsFirstUnread c.deref-5.result.now g values c.in-Some.error) four first) c.unread.ensures)
 
 pub returns-clause-resolved : goal.returns-clause-resolved
 returns-clause-resolved c =
@@ -51,12 +51,12 @@ returns-clause-resolved c =
     let one : rows c.deref.result.now ≡ graph_by names own = ap rows c.deref.ensures.value ∙ c.in_ok-refs.ensures in
     let three : rows c.deref-3.result.now ≡ graph_by names own = ap rows c.deref-3.ensures.value ∙ c.in_ok-refs.ensures in
     let four : rows c.deref-4.result.now ≡ graph_by names own = ap rows c.deref-4.ensures.value ∙ c.in_ok-refs.ensures in
-    let read = subst (λ o. MatchOption o ((place : ℕ) → is_unread_at c.deref-5.result.now (rows c.deref-4.result.now) values place ≡ false) (IsFirstUnread c.deref-5.result.now (rows c.deref-4.result.now) values)) c.in-None.is c.in_ok-fault.ensures in
+    let read = subst (λ o. MatchOption o ((index : ℕ) → is_unread_at c.deref-5.result.now (rows c.deref-4.result.now) values index ≡ false) (IsFirstUnread c.deref-5.result.now (rows c.deref-4.result.now) values)) c.in-None.is c.in_ok-error.ensures in
     record {
-      no_circle = subst HasNoCircle one c.in_ok-order.ensures.no_circle;
+      no_cycle = subst HasNoCycle one c.in_ok-order.ensures.no_cycle;
       keys = c.in_ok-turns.ensures.keys;
       inherits = subst (λ g. Inherits (sources_of own) g values) three c.in_ok-turns.ensures.inherits;
       dates = dates_read own c.deref-5.result.now (graph_by names own) values (c.deref-5.ensures.value ∙ c.in_ok-looks.ensures)
-          (subst (λ g. (place : ℕ) → is_unread_at c.deref-5.result.now g values place ≡ false) four read);
+          (subst (λ g. (index : ℕ) → is_unread_at c.deref-5.result.now g values index ≡ false) four read);
       chunks = c.in_ok-turns.ensures.chunks;
     }

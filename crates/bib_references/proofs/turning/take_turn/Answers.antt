@@ -2,36 +2,36 @@ use Rattle.std.proofs.Common.{◌≡◌, ◌∙◌, ap, sym, subst, map, get_or,
 use Rattle.std.specs.Option.{option_copied}
 use Rattle.std.proofs.lemmas.List.{get_or-map, get_or_default}
 use Rattle.bib_entry.specs.declared.entry.Entry.{Entry}
-use Rattle.bib_inheritance.specs.Dating.{date_for}
-use Rattle.bib_inheritance.specs.Inherited.{taken}
+use Rattle.bib_inheritance.specs.InheritableDate.{date_for}
+use Rattle.bib_inheritance.specs.Inherited.{inherited_field}
 use Rattle.bib_chunks.specs.Styled.{styled}
-use Rattle.bib_inheritance.specs.Sources.{first_named, nowhere}
-use Rattle.bib_references.specs.Resolving.{at_place, source_of_entry, sources_of}
+use Rattle.bib_inheritance.specs.Sources.{first_named, no_entry}
+use Rattle.bib_references.specs.Resolving.{at_index, source_of_entry, sources_of}
 use Rattle.bib_references.specs.Turning.{IsTurned}
-use Rattle.bib_references.proofs.TurnFacts.{is_nothing, left_alone, no_places, turned}
+use Rattle.bib_references.proofs.TurnFacts.{is_nothing, left_alone, no_indices, turned}
 use Rattle.bib_references.proofs.turning.take_turn.Goals as goal
 
 pub returns-then-is_none-clause-turned : goal.returns-then-is_none-clause-turned
 returns-then-is_none-clause-turned c =
     let entries = c.args.entries.now in
-    let e : Entry = get_or entries c.args.place c.index-entries-place.result in
-    left_alone entries c.args.place e c.args.places.now c.requires.place (get_or_default entries c.args.place c.index-entries-place.result e c.requires.place)
-    (no_places c.args.places.now (sym c.is_empty.ensures ∙ c.if-is_empty.true))
+    let e : Entry = get_or entries c.args.index c.index-entries-index.result in
+    left_alone entries c.args.index e c.args.indices.now c.requires.index (get_or_default entries c.args.index c.index-entries-index.result e c.requires.index)
+    (no_indices c.args.indices.now (sym c.is_empty.ensures ∙ c.if-is_empty.true))
     (sym c.get.ensures ∙ ap option_copied (is_nothing c.get.result c.is_none.ensures c.if-is_none.true))
 
 pub returns-clause-turned : goal.returns-clause-turned
 returns-clause-turned c =
     let entries = c.args.entries.now in
-    let place = c.args.place in
+    let index = c.args.index in
     let new : Entry = c.set_gain.new.entry in
-    let old : Entry = get_or entries place c.index-entries-place-2.result in
-    let same : old ≡ get_or entries place new = get_or_default entries place c.index-entries-place-2.result new c.requires.place in
-    let refs = map (at_place (sources_of entries)) c.args.places.now in
-    let here : at_place (sources_of entries) place ≡ source_of_entry old = get_or-map source_of_entry entries place c.index-entries-place-2.result nowhere c.requires.place in (
+    let old : Entry = get_or entries index c.index-entries-index-2.result in
+    let same : old ≡ get_or entries index new = get_or_default entries index c.index-entries-index-2.result new c.requires.index in
+    let refs = map (at_index (sources_of entries)) c.args.indices.now in
+    let here : at_index (sources_of entries) index ≡ source_of_entry old = get_or-map source_of_entry entries index c.index-entries-index-2.result no_entry c.requires.index in (
       new,
       refl,
       subst (λ e. IsTurned e refs new) same (turned old new refs c.in_ok-given.given.items c.in_ok-date.date c.in_ok-set_gain.ensures.key c.in_ok-set_gain.ensures.kind
-          (subst (λ s. (name : List ℕ) → option_map styled (first_named c.in_ok-given.given.items name) ≡ cond (is_some (s.fields name)) None (taken s.kind name refs)) here c.in_ok-given.ensures)
+          (subst (λ s. (name : List ℕ) → option_map styled (first_named c.in_ok-given.given.items name) ≡ cond (is_some (s.fields name)) None (inherited_field s.kind name refs)) here c.in_ok-given.ensures)
           (subst (λ s. option_map styled c.in_ok-date.date ≡ date_for s refs) here c.in_ok-date.ensures.date)
           c.in_ok-set_gain.ensures.fields),
     )

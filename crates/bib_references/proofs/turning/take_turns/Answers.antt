@@ -6,10 +6,10 @@ use Rattle.bib_graph.specs.Rows.{rows}
 use Rattle.bib_graph.specs.Solving.{IsSolvedTo}
 use Rattle.bib_graph.proofs.Rows.{length-rows, row_at, row_in}
 use Rattle.bib_graph.proofs.Solving.{solved_all}
-use Rattle.bib_inheritance.specs.Sources.{nowhere}
+use Rattle.bib_inheritance.specs.Sources.{no_entry}
 use Rattle.bib_references.specs.Resolving.{rule_by, source_of_entry, sources_of}
 use Rattle.bib_references.specs.Turning.{AreDates}
-use Rattle.bib_references.proofs.DateFacts.{behind_more, dates_kept, none_read, turn_unread}
+use Rattle.bib_references.proofs.DateFacts.{after_more, dates_kept, none_read, turn_unread}
 use Rattle.bib_references.proofs.TurnFacts.{turn_within, turned_chunks, turned_more, turned_none}
 use Rattle.bib_references.proofs.turning.take_turns.Goals as goal
 
@@ -18,53 +18,53 @@ order-init c = record {
   turns = c.in_ok-turns.ensures.items;
   turned = turned_none (rows c.args.refs.now) c.args.order.now c.args.entries.now;
   dates = none_read (sources_of c.args.entries.now) c.args.dates.now c.requires.unread;
-  behind = λ place there. absurd (false≢true (sym (c.requires.unread place) ∙ there));
+  following = λ index there. absurd (false≢true (sym (c.requires.unread index) ∙ there));
   as_many = c.requires.as_many;
 }
 
-pub offset_bounds-refs-place : goal.offset_bounds-refs-place
-offset_bounds-refs-place c =
-    let place : ℕ = get_or c.args.order.now c.order.place-index 0 in
-    let within = turn_within (rows c.args.refs.now) c.args.order.now c.order.place-index c.requires.order c.order-test.true in
-    let h : place < length c.args.refs.now = omega (arith, within, length-rows c.args.refs.now) in
+pub offset_bounds-refs-index : goal.offset_bounds-refs-index
+offset_bounds-refs-index c =
+    let index : ℕ = get_or c.args.order.now c.order.index-index 0 in
+    let within = turn_within (rows c.args.refs.now) c.args.order.now c.order.index-index c.requires.order c.order-test.true in
+    let h : index < length c.args.refs.now = omega (arith, within, length-rows c.args.refs.now) in
     search rules
 
-pub bounds-refs-place : goal.bounds-refs-place
-bounds-refs-place c =
-    let within = turn_within (rows c.args.refs.now) c.args.order.now c.order.place-index c.requires.order c.order-test.true in
+pub bounds-refs-index : goal.bounds-refs-index
+bounds-refs-index c =
+    let within = turn_within (rows c.args.refs.now) c.args.order.now c.order.index-index c.requires.order c.order-test.true in
     omega (arith, within, length-rows c.args.refs.now)
 
 pub take_turn-requires-clause-references : goal.take_turn-requires-clause-references
 take_turn-requires-clause-references c =
     let refs = c.args.refs.now in
-    let place : ℕ = get_or c.args.order.now c.order.place-index 0 in
-    let within = turn_within (rows refs) c.args.order.now c.order.place-index c.requires.order c.order-test.true in
-    let row = row_in refs place c.index-refs-place.result c.requires.in_range (omega (arith, within, length-rows refs)) c.index-refs-place.is in
+    let index : ℕ = get_or c.args.order.now c.order.index-index 0 in
+    let within = turn_within (rows refs) c.args.order.now c.order.index-index c.requires.order c.order-test.true in
+    let row = row_in refs index c.index-refs-index.result c.requires.in_range (omega (arith, within, length-rows refs)) c.index-refs-index.is in
     subst (λ n. All (λ r. r < n) c.deref.result.now) (sym (c.order.invariant.turned.as_long ∙ c.requires.as_long))
     (subst (λ l. All (λ r. r < length refs) l) (sym c.deref.ensures.value) row)
 
-pub take_turn-requires-clause-place : goal.take_turn-requires-clause-place
-take_turn-requires-clause-place c =
-    let within = turn_within (rows c.args.refs.now) c.args.order.now c.order.place-index c.requires.order c.order-test.true in
+pub take_turn-requires-clause-index : goal.take_turn-requires-clause-index
+take_turn-requires-clause-index c =
+    let within = turn_within (rows c.args.refs.now) c.args.order.now c.order.index-index c.requires.order c.order-test.true in
     omega (arith, within, length-rows c.args.refs.now, c.order.invariant.turned.as_long, c.requires.as_long)
 
 pub order-preserved : goal.order-preserved
 order-preserved c =
     let refs = c.args.refs.now in
-    let i = c.order.place-index in
-    let place : ℕ = get_or c.args.order.now i 0 in
+    let i = c.order.index-index in
+    let index : ℕ = get_or c.args.order.now i 0 in
     let within = turn_within (rows refs) c.args.order.now i c.requires.order c.order-test.true in
-    let row = c.deref.ensures.value ∙ sym (row_at refs place c.index-refs-place.result (omega (arith, within, length-rows refs)) c.index-refs-place.is) in
+    let row = c.deref.ensures.value ∙ sym (row_at refs index c.index-refs-index.result (omega (arith, within, length-rows refs)) c.index-refs-index.is) in
     let turn = c.in_ok-take_turn.ensures.turned in
     record {
-      turns = c.in_ok-take_turn.ensures.turns ∙ ap (λ l. l ++ place ∷ []) c.order.invariant.turns ∙ sym (take_more c.args.order.now i 0 c.order-test.true);
+      turns = c.in_ok-take_turn.ensures.turns ∙ ap (λ l. l ++ index ∷ []) c.order.invariant.turns ∙ sym (take_more c.args.order.now i 0 c.order-test.true);
       turned = turned_more (rows refs) c.args.order.now c.args.entries.now c.order.entries c.take_turn.new.entries i turn.0 c.deref.result.now c.requires.order c.order-test.true
           (c.requires.as_long ∙ sym (length-rows refs)) row turn.1 turn.2 c.order.invariant.turned;
       dates = subst (λ l. AreDates (sources_of l) c.take_turn.new.dates) (sym turn.1)
-          (dates_kept c.order.entries place turn.0 c.take_turn.new.dates
-          (turn_unread (rows refs) c.args.order.now c.deref.result.now i c.requires.order c.order-test.true row c.order.dates c.take_turn.new.dates c.in_ok-take_turn.ensures.added c.order.invariant.behind)
+          (dates_kept c.order.entries index turn.0 c.take_turn.new.dates
+          (turn_unread (rows refs) c.args.order.now c.deref.result.now i c.requires.order c.order-test.true row c.order.dates c.take_turn.new.dates c.in_ok-take_turn.ensures.added c.order.invariant.following)
           c.in_ok-take_turn.ensures.dates);
-      behind = behind_more (rows refs) c.args.order.now c.deref.result.now i c.requires.order c.order-test.true row c.order.dates c.take_turn.new.dates c.in_ok-take_turn.ensures.added c.order.invariant.behind;
+      following = after_more (rows refs) c.args.order.now c.deref.result.now i c.requires.order c.order-test.true row c.order.dates c.take_turn.new.dates c.in_ok-take_turn.ensures.added c.order.invariant.following;
       as_many = c.in_ok-take_turn.ensures.as_long ∙ sym c.in_ok-take_turn.ensures.length;
     }
 
@@ -72,10 +72,10 @@ pub returns-clause-inherits : goal.returns-clause-inherits
 returns-clause-inherits c =
     let refs = c.args.refs.now in
     let own = c.args.entries.now in
-    let at_end : c.order.place-index ≡ length c.args.order.now = omega arith in
-    solved_all nowhere (rule_by (sources_of own)) (rows refs) c.args.order.now (sources_of own) (sources_of c.order.entries) c.requires.order
+    let at_end : c.order.index-index ≡ length c.args.order.now = omega arith in
+    solved_all no_entry (rule_by (sources_of own)) (rows refs) c.args.order.now (sources_of own) (sources_of c.order.entries) c.requires.order
     (length-map own source_of_entry ∙ c.requires.as_long ∙ sym (length-rows refs))
-    (subst (λ n. IsSolvedTo nowhere (rule_by (sources_of own)) (rows refs) c.args.order.now (sources_of own) n (sources_of c.order.entries)) at_end c.order.invariant.turned.solved)
+    (subst (λ n. IsSolvedTo no_entry (rule_by (sources_of own)) (rows refs) c.args.order.now (sources_of own) n (sources_of c.order.entries)) at_end c.order.invariant.turned.solved)
 
 pub returns-clause-chunks : goal.returns-clause-chunks
-returns-clause-chunks c = turned_chunks (rows c.args.refs.now) c.args.order.now c.args.entries.now c.order.entries c.order.place-index c.order.invariant.turned
+returns-clause-chunks c = turned_chunks (rows c.args.refs.now) c.args.order.now c.args.entries.now c.order.entries c.order.index-index c.order.invariant.turned

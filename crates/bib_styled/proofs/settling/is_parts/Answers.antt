@@ -1,6 +1,6 @@
 use Rattle.std.proofs.Common.{◌∙◌, refl, arith, subst, length}
 use Rattle.bib_styled.proofs.BraceFacts.{closes_plain, closes_hidden, closes_slash_end, closes_open, closes_close, closes_close_none, closes_end, end_is, is_plain_from, iff_trans, iff_cases, Closes}
-use Rattle.bib_text.proofs.TextFacts.{less_behind}
+use Rattle.bib_text.proofs.TextFacts.{less_after}
 use Rattle.bib_text.specs.Places.{place}
 use Rattle.bib_styled.proofs.settling.is_parts.Goals as goal
 
@@ -36,7 +36,7 @@ returns-in_default-eat c =
     λ parts. closes_slash_end c.parts.depth _ refl slash c.in_default-eat.ensures.0 (c.parts.invariant.2.0 parts)
 
 pub parts-smaller : goal.parts-smaller
-parts-smaller c = less_behind c.in-Some.ensures
+parts-smaller c = less_after c.in-Some.ensures
 
 pub parts-preserved : goal.parts-preserved
 parts-preserved c = (

@@ -1,5 +1,5 @@
 use Rattle.std.proofs.Common.{refl}
-use Rattle.bib_syntax.proofs.StandingFacts.{file_stands}
+use Rattle.bib_syntax.proofs.SliceFacts.{file_stands}
 use Rattle.bib_syntax.proofs.laws.parts_stand.Goals as goal
 
 pub returns : goal.returns

@@ -1,4 +1,4 @@
-use Rattle.biblatex.proofs.PlaceLaws.{keys_fresh}
+use Rattle.biblatex.proofs.IndexLaws.{keys_fresh}
 use Rattle.biblatex.proofs.laws.fresh_keys.Goals as goal
 
 pub returns : goal.returns

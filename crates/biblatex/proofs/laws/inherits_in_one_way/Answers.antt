@@ -1,5 +1,5 @@
 use Rattle.bib_graph.proofs.Walks as walks
-use Rattle.bib_inheritance.specs.Sources.{nowhere}
+use Rattle.bib_inheritance.specs.Sources.{no_entry}
 use Rattle.bib_references.specs.Resolving.{rule_by}
 use Rattle.bib_references.proofs.RangeFacts.{graph_in_range}
 use Rattle.biblatex.specs.Resolved.{names_of}
@@ -10,4 +10,4 @@ pub returns-clause-in_range : goal.returns-clause-in_range
 returns-clause-in_range c own = graph_in_range (names_of own) own (names_below own)
 
 pub returns-clause-one : goal.returns-clause-one
-returns-clause-one c own graph in_range none = walks.one_solution graph in_range none nowhere (rule_by own)
+returns-clause-one c own graph in_range none = walks.one_solution graph in_range none no_entry (rule_by own)

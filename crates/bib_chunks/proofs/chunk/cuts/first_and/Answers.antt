@@ -17,7 +17,7 @@ range_from-rest-requires c = λ _. IsCharBoundary-from_drop c.args.text.now c.te
 
 pub returns-in-Some : goal.returns-in-Some
 returns-in-Some c =
-    searched_word c.args.text.now c.text.at c.range.result.now c.in-Some.behind.now (rw c.if-space.true at c.text.invariant) (simp unary_clauses at c.range.ensures.value) c.range.utf8 (rw c.range_from-rest.ensures.value at c.in-Some.ensures)
+    searched_word c.args.text.now c.text.at c.range.result.now c.in-Some.following.now (rw c.if-space.true at c.text.invariant) (simp unary_clauses at c.range.ensures.value) c.range.utf8 (rw c.range_from-rest.ensures.value at c.in-Some.ensures)
 
 pub text-preserved : goal.text-preserved
 text-preserved c =

@@ -13,7 +13,7 @@ returns-in_default c =
     let longest : Longest goes_on c.text.scanner c.eat_while-run.new.self = c.eat_while-run.ensures.longest _ (λ x r post. search rules) in
     let both = flowing_end (string_bytes c.text.out) (string_bytes c.push_str.new.self) _ c.eat_while-run.result.now c.text.after c.ends_in_space-after.result _ longest c.text.invariant.1 c.eat_while-run.utf8 c.eat_while-run.ensures.eaten c.in_default.ensures.0
     (pushed_part _ _ _ _ c.eat_while-run.result.now c.in_ok-push_str.was c.push_str.ensures.bytes refl) c.ends_in_space-after.ensures c.text.invariant.2 c.text.invariant.3 in
-    record { written = both.0; behind = both.1 }
+    record { written = both.0; following = both.1 }
 
 pub text-smaller : goal.text-smaller
 text-smaller c =

@@ -1,6 +1,6 @@
 use Rattle.std.proofs.Common.{◌∙◌, refl}
 use Rattle.std.specs.Prelude.{string_bytes}
-use Rattle.bib_text.proofs.TextFacts.{less_behind}
+use Rattle.bib_text.proofs.TextFacts.{less_after}
 use Rattle.bib_chunks.proofs.FormattedFacts.{sentence_skip, sentence_step, sentence_end}
 use Rattle.bib_chunks.proofs.chunk.formatting.write_sentence_text.Goals as goal
 
@@ -10,7 +10,7 @@ text-init c = rw c.new-scanner.ensures (refl, c.utf8.text, refl, refl)
 pub returns : goal.returns
 returns c =
     let both = sentence_end (string_bytes c.text.out) _ c.text.scanner c.text.first c.text.after _ c.in_default.ensures.0 c.text.invariant.2 c.text.invariant.3 in
-    record { written = both.0; behind = both.1 }
+    record { written = both.0; following = both.1 }
 
 pub text-preserved-in_default-unbroken : goal.text-preserved-in_default-unbroken
 text-preserved-in_default-unbroken c =
@@ -18,7 +18,7 @@ text-preserved-in_default-unbroken c =
     (step.0 ∙ c.text.invariant.0, step.1, step.2, step.3)
 
 pub text-smaller : goal.text-smaller
-text-smaller c = less_behind c.in-Some.ensures
+text-smaller c = less_after c.in-Some.ensures
 
 pub text-preserved : goal.text-preserved
 text-preserved c =

@@ -3,9 +3,9 @@ use Rattle.std.specs.Str.{chars}
 use Rattle.std.proofs.lemmas.Result.{err_from_is_err_and}
 use Rattle.std.proofs.lemmas.Str.{encodes-chars}
 use Rattle.bib_text.proofs.TextFacts.{pushed_chars}
-use Rattle.bib_contents.specs.Arguments.{StandsIn}
+use Rattle.bib_contents.specs.Arguments.{IsArgumentBetween}
 use Rattle.bib_contents.specs.Contents.{is_ordinary}
-use Rattle.bib_contents.specs.Passing.{left}
+use Rattle.bib_contents.specs.Progress.{left}
 use Rattle.bib_contents.proofs.ArgumentFacts.{passes_ahead, passes_shorter, passes_within}
 use Rattle.bib_contents.proofs.ArgumentReading.{read_run, stuck_here}
 use Rattle.bib_contents.proofs.FrameFacts.{shorter_wider, stays_wider, unit_ahead}
@@ -69,7 +69,7 @@ pub returns-clause-shorter : goal.returns-clause-shorter
 returns-clause-shorter c =
     let ahead : c.args.self.now.s.at ≤ c.eat_while-run.new.self.at = passes_ahead c.eat_while-run.ensures.passed in
     let fewer : length (left c.eat_while-run.new.self) ≤ length (left c.args.self.now.s) = passes_shorter c.eat_while-run.ensures.passed in
-    let stands = subst (λ t. StandsIn t c.eat_while-run.new.self.at c.in-Some.unit c.eat_unit.new.s.at) (sym c.in-Some.ensures.same) c.in-Some.ensures.inside in
+    let stands = subst (λ t. IsArgumentBetween t c.eat_while-run.new.self.at c.in-Some.unit c.eat_unit.new.s.at) (sym c.in-Some.ensures.same) c.in-Some.ensures.inside in
     shorter_wider c.in_ok-next.next _ _ _ _ _ _ c.take.new.self.s (c.in_ok-next.ensures.shorter (left c.eat_while-run.new.self) c.eat_while-run.new.self.at c.in-Some.ensures.found stands) fewer ahead (c.in-Some.ensures.same ∙ c.eat_while-run.ensures.passed.same)
 
 pub returns-in_err-next-clause-refused : goal.returns-in_err-next-clause-refused
@@ -89,11 +89,11 @@ returns-in_err-next-clause-within c fits =
     let more : c.eat_while-run.new.self.at + 1 ≤ c.eat_unit.new.s.at = unit_ahead _ _ _ c.in-Some.ensures.found next in
     let same : length c.eat_unit.new.s.text ≡ length c.args.self.now.s.text = ap length (c.in-Some.ensures.same ∙ c.eat_while-run.ensures.passed.same) in
     let start = c.saturating_add-end.ensures in
-    let behind = c.saturating_add-behind.ensures in
+    let following = c.saturating_add-following.ensures in
     let at = c.cursor-start.ensures.place in
     let at_end = c.cursor.ensures.place in
     let p = err_from_is_err_and c.from_residual-in_err-next.result c.from_residual-in_err-next.ensures.1 in
-    rw (p.1, p.2) (stays_wider (c.in_err-next.ensures.within (omega (arith, start, behind, at, at_end, more))) (omega (arith, start, at, ahead, fits, within, inside, same)) (omega (arith, behind, at_end, inside, same, fits)))
+    rw (p.1, p.2) (stays_wider (c.in_err-next.ensures.within (omega (arith, start, following, at, at_end, more))) (omega (arith, start, at, ahead, fits, within, inside, same)) (omega (arith, following, at_end, inside, same, fits)))
 
 pub returns-in_default-clause-within : goal.returns-in_default-clause-within
 returns-in_default-clause-within c fits =

@@ -1,6 +1,6 @@
 use Rattle.std.proofs.Common.{refl, inr}
 use Rattle.std.specs.Str.{chars}
-use Rattle.bib_contents.specs.Passing.{left}
+use Rattle.bib_contents.specs.Progress.{left}
 use Rattle.bib_contents.proofs.ArgumentReading.{read_text, read_math, read_opening, read_closing, stuck_closing}
 use Rattle.bib_contents.proofs.FrameFacts.{applied_shorter}
 use Rattle.bib_contents.proofs.ReaderFacts.{unit_shorter}

@@ -1,5 +1,5 @@
 use Rattle.std.proofs.Common.{sym, ◌∙◌}
-use Rattle.bib_contents.proofs.PassingFacts.{taken, taken_same, taken_utf8}
+use Rattle.bib_contents.proofs.ProgressFacts.{taken, taken_same, taken_utf8}
 use Rattle.bib_contents.proofs.characters.Characters.eat.Goals as goal
 
 pub invariant_of-self : goal.invariant_of-self

@@ -1,5 +1,5 @@
 use Rattle.std.proofs.Common.{sym, ◌∙◌}
-use Rattle.bib_contents.proofs.PassingFacts.{taken_if, taken_if_same, taken_if_utf8}
+use Rattle.bib_contents.proofs.ProgressFacts.{taken_if, taken_if_same, taken_if_utf8}
 use Rattle.bib_contents.proofs.characters.Characters.eat_if.Goals as goal
 
 pub invariant_of-self : goal.invariant_of-self

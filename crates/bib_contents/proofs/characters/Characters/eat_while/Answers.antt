@@ -1,5 +1,5 @@
 use Rattle.std.proofs.Common.{sym, ◌∙◌}
-use Rattle.bib_contents.proofs.PassingFacts.{taken_while, taken_while_utf8}
+use Rattle.bib_contents.proofs.ProgressFacts.{taken_while, taken_while_utf8}
 use Rattle.bib_contents.proofs.characters.Characters.eat_while.Goals as goal
 
 pub invariant_of-self : goal.invariant_of-self

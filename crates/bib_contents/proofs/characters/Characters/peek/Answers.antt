@@ -1,4 +1,4 @@
-use Rattle.bib_contents.proofs.PassingFacts.{peeked}
+use Rattle.bib_contents.proofs.ProgressFacts.{peeked}
 use Rattle.bib_contents.proofs.characters.Characters.peek.Goals as goal
 
 pub returns : goal.returns

@@ -1,5 +1,5 @@
 use Rattle.std.proofs.Common.{length}
-use Rattle.bib_contents.specs.Passing.{left}
+use Rattle.bib_contents.specs.Progress.{left}
 use Rattle.bib_contents.proofs.EndFacts.{AreReadTo}
 use Rattle.bib_contents.proofs.ends.Ends.between_braces.Given as goal
 

@@ -1,11 +1,11 @@
 use Rattle.std.proofs.Common.{Some, sym, ap, ◌∙◌}
-use Rattle.bib_maps.specs.Sorted.{IsPlaceOf, IsGapFor}
+use Rattle.bib_maps.specs.Sorted.{IsIndexOf, IsGapFor}
 use Rattle.bib_maps.proofs.SortedFacts.{get_at, get_gap}
 use Rattle.bib_maps.proofs.names.Names.get.Goals as goal
 
 pub returns-in-Ok : goal.returns-in-Ok
 returns-in-Ok c =
-    let at : IsPlaceOf c.self.inside.pairs.items c.args.name.now c.in-Ok.at = rw (← c.as_slice.ensures.value) c.in-Ok.ensures in
+    let at : IsIndexOf c.self.inside.pairs.items c.args.name.now c.in-Ok.at = rw (← c.as_slice.ensures.value) c.in-Ok.ensures in
     sym (get_at _ _ c.self.view_is c.self.invariant _ _ at c.index.result.now ∙ ap (λ p. Some p.1) (sym c.index.ensures))
 
 pub returns-in-Err : goal.returns-in-Err

@@ -1,6 +1,6 @@
 use Rattle.std.proofs.Common.{◌≡◌, ◌+◌, drop}
 use Rattle.bib_people.specs.Names.{leading}
-use Rattle.bib_people.specs.Told.{is_of}
+use Rattle.bib_people.specs.WordKinds.{is_of}
 use Rattle.bib_people.proofs.person.cuts.leading.Given as goal
 
 abbrev pub invariant-words : goal.invariant-words

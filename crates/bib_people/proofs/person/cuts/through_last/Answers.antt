@@ -1,5 +1,5 @@
 use Rattle.std.proofs.Common.{sym, ◌∙◌}
-use Rattle.bib_people.specs.Told.{is_of}
+use Rattle.bib_people.specs.WordKinds.{is_of}
 use Rattle.bib_people.proofs.CutFacts.{through_init, through_yes, through_no}
 use Rattle.bib_people.proofs.person.cuts.through_last.Goals.{then-is_of, else-is_of}
 use Rattle.bib_people.proofs.person.cuts.through_last.Goals as goal

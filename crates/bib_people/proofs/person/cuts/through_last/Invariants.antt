@@ -1,4 +1,4 @@
-use Rattle.bib_people.specs.Told.{is_of}
+use Rattle.bib_people.specs.WordKinds.{is_of}
 use Rattle.bib_people.proofs.CutFacts.{Through}
 use Rattle.bib_people.proofs.person.cuts.through_last.Given as goal
 

@@ -4,7 +4,7 @@ use Rattle.std.proofs.lemmas.Result.{err_from_is_err_and}
 use Rattle.bib_text.proofs.PlaceFacts.{ahead_then, ahead_char, ahead_same, left_smaller}
 use Rattle.bib_syntax.specs.Views.{field_of}
 use Rattle.bib_syntax.proofs.FieldFacts.{field_read, fields_last, no_fields_last, fields_end, no_fields_end, no_field, ahead_field, ahead_gap, refuses_from}
-use Rattle.bib_syntax.proofs.ReadingFacts.{fault_back}
+use Rattle.bib_syntax.proofs.ReadingFacts.{error_back}
 use Rattle.bib_syntax.proofs.raw.fields.fields.Goals as goal
 
 pub fields-smaller : goal.fields-smaller
@@ -29,7 +29,7 @@ returns-in_err-closed-clause-refused c =
     let same = c.if-not-eat_if.ensures.0 in
     let passed = ahead_then c.fields.invariant.0 (ahead_then (ahead_field one) (ahead_then (ahead_gap c.gap.ensures) (ahead_same same))) in
     rw (p.1, p.2) (inr (
-      fault_back passed c.in_err-closed.ensures.fault,
+      error_back passed c.in_err-closed.ensures.error,
       no_fields_last c.fields.invariant.1 one c.gap.ensures c.if-not-eat_if.ensures.1 (rw (← same) c.in_err-closed.ensures.none),
     ))
 
@@ -42,7 +42,7 @@ pub returns-in_err-closed-2-clause-refused : goal.returns-in_err-closed-2-clause
 returns-in_err-closed-2-clause-refused c =
     let p = err_from_is_err_and c.from_residual-in_err-closed-2.result c.from_residual-in_err-closed-2.ensures.1 in
     rw (p.1, p.2) (inr (
-      fault_back c.fields.invariant.0 c.in_err-closed-2.ensures.fault,
+      error_back c.fields.invariant.0 c.in_err-closed-2.ensures.error,
       no_fields_end c.fields.invariant.1 c.fields-test.ensures c.in_err-closed-2.ensures.none,
     ))
 

@@ -2,7 +2,7 @@ use Rattle.std.proofs.lemmas.Result.{err_from_is_err_and}
 use Rattle.bib_text.specs.Places.{Longest}
 use Rattle.bib_text.proofs.PlaceFacts.{ahead_then, ahead_run}
 use Rattle.bib_syntax.proofs.FieldFacts.{refuses_from}
-use Rattle.bib_syntax.proofs.FileFacts.{file_found, no_file_block, block_read, remark_read, skip_read, ahead_block, ahead_remark, block_smaller, remark_smaller, skip_smaller, is_skipped, is_skipped_from}
+use Rattle.bib_syntax.proofs.FileFacts.{file_found, no_file_block, block_read, line_comment_read, skip_read, ahead_block, ahead_line_comment, block_smaller, line_comment_smaller, skip_smaller, is_skipped, is_skipped_from}
 use Rattle.bib_syntax.proofs.raw.file.blocks.Goals as goal
 
 pub returns-in_err-item-clause-refused : goal.returns-in_err-item-clause-refused
@@ -18,10 +18,10 @@ file-preserved-in-Continue-branch-2 c =
     (ahead_then c.file.invariant.0 (ahead_block c.in_ok-item.ensures.found), rw c.in_ok-add.ensures (block_read c.file.invariant.1 c.in_ok-item.ensures.found))
 
 pub file-smaller-then-c-eq37 : goal.file-smaller-then-c-eq37
-file-smaller-then-c-eq37 c = remark_smaller c.remark.ensures
+file-smaller-then-c-eq37 c = line_comment_smaller c.line_comment.ensures
 
 pub file-preserved-then-c-eq37 : goal.file-preserved-then-c-eq37
-file-preserved-then-c-eq37 c = (ahead_then c.file.invariant.0 (ahead_remark c.remark.ensures), remark_read c.file.invariant.1 c.remark.ensures)
+file-preserved-then-c-eq37 c = (ahead_then c.file.invariant.0 (ahead_line_comment c.line_comment.ensures), line_comment_read c.file.invariant.1 c.line_comment.ensures)
 
 pub file-smaller : goal.file-smaller
 file-smaller c =

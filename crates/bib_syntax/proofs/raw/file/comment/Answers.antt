@@ -5,7 +5,7 @@ use Rattle.bib_text.specs.Places.{Longest}
 use Rattle.bib_text.proofs.PlaceFacts.{ahead_run}
 use Rattle.bib_syntax.specs.Grammar.{Body as body}
 use Rattle.bib_syntax.proofs.FileFacts.{no_comment, not_close}
-use Rattle.bib_syntax.proofs.ReadingFacts.{fault_back, on_err}
+use Rattle.bib_syntax.proofs.ReadingFacts.{error_back, on_err}
 use Rattle.bib_syntax.proofs.raw.file.comment.Goals as goal
 use Rattle.bib_syntax.proofs.raw.file.comment.Goals.{After-eat_until}
 
@@ -15,10 +15,10 @@ inside c = c.eat_until.ensures.longest (λ d. d == 125) (λ x r post. search rul
 pub returns-in_err-expect-clause-none : goal.returns-in_err-expect-clause-none
 returns-in_err-expect-clause-none c = on_err _ (no_comment (inside (goal.at.returns-in_err-expect-clause-none c).After-eat_until) c.in_err-expect.ensures.none)
 
-pub returns-in_err-expect-clause-fault : goal.returns-in_err-expect-clause-fault
-returns-in_err-expect-clause-fault c =
+pub returns-in_err-expect-clause-error : goal.returns-in_err-expect-clause-error
+returns-in_err-expect-clause-error c =
     let p = err_from_is_err_and c.from_residual.result c.from_residual.ensures.1 in
-    rw (p.1, p.2) (fault_back (ahead_run (inside (goal.at.returns-in_err-expect-clause-fault c).After-eat_until).run) c.in_err-expect.ensures.fault)
+    rw (p.1, p.2) (error_back (ahead_run (inside (goal.at.returns-in_err-expect-clause-error c).After-eat_until).run) c.in_err-expect.ensures.error)
 
 pub returns-clause-found : goal.returns-clause-found
 returns-clause-found c u p = body.comment _ (inside (goal.at.returns-clause-found c).After-eat_until) c.in_ok-expect.ensures.found

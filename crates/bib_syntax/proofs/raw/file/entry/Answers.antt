@@ -3,7 +3,7 @@ use Rattle.std.proofs.lemmas.Result.{err_from_is_err_and}
 use Rattle.bib_text.proofs.PlaceFacts.{ahead_run, ahead_then, ahead_char}
 use Rattle.bib_syntax.proofs.FieldFacts.{ahead_gap, refuses_from}
 use Rattle.bib_syntax.proofs.FileFacts.{no_entry_comma, no_entry_fields, entry_found}
-use Rattle.bib_syntax.proofs.ReadingFacts.{fault_back, taken_if}
+use Rattle.bib_syntax.proofs.ReadingFacts.{error_back, taken_if}
 use Rattle.bib_syntax.proofs.raw.file.entry.Goals as goal
 
 pub returns-in_err-expect-clause-refused : goal.returns-in_err-expect-clause-refused
@@ -11,7 +11,7 @@ returns-in_err-expect-clause-refused c =
     let p = err_from_is_err_and c.from_residual.result c.from_residual.ensures.1 in
     let key = c.key-key.ensures.longest in
     let white = c.eat_whitespace.ensures.longest in
-    rw (p.1, p.2) (inr (fault_back (ahead_then (ahead_run key.run) (ahead_run white.run)) c.in_err-expect.ensures.fault, no_entry_comma key white c.in_err-expect.ensures.none))
+    rw (p.1, p.2) (inr (error_back (ahead_then (ahead_run key.run) (ahead_run white.run)) c.in_err-expect.ensures.error, no_entry_comma key white c.in_err-expect.ensures.none))
 
 pub returns-in_err-fields-clause-refused : goal.returns-in_err-fields-clause-refused
 returns-in_err-fields-clause-refused c =

@@ -2,7 +2,7 @@ use Rattle.std.proofs.lemmas.Result.{err_from_is_err_and}
 use Rattle.bib_text.proofs.PlaceFacts.{ahead_then, ahead_run, ahead_char}
 use Rattle.bib_syntax.proofs.FieldFacts.{ahead_identifier}
 use Rattle.bib_syntax.proofs.FileFacts.{no_head_name, no_head_brace}
-use Rattle.bib_syntax.proofs.ReadingFacts.{fault_back, on_err, taken_if}
+use Rattle.bib_syntax.proofs.ReadingFacts.{error_back, on_err, taken_if}
 use Rattle.bib_syntax.proofs.raw.file.head.Goals as goal
 use Rattle.bib_syntax.proofs.raw.file.head.Goals.{After-eat_if}
 use Rattle.bib_text.specs.Places.{CharAt}
@@ -17,23 +17,23 @@ pub returns-in_err-brace-clause-none : goal.returns-in_err-brace-clause-none
 returns-in_err-brace-clause-none c =
     on_err _ (no_head_brace (sign (goal.at.returns-in_err-brace-clause-none c).After-eat_if) c.in_ok-kind.ensures.found c.eat_whitespace.ensures.longest c.in_err-brace.ensures.none)
 
-pub returns-in_err-kind-clause-fault : goal.returns-in_err-kind-clause-fault
-returns-in_err-kind-clause-fault c =
+pub returns-in_err-kind-clause-error : goal.returns-in_err-kind-clause-error
+returns-in_err-kind-clause-error c =
     let p = err_from_is_err_and c.from_residual.result c.from_residual.ensures.1 in
-    rw (p.1, p.2) (fault_back (ahead_char (sign (goal.at.returns-in_err-kind-clause-fault c).After-eat_if)) c.in_err-kind.ensures.fault)
+    rw (p.1, p.2) (error_back (ahead_char (sign (goal.at.returns-in_err-kind-clause-error c).After-eat_if)) c.in_err-kind.ensures.error)
 
-pub returns-in_err-brace-clause-fault : goal.returns-in_err-brace-clause-fault
-returns-in_err-brace-clause-fault c =
+pub returns-in_err-brace-clause-error : goal.returns-in_err-brace-clause-error
+returns-in_err-brace-clause-error c =
     let p = err_from_is_err_and c.from_residual-in_err-brace.result c.from_residual-in_err-brace.ensures.1 in
-    let passed = ahead_then (ahead_char (sign (goal.at.returns-in_err-brace-clause-fault c).After-eat_if)) (ahead_then (ahead_identifier c.in_ok-kind.ensures.found) (ahead_run c.eat_whitespace.ensures.longest.run)) in
-    rw (p.1, p.2) (fault_back passed c.in_err-brace.ensures.fault)
+    let passed = ahead_then (ahead_char (sign (goal.at.returns-in_err-brace-clause-error c).After-eat_if)) (ahead_then (ahead_identifier c.in_ok-kind.ensures.found) (ahead_run c.eat_whitespace.ensures.longest.run)) in
+    rw (p.1, p.2) (error_back passed c.in_err-brace.ensures.error)
 
 pub returns-clause-found : goal.returns-clause-found
 returns-clause-found c = record {
   name_start = _;
   name_end = _;
   before_brace = _;
-  behind_brace = _;
+  after_brace = _;
   brace = c.in_ok-brace.ensures.found.0;
   sign = sign (goal.at.returns-clause-found c).After-eat_if;
   name = c.in_ok-kind.ensures.found;

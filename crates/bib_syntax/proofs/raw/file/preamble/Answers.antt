@@ -4,7 +4,7 @@ use Rattle.bib_text.proofs.PlaceFacts.{ahead_run, ahead_then, boundary_ahead}
 use Rattle.bib_syntax.specs.Grammar.{Body as body}
 use Rattle.bib_syntax.proofs.FieldFacts.{ahead_quoted}
 use Rattle.bib_syntax.proofs.FileFacts.{no_preamble, no_preamble_close}
-use Rattle.bib_syntax.proofs.ReadingFacts.{fault_back, on_err, not_behind, part_from}
+use Rattle.bib_syntax.proofs.ReadingFacts.{error_back, on_err, not_after, part_from}
 use Rattle.bib_syntax.proofs.raw.file.preamble.Goals as goal
 
 pub returns-in_err-quoted-clause-none : goal.returns-in_err-quoted-clause-none
@@ -13,16 +13,16 @@ returns-in_err-quoted-clause-none c = on_err _ (no_preamble c.in_err-quoted.ensu
 pub from-text-requires-clause-boundary : goal.from-text-requires-clause-boundary
 from-text-requires-clause-boundary c = boundary_ahead _ (ahead_quoted c.in_ok-quoted.ensures.found) c.cursor-start.ensures.boundary
 
-pub from-text-requires-clause-behind : goal.from-text-requires-clause-behind
-from-text-requires-clause-behind c = not_behind _ (ahead_quoted c.in_ok-quoted.ensures.found) c.cursor-start.ensures.place
+pub from-text-requires-clause-following : goal.from-text-requires-clause-following
+from-text-requires-clause-following c = not_after _ (ahead_quoted c.in_ok-quoted.ensures.found) c.cursor-start.ensures.place
 
 pub returns-in_err-brace-clause-none : goal.returns-in_err-brace-clause-none
 returns-in_err-brace-clause-none c = on_err _ (no_preamble_close c.in_ok-quoted.ensures.found c.eat_whitespace.ensures.longest c.in_err-brace.ensures.none)
 
-pub returns-in_err-brace-clause-fault : goal.returns-in_err-brace-clause-fault
-returns-in_err-brace-clause-fault c =
+pub returns-in_err-brace-clause-error : goal.returns-in_err-brace-clause-error
+returns-in_err-brace-clause-error c =
     let p = err_from_is_err_and c.from_residual-in_err-brace.result c.from_residual-in_err-brace.ensures.1 in
-    rw (p.1, p.2) (fault_back (ahead_then (ahead_quoted c.in_ok-quoted.ensures.found) (ahead_run c.eat_whitespace.ensures.longest.run)) c.in_err-brace.ensures.fault)
+    rw (p.1, p.2) (error_back (ahead_then (ahead_quoted c.in_ok-quoted.ensures.found) (ahead_run c.eat_whitespace.ensures.longest.run)) c.in_err-brace.ensures.error)
 
 pub returns-clause-found : goal.returns-clause-found
 returns-clause-found c u p =

@@ -6,7 +6,7 @@ use Rattle.bib_text.specs.Braces.{is_plain}
 use Rattle.bib_text.proofs.PlaceFacts.{Ahead, ahead_here, ahead_then, ahead_char, ahead_run, ahead_same, ahead_taken, boundary_ahead, left_smaller, char_left}
 use Rattle.bib_syntax.proofs.BraceFacts.{SameBraced, braced_then, braced_run, braced_open, braced_hidden, braced_same, braced_less, braced_stuck, found_parts}
 use Rattle.bib_syntax.proofs.BraceFacts.Closes.{last}
-use Rattle.bib_syntax.proofs.ReadingFacts.{fault_back, taken_if, part_from, not_behind}
+use Rattle.bib_syntax.proofs.ReadingFacts.{error_back, taken_if, part_from, not_after}
 use Rattle.bib_syntax.proofs.raw.words.braced_parts.Goals as goal
 use Rattle.bib_syntax.proofs.raw.words.braced_parts.Goals.{After-eat_while}
 
@@ -95,20 +95,20 @@ returns-else-eat_if-2-clause-none c v w parts close =
     let there = (all at).back v w (last parts) close in
     braced_stuck (run at).stops c.if-eat_if.ensures.1 (λ x. rw (← same) (c.if-at.ensures x)) (λ x. rw (← same) (c.if-eat_if-2.ensures.1 x)) there close
 
-pub returns-else-eat_if-2-clause-fault : goal.returns-else-eat_if-2-clause-fault
-returns-else-eat_if-2-clause-fault c =
-    let at = (goal.at.returns-else-eat_if-2-clause-fault c).After-eat_while in
-    fault_back (ahead_then (passed at) (ahead_then (ahead_same c.if-eat_if.ensures.0) (ahead_same c.if-eat_if-2.ensures.0))) c.fault.ensures
+pub returns-else-eat_if-2-clause-error : goal.returns-else-eat_if-2-clause-error
+returns-else-eat_if-2-clause-error c =
+    let at = (goal.at.returns-else-eat_if-2-clause-error c).After-eat_while in
+    error_back (ahead_then (passed at) (ahead_then (ahead_same c.if-eat_if.ensures.0) (ahead_same c.if-eat_if-2.ensures.0))) c.error.ensures
 
 pub from-requires-clause-boundary : goal.from-requires-clause-boundary
 from-requires-clause-boundary c =
     let at = (goal.at.from-requires-clause-boundary c).After-eat_while in
     boundary_ahead _ (ahead_then (passed at) (ahead_same c.if-eat_if.ensures.0)) c.cursor-start.ensures.boundary
 
-pub from-requires-clause-behind : goal.from-requires-clause-behind
-from-requires-clause-behind c =
-    let at = (goal.at.from-requires-clause-behind c).After-eat_while in
-    not_behind _ (ahead_then (passed at) (ahead_same c.if-eat_if.ensures.0)) c.cursor-start.ensures.place
+pub from-requires-clause-following : goal.from-requires-clause-following
+from-requires-clause-following c =
+    let at = (goal.at.from-requires-clause-following c).After-eat_while in
+    not_after _ (ahead_then (passed at) (ahead_same c.if-eat_if.ensures.0)) c.cursor-start.ensures.place
 
 pub returns-then-depth-eq0-clause-reading : goal.returns-then-depth-eq0-clause-reading
 returns-then-depth-eq0-clause-reading c =

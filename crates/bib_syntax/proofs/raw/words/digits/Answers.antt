@@ -2,7 +2,7 @@ use Rattle.std.specs.Char.{is_ascii_digit}
 use Rattle.bib_text.specs.Places.{Longest}
 use Rattle.bib_text.proofs.PlaceFacts.{ahead_then, ahead_char, ahead_run}
 use Rattle.bib_syntax.proofs.WordFacts.{number_whole, number_broken, number_points}
-use Rattle.bib_syntax.proofs.ReadingFacts.{fault_back}
+use Rattle.bib_syntax.proofs.ReadingFacts.{error_back}
 use Rattle.bib_syntax.proofs.raw.words.digits.Goals as goal
 use Rattle.bib_syntax.proofs.raw.words.digits.Goals.{After-eat_while}
 
@@ -20,11 +20,11 @@ returns-then-at-clause-none c =
     let at = (goal.at.returns-then-at-clause-none c).After-eat_while in
     number_points (run at) c.if-not-eat_if.ensures (c.eat_while-2.ensures.longest is_ascii_digit (λ x r post. post)) c.if-at.ensures.1
 
-pub returns-then-at-clause-fault : goal.returns-then-at-clause-fault
-returns-then-at-clause-fault c =
-    let at = (goal.at.returns-then-at-clause-fault c).After-eat_while in
+pub returns-then-at-clause-error : goal.returns-then-at-clause-error
+returns-then-at-clause-error c =
+    let at = (goal.at.returns-then-at-clause-error c).After-eat_while in
     let more : Longest is_ascii_digit c.eat_if.new.self c.eat_while-2.new.self = c.eat_while-2.ensures.longest is_ascii_digit (λ x r post. post) in
-    fault_back (ahead_then (ahead_run (run at).run) (ahead_then (ahead_char c.if-not-eat_if.ensures) (ahead_run more.run))) c.fault.ensures
+    error_back (ahead_then (ahead_run (run at).run) (ahead_then (ahead_char c.if-not-eat_if.ensures) (ahead_run more.run))) c.error.ensures
 
 pub returns-clause-found : goal.returns-clause-found
 returns-clause-found c =

@@ -2,7 +2,7 @@ use Rattle.bib_text.specs.Places.{Longest}
 use Rattle.bib_text.proofs.PlaceFacts.{Ahead, ahead_then, ahead_char, ahead_run, ahead_same, ahead_taken, boundary_ahead, left_smaller}
 use Rattle.bib_syntax.specs.Grammar.QuotedParts.{none}
 use Rattle.bib_syntax.proofs.QuoteFacts.{is_quotable, quoted_then, quoted_run, quoted_hidden, quoted_stuck}
-use Rattle.bib_syntax.proofs.ReadingFacts.{fault_back, part_from, not_behind}
+use Rattle.bib_syntax.proofs.ReadingFacts.{error_back, part_from, not_after}
 use Rattle.bib_syntax.proofs.raw.words.quoted_parts.Goals as goal
 use Rattle.bib_syntax.proofs.raw.words.quoted_parts.Goals.{After-eat_while}
 
@@ -16,8 +16,8 @@ passed c = ahead_then c.parts.invariant.0 (ahead_run (run c).run)
 pub from-requires-clause-boundary : goal.from-requires-clause-boundary
 from-requires-clause-boundary c = boundary_ahead _ (passed (goal.at.from-requires-clause-boundary c).After-eat_while) c.cursor-start.ensures.boundary
 
-pub from-requires-clause-behind : goal.from-requires-clause-behind
-from-requires-clause-behind c = not_behind _ (passed (goal.at.from-requires-clause-behind c).After-eat_while) c.cursor-start.ensures.place
+pub from-requires-clause-following : goal.from-requires-clause-following
+from-requires-clause-following c = not_after _ (passed (goal.at.from-requires-clause-following c).After-eat_while) c.cursor-start.ensures.place
 
 pub returns-then-at-clause-found : goal.returns-then-at-clause-found
 returns-then-at-clause-found c =
@@ -36,9 +36,9 @@ returns-then-not-eat_if-clause-none c v w parts quote =
     let all = quoted_then c.parts.invariant.1 (quoted_run r.run) in
     quoted_stuck r.stops c.if-at.ensures c.if-not-eat_if.ensures.1 (all.back v w parts quote) quote
 
-pub returns-then-not-eat_if-clause-fault : goal.returns-then-not-eat_if-clause-fault
-returns-then-not-eat_if-clause-fault c =
-    fault_back (ahead_then (passed (goal.at.returns-then-not-eat_if-clause-fault c).After-eat_while) (ahead_same c.if-not-eat_if.ensures.0)) c.fault.ensures
+pub returns-then-not-eat_if-clause-error : goal.returns-then-not-eat_if-clause-error
+returns-then-not-eat_if-clause-error c =
+    error_back (ahead_then (passed (goal.at.returns-then-not-eat_if-clause-error c).After-eat_while) (ahead_same c.if-not-eat_if.ensures.0)) c.error.ensures
 
 pub parts-smaller : goal.parts-smaller
 parts-smaller c = left_smaller (ahead_run (run (goal.at.parts-smaller c).After-eat_while).run) c.if-not-eat_if.ensures (ahead_taken _ c.eat.ensures)

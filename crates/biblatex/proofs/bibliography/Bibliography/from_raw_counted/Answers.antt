@@ -1,11 +1,11 @@
 use Rattle.std.proofs.Common.{◌≡◌, ◌∙◌, ap, sym, subst, refl, inl, inr, length, map}
 use Rattle.std.proofs.lemmas.List.{length-map}
 use Rattle.std.proofs.lemmas.Result.{err_from_is_err_and}
-use Rattle.bib_maps.specs.Names.{ArePlacesBelow}
-use Rattle.bib_syntax.specs.Views.{entry_of, file_of}
-use Rattle.bib_references.specs.Resolving.{AreResolved, IsResolvingFault, graph_by}
-use Rattle.biblatex.specs.Resolved.{IsFaultOf, IsLoaded}
-use Rattle.biblatex.proofs.RefusalFacts.{all_taken, entries_count, loaded, resolving_told}
+use Rattle.bib_maps.specs.Names.{AreIndicesBelow}
+use Rattle.bib_syntax.specs.Views.{entry_reading_of, file_of}
+use Rattle.bib_references.specs.Resolving.{AreResolved, IsResolvingError, graph_by}
+use Rattle.biblatex.specs.Resolved.{IsFirstErrorOf, IsLoaded}
+use Rattle.biblatex.proofs.RefusalFacts.{all_taken, entries_count, loaded, resolving_reported}
 use Rattle.biblatex.proofs.ResolvedFacts.{accepted_faultless, with_names}
 use Rattle.biblatex.proofs.bibliography.Bibliography.from_raw_counted.Goals as goal
 
@@ -14,14 +14,14 @@ returns-in_err-entries-clause-refused c =
     let p = err_from_is_err_and c.from_residual-in_err-entries.result c.from_residual-in_err-entries.ensures.1 in
     rw (p.1, p.2) (elim c.in_err-entries.ensures.refused [
       | inl memory ↦ inl memory
-      | inr fault ↦ inr (IsFaultOf.entry fault, λ accepted. accepted_faultless accepted (IsFaultOf.entry fault))
+      | inr error ↦ inr (IsFirstErrorOf.entry error, λ accepted. accepted_faultless accepted (IsFirstErrorOf.entry error))
     ])
 
 pub resolve-requires-clause-as_long : goal.resolve-requires-clause-as_long
 resolve-requires-clause-as_long c =
     let spans = c.deref-2.ensures.value ∙ c.in_ok-spans.ensures ∙ ap (map (λ r. r.span)) c.deref.ensures.value in
-    ap length spans ∙ length-map c.args.raw.entries.items (λ r. r.span) ∙ sym (length-map c.args.raw.entries.items entry_of)
-    ∙ entries_count (map entry_of c.args.raw.entries.items) c.in_ok-entries.entries.items c.in_ok-entries.ensures.loaded.read ∙ sym (ap length c.deref_mut.ensures.value)
+    ap length spans ∙ length-map c.args.raw.entries.items (λ r. r.span) ∙ sym (length-map c.args.raw.entries.items entry_reading_of)
+    ∙ entries_count (map entry_reading_of c.args.raw.entries.items) c.in_ok-entries.entries.items c.in_ok-entries.ensures.loaded.read ∙ sym (ap length c.deref_mut.ensures.value)
 
 pub returns-in_err-turns-clause-refused : goal.returns-in_err-turns-clause-refused
 returns-in_err-turns-clause-refused c =
@@ -31,19 +31,19 @@ returns-in_err-turns-clause-refused c =
     let names = c.in_ok-entries.names in
     rw (p.1, p.2) (elim c.in_err-turns.ensures.refused [
       | inl memory ↦ inl memory
-      | inr fault ↦
-          let told = resolving_told c.args.raw.entries.items own names _ refl c.in_ok-entries.ensures.loaded.read (ap (λ l. l.names) c.in_ok-entries.ensures.loaded.library)
-          (subst (λ s. IsResolvingFault s own (graph_by names own) c.in_err-turns.field-0.0) spans
-          (subst (λ es. IsResolvingFault c.deref-2.result.now es (graph_by names es) c.in_err-turns.field-0.0) c.deref_mut.ensures.value fault))
+      | inr error ↦
+          let reported = resolving_reported c.args.raw.entries.items own names _ refl c.in_ok-entries.ensures.loaded.read (ap (λ l. l.names) c.in_ok-entries.ensures.loaded.bibliography)
+          (subst (λ s. IsResolvingError s own (graph_by names own) c.in_err-turns.field-0.0) spans
+          (subst (λ es. IsResolvingError c.deref-2.result.now es (graph_by names es) c.in_err-turns.field-0.0) c.deref_mut.ensures.value error))
           in
-          inr (told, λ accepted. accepted_faultless accepted told)
+          inr (reported, λ accepted. accepted_faultless accepted reported)
     ])
 
 pub from_names-requires : goal.from_names-requires
 from_names-requires c =
     let count : length c.resolve.new.entries ≡ length c.in_ok-entries.entries.items = c.in_ok-turns.ensures.length ∙ ap length c.deref_mut.ensures.value in
     let all = all_taken c.in_ok-entries.entries.len c.resolve.new.entries c.in_ok-entries.entries.items (count ∙ sym c.in_ok-entries.entries.ok.0) in
-    subst (λ n. ArePlacesBelow n c.in_ok-entries.names) (sym (ap length all ∙ count)) c.in_ok-entries.ensures.below
+    subst (λ n. AreIndicesBelow n c.in_ok-entries.names) (sym (ap length all ∙ count)) c.in_ok-entries.ensures.below
 
 pub returns-clause-loaded : goal.returns-clause-loaded
 returns-clause-loaded c =
@@ -52,5 +52,5 @@ returns-clause-loaded c =
     let count : length c.resolve.new.entries ≡ length own = c.in_ok-turns.ensures.length ∙ ap length c.deref_mut.ensures.value in
     let all = all_taken c.in_ok-entries.entries.len c.resolve.new.entries own (count ∙ sym c.in_ok-entries.entries.ok.0) in
     subst (IsLoaded (file_of c.args.raw)) (sym (c.from_names.ensures ∙ ap (λ es. with_names es names) all))
-    (loaded own c.resolve.new.entries names c.in_ok-entries.ensures.loaded.read (ap (λ l. l.names) c.in_ok-entries.ensures.loaded.library)
+    (loaded own c.resolve.new.entries names c.in_ok-entries.ensures.loaded.read (ap (λ l. l.names) c.in_ok-entries.ensures.loaded.bibliography)
     (subst (λ es. AreResolved es (graph_by names es) c.resolve.new.entries) c.deref_mut.ensures.value c.in_ok-turns.ensures.resolved))

@@ -1,4 +1,4 @@
-use Rattle.bib_file_entries.proofs.LibraryFacts.{below_empty}
+use Rattle.bib_file_entries.proofs.BibliographyFacts.{below_empty}
 use Rattle.biblatex.proofs.bibliography.Bibliography.new.Goals as goal
 
 pub invariant_of-result : goal.invariant_of-result

@@ -1,7 +1,7 @@
 use Rattle.std.proofs.Common.{arith}
 use Rattle.std.proofs.lemmas.Result.{err_from_is_err_and}
 use Rattle.biblatex.proofs.InsideFacts.{refused_inside}
-use Rattle.biblatex.proofs.RefusalFacts.{accepted_text, library_of, refused_syntax, refused_text}
+use Rattle.biblatex.proofs.RefusalFacts.{accepted_text, bibliography_of, refused_syntax, refused_text}
 use Rattle.biblatex.proofs.bibliography.Bibliography.parse.Goals as goal
 
 pub returns-in_err-raw-clause-refused : goal.returns-in_err-raw-clause-refused
@@ -10,7 +10,7 @@ returns-in_err-raw-clause-refused c =
     rw (p.1, p.2) (refused_syntax c.in_err-raw.ensures.refused)
 
 pub returns-clause-loaded : goal.returns-clause-loaded
-returns-clause-loaded c = library_of c.args.src.now c.from_raw.result c.in_ok-raw.ensures.read c.from_raw.ensures.loaded
+returns-clause-loaded c = bibliography_of c.args.src.now c.from_raw.result c.in_ok-raw.ensures.read c.from_raw.ensures.loaded
 
 pub returns-clause-accepted : goal.returns-clause-accepted
 returns-clause-accepted c = accepted_text c.args.src.now c.from_raw.result c.in_ok-raw.ensures.read c.from_raw.ensures.loaded

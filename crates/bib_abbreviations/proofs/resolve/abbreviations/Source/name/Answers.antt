@@ -1,5 +1,5 @@
 use Rattle.std.proofs.Common.{refl, inr, sym}
-use Rattle.bib_abbreviations.specs.Abbreviations.{IsFirstFault as first_fault}
+use Rattle.bib_abbreviations.specs.Abbreviations.{IsFirstError as first_error}
 use Rattle.bib_abbreviations.specs.Expanding.{part_at}
 use Rattle.bib_abbreviations.proofs.ExpansionFacts.{expands_again}
 use Rattle.bib_abbreviations.proofs.resolve.abbreviations.Source.name.Goals as goal
@@ -12,7 +12,7 @@ repeat-requires-clause-within c = (c.requires.within c.args.name.now _ _ (sym (r
 
 pub returns-in_ok-from_str-in-Some-Begun-clause-refused : goal.returns-in_ok-from_str-in-Some-Begun-clause-refused
 returns-in_ok-from_str-in-Some-Begun-clause-refused c = λ path sound. inr (λ rest.
-    first_fault.circle (sound.begun c.args.name.now (sym (rw c.in-Some-Begun.field-0-is at c.in-Some-Begun.ensures.value))) (rw c.in_ok-from_str-in-Some-Begun.ensures refl))
+    first_error.cycle (sound.begun c.args.name.now (sym (rw c.in-Some-Begun.field-0-is at c.in-Some-Begun.ensures.value))) (rw c.in_ok-from_str-in-Some-Begun.ensures refl))
 
 pub returns-in_ok-repeat-in-Some-Done-clause-taken : goal.returns-in_ok-repeat-in-Some-Done-clause-taken
 returns-in_ok-repeat-in-Some-Done-clause-taken c = λ path sound.

@@ -1,7 +1,7 @@
 use Rattle.std.proofs.Common.{refl, inr, sym, ap}
 use Rattle.bib_chunks.specs.declared.chunk.Chunk.{Chunk}
 use Rattle.bib_text.specs.declared.spanned.Spanned.{Spanned}
-use Rattle.bib_abbreviations.specs.Abbreviations.{IsFirstFault as first_fault}
+use Rattle.bib_abbreviations.specs.Abbreviations.{IsFirstError as first_error}
 use Rattle.bib_abbreviations.specs.Expanding.{known_to, part_at}
 use Rattle.bib_abbreviations.proofs.ExpansionFacts.{expands_month}
 use Rattle.bib_abbreviations.proofs.resolve.abbreviations.Source.new_name.Goals as goal
@@ -14,7 +14,7 @@ returns-in-Some-clause-taken c =
 pub returns-in_default-month-clause-refused : goal.returns-in_default-month-clause-refused
 returns-in_default-month-clause-refused c = inr (λ path rest.
     let absent = sym c.in_default.ensures in
-    first_fault.unknown absent (sym c.in_default-month.ensures) (rw c.in_ok-from_str.ensures refl))
+    first_error.unknown absent (sym c.in_default-month.ensures) (rw c.in_ok-from_str.ensures refl))
 
 pub returns-clause-taken : goal.returns-clause-taken
 returns-clause-taken c =

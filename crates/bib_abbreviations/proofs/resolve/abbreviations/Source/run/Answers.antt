@@ -37,8 +37,8 @@ take-requires c = record { within = sound_within c.frames.invariant.sound }
 pub returns-in_err-above-clause-refused : goal.returns-in_err-above-clause-refused
 returns-in_err-above-clause-refused c =
     let p = err_from_is_err_and c.from_residual-in_err-above.result c.from_residual-in_err-above.ensures.1 in
-    let fault = c.in_err-above.ensures.refused _ c.frames.invariant.sound in
-    rw (p.1, p.2) (expanding_refused _ c.in-Some.piece.now c.in-Some.rest.now c.frames.invariant c.in-Some.ensures.cases.0 c.requires.defined fault)
+    let error = c.in_err-above.ensures.refused _ c.frames.invariant.sound in
+    rw (p.1, p.2) (expanding_refused _ c.in-Some.piece.now c.in-Some.rest.now c.frames.invariant c.in-Some.ensures.cases.0 c.requires.defined error)
 
 pub frames-smaller-in-Some-2 : goal.frames-smaller-in-Some-2
 frames-smaller-in-Some-2 c =

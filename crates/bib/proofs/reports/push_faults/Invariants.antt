@@ -1,8 +1,0 @@
-use Rattle.std.proofs.Common.{◌≡◌, ◌++◌, take}
-use Rattle.std.specs.List.{flat_map}
-use Rattle.std.specs.String.{string_bytes}
-use Rattle.bib.specs.Output.{malformed_line}
-use Rattle.bib.proofs.reports.push_faults.Given as goal
-
-abbrev pub invariant-faults : goal.invariant-faults
-invariant-faults l = string_bytes l.text ≡ string_bytes l.initial.text ++ flat_map (malformed_line l.key) (take l.name-index l.faults)

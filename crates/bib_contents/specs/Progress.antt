@@ -1,0 +1,55 @@
+-- Machinery: words of private contracts.
+-- Characters that a cursor passes, and how far contents were read.
+use Rattle.std.specs.Prelude.{◌≡◌, ◌⊎◌, ℕ, ◌+◌, ◌-◌, ◌^◌, ◌≤◌, min, Bool, true, false, List, ◌++◌, length, drop, map, Some, string_bytes, encode_utf8_all}
+use Rattle.std.specs.Str.{chars}
+use Rattle.bib_text.specs.Places.{Place}
+use Rattle.bib_chunks.specs.Styled.{Atom, styled}
+use Rattle.bib_chunks.specs.declared.chunk.Chunk.{Chunk}
+use Rattle.bib_text.specs.declared.spanned.Spanned.{Spanned}
+use Rattle.bib_syntax.specs.Errors.{out_of_memory}
+use Rattle.bib_syntax.specs.declared.raw.ParseError.{ParseError}
+use Rattle.bib_contents.specs.Contents.{LiesBetween, ContentUnit, Reads, character, meaning, is_closable, depth_after, held}
+use Rattle.bib_styled.specs.Joined.{ArePlaced}
+use Rattle.bib_contents.specs.declared.growing.OpenChunk.{OpenChunk}
+
+-- the characters that are left at a place
+abbrev pub left : Place → List ℕ
+left u = chars (drop u.at u.text)
+
+-- these characters stand from one place to the other
+pub record Passes (u : Place) (cs : List ℕ) (v : Place) : Type 0 where
+  pub same : v.text ≡ u.text
+  pub here : drop u.at u.text ≡ encode_utf8_all cs ++ drop v.at v.text
+  pub next : v.at ≡ u.at + length (encode_utf8_all cs)
+  pub left : left u ≡ cs ++ left v
+
+-- a text begins with these atoms: contents that are read after them are read after them in the whole, and what the
+-- whole is read as goes on so
+pub record Goes (is_verbatim : Bool) (depth : ℕ) (text : List ℕ) (atoms : List Atom) (after : ℕ) (rest : List ℕ) : Type 0 where
+  pub onward : (more : List Atom) → Reads is_verbatim after rest more → Reads is_verbatim depth text (atoms ++ more)
+  pub back : (whole : List Atom) → Reads is_verbatim depth text whole → (more : List Atom) × Reads is_verbatim after rest more
+
+-- a text is not read
+abbrev pub IsStuck : Bool → ℕ → List ℕ → Type 0
+IsStuck is_verbatim depth text = (atoms : List Atom) → Reads is_verbatim depth text atoms → ⊥
+
+-- what was read so far: finished chunks, and the one that still grows
+abbrev pub so_far : List (Spanned Chunk) → OpenChunk → List Atom
+so_far out growing = styled out ++ map (character growing.depth) (chars (string_bytes growing.text))
+
+-- one unit was read, after these atoms
+pub record Took (u : ContentUnit) (depth : ℕ) (before : List Atom) (next_depth : ℕ) (after : List Atom) : Type 0 where
+  pub inner : List Atom
+  pub closable : is_closable depth u ≡ true
+  pub argument : (text : List ℕ) → held u ≡ Some text → Reads false 0 text inner
+  pub deep : next_depth ≡ depth_after depth u
+  pub atoms : after ≡ before ++ meaning depth u inner
+
+-- a unit cannot be read here: it closes a brace and none is open, or its argument is not read
+abbrev pub IsUntaken : ContentUnit → ℕ → Type 0
+IsUntaken u depth = (is_closable depth u ≡ false) ⊎ ((text : List ℕ) × (held u ≡ Some text) × IsStuck false 0 text)
+
+-- chunks stay placed: where the growing one began before a place, the next one begins before a later place
+abbrev pub StaysPlaced : List (Spanned Chunk) → OpenChunk → ℕ → List (Spanned Chunk) → OpenChunk → ℕ → Type 0
+StaysPlaced chunks growing end more grown following =
+    (low : ℕ) → ArePlaced low growing.start chunks → growing.start ≤ end → ArePlaced low grown.start more × (grown.start ≤ following)

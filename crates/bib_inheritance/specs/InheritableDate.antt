@@ -1,0 +1,85 @@
+-- Meaning: words of public contracts.
+-- What an entry has as a date for those that inherit it.
+use Rattle.std.specs.Prelude.{◌≡◌, ℕ, Bool, true, false, not, ◌&&◌, ◌||◌, List, [], ◌∷◌, map, codes, option_map, Option, Some, None, IsSomeAnd, if◌then◌else◌}
+use Rattle.std.specs.Str.{chars}
+use Rattle.bib_chunks.specs.Styled.{Atom, styled}
+use Rattle.bib_enums.specs.declared.type_error.TypeErrorKind.{TypeErrorKind}
+use Rattle.bib_entry_types.specs.Requirements.{rules_of}
+use Rattle.bib_dates.specs.Rewritten.{rewritten_date}
+use Rattle.bib_dates.specs.Readings.{MayRefuse, Reading, readable_value}
+use Rattle.bib_dates.specs.ThreeFields.{three_fields_of}
+use Rattle.bib_dates.specs.Written.{date_text}
+use Rattle.bib_dates.specs.declared.date.Date.{Date}
+use Rattle.bib_inheritance.specs.References.{plain}
+use Rattle.bib_inheritance.specs.declared.inheritable_date.InheritableDate.{InheritableDate as Kept}
+use Rattle.bib_inheritance.specs.declared.inheritable_date.InheritableDate.TheVariants.{Undated, Unreadable, Dated}
+use Rattle.bib_inheritance.specs.Sources.{FieldTexts, Source, first_some, has}
+
+-- a text of normal characters
+abbrev pub written_date : List ℕ → List Atom
+written_date text = map Atom.normal (chars text)
+
+-- an entry has no date, one that can't be read, or one with a text
+pub data InheritableDate : Type 0 where
+  undated : InheritableDate
+  unreadable : InheritableDate
+  dated : List Atom → InheritableDate
+
+-- what a field `date` gives: its date written anew, without its time, or as it is where it can't be read
+abbrev pub of_one_field : List Atom → Option (List ℕ) → InheritableDate
+of_one_field own None = InheritableDate.dated own
+of_one_field own (Some text) = InheritableDate.dated (written_date text)
+
+-- what the year, the month and the day of an entry are read as, by this text of the year
+abbrev pub three_fields : FieldTexts → List ℕ → Reading Date
+three_fields fields year = three_fields_of year (option_map plain (fields (codes "month"))) (option_map plain (fields (codes "day")))
+
+-- what they give: their date, written, where they can be read
+abbrev pub of_three_fields : Option Date → InheritableDate
+of_three_fields None = InheritableDate.unreadable
+of_three_fields (Some date) = InheritableDate.dated (written_date (date_text date))
+
+-- `date` counts before `year`
+abbrev pub inheritable_date_by : FieldTexts → Option (List Atom) → Option (List Atom) → InheritableDate
+inheritable_date_by fields (Some date) year = of_one_field date (rewritten_date (plain date))
+inheritable_date_by fields None (Some year) = of_three_fields (readable_value (three_fields fields (plain year)))
+inheritable_date_by fields None None = InheritableDate.undated
+
+abbrev pub inheritable_date : FieldTexts → InheritableDate
+inheritable_date fields = inheritable_date_by fields (fields (codes "date")) (fields (codes "year"))
+
+-- the text of a date
+abbrev pub dated_text : InheritableDate → Option (List Atom)
+dated_text (InheritableDate.dated atoms) = Some atoms
+dated_text InheritableDate.undated = None
+dated_text InheritableDate.unreadable = None
+
+-- whether a date is there that can't be read
+abbrev pub is_unreadable : InheritableDate → Bool
+is_unreadable InheritableDate.unreadable = true
+is_unreadable InheritableDate.undated = false
+is_unreadable (InheritableDate.dated atoms) = false
+
+-- whether an entry looks for a date to those that it refers to: its type needs one, and it has no `date` and no `year`
+-- of its own
+abbrev pub looks_for_date : Source → Bool
+looks_for_date own = (rules_of own.kind).needs_date && not (has own (codes "date") || has own (codes "year"))
+
+-- the date of the last entry that has one
+abbrev pub last_date : List Source → Option (List Atom)
+last_date [] = None
+last_date (r ∷ rest) = first_some (last_date rest) (dated_text (inheritable_date r.fields))
+
+-- the date that an entry takes over
+abbrev pub date_for : Source → List Source → Option (List Atom)
+date_for own references = if looks_for_date own then last_date references else None
+
+-- a kind of error that the year, the month and the day of an entry may be refused with
+abbrev pub DateMayFail : FieldTexts → TypeErrorKind → Type 0
+DateMayFail fields kind = IsSomeAnd (fields (codes "year")) (λ year. MayRefuse (three_fields fields (plain year)) kind)
+
+-- what an entry with these fields has as a date, as it is kept once it is read
+abbrev pub IsInheritableDate : FieldTexts → Kept → Type 0
+IsInheritableDate fields Undated = inheritable_date fields ≡ InheritableDate.undated
+IsInheritableDate fields (Unreadable error) = (inheritable_date fields ≡ InheritableDate.unreadable) × DateMayFail fields error.kind
+IsInheritableDate fields (Dated chunks) = inheritable_date fields ≡ InheritableDate.dated (styled chunks)

@@ -1,0 +1,68 @@
+-- Meaning: words of public contracts.
+-- Errors of a text, and how they are printed, as the Rust crate `biblatex` prints them.
+use Rattle.std.specs.Prelude.{◌≡◌, ℕ, ◌≤◌, Bool, true, false, List, [], ◌∷◌, ◌++◌, Option, Some, length, codes, IsTrue, ◌⊎◌}
+use Rattle.std.specs.Fmt.{◌++?◌, decimal, debug_str}
+use Rattle.bib_enums.specs.TypeError.{type_kind_text}
+use Rattle.bib_syntax.specs.declared.raw.Token.{Token}
+use Rattle.bib_syntax.specs.declared.raw.Token.TheVariants as token
+use Rattle.bib_syntax.specs.declared.raw.ParseErrorKind.{ParseErrorKind}
+use Rattle.bib_syntax.specs.declared.raw.ParseErrorKind.TheVariants.{UnexpectedEof, Unexpected, Expected, UnknownAbbreviation, MalformedCommand, DuplicateKey, ResolutionError, AbbreviationCycle, ReferenceCycle, OutOfMemory}
+use Rattle.bib_syntax.specs.declared.raw.ParseError.{ParseError}
+
+-- how a token is printed
+abbrev pub token_text : Token → List ℕ
+token_text token.Identifier = codes "identifier"
+token_text token.OpeningBrace = codes "opening brace"
+token_text token.ClosingBrace = codes "closing brace"
+token_text token.Comma = codes "comma"
+token_text token.QuotationMark = codes "double quote"
+token_text token.Equals = codes "equals"
+token_text token.DecimalPoint = codes "decimal point"
+
+-- a name between quotes, as Rust's `{:?}` prints it; of a name past ASCII nothing is said
+abbrev pub quoted : List ℕ → Option (List ℕ)
+quoted name = debug_str name
+
+-- what is printed of a kind, where that is said
+abbrev pub kind_text : ParseErrorKind → Option (List ℕ)
+kind_text UnexpectedEof = Some (codes "unexpected end of file")
+kind_text (Unexpected t) = Some (codes "unexpected " ++ token_text t)
+kind_text (Expected t) = Some (codes "expected " ++ token_text t)
+kind_text (UnknownAbbreviation name) = Some (codes "unknown abbreviation ") ++? quoted name
+kind_text MalformedCommand = Some (codes "malformed command")
+kind_text (DuplicateKey key) = Some (codes "duplicate key ") ++? quoted key
+kind_text (ResolutionError kind) = Some (codes "type error occurred during crossref resolution: " ++ type_kind_text kind)
+kind_text (AbbreviationCycle name) = Some (codes "circular abbreviation ") ++? quoted name
+kind_text (ReferenceCycle key) = Some (codes "circular reference ") ++? quoted key
+kind_text OutOfMemory = Some (codes "out of memory")
+
+-- the kind, and the bytes at error
+abbrev pub error_text : ParseError → Option (List ℕ)
+error_text e = kind_text e.kind ++? Some (codes ": " ++ decimal e.span.start ++ codes "-" ++ decimal e.span.end)
+
+-- the error that is no error of the text
+abbrev pub out_of_memory : ParseError
+out_of_memory = record { span = record { start = 0; end = 0 }; kind = OutOfMemory }
+
+-- an error of the grammar: something stands where it may not, or doesn't stand where it should
+abbrev pub is_syntax : ParseErrorKind → Bool
+is_syntax UnexpectedEof = true
+is_syntax (Unexpected t) = true
+is_syntax (Expected t) = true
+is_syntax (UnknownAbbreviation name) = false
+is_syntax MalformedCommand = false
+is_syntax (DuplicateKey key) = false
+is_syntax (ResolutionError kind) = false
+is_syntax (AbbreviationCycle name) = false
+is_syntax (ReferenceCycle key) = false
+is_syntax OutOfMemory = false
+
+-- an error of the grammar, in the text
+pub record IsSyntaxError (text : List ℕ) (e : ParseError) : Type 0 where
+  pub kind : IsTrue (is_syntax e.kind)
+  pub ordered : e.span.start ≤ e.span.end
+  pub within : e.span.end ≤ length text
+
+-- refused when out of memory, or with an error of the grammar where what was asked for doesn't stand
+abbrev pub Refuses : List ℕ → ParseError → Type 0 → Type 0
+Refuses text e Absent = (e ≡ out_of_memory) ⊎ (IsSyntaxError text e × Absent)
