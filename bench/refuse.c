@@ -1,5 +1,5 @@
 /* Refuses a program memory. Loaded before the C library, it lets the call of malloc or realloc with the number REFUSE find no
-   memory, and with REFUSE_ON=1 all calls behind it too. Where one was refused, the file descriptor 3 gets a byte. */
+   memory, and with REFUSE_ON=1 all calls after it too. Where one was refused, the file descriptor 3 gets a byte. */
 #include <errno.h>
 #include <stdlib.h>
 #include <unistd.h>

@@ -5,7 +5,7 @@
 
 For each call that the program of bench/refused/ makes, and for `bib` on small files in each of its commands, the first
 growth is refused, then the second, and so on, until a run meets no refusal: once that growth alone, and once it and all
-behind it. Each answer must be the right one, or want of memory with nothing changed; `bib` must print its answer whole, or
+after it. Each answer must be the right one, or out of memory with nothing changed; `bib` must print its answer whole, or
 `error: out of memory` with status 3. The refusals are made by bench/refuse.c, which is compiled here and loaded before the
 C library.
 
@@ -72,19 +72,19 @@ def built(program):
 
 def run(library, words, text, number, goes_on):
     """The status and the output of a run in which this growth is refused, and whether it was met."""
-    told, telling = os.pipe()
+    reported, reporting = os.pipe()
     environment = {"LD_PRELOAD": library, "REFUSE": str(number), "REFUSE_ON": "1" if goes_on else "0"}
 
     def prepare():
-        os.dup2(telling, 3)
+        os.dup2(reporting, 3)
 
     try:
         done = subprocess.run(words, input=text, stdout=subprocess.PIPE, env=environment, preexec_fn=prepare,
                               pass_fds=(3,), timeout=60)
     finally:
-        os.close(telling)
-    met = os.read(told, 1) == b"!"
-    os.close(told)
+        os.close(reporting)
+    met = os.read(reported, 1) == b"!"
+    os.close(reported)
     return done.returncode, done.stdout, met
 
 

@@ -4,7 +4,7 @@
     bench/robust.py PROGRAM [WORD ..] [--rounds N]
 
 With WORDs only the inputs whose names hold one of them are run. Each input is made in three sizes, and run in each of its
-commands; a command that PROGRAM only tells its usage for is left out. A line of the table is one input in one command: the
+commands; a command that PROGRAM only says its usage for is left out. A line of the table is one input in one command: the
 bytes of the largest input with its answer, the processor time (user and system, the least of N runs, and of more where that
 is too slow, since other work slows runs down), the peak memory, and by which power of input and answer both grow from the
 smallest size to the largest. An input passes where each run ends with the wanted status and answer, in time and memory
@@ -45,22 +45,22 @@ def title(first, last="", middle="x"):
     return lambda size: ["@misc{a, title={", first * size, middle, last * size, "}}"]
 
 
-def listed(before, part, between, behind):
+def listed(before, part, between, after):
     """Numbered parts with a text between them, between two others."""
     def make(size):
         yield before
         for n in range(size):
             yield (between if n else "") + part.format(n)
-        yield behind
+        yield after
     return make
 
 
-def chain(first, line, behind="", is_falling=False):
+def chain(first, line, after="", is_falling=False):
     """A first line and others that each name the one before, in rising or in falling order."""
     def make(size):
         lines = [first.format(size)] + [line.format(n - 1, n, n - 2) for n in range(1, size + 1)]
         yield from (it + "\n" for it in (reversed(lines) if is_falling else lines))
-        yield behind.format(size)
+        yield after.format(size)
     return make
 
 
@@ -115,7 +115,7 @@ def has_length(length):
 MANY = (25_000, 50_000, 100_000)
 TWICE = (50_000, 100_000, 200_000)
 MILLION = (250_000, 500_000, 1_000_000)
-FAULT = "error: unexpected end of file"
+ERROR = "error: unexpected end of file"
 STRING, STRINGS, USE = "@string{{a0 = {{x}}}}", "@string{{a{1} = a{0}}}", "@misc{{k, title = a{}}}"
 CROSSREF, XDATA = "@misc{{x{1}, crossref={{x{0}}}}}", "@xdata{{x{1}, xdata={{x{0}}}}}"
 SIGNS = "@@@{{}},,==##\"\"%\\ \nabcdefé1"
@@ -123,21 +123,21 @@ ALL = "".join(map(chr, range(1, 0x3000)))
 BOTH = ("keys", "biblatex")
 INPUTS = [
     Input("nothing", lambda size: [], (0, 0, 0), (0,), lambda size, answer: answer == b""),
-    Input("braces that stay open", title("{"), MILLION, (1,), begins(FAULT)),
+    Input("braces that stay open", title("{"), MILLION, (1,), begins(ERROR)),
     Input("braces that are closed", title("{", "}"), (1 << 20, 1 << 21, 1 << 22), (0,), is_line("title = {{x}},")),
     Input("braces side by side", title("{}"), MILLION),
     Input("nested commands", title("\\emph{", "}"), MANY, (0,), has_length(lambda n: 10 * n)),
     Input("nested accents", title("\\'{", "}", "e"), MANY, (0,), has_length(lambda n: 2 * n)),
     Input("nested symbols", title("\\ae{", "}"), MANY, (0,), is_line("title = {æ},")),
     Input("commands side by side", title("\\emph{a}\\'e\\ss "), MANY),
-    Input("texts behind one another", title("{a}b$c$--"), MANY),
+    Input("texts after one another", title("{a}b$c$--"), MANY),
     Input("hyphens", title("-"), MILLION),
     Input("backslashes", title("\\\\"), MILLION, (0,), has_length(lambda n: 2 * n)),
     Input("abbreviations of abbreviations", chain(STRING, STRINGS, USE), MANY, (0,), is_line("title = {x},")),
     Input("abbreviations, the last first", chain(STRING, STRINGS, USE, True), MANY, (0,), is_line("title = {x},")),
-    Input("a circle behind abbreviations", chain("@string{{a0 = a0}}", STRINGS, USE), MANY, (1,),
+    Input("a cycle after abbreviations", chain("@string{{a0 = a0}}", STRINGS, USE), MANY, (1,),
           begins('error: circular abbreviation "a0"')),
-    Input("a circle of abbreviations", chain("@string{{a0 = a{}}}", STRINGS, USE), MANY, (1,),
+    Input("a cycle of abbreviations", chain("@string{{a0 = a{}}}", STRINGS, USE), MANY, (1,),
           begins("error: circular abbreviation")),
     Input("abbreviations that double", chain(STRING, "@string{{a{1} = a{0} # a{0}}}", USE), (22, 23, 24), (0,),
           has_length(lambda n: 1 << n)),
@@ -145,9 +145,9 @@ INPUTS = [
           has_length(lambda n: n)),
     Input("references by crossref", chain("@misc{{x0, url={{u}}}}", CROSSREF), MANY),
     Input("references by xdata", chain("@xdata{{x0, isbn={{I}}}}", XDATA, "", True), MANY),
-    Input("a circle behind references", chain("@misc{{x0, crossref={{x0}}}}", CROSSREF), MANY, (1,),
+    Input("a cycle after references", chain("@misc{{x0, crossref={{x0}}}}", CROSSREF), MANY, (1,),
           begins('error: circular reference "x0"')),
-    Input("a circle of references", chain("@xdata{{x0, xdata={{x{}}}}}", XDATA), MANY, (1,),
+    Input("a cycle of references", chain("@xdata{{x0, xdata={{x{}}}}}", XDATA), MANY, (1,),
           begins('error: circular reference "x0"')),
     Input("dates by references", chain("@book{{x0, year={{2020}}, month={{May}}}}", "@book{{x{1}, crossref={{x{0}}}}}"), MANY),
     Input("a ladder of references", chain("@xdata{{x0, isbn={{I}}}}", "@xdata{{x{1}, xdata={{x{0}, x{2}}}}}"), MANY),
@@ -172,7 +172,7 @@ INPUTS = [
     Input("bytes at random", lambda size: [random.Random(7).randbytes(size)], MILLION, (1,),
           begins("error: input is not UTF-8"), BOTH),
     Input("a file that is cut", listed("", "@article{{k{}, author={{Ann Bell and Carl Dee}}, year=2020}}", "\n",
-                                       "\n@article{last, title = {On"), MANY, (1,), begins(FAULT), BOTH),
+                                       "\n@article{last, title = {On"), MANY, (1,), begins(ERROR), BOTH),
 ]
 
 
@@ -235,15 +235,15 @@ def examine(program, word, it, rounds, folder):
     rows = LONG
     for turn in range(rounds * AGAIN):
         new = [measure(program, word, it, size, path) for size, path in zip(it.sizes, paths)]
-        faults = [why for found, *_ in new for why in found]
+        errors = [why for found, *_ in new for why in found]
         rows = [(work, min(seconds, before[1]), memory) for (_, work, seconds, memory), before in zip(new, rows)]
         slow, powers = judged(it, rows)
-        if faults or rows[-1][1] > HOPELESS or turn + 1 >= rounds and not slow:
+        if errors or rows[-1][1] > HOPELESS or turn + 1 >= rounds and not slow:
             break
     (last, seconds, memory), shown = rows[-1], ["-" if by is None else f"{by:.2f}" for by in powers]
     print(f"{it.name:<31} {word:<9} {last:>10} {seconds:>7.3f} {memory / 1e6:>6.1f} {shown[0]:>5} {shown[1]:>6}"
-          f"  {'; '.join(faults + slow) or 'ok'}", flush=True)
-    return not faults + slow
+          f"  {'; '.join(errors + slow) or 'ok'}", flush=True)
+    return not errors + slow
 
 
 def refuses_output(program):

@@ -52,7 +52,7 @@ run 'two keys' 0 $'a\nc\n' keys
 printf '' >"$files/input"
 run 'an empty file' 0 '' keys
 printf '@article{a}' >"$files/input"
-run 'a fault' 1 $'error: expected comma: 10-10\n' keys
+run 'an error' 1 $'error: expected comma: 10-10\n' keys
 printf '@article{a,}\xff' >"$files/input"
 run 'bytes that are not UTF-8' 1 $'error: input is not UTF-8\n' keys
 
@@ -69,7 +69,7 @@ run 'an entry that lacks fields' 4 $'e: missing title\ne: missing journaltitle\n
 printf '@mvbook{m, title={x}, volume={y}}' >"$files/input"
 run 'a volume that is not asked for, and no number' 4 $'m: missing author\nm: missing year\nm: superfluous volume\nm: malformed volume: invalid number\n' check
 printf '@misc{a, title={A}, author={B}}' >"$files/input"
-run 'an entry without faults' 0 '' check
+run 'an entry without errors' 0 '' check
 printf '@misc{a, title={x}}@misc{a,}' >"$files/input"
 run 'a key twice' 1 $'error: duplicate key "a": 19-27\n' biblatex
 run 'a key twice, of which keys know nothing' 0 $'a\na\n' keys

@@ -1,4 +1,4 @@
--- Fields that are lent.
+-- Fields that are gathered.
 use Rattle.std.proofs.Common.{◌≡◌, ℕ, ◌+◌, ◌<◌, ◌-◌, List, [], ◌∷◌, ◌++◌, Bool, true, false, not, cond, ◌&&◌, ◌||◌, length, get_or, take, drop, refl, sym, ap, ◌∙◌, subst, arith, inl, inr, ◌⊎◌, Option, Some, None, option_map, is_some, map, append-nil}
 use Rattle.std.specs.List.{flat_map}
 use Rattle.std.specs.Str.{bytes_eq}
@@ -43,7 +43,7 @@ mapped_if : {A B : Type 0} (f : A → B) (b : Bool) (x y : Option A) → option_
 mapped_if f true x y = refl
 mapped_if f false x y = refl
 
--- a name that something was lent for
+-- a name that something was gathered for
 pub gathered_inserted : (m n : Gathered) (bs : List ℕ) (c : Bor Value) → tree.UpdatesBy (λ x y. slice_cmp nat_cmp x.now y.now) (λ k. slice_cmp nat_cmp bs k.now) m n (Some c)
     → (q : List ℕ) → gathered_text n q ≡ cond (bytes_eq bs q) (Some (styled c.now)) (gathered_text m q)
 gathered_inserted m n bs c h q =
@@ -56,7 +56,7 @@ bytes_decides n q = go (bytes_eq n q) refl where
   go true t = inl (t, (bytes_eq-Decides n q).0 t)
   go false t = inr (t, λ e. false≢true (sym t ∙ (bytes_eq-Decides n q).1 e))
 
--- what the first of some names have lent
+-- what the first of some names have gathered
 abbrev pub IsGathered : Names → ℕ → Source → Gathered → Gathered → Type 0
 IsGathered names i s old new = (q : List ℕ) → gathered_text new q ≡ first_some (offered_among (take i names) s q) (gathered_text old q)
 
@@ -126,7 +126,7 @@ twice true true false o x = refl
 twice true true true None x = refl
 twice true true true (Some v) x = refl
 
--- what one list of names lends after another
+-- what one list of names gathers after another
 pub offered_both : (a b : Names) (s : Source) (q : List ℕ) (x : Option (List Atom)) → first_some (offered_among b s q) (first_some (offered_among a s q) x) ≡ first_some (offered_among (a ++ b) s q) x
 offered_both a b s q x =
     twice (not (is_one_of never_inherited q)) (is_one_of a q) (is_one_of b q) (offer s q) x
@@ -200,7 +200,7 @@ given_more kind refs done r old new within at adds h q =
     ∙ ap (λ x. first_some (offered_field kind (source_at x) q) (inherited_field kind q (sources (drop (k + 1) refs)))) is
     ∙ sym next
 
--- what one group more lends
+-- what one group more gathers
 pub groups_more : (groups : List (Bor (List (Bor (List ℕ))))) (i : ℕ) (d : Bor (List (Bor (List ℕ)))) (s : Source) (old mid new : Gathered) → i < length groups
     → ((q : List ℕ) → gathered_text new q ≡ first_some (offered_among (texts (get_or groups i d).now) s q) (gathered_text mid q))
     → ((q : List ℕ) → gathered_text mid q ≡ first_some (offered_among (flat_map (λ group. texts group.now) (take i groups)) s q) (gathered_text old q))

@@ -14,7 +14,7 @@ use Rattle.bib_entry_types.specs.Requirements.{Names, is_one_of, never_inherited
 use Rattle.bib_inheritance.specs.Inherited.{offer}
 use Rattle.bib_inheritance.specs.Sources.{Source}
 
--- the styled text of the field that is lent for a name
+-- the styled text of the field that is gathered for a name
 abbrev pub gathered_text_in : List (Bor (List ℕ) × Bor (List (Spanned Chunk))) → List ℕ → Option (List Atom)
 gathered_text_in gathered name = option_map (λ chunks. styled chunks.now) (lookup (tree.is_at (λ key. slice_cmp nat_cmp name key.now)) gathered)
 

@@ -1,4 +1,4 @@
-//! Fields that references give, lent until it is known which of them are taken over.
+//! Fields that references give, gathered until it is known which of them are taken over.
 
 ghost use Rattle.std.specs.Prelude.{◌≡◌, ℕ, List, OnOk, IfOk, map, if◌then◌else◌, is_some, option_map, None};
 ghost use Rattle.std.specs.FinMap as by_name;
@@ -17,7 +17,7 @@ use bib_text::text::Text;
 use std::alloc::{AllocError, Global};
 use std::collections::BTreeMap;
 
-// Fields by name. The field that is lent last for a name stands.
+// Fields by name. The field that is gathered last for a name stands.
 type Gathered<'a> = BTreeMap<&'a str, &'a Chunks>;
 
 fn is_kept_back(name: &str) -> bool
@@ -32,7 +32,7 @@ fn is_container(kind: &EntryType) -> bool
     matches!(kind, EntryType::XData)
 }
 
-// Lends what a reference offers for some names.
+// Gathers what a reference offers for some names.
 fn gather_offers<'a>(
     reference: &Reference<'a>,
     names: &[&'a str],
@@ -53,7 +53,7 @@ fn gather_offers<'a>(
     Ok(())
 }
 
-// Lends what a reference offers for the names of some groups.
+// Gathers what a reference offers for the names of some groups.
 fn gather_groups<'a>(
     reference: &Reference<'a>,
     groups: &[&'static [&'static str]],
@@ -69,7 +69,7 @@ fn gather_groups<'a>(
     Ok(())
 }
 
-// Lends what a reference offers for the names that an entry of a type inherits.
+// Gathers what a reference offers for the names that an entry of a type inherits.
 fn gather_inheritable<'a>(
     kind: &EntryType,
     reference: &Reference<'a>,
@@ -98,7 +98,7 @@ fn names_of<'a>(alloc: Global, fields: &'a TextMap<Chunks>) -> Result<Vec<&'a st
     Ok(names)
 }
 
-// Lends what a reference gives to an entry of a type.
+// Gathers what a reference gives to an entry of a type.
 fn gather_reference<'a>(
     alloc: Global,
     kind: &EntryType,
@@ -117,7 +117,7 @@ fn gather_reference<'a>(
     Ok(())
 }
 
-// What references give to an entry of a type: for each name what the first one gives, which is lent last.
+// What references give to an entry of a type: for each name what the first one gives, which is gathered last.
 fn gathered<'a>(
     alloc: Global,
     kind: &EntryType,
@@ -134,7 +134,7 @@ fn gathered<'a>(
     Ok(gathered)
 }
 
-// Copies of the fields that are lent and that an entry lacks.
+// Copies of the fields that are gathered and that an entry lacks.
 fn copies(
     alloc: Global,
     own: &TextMap<Chunks>,

@@ -55,7 +55,7 @@ fn tell_a_error(rt: HostRuntime) -> Result<(), Fail> {
     let alloc = rt.alloc();
     let src = "@misc{a, title={A}}\n@misc{b, title={B}";
     let Err(error) = parsed(alloc, src) else {
-        return Err(Fail::from("this file has a fault"));
+        return Err(Fail::from("this file has an error"));
     };
     assert!(rt; line_and_column(src, error.span.start) == (2, 19));
     let text = error.to_string(alloc)?;

@@ -5,7 +5,7 @@ use Rattle.bib_inheritance.specs.Gathering.{gathered_text, offered_among}
 use Rattle.bib_inheritance.specs.Sources.{first_some, source_at}
 use Rattle.bib_inheritance.proofs.gathering.gather_groups.Given as goal
 
--- what the groups so far have lent
+-- what the groups so far have gathered
 abbrev pub invariant-groups : goal.invariant-groups
 invariant-groups l = (q : List ℕ)
     → gathered_text l.gathered q ≡ first_some (offered_among (flat_map (λ group. texts group.now) (take l.group-index l.groups)) (source_at l.reference) q) (gathered_text l.initial.gathered q)
