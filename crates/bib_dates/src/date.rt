@@ -8,7 +8,8 @@ ghost use Rattle.bib_dates.specs.OrderLaws.{same_offset_laws, same_offset_partia
 
 use std::cmp::Ordering;
 
-/// A date or a range of dates, and how sure and how exact it is.
+/// A date or a range of dates, and how sure and how exact it is, as ISO 8601-2 writes it in its extended format (BibLaTeX manual,
+/// 2.3.8).
 #[derive(Debug, Clone, Copy, PartialEq, Eq)]
 pub struct Date {
     /// The date or the range.

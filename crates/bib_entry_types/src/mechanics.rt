@@ -14,7 +14,7 @@ use std::alloc::{AllocError, Global};
 use std::fmt;
 use std::str::FromStr;
 
-/// The type of an entry.
+/// The type of an entry (BibLaTeX manual, 2.1).
 #[derive(Debug, Clone, PartialEq, Eq, Drop)]
 pub enum EntryType {
     /// An article in a journal, magazine or other periodical.

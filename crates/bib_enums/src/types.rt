@@ -36,7 +36,7 @@ impl From<AllocError> for NameError {
     }
 }
 
-/// What the numbers of `pages` count.
+/// What the numbers of `pages` count (BibLaTeX manual, 2.3.12).
 #[derive(Debug, Clone, Copy, PartialEq, Eq)]
 pub enum Pagination {
     /// Pages.
@@ -105,7 +105,7 @@ impl FromStr for Pagination {
     }
 }
 
-/// What an editor did.
+/// What an editor did (BibLaTeX manual, 2.3.6).
 #[derive(Debug, Clone, PartialEq, Eq, Drop)]
 pub enum EditorType {
     /// Edited the work.
@@ -202,7 +202,7 @@ impl fmt::Display for EditorType {
     }
 }
 
-/// Gender and number of the author, or of the editor where there is no author.
+/// Gender and number of the author, or of the editor where there is no author (BibLaTeX manual, 2.2.3, `gender`).
 #[derive(Debug, Clone, Copy, PartialEq, Eq)]
 pub enum Gender {
     /// One woman.

@@ -1,5 +1,4 @@
-//! Getters and setters of the fields that BibTeX has. Each getter answers what the field is read as;
-//! where it isn't there, `Missing` with its name. A setter that is refused changes nothing.
+//! Getters and setters of the fields that BibTeX has.
 
 ghost use Rattle.std.specs.Prelude.{codes};
 ghost use Rattle.bib_entry.specs.Fields.{GetsValue, GetsChunks, SetsChunks, SetsValue};
@@ -14,7 +13,8 @@ use std::alloc::{AllocError, Global};
 use std::ops::Range;
 
 impl Entry {
-    /// The field `author`: the authors.
+    /// The field `author`: the authors (BibLaTeX manual, 2.2.2).
+    /// Where it isn't there, the error is `Missing` with the name `author`.
     pub fn author(&self, alloc: Global) -> Result<Vec<Person>, RetrievalError>
         ensures { GetsValue ⟦<Vec<Person> as Type>⟧ self.now (codes "author") result }
     {
@@ -22,6 +22,7 @@ impl Entry {
     }
 
     /// Sets the field `author`: the authors.
+    /// A refusal changes nothing.
     pub fn set_author(&mut self, value: &Vec<Person>) -> Result<(), AllocError>
         ensures { SetsValue ⟦<Vec<Person> as Type>⟧ (⟦<Vec<Person> as Type>⟧.meaning value.now)
             (codes "author") self.old self.new result }
@@ -29,7 +30,8 @@ impl Entry {
         self.set_as("author", value)
     }
 
-    /// The field `booktitle`: the title of the book that the work is a part of.
+    /// The field `booktitle`: the title of the book that the work is a part of (BibLaTeX manual, 2.2.2).
+    /// Where it isn't there, the error is `Missing` with the name `booktitle`.
     pub fn book_title(&self, alloc: Global) -> Result<ChunksRef<'_>, RetrievalError>
         ensures { GetsChunks self.now (codes "booktitle") result }
     {
@@ -37,13 +39,15 @@ impl Entry {
     }
 
     /// Sets the field `booktitle`: the title of the book that the work is a part of.
+    /// Answers what it held. A refusal changes nothing, and gives the chunks back.
     pub fn set_book_title(&mut self, chunks: Chunks) -> Result<Option<Chunks>, SetError>
         ensures { SetsChunks chunks (codes "booktitle") self.old self.new result }
     {
         self.set("booktitle", chunks)
     }
 
-    /// The field `chapter`: the chapter, or another part of a work.
+    /// The field `chapter`: the chapter, or another part of a work (BibLaTeX manual, 2.2.2).
+    /// Where it isn't there, the error is `Missing` with the name `chapter`.
     pub fn chapter(&self, alloc: Global) -> Result<ChunksRef<'_>, RetrievalError>
         ensures { GetsChunks self.now (codes "chapter") result }
     {
@@ -51,13 +55,15 @@ impl Entry {
     }
 
     /// Sets the field `chapter`: the chapter, or another part of a work.
+    /// Answers what it held. A refusal changes nothing, and gives the chunks back.
     pub fn set_chapter(&mut self, chunks: Chunks) -> Result<Option<Chunks>, SetError>
         ensures { SetsChunks chunks (codes "chapter") self.old self.new result }
     {
         self.set("chapter", chunks)
     }
 
-    /// The field `edition`: which edition it is.
+    /// The field `edition`: which edition it is (BibLaTeX manual, 2.2.2).
+    /// Where it isn't there, the error is `Missing` with the name `edition`.
     pub fn edition(&self, alloc: Global) -> Result<PermissiveType<i64>, RetrievalError>
         ensures { GetsValue ⟦<PermissiveType<i64> as Type>⟧ self.now (codes "edition") result }
     {
@@ -65,6 +71,7 @@ impl Entry {
     }
 
     /// Sets the field `edition`: which edition it is.
+    /// A refusal changes nothing.
     pub fn set_edition(&mut self, value: &PermissiveType<i64>) -> Result<(), AllocError>
         ensures { SetsValue ⟦<PermissiveType<i64> as Type>⟧ (⟦<PermissiveType<i64> as Type>⟧.meaning value.now)
             (codes "edition") self.old self.new result }
@@ -72,7 +79,8 @@ impl Entry {
         self.set_as("edition", value)
     }
 
-    /// The field `howpublished`: how the work was published, where that is unusual.
+    /// The field `howpublished`: how the work was published, where that is unusual (BibLaTeX manual, 2.2.2).
+    /// Where it isn't there, the error is `Missing` with the name `howpublished`.
     pub fn how_published(&self, alloc: Global) -> Result<ChunksRef<'_>, RetrievalError>
         ensures { GetsChunks self.now (codes "howpublished") result }
     {
@@ -80,13 +88,15 @@ impl Entry {
     }
 
     /// Sets the field `howpublished`: how the work was published, where that is unusual.
+    /// Answers what it held. A refusal changes nothing, and gives the chunks back.
     pub fn set_how_published(&mut self, chunks: Chunks) -> Result<Option<Chunks>, SetError>
         ensures { SetsChunks chunks (codes "howpublished") self.old self.new result }
     {
         self.set("howpublished", chunks)
     }
 
-    /// The field `note`: what fits no other field.
+    /// The field `note`: what fits no other field (BibLaTeX manual, 2.2.2).
+    /// Where it isn't there, the error is `Missing` with the name `note`.
     pub fn note(&self, alloc: Global) -> Result<ChunksRef<'_>, RetrievalError>
         ensures { GetsChunks self.now (codes "note") result }
     {
@@ -94,13 +104,15 @@ impl Entry {
     }
 
     /// Sets the field `note`: what fits no other field.
+    /// Answers what it held. A refusal changes nothing, and gives the chunks back.
     pub fn set_note(&mut self, chunks: Chunks) -> Result<Option<Chunks>, SetError>
         ensures { SetsChunks chunks (codes "note") self.old self.new result }
     {
         self.set("note", chunks)
     }
 
-    /// The field `number`: the number of an issue, a report or a patent, or within a series.
+    /// The field `number`: the number of an issue, a report or a patent, or within a series (BibLaTeX manual, 2.2.2).
+    /// Where it isn't there, the error is `Missing` with the name `number`.
     pub fn number(&self, alloc: Global) -> Result<ChunksRef<'_>, RetrievalError>
         ensures { GetsChunks self.now (codes "number") result }
     {
@@ -108,6 +120,7 @@ impl Entry {
     }
 
     /// Sets the field `number`: the number of an issue, a report or a patent, or within a series.
+    /// Answers what it held. A refusal changes nothing, and gives the chunks back.
     pub fn set_number(&mut self, chunks: Chunks) -> Result<Option<Chunks>, SetError>
         ensures { SetsChunks chunks (codes "number") self.old self.new result }
     {
@@ -115,7 +128,8 @@ impl Entry {
     }
 
     /// The field `organization`: the organizations that published a manual or website, or sponsored
-    /// a conference.
+    /// a conference (BibLaTeX manual, 2.2.2).
+    /// Where it isn't there, the error is `Missing` with the name `organization`.
     pub fn organization(&self, alloc: Global) -> Result<Vec<Chunks>, RetrievalError>
         ensures { GetsValue ⟦<Vec<Chunks> as Type>⟧ self.now (codes "organization") result }
     {
@@ -124,6 +138,7 @@ impl Entry {
 
     /// Sets the field `organization`: the organizations that published a manual or website, or
     /// sponsored a conference.
+    /// A refusal changes nothing.
     pub fn set_organization(&mut self, value: &Vec<Chunks>) -> Result<(), AllocError>
         ensures { SetsValue ⟦<Vec<Chunks> as Type>⟧ (⟦<Vec<Chunks> as Type>⟧.meaning value.now)
             (codes "organization") self.old self.new result }
@@ -131,7 +146,8 @@ impl Entry {
         self.set_as("organization", value)
     }
 
-    /// The field `pages`: the pages.
+    /// The field `pages`: the pages (BibLaTeX manual, 2.2.2).
+    /// Where it isn't there, the error is `Missing` with the name `pages`.
     pub fn pages(&self, alloc: Global) -> Result<PermissiveType<Vec<Range<u32>>>, RetrievalError>
         ensures { GetsValue ⟦<PermissiveType<Vec<Range<u32>>> as Type>⟧ self.now (codes "pages") result }
     {
@@ -139,6 +155,7 @@ impl Entry {
     }
 
     /// Sets the field `pages`: the pages.
+    /// A refusal changes nothing.
     pub fn set_pages(&mut self, value: &PermissiveType<Vec<Range<u32>>>) -> Result<(), AllocError>
         ensures { SetsValue ⟦<PermissiveType<Vec<Range<u32>>> as Type>⟧ (⟦<PermissiveType<Vec<Range<u32>>> as Type>⟧.meaning value.now)
             (codes "pages") self.old self.new result }
@@ -146,7 +163,8 @@ impl Entry {
         self.set_as("pages", value)
     }
 
-    /// The field `publisher`: the publishers.
+    /// The field `publisher`: the publishers (BibLaTeX manual, 2.2.2).
+    /// Where it isn't there, the error is `Missing` with the name `publisher`.
     pub fn publisher(&self, alloc: Global) -> Result<Vec<Chunks>, RetrievalError>
         ensures { GetsValue ⟦<Vec<Chunks> as Type>⟧ self.now (codes "publisher") result }
     {
@@ -154,6 +172,7 @@ impl Entry {
     }
 
     /// Sets the field `publisher`: the publishers.
+    /// A refusal changes nothing.
     pub fn set_publisher(&mut self, value: &Vec<Chunks>) -> Result<(), AllocError>
         ensures { SetsValue ⟦<Vec<Chunks> as Type>⟧ (⟦<Vec<Chunks> as Type>⟧.meaning value.now)
             (codes "publisher") self.old self.new result }
@@ -161,7 +180,8 @@ impl Entry {
         self.set_as("publisher", value)
     }
 
-    /// The field `series`: the series that the work appeared in.
+    /// The field `series`: the series that the work appeared in (BibLaTeX manual, 2.2.2).
+    /// Where it isn't there, the error is `Missing` with the name `series`.
     pub fn series(&self, alloc: Global) -> Result<ChunksRef<'_>, RetrievalError>
         ensures { GetsChunks self.now (codes "series") result }
     {
@@ -169,13 +189,15 @@ impl Entry {
     }
 
     /// Sets the field `series`: the series that the work appeared in.
+    /// Answers what it held. A refusal changes nothing, and gives the chunks back.
     pub fn set_series(&mut self, chunks: Chunks) -> Result<Option<Chunks>, SetError>
         ensures { SetsChunks chunks (codes "series") self.old self.new result }
     {
         self.set("series", chunks)
     }
 
-    /// The field `title`: the title.
+    /// The field `title`: the title (BibLaTeX manual, 2.2.2).
+    /// Where it isn't there, the error is `Missing` with the name `title`.
     pub fn title(&self, alloc: Global) -> Result<ChunksRef<'_>, RetrievalError>
         ensures { GetsChunks self.now (codes "title") result }
     {
@@ -183,13 +205,15 @@ impl Entry {
     }
 
     /// Sets the field `title`: the title.
+    /// Answers what it held. A refusal changes nothing, and gives the chunks back.
     pub fn set_title(&mut self, chunks: Chunks) -> Result<Option<Chunks>, SetError>
         ensures { SetsChunks chunks (codes "title") self.old self.new result }
     {
         self.set("title", chunks)
     }
 
-    /// The field `type`: which type of manual, patent, report or thesis it is.
+    /// The field `type`: which type of manual, patent, report or thesis it is (BibLaTeX manual, 2.2.2).
+    /// Where it isn't there, the error is `Missing` with the name `type`.
     pub fn type_(&self, alloc: Global) -> Result<String, RetrievalError>
         ensures { GetsValue ⟦<String as Type>⟧ self.now (codes "type") result }
     {
@@ -197,6 +221,7 @@ impl Entry {
     }
 
     /// Sets the field `type`: which type of manual, patent, report or thesis it is.
+    /// A refusal changes nothing.
     pub fn set_type_(&mut self, value: &String) -> Result<(), AllocError>
         ensures { SetsValue ⟦<String as Type>⟧ (⟦<String as Type>⟧.meaning value.now)
             (codes "type") self.old self.new result }
@@ -204,7 +229,8 @@ impl Entry {
         self.set_as("type", value)
     }
 
-    /// The field `volume`: which volume of a journal or of a work it is.
+    /// The field `volume`: which volume of a journal or of a work it is (BibLaTeX manual, 2.2.2).
+    /// Where it isn't there, the error is `Missing` with the name `volume`.
     pub fn volume(&self, alloc: Global) -> Result<PermissiveType<i64>, RetrievalError>
         ensures { GetsValue ⟦<PermissiveType<i64> as Type>⟧ self.now (codes "volume") result }
     {
@@ -212,6 +238,7 @@ impl Entry {
     }
 
     /// Sets the field `volume`: which volume of a journal or of a work it is.
+    /// A refusal changes nothing.
     pub fn set_volume(&mut self, value: &PermissiveType<i64>) -> Result<(), AllocError>
         ensures { SetsValue ⟦<PermissiveType<i64> as Type>⟧ (⟦<PermissiveType<i64> as Type>⟧.meaning value.now)
             (codes "volume") self.old self.new result }

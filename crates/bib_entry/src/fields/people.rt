@@ -1,5 +1,4 @@
-//! Getters and setters of the fields of people that BibLaTeX adds. Each getter answers what the field is read as;
-//! where it isn't there, `Missing` with its name. A setter that is refused changes nothing.
+//! Getters and setters of the fields of people that BibLaTeX adds.
 
 ghost use Rattle.std.specs.Prelude.{codes};
 ghost use Rattle.bib_entry.specs.Fields.{GetsValue, SetsValue};
@@ -11,7 +10,8 @@ use bib_typed::typed::Type;
 use std::alloc::{AllocError, Global};
 
 impl Entry {
-    /// The field `afterword`: the authors of an afterword.
+    /// The field `afterword`: the authors of an afterword (BibLaTeX manual, 2.2.2).
+    /// Where it isn't there, the error is `Missing` with the name `afterword`.
     pub fn afterword(&self, alloc: Global) -> Result<Vec<Person>, RetrievalError>
         ensures { GetsValue ⟦<Vec<Person> as Type>⟧ self.now (codes "afterword") result }
     {
@@ -19,6 +19,7 @@ impl Entry {
     }
 
     /// Sets the field `afterword`: the authors of an afterword.
+    /// A refusal changes nothing.
     pub fn set_afterword(&mut self, value: &Vec<Person>) -> Result<(), AllocError>
         ensures { SetsValue ⟦<Vec<Person> as Type>⟧ (⟦<Vec<Person> as Type>⟧.meaning value.now)
             (codes "afterword") self.old self.new result }
@@ -26,7 +27,8 @@ impl Entry {
         self.set_as("afterword", value)
     }
 
-    /// The field `annotator`: the authors of annotations.
+    /// The field `annotator`: the authors of annotations (BibLaTeX manual, 2.2.2).
+    /// Where it isn't there, the error is `Missing` with the name `annotator`.
     pub fn annotator(&self, alloc: Global) -> Result<Vec<Person>, RetrievalError>
         ensures { GetsValue ⟦<Vec<Person> as Type>⟧ self.now (codes "annotator") result }
     {
@@ -34,6 +36,7 @@ impl Entry {
     }
 
     /// Sets the field `annotator`: the authors of annotations.
+    /// A refusal changes nothing.
     pub fn set_annotator(&mut self, value: &Vec<Person>) -> Result<(), AllocError>
         ensures { SetsValue ⟦<Vec<Person> as Type>⟧ (⟦<Vec<Person> as Type>⟧.meaning value.now)
             (codes "annotator") self.old self.new result }
@@ -41,7 +44,8 @@ impl Entry {
         self.set_as("annotator", value)
     }
 
-    /// The field `bookauthor`: the authors of the book that the work is a part of.
+    /// The field `bookauthor`: the authors of the book that the work is a part of (BibLaTeX manual, 2.2.2).
+    /// Where it isn't there, the error is `Missing` with the name `bookauthor`.
     pub fn book_author(&self, alloc: Global) -> Result<Vec<Person>, RetrievalError>
         ensures { GetsValue ⟦<Vec<Person> as Type>⟧ self.now (codes "bookauthor") result }
     {
@@ -49,6 +53,7 @@ impl Entry {
     }
 
     /// Sets the field `bookauthor`: the authors of the book that the work is a part of.
+    /// A refusal changes nothing.
     pub fn set_book_author(&mut self, value: &Vec<Person>) -> Result<(), AllocError>
         ensures { SetsValue ⟦<Vec<Person> as Type>⟧ (⟦<Vec<Person> as Type>⟧.meaning value.now)
             (codes "bookauthor") self.old self.new result }
@@ -56,7 +61,8 @@ impl Entry {
         self.set_as("bookauthor", value)
     }
 
-    /// The field `commentator`: the authors of a commentary.
+    /// The field `commentator`: the authors of a commentary (BibLaTeX manual, 2.2.2).
+    /// Where it isn't there, the error is `Missing` with the name `commentator`.
     pub fn commentator(&self, alloc: Global) -> Result<Vec<Person>, RetrievalError>
         ensures { GetsValue ⟦<Vec<Person> as Type>⟧ self.now (codes "commentator") result }
     {
@@ -64,6 +70,7 @@ impl Entry {
     }
 
     /// Sets the field `commentator`: the authors of a commentary.
+    /// A refusal changes nothing.
     pub fn set_commentator(&mut self, value: &Vec<Person>) -> Result<(), AllocError>
         ensures { SetsValue ⟦<Vec<Person> as Type>⟧ (⟦<Vec<Person> as Type>⟧.meaning value.now)
             (codes "commentator") self.old self.new result }
@@ -71,7 +78,8 @@ impl Entry {
         self.set_as("commentator", value)
     }
 
-    /// The field `foreword`: the authors of a foreword.
+    /// The field `foreword`: the authors of a foreword (BibLaTeX manual, 2.2.2).
+    /// Where it isn't there, the error is `Missing` with the name `foreword`.
     pub fn foreword(&self, alloc: Global) -> Result<Vec<Person>, RetrievalError>
         ensures { GetsValue ⟦<Vec<Person> as Type>⟧ self.now (codes "foreword") result }
     {
@@ -79,6 +87,7 @@ impl Entry {
     }
 
     /// Sets the field `foreword`: the authors of a foreword.
+    /// A refusal changes nothing.
     pub fn set_foreword(&mut self, value: &Vec<Person>) -> Result<(), AllocError>
         ensures { SetsValue ⟦<Vec<Person> as Type>⟧ (⟦<Vec<Person> as Type>⟧.meaning value.now)
             (codes "foreword") self.old self.new result }
@@ -86,7 +95,8 @@ impl Entry {
         self.set_as("foreword", value)
     }
 
-    /// The field `holder`: the holders of a patent.
+    /// The field `holder`: the holders of a patent (BibLaTeX manual, 2.2.2).
+    /// Where it isn't there, the error is `Missing` with the name `holder`.
     pub fn holder(&self, alloc: Global) -> Result<Vec<Person>, RetrievalError>
         ensures { GetsValue ⟦<Vec<Person> as Type>⟧ self.now (codes "holder") result }
     {
@@ -94,6 +104,7 @@ impl Entry {
     }
 
     /// Sets the field `holder`: the holders of a patent.
+    /// A refusal changes nothing.
     pub fn set_holder(&mut self, value: &Vec<Person>) -> Result<(), AllocError>
         ensures { SetsValue ⟦<Vec<Person> as Type>⟧ (⟦<Vec<Person> as Type>⟧.meaning value.now)
             (codes "holder") self.old self.new result }
@@ -101,7 +112,8 @@ impl Entry {
         self.set_as("holder", value)
     }
 
-    /// The field `introduction`: the authors of an introduction.
+    /// The field `introduction`: the authors of an introduction (BibLaTeX manual, 2.2.2).
+    /// Where it isn't there, the error is `Missing` with the name `introduction`.
     pub fn introduction(&self, alloc: Global) -> Result<Vec<Person>, RetrievalError>
         ensures { GetsValue ⟦<Vec<Person> as Type>⟧ self.now (codes "introduction") result }
     {
@@ -109,6 +121,7 @@ impl Entry {
     }
 
     /// Sets the field `introduction`: the authors of an introduction.
+    /// A refusal changes nothing.
     pub fn set_introduction(&mut self, value: &Vec<Person>) -> Result<(), AllocError>
         ensures { SetsValue ⟦<Vec<Person> as Type>⟧ (⟦<Vec<Person> as Type>⟧.meaning value.now)
             (codes "introduction") self.old self.new result }
@@ -116,7 +129,8 @@ impl Entry {
         self.set_as("introduction", value)
     }
 
-    /// The field `shortauthor`: the authors, abridged.
+    /// The field `shortauthor`: the authors, abridged (BibLaTeX manual, 2.2.2).
+    /// Where it isn't there, the error is `Missing` with the name `shortauthor`.
     pub fn short_author(&self, alloc: Global) -> Result<Vec<Person>, RetrievalError>
         ensures { GetsValue ⟦<Vec<Person> as Type>⟧ self.now (codes "shortauthor") result }
     {
@@ -124,6 +138,7 @@ impl Entry {
     }
 
     /// Sets the field `shortauthor`: the authors, abridged.
+    /// A refusal changes nothing.
     pub fn set_short_author(&mut self, value: &Vec<Person>) -> Result<(), AllocError>
         ensures { SetsValue ⟦<Vec<Person> as Type>⟧ (⟦<Vec<Person> as Type>⟧.meaning value.now)
             (codes "shortauthor") self.old self.new result }
@@ -131,7 +146,8 @@ impl Entry {
         self.set_as("shortauthor", value)
     }
 
-    /// The field `shorteditor`: the editors, abridged.
+    /// The field `shorteditor`: the editors, abridged (BibLaTeX manual, 2.2.2).
+    /// Where it isn't there, the error is `Missing` with the name `shorteditor`.
     pub fn short_editor(&self, alloc: Global) -> Result<Vec<Person>, RetrievalError>
         ensures { GetsValue ⟦<Vec<Person> as Type>⟧ self.now (codes "shorteditor") result }
     {
@@ -139,6 +155,7 @@ impl Entry {
     }
 
     /// Sets the field `shorteditor`: the editors, abridged.
+    /// A refusal changes nothing.
     pub fn set_short_editor(&mut self, value: &Vec<Person>) -> Result<(), AllocError>
         ensures { SetsValue ⟦<Vec<Person> as Type>⟧ (⟦<Vec<Person> as Type>⟧.meaning value.now)
             (codes "shorteditor") self.old self.new result }
@@ -146,7 +163,8 @@ impl Entry {
         self.set_as("shorteditor", value)
     }
 
-    /// The field `translator`: the translators.
+    /// The field `translator`: the translators (BibLaTeX manual, 2.2.2).
+    /// Where it isn't there, the error is `Missing` with the name `translator`.
     pub fn translator(&self, alloc: Global) -> Result<Vec<Person>, RetrievalError>
         ensures { GetsValue ⟦<Vec<Person> as Type>⟧ self.now (codes "translator") result }
     {
@@ -154,6 +172,7 @@ impl Entry {
     }
 
     /// Sets the field `translator`: the translators.
+    /// A refusal changes nothing.
     pub fn set_translator(&mut self, value: &Vec<Person>) -> Result<(), AllocError>
         ensures { SetsValue ⟦<Vec<Person> as Type>⟧ (⟦<Vec<Person> as Type>⟧.meaning value.now)
             (codes "translator") self.old self.new result }

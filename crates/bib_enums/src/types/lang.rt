@@ -9,7 +9,7 @@ use crate::types::NameError;
 use std::fmt;
 use std::str::FromStr;
 
-/// A language that BibLaTeX knows.
+/// A language that BibLaTeX knows, by the identifiers of its field `langid` (BibLaTeX manual, 2.2.3).
 #[derive(Debug, Clone, Copy, PartialEq, Eq)]
 pub enum Language {
     /// Basque.
