@@ -332,7 +332,7 @@ fn without_mark(text: &str) -> &str
 }
 
 // A date with the mark at its end.
-#[tactic(auto, unfolding(crate::specs::Dates::marked))]
+#[tactic(auto, unfolding(crate::specs::Dates::marked_date))]
 pub(crate) fn marked(text: &str) -> Result<Date, ReadError>
     ensures { reading result ≡ Spec.marked_date text.now }
 {
