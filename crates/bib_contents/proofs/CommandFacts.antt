@@ -20,7 +20,7 @@ use Rattle.unicode_normalization.specs.Forms.{Nfd, nfd, nfc, is_in_form}
 use Rattle.unicode_normalization.specs.Order.{is_starter}
 use Rattle.unicode_normalization.proofs.Computing.{unicode_normalization}
 use Rattle.unicode_normalization.proofs.ComposeLemmas.{joined-free, joined-none, is_blocked-nil, compose-starter, compose_after-nil, compose_after-joined, compose_after-starter, compose_after-kept, is_starter-true, is_starter-false}
-use Rattle.unicode_normalization.proofs.FormsLemmas.{decomposed-progress, is_final-Nfd, class-latin, quick_check-ascii, nfc-by_nfd, normalize-Nfd, is_in_form-true}
+use Rattle.unicode_normalization.proofs.FormsLemmas.{decomposed-passing, is_final-Nfd, class-latin, quick_check-ascii, nfc-by_nfd, normalize-Nfd, is_in_form-true}
 
 -- a command's name, in ASCII
 abbrev pub copyright : List ℕ
@@ -100,7 +100,7 @@ decomposed_pair : (c mark : ℕ) → c < 128 → is_in_form Nfd (mark ∷ []) �
 decomposed_pair c mark ascii stays =
     let starter = class-latin c (omega arith) in
     normalize-Nfd (c ∷ mark ∷ [])
-    ∙ decomposed-progress Nfd c (mark ∷ []) (is_final-Nfd c (quick_check-ascii Nfd c ascii)) (omega arith)
+    ∙ decomposed-passing Nfd c (mark ∷ []) (is_final-Nfd c (quick_check-ascii Nfd c ascii)) (omega arith)
     ∙ ap (λ cs. c ∷ cs) (sym (normalize-Nfd (mark ∷ [])) ∙ is_in_form-true Nfd (mark ∷ []) stays)
 
 composed_pair : (c mark : ℕ) → c < 128 → is_in_form Nfd (mark ∷ []) ≡ true → nfc (c ∷ mark ∷ []) ≡ compose (c ∷ mark ∷ [])
