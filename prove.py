@@ -80,7 +80,8 @@ def follow(run, count):
     if run.wait() == 0:
         say(f"proved {count} crates in {(time.time() - start) / 60:.1f} minutes", True)
         return None
-    return "".join(section[-60:]) + rest[-2000:]
+    said = [line for line in section if not line.startswith("statements ") and not line.rstrip().endswith(": proved")]
+    return "".join(said[:60]) + rest[-2000:]
 
 
 def prove(wanted, rows):

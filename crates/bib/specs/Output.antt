@@ -10,11 +10,10 @@ use Rattle.biblatex.specs.Syntax.{IsSyntaxError, error_text, IsFile, IsRawReadin
 use Rattle.biblatex.specs.Syntax.{UnknownAbbreviation, DuplicateKey, AbbreviationCycle, ReferenceCycle}
 use Rattle.bib.specs.declared.run.Command.{Command}
 use Rattle.bib.specs.declared.run.Command.TheVariants.{Keys, Biblatex, Bibtex, Check, Settled}
-use Rattle.bib_text.specs.Characters as char
 
 -- a text and a line feed
 abbrev pub line : List ℕ → List ℕ
-line text = text ++ char.line_feed ∷ []
+line text = text ++ codes "\n"
 
 abbrev pub usage : List ℕ
 usage = line (codes "usage: bib keys|biblatex|bibtex|check|settled")
