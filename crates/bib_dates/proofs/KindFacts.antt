@@ -8,7 +8,7 @@ use Rattle.bib_dates.specs.Readings.{Reading, ◌>>=◌, IsDateKind, MayRefuse}
 use Rattle.bib_dates.specs.Readings.Reading.{says, error, unread}
 use Rattle.bib_dates.specs.Parts.{begins_with, number, small_number, after_byte, after_hyphens, year}
 use Rattle.bib_dates.specs.Times.{offset_minute, signed_offset, offset, after_minute, after_hour, after_day}
-use Rattle.bib_dates.specs.Dates.{after_month, after_year, side, all_months, all_days, unknown_month, century, decade, unknown, range, date_value, without_mark, marked_date, date_of}
+use Rattle.bib_dates.specs.Dates.{after_month, after_year, side, all_months, all_days, unknown_month, century, decade, after_four_digits, unknown, range, date_value, without_mark, marked_date, date_of}
 use Rattle.bib_dates.specs.ThreeFields.{starts_word, stands, of_era, with_era, year_field, month_field, reported_day, unreported_day, day_after, only_day, day_field, day_of, month_with_day, month_and_day, three_fields_of}
 
 -- an error's kind is one that dates have
@@ -132,12 +132,16 @@ fine_decade : (n : ℕ) (text : List ℕ) → Fine (decade n text)
 unfolding decade
 fine_decade n text = fine_if _ Fine.said Fine.not_read
 
+fine_four_digits : (y : ℕ) (text : List ℕ) → Fine (after_four_digits y text)
+unfolding after_four_digits
+fine_four_digits y text = fine_if _ (Fine.reported tt) (fine_then (fine_hyphens text) (λ rest. fine_unknown_month y (trim_start rest)))
+
 fine_unknown : (text : List ℕ) → Fine (unknown text)
 unfolding unknown
 fine_unknown text =
     fine_if _ (Fine.reported tt)
     (fine_if _ (fine_century _ _)
-    (fine_if _ (fine_decade _ _) (fine_if _ (fine_then (fine_hyphens _) (λ following. fine_unknown_month _ (trim_start following))) Fine.not_read)))
+    (fine_if _ (fine_decade _ _) (fine_if _ (fine_four_digits _ _) Fine.not_read)))
 
 fine_range : (from to : List ℕ) → Fine (range from to)
 unfolding range

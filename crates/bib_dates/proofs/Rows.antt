@@ -7,7 +7,7 @@ use Rattle.bib_dates.specs.declared.date.DateValue.TheVariants.{At, After, Befor
 use Rattle.bib_dates.specs.Readings.Reading.{says, error}
 use Rattle.bib_dates.specs.Parts.{number, small_number, after_hyphens, sign, year}
 use Rattle.bib_dates.specs.Times.{time, after_day, after_hour, after_minute, offset}
-use Rattle.bib_dates.specs.Dates.{datetime, after_month, after_year, side, century, decade, all_days, unknown_month, unknown, range, date_value, marked_date, date_of}
+use Rattle.bib_dates.specs.Dates.{datetime, after_month, after_year, side, century, decade, all_days, unknown_month, after_four_digits, unknown, range, date_value, marked_date, date_of}
 use Rattle.bib_dates.specs.ThreeFields.{of_era, with_era, year_field, month_named, month_field, day_after, only_day, day_field, month_with_day, three_fields_of}
 
 century_not_exact : date_of (codes "19XX~") ≡ says (record { value = Between (datetime (pos 1900) None None None) (datetime (pos 1999) None None None); uncertain = false; approximate = true })
@@ -18,8 +18,12 @@ five_digits : date_of (codes "12345-XX") ≡ error WrongNumberOfDigits
 unfolding trim_start trim_end chars marked_date unknown century decade date_value lib.Utf8.encode
 five_digits = refl
 
+digits_and_an_unknown : date_of (codes "2020X") ≡ error WrongNumberOfDigits
+unfolding trim_start trim_end chars marked_date unknown after_four_digits date_value lib.Utf8.encode
+digits_and_an_unknown = refl
+
 days_of_no_month : date_of (codes "2020-00-XX") ≡ error MonthOutOfRange
-unfolding trim_start trim_end chars marked_date unknown unknown_month all_days number after_hyphens date_value lib.Utf8.encode
+unfolding trim_start trim_end chars marked_date unknown after_four_digits unknown_month all_days number after_hyphens date_value lib.Utf8.encode
 days_of_no_month = refl
 
 leap_day : date_of (codes "2020-02-29") ≡ says (record { value = At (datetime (pos 2020) (Some 1) (Some 28) None); uncertain = false; approximate = false })

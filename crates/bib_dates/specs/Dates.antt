@@ -15,7 +15,7 @@ use Rattle.bib_dates.specs.declared.date.Datetime.{Datetime}
 use Rattle.bib_dates.specs.declared.date.Time.{Time}
 use Rattle.bib_dates.specs.Readings.{Reading, ◌>>=◌}
 use Rattle.bib_dates.specs.Readings.Reading.{says, error, unread}
-use Rattle.bib_dates.specs.Parts.{run, after_run, lies, number, small_number, after_hyphens, year}
+use Rattle.bib_dates.specs.Parts.{run, after_run, lies, begins_with, number, small_number, after_hyphens, year}
 use Rattle.bib_dates.specs.Times.{after_day}
 use Rattle.bib_text.specs.Characters as char
 
@@ -90,6 +90,12 @@ century n text = if unknowns text == 2 then says (years (100 * n) 99) else unrea
 unfoldable pub decade : ℕ → List ℕ → Reading DateValue
 decade n text = if unknowns text == 1 then says (years (10 * n) 9) else unread
 
+-- after the four digits of a year, hyphens, and a month that may be unknown; an `X` right after them would be a fifth digit
+unfoldable pub after_four_digits : ℕ → List ℕ → Reading DateValue
+after_four_digits y text =
+    if begins_with char.upper_x text then error WrongNumberOfDigits
+    else after_hyphens text >>= (λ rest. unknown_month y (trim_start rest))
+
 -- a date with digits that are not known, for which `X` stands: the years of a century or a decade, the months of a year
 -- or the days of a month
 unfoldable pub unknown : List ℕ → Reading DateValue
@@ -101,9 +107,7 @@ unknown text =
     if nat_lt 4 digits then error WrongNumberOfDigits
     else if digits == 2 then century n rest
     else if digits == 3 then decade n rest
-    else if digits == 4 then (do
-      following ← after_hyphens rest
-      unknown_month n (trim_start following))
+    else if digits == 4 then after_four_digits n rest
     else unread
 
 -- a side is open where it is blank or two points

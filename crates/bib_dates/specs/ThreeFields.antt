@@ -4,6 +4,7 @@
 -- The eras and the names of months are ASCII; the texts are not put into uppercase letters.
 use Rattle.std.specs.Prelude.{ℕ, ◌-◌, Bool, true, false, ◌&&◌, ◌||◌, ◌==◌, not, if◌then◌else◌, ℤ, pos, ◌-ℤ◌, List, [], ◌∷◌, length, drop, codes, encode_utf8_all, Option, Some, None}
 use Rattle.std.specs.List.{prefix_len}
+use Rattle.std.specs.declared.ops.Range.{Range}
 use Rattle.std.specs.Char.{is_ascii_digit, is_ascii_alphabetic, is_whitespace}
 use Rattle.std.specs.Char.Unicode.Alphabetic.{is_alphabetic}
 use Rattle.std.specs.Char.Unicode.Numeric.{is_numeric}
@@ -130,6 +131,13 @@ day_after text =
     if length here == length text then says None
     else if prefix_len is_ascii_digit here == 0 then unread
     else reported_day (day_number (run is_ascii_digit here))
+
+-- where the digits of a day after a month stand, in bytes of the month's text: they end where what stands after them begins
+abbrev pub day_place : List ℕ → List ℕ → Range ℕ
+day_place month following = record {
+  start = length month - length (after_gap following)
+  end = length month - length (after_run is_ascii_digit (after_gap following))
+}
 
 -- digits alone
 unfoldable pub only_day : List ℕ → Reading (Option ℕ)

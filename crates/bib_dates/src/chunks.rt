@@ -1,11 +1,22 @@
 //! Dates and the chunks of fields.
 
-ghost use Rattle.std.specs.Prelude.{◌≡◌, IfOk, option_copied};
+ghost use Rattle.std.specs.Prelude.{◌≡◌, ℕ, IfOk, option_copied};
 ghost use Rattle.std.specs.Option.{option_map};
+ghost use Rattle.std.specs.declared.ops.Range.{Range as ARange};
+ghost use Rattle.bib_chunks.specs.Styled;
 ghost use Rattle.bib_chunks.specs.Values.{text};
+ghost use Rattle.bib_enums.specs.ReadAs.{LiesAt};
 ghost use Rattle.bib_dates.specs.Code.{reading};
 ghost use Rattle.bib_dates.specs.ThreeFields as Fields;
-ghost use Rattle.bib_dates.specs.Chunks.{AnswersReading, date_reading, date_written, three_fields_reading};
+ghost use Rattle.bib_dates.specs.Chunks.{
+  AnswersReading,
+  date_reading,
+  date_written,
+  month_error_place,
+  parts_error_place,
+  three_fields_place,
+  three_fields_reading,
+};
 
 use crate::date::{Date, DateValue, Datetime};
 use crate::errors::{DateErrorKind, ReadError};
@@ -19,7 +30,8 @@ use std::alloc::{AllocError, Global};
 
 // What was read of the text of chunks, or their refusal.
 fn found<T: Drop>(read: Result<T, ReadError>, span: Span) -> Result<T, TypeError>
-    ensures { AnswersReading (reading read) result }
+    ensures reads { AnswersReading (reading read) result }
+    ensures place { LiesAt span result }
 {
     match read {
         Ok(value) => Ok(value),
@@ -41,7 +53,8 @@ impl Date {
     /// a day has no such time, with `WrongNumberOfDigits` where more than four digits stand before an `X`, and else with
     /// a kind that isn't promised.
     pub fn parse(alloc: Global, chunks: ChunksRef<'_>) -> Result<Date, TypeError>
-        ensures { AnswersReading (date_reading chunks.now) result }
+        ensures reads { AnswersReading (date_reading chunks.now) result }
+        ensures place { LiesAt (Styled.whole_span chunks.now) result }
     {
         let mut text = format_verbatim(alloc, chunks)?;
         text.make_ascii_uppercase();
@@ -59,7 +72,9 @@ impl Date {
         month: Option<ChunksRef<'_>>,
         day: Option<ChunksRef<'_>>,
     ) -> Result<Date, TypeError>
-        ensures { AnswersReading (three_fields_reading year.now
+        ensures reads { AnswersReading (three_fields_reading year.now
+            (option_copied month.entry) (option_copied day.entry)) result }
+        ensures place { LiesAt (three_fields_place year.now
             (option_copied month.entry) (option_copied day.entry)) result }
     {
         let year = year_of(alloc, year)?;
@@ -80,7 +95,8 @@ impl Date {
 
 // The year that chunks are.
 fn year_of(alloc: Global, chunks: ChunksRef<'_>) -> Result<i32, TypeError>
-    ensures { AnswersReading (Fields.year_field (text chunks.now)) result }
+    ensures reads { AnswersReading (Fields.year_field (text chunks.now)) result }
+    ensures place { LiesAt (Styled.whole_span chunks.now) result }
 {
     let text = format_verbatim(alloc, chunks)?;
     found(year_field(text.as_str()), whole_span(chunks))
@@ -88,7 +104,8 @@ fn year_of(alloc: Global, chunks: ChunksRef<'_>) -> Result<i32, TypeError>
 
 // The day that chunks are.
 fn day_of(alloc: Global, chunks: ChunksRef<'_>) -> Result<Option<u8>, TypeError>
-    ensures { AnswersReading (Fields.day_field (text chunks.now)) result }
+    ensures reads { AnswersReading (Fields.day_field (text chunks.now)) result }
+    ensures place { LiesAt (Styled.whole_span chunks.now) result }
 {
     let text = format_verbatim(alloc, chunks)?;
     let span = whole_span(chunks);
@@ -106,8 +123,9 @@ fn month_and_day_of(
     month: ChunksRef<'_>,
     day: Option<ChunksRef<'_>>,
 ) -> Result<(Option<u8>, Option<u8>), TypeError>
-    ensures { AnswersReading (Fields.month_with_day (text month.now)
+    ensures reads { AnswersReading (Fields.month_with_day (text month.now)
         (option_map text (option_copied day.entry))) result }
+    ensures place { LiesAt (month_error_place month.now (option_copied day.entry)) result }
 {
     let text = format_verbatim(alloc, month)?;
     let (number, following) = found(month_field(text.as_str()), whole_span(month))?;
@@ -125,8 +143,10 @@ fn month_and_day(
     month: Option<ChunksRef<'_>>,
     day: Option<ChunksRef<'_>>,
 ) -> Result<(Option<u8>, Option<u8>), TypeError>
-    ensures { AnswersReading (Fields.month_and_day (option_map text (option_copied month.entry))
+    ensures reads { AnswersReading (Fields.month_and_day (option_map text (option_copied month.entry))
         (option_map text (option_copied day.entry))) result }
+    ensures place { (nowhere : ARange ℕ) → LiesAt (parts_error_place nowhere (option_copied month.entry)
+        (option_copied day.entry)) result }
 {
     let Some(month) = month else {
         return Ok((None, None));

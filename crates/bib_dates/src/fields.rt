@@ -1,6 +1,6 @@
 // The reader of a date in three fields: each function reads a part from the prefix of a text, and gives it with the rest.
 
-ghost use Rattle.std.specs.Prelude.{◌≡◌, ◌<◌, ◌-◌, ◌&&◌, length, is_some, IfSome, drop, codes};
+ghost use Rattle.std.specs.Prelude.{◌≡◌, ◌<◌, ◌&&◌, is_some, IfSome, drop, codes};
 ghost use Rattle.std.specs.List.{prefix_len};
 ghost use Rattle.std.specs.Char.{is_ascii_alphabetic};
 ghost use Rattle.std.specs.Str.Parse.{AllDigits};
@@ -204,12 +204,11 @@ fn after_gap(text: &str) -> &str
 
 // Where the digits of a day after a month stand, in bytes of the month's text.
 pub(crate) fn day_place(text: &str, following: &str) -> Span
-    ensures { result.start ≡ length text.now - length (Spec.after_gap following.now) }
+    ensures { result ≡ Spec.day_place text.now following.now }
 {
     let here = after_gap(following);
-    let (digits, _) = digits(here);
-    let start = text.len().saturating_sub(here.len());
-    start..start.saturating_add(digits.len())
+    let (_, after_digits) = digits(here);
+    text.len().saturating_sub(here.len())..text.len().saturating_sub(after_digits.len())
 }
 
 // A day from 1 to 31, counted from 0.

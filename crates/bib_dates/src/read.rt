@@ -218,12 +218,16 @@ fn decade(n: u16, text: &str) -> Result<DateValue, ReadError>
     Ok(years(10 * n, 9))
 }
 
-// Why no hyphens stand after four digits: an `X` would be a fifth.
-fn no_hyphen(text: &str) -> DateErrorKind {
-    match after(text, b'X') {
-        Some(_) => DateErrorKind::WrongNumberOfDigits,
-        None => DateErrorKind::InvalidFormat,
+// The months of a year or the days of a month, after the year's four digits: an `X` right after them would be a fifth.
+#[tactic(auto, unfolding(crate::specs::Dates::after_four_digits))]
+fn after_four_digits(year: u16, text: &str) -> Result<DateValue, ReadError>
+    ensures { reading result ≡ Spec.after_four_digits year text.now }
+{
+    if after(text, b'X').is_some() {
+        return Err(ReadError::Specified(DateErrorKind::WrongNumberOfDigits));
     }
+    let following = after_hyphens(text, DateErrorKind::InvalidFormat)?;
+    unknown_month(year, following.trim_start())
 }
 
 // A date with digits that are not known.
@@ -240,8 +244,7 @@ fn unknown(text: &str) -> Result<DateValue, ReadError>
     }
     let n = value(digits);
     if digits.len() == 4 {
-        let following = after_hyphens(following, no_hyphen(following))?;
-        return unknown_month(n, following.trim_start());
+        return after_four_digits(n, following);
     }
     if digits.len() == 2 {
         return century(n, following);

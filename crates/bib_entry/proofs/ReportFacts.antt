@@ -1,22 +1,24 @@
 -- Facts on reports.
-use Rattle.std.proofs.Common.{rules, ◌≡◌, refl, ℕ, Bool, true, false, cond, List, [], ◌∷◌, ◌++◌, Option, Some, None, Result, Ok, Err, ap, ◌∙◌, sym, subst, ⊎_elim}
+use Rattle.std.proofs.Common.{rules, ◌≡◌, ◌≢◌, refl, ℕ, Bool, true, false, cond, List, [], ◌∷◌, ◌++◌, Option, Some, None, Result, Ok, Err, ap, ◌∙◌, sym, subst, ⊎_elim}
 use Rattle.std.specs.List.{filter, AllZip}
+use Rattle.std.specs.declared.ops.Range.{Range}
 use Rattle.std.proofs.lemmas.List.{append_assoc, append-nil}
 use Rattle.std.proofs.lemmas.List.Elements.{filter-append}
 use Rattle.bib_enums.specs.declared.type_error.TypeError.{TypeError}
 use Rattle.bib_enums.specs.declared.type_error.TypeErrorKind.{TypeErrorKind}
 use Rattle.bib_entry_types.specs.Requirements.{Names}
 use Rattle.bib_typed.specs.declared.typed.Type.{Ghosts}
-use Rattle.bib_enums.specs.ReadAs.{IsReadAs}
+use Rattle.bib_enums.specs.ReadAs.{IsReadAs, LiesAt}
 use Rattle.bib_typed.specs.Typed.{number_error}
 use Rattle.bib_typed.specs.contracts.enums.PaginationType.TheImpl as pagination
 use Rattle.bib_typed.specs.contracts.enums.GenderType.TheImpl as gender
 use Rattle.bib_typed.specs.contracts.ranges.VecRangeU32Type.TheImpl as ranges
 use Rattle.bib_typed.specs.contracts.numbers.I64Type.TheImpl as number
-use Rattle.bib_enums.specs.declared.type_error.TypeErrorKind.TheVariants.{InvalidNumber, UnknownGender, UnknownPagination}
+use Rattle.bib_enums.specs.declared.type_error.TypeErrorKind.TheVariants.{InvalidNumber, UnknownGender, UnknownPagination, OutOfMemory}
 use Rattle.bib_values.specs.Enumerations.{pagination_read, gender_read}
 use Rattle.bib_values.specs.Numbers.{number_read}
 use Rattle.bib_values.specs.Ranges.{ranges_read}
+use Rattle.bib_chunks.specs.Styled.{whole_span}
 use Rattle.bib_chunks.specs.Values.{Value}
 use Rattle.bib_dates.specs.declared.date.Date.{Date}
 use Rattle.bib_dates.specs.Chunks.{AnswersReading}
@@ -50,21 +52,27 @@ adds_then said more old mid new h k = (
 pub adds_nothing : (name : List ℕ) (old new : FieldErrors) → new ≡ old → AppendsErrors ((name, fine) ∷ []) old new
 adds_nothing name old new same = ([], same ∙ sym (append-nil old), _)
 
--- chunks that are read as a value, or refused with this kind alone
+-- an error that isn't out of memory lies where it has to
+lies_there : {V : Type 0} (place : Range ℕ) (e : TypeError) → e.kind ≢ OutOfMemory → LiesAt {V} place (Err e) → e.span ≡ place
+lies_there place e some h = ⊎_elim (λ no_room. absurd (some (ap (λ error. error.kind) no_room))) (λ at. at) h
+
+-- chunks that are read as a value, or refused with this kind alone, at this place
 pub adds_read : {V M : Type 0} (meaning : V → M) (reads : Option M) (allowed : TypeErrorKind → Type 0) (reason : TypeErrorKind) → ((kind : TypeErrorKind) → allowed kind → kind ≡ reason)
-    → (read : Result V TypeError) (name : List ℕ) (old new : FieldErrors) → IsReadAs meaning reads allowed read → AppendsError read name old new → AppendsErrors ((name, read_or reads reason) ∷ []) old new
-adds_read meaning reads allowed reason is_reason (Ok v) name old new h same =
-    subst (λ found. AppendsErrors ((name, read_or found reason) ∷ []) old new) (sym h) (adds_nothing name old new same)
-adds_read meaning reads allowed reason is_reason (Err e) name old new h reported =
+    → (place : Range ℕ) (read : Result V TypeError) (name : List ℕ) (old new : FieldErrors) → IsReadAs meaning reads allowed read → LiesAt place read → AppendsError read name old new
+    → AppendsErrors ((name, read_or reads reason place) ∷ []) old new
+adds_read meaning reads allowed reason is_reason place (Ok v) name old new h at same =
+    subst (λ found. AppendsErrors ((name, read_or found reason place) ∷ []) old new) (sym h) (adds_nothing name old new same)
+adds_read {V} meaning reads allowed reason is_reason place (Err e) name old new h at reported =
     ⊎_elim (λ no_room. absurd (reported.0 (ap (λ error. error.kind) no_room)))
-    (λ refusal. subst (λ found. AppendsErrors ((name, read_or found reason) ∷ []) old new) (sym refusal.1) ((name, e) ∷ [], reported.1, ((refl, is_reason e.kind refusal.2), _))) h
+    (λ refusal. subst (λ found. AppendsErrors ((name, read_or found reason place) ∷ []) old new) (sym refusal.1)
+    ((name, e) ∷ [], reported.1, ((refl, is_reason e.kind refusal.2, lies_there {V} place e reported.0 at), _))) h
 
 -- a field as a value of a type that refuses chunks with one kind
 pub adds_field : {V : Type 0} (type : Ghosts V) (reason : Value → TypeErrorKind) → ((chunks : Value) (kind : TypeErrorKind) → type.may_refuse chunks kind → kind ≡ reason chunks)
     → (field : Option Value) (name : List ℕ) (old new : FieldErrors) → AppendsFieldError type field name old new → AppendsErrors ((name, verdict type.reads reason field) ∷ []) old new
 adds_field type reason is_reason None name old new h = adds_nothing name old new h
-adds_field type reason is_reason (Some chunks) name old new (read, is_read, reported) =
-    adds_read type.meaning (type.reads chunks) (type.may_refuse chunks) (reason chunks) (is_reason chunks) read name old new is_read reported
+adds_field type reason is_reason (Some chunks) name old new (read, is_read, at, reported) =
+    adds_read type.meaning (type.reads chunks) (type.may_refuse chunks) (reason chunks) (is_reason chunks) (whole_span chunks) read name old new is_read at reported
 
 pub adds_pagination : (field : Option Value) (name : List ℕ) (old new : FieldErrors) → AppendsFieldError pagination.ghosts field name old new → AppendsErrors ((name, verdict pagination_read (λ _. UnknownPagination) field) ∷ []) old new
 adds_pagination = adds_field pagination.ghosts (λ _. UnknownPagination) (λ _ _ same. same)
@@ -83,15 +91,16 @@ none_is_some : {A : Type 0} {a : A} → None ≡ Some a → ⊥
 none_is_some h = search rules
 
 -- a date that is read so
-pub adds_date : (reading : Reading Date) (read : Result Date TypeError) (name : List ℕ) (old new : FieldErrors) → AnswersReading reading read → AppendsError read name old new → AppendsErrors ((name, date_verdict reading) ∷ []) old new
-adds_date (says date) (Ok d) name old new h same = adds_nothing name old new same
-adds_date (says date) (Err e) name old new h reported = ⊎_elim (λ no_room. absurd (reported.0 (ap (λ error. error.kind) no_room))) (λ refusal. absurd refusal.2) h
-adds_date (error kind) (Ok d) name old new h same = absurd (none_is_some h)
-adds_date (error kind) (Err e) name old new h reported =
-    ⊎_elim (λ no_room. absurd (reported.0 (ap (λ error. error.kind) no_room))) (λ refusal. ((name, e) ∷ [], reported.1, ((refl, refusal.2.0), _))) h
-adds_date not_read (Ok d) name old new h same = absurd (none_is_some h)
-adds_date not_read (Err e) name old new h reported =
-    ⊎_elim (λ no_room. absurd (reported.0 (ap (λ error. error.kind) no_room))) (λ refusal. ((name, e) ∷ [], reported.1, ((refl, refusal.2), _))) h
+pub adds_date : (reading : Reading Date) (place : Range ℕ) (read : Result Date TypeError) (name : List ℕ) (old new : FieldErrors) → AnswersReading reading read → LiesAt place read → AppendsError read name old new
+    → AppendsErrors ((name, date_verdict reading place) ∷ []) old new
+adds_date (says date) place (Ok d) name old new h at same = adds_nothing name old new same
+adds_date (says date) place (Err e) name old new h at reported = ⊎_elim (λ no_room. absurd (reported.0 (ap (λ error. error.kind) no_room))) (λ refusal. absurd refusal.2) h
+adds_date (error kind) place (Ok d) name old new h at same = absurd (none_is_some h)
+adds_date (error kind) place (Err e) name old new h at reported =
+    ⊎_elim (λ no_room. absurd (reported.0 (ap (λ error. error.kind) no_room))) (λ refusal. ((name, e) ∷ [], reported.1, ((refl, refusal.2.0, lies_there {Date} place e reported.0 at), _))) h
+adds_date not_read place (Ok d) name old new h at same = absurd (none_is_some h)
+adds_date not_read place (Err e) name old new h at reported =
+    ⊎_elim (λ no_room. absurd (reported.0 (ap (λ error. error.kind) no_room))) (λ refusal. ((name, e) ∷ [], reported.1, ((refl, refusal.2, lies_there {Date} place e reported.0 at), _))) h
 
 -- what is reported of six fields, or of four dates, one after the other
 pub adds_fields : (v₁ v₂ v₃ v₄ v₅ v₆ : List ℕ × Verdict) (old t₁ t₂ t₃ t₄ t₅ new : FieldErrors) → AppendsErrors (v₁ ∷ []) old t₁ → AppendsErrors (v₂ ∷ []) t₁ t₂ → AppendsErrors (v₃ ∷ []) t₂ t₃ → AppendsErrors (v₄ ∷ []) t₃ t₄ → AppendsErrors (v₅ ∷ []) t₄ t₅ → AppendsErrors (v₆ ∷ []) t₅ new

@@ -3,9 +3,10 @@
 -- as `urldate`, and `urlyear`, `urlmonth` and `urlday`.
 use Rattle.std.specs.Prelude.{◌≡◌, ◌≢◌, ℕ, List, ◌++◌, codes, Option, Some, None, Result, Ok, Err, OnOk, OnErr, ⊤}
 use Rattle.std.specs.declared.alloc.AllocError.{AllocError}
+use Rattle.std.specs.declared.ops.Range.{Range}
 use Rattle.std.specs.FinMap as by_name
 use Rattle.bib_enums.specs.declared.type_error.TypeErrorKind.TheVariants as kind
-use Rattle.bib_dates.specs.Chunks.{three_fields_reading}
+use Rattle.bib_dates.specs.Chunks.{three_fields_reading, three_fields_place}
 use Rattle.bib_dates.specs.Readings.{Reading, readable_value, MayRefuse}
 use Rattle.bib_dates.specs.declared.date.Date.{Date}
 use Rattle.bib_typed.specs.declared.typed.PermissiveType.{PermissiveType}
@@ -26,13 +27,17 @@ date_part prefix entry part = by_name.get entry.fields (prefix ++ part)
 abbrev pub three_parts : List ℕ → Entry → Value → Reading Date
 three_parts prefix entry year = three_fields_reading year (date_part prefix entry (codes "month")) (date_part prefix entry (codes "day"))
 
--- a result is the date that is read, or an error that it may be refused with, or memory was refused
-abbrev pub IsDateRead : Reading Date → Result (PermissiveType Date) RetrievalError → Type 0
-IsDateRead reading (Ok (Typed date)) = readable_value reading ≡ Some date
-IsDateRead reading (Ok (Chunks chunks)) = ⊥
-IsDateRead reading (Err (Missing reported)) = ⊥
-IsDateRead reading (Err (TypeError e)) = (e.kind ≢ kind.OutOfMemory) × (readable_value reading ≡ None) × MayRefuse reading e.kind
-IsDateRead reading (Err OutOfMemory) = ⊤
+-- where an error of these lies
+abbrev pub three_parts_place : List ℕ → Entry → Value → Range ℕ
+three_parts_place prefix entry year = three_fields_place year (date_part prefix entry (codes "month")) (date_part prefix entry (codes "day"))
+
+-- a result is the date that is read, or an error that it may be refused with, at this place, or memory was refused
+abbrev pub IsDateRead : Reading Date → Range ℕ → Result (PermissiveType Date) RetrievalError → Type 0
+IsDateRead reading place (Ok (Typed date)) = readable_value reading ≡ Some date
+IsDateRead reading place (Ok (Chunks chunks)) = ⊥
+IsDateRead reading place (Err (Missing reported)) = ⊥
+IsDateRead reading place (Err (TypeError e)) = (e.kind ≢ kind.OutOfMemory) × (readable_value reading ≡ None) × MayRefuse reading e.kind × (e.span ≡ place)
+IsDateRead reading place (Err OutOfMemory) = ⊤
 
 -- a result says that there is no year, or memory was refused
 abbrev pub IsNoYear : Result (PermissiveType Date) RetrievalError → Type 0
@@ -45,7 +50,7 @@ IsNoYear (Err OutOfMemory) = ⊤
 -- it isn't there, the three fields; where the year isn't there, it is missing under the name `year`, whatever the prefix
 abbrev pub IsDateOf : Ghosts (PermissiveType Date) → List ℕ → Entry → Option Value → Option Value → Result (PermissiveType Date) RetrievalError → Type 0
 IsDateOf type prefix entry (Some chunks) year result = IsRetrieved type (Some chunks) (prefix ++ codes "date") result
-IsDateOf type prefix entry None (Some year) result = IsDateRead (three_parts prefix entry year) result
+IsDateOf type prefix entry None (Some year) result = IsDateRead (three_parts prefix entry year) (three_parts_place prefix entry year) result
 IsDateOf type prefix entry None None result = IsNoYear result
 
 -- a result is what the date after a prefix is read as

@@ -4,6 +4,7 @@
 use Rattle.std.specs.Prelude.{◌≡◌, ℕ, Bool, true, false, not, ◌&&◌, ◌||◌, List, [], ◌∷◌, ◌++◌, codes, Option, Some, None, is_some}
 use Rattle.std.specs.List.{filter, AllZip}
 use Rattle.std.specs.FinMap as by_name
+use Rattle.std.specs.declared.ops.Range.{Range}
 use Rattle.bib_enums.specs.declared.type_error.TypeError.{TypeError}
 use Rattle.bib_enums.specs.declared.type_error.TypeErrorKind.{TypeErrorKind}
 use Rattle.bib_enums.specs.declared.type_error.TypeErrorKind.TheVariants.{InvalidNumber, UnknownGender, UnknownPagination}
@@ -17,8 +18,9 @@ use Rattle.bib_typed.specs.Typed.{number_error}
 use Rattle.bib_values.specs.Enumerations.{pagination_read, gender_read}
 use Rattle.bib_values.specs.Numbers.{number_read}
 use Rattle.bib_values.specs.Ranges.{ranges_read}
+use Rattle.bib_chunks.specs.Styled.{whole_span}
 use Rattle.bib_chunks.specs.Values.{Value}
-use Rattle.bib_dates.specs.Chunks.{three_fields_reading}
+use Rattle.bib_dates.specs.Chunks.{three_fields_reading, three_fields_place}
 use Rattle.bib_dates.specs.Readings.{Reading, IsDateKind}
 use Rattle.bib_dates.specs.Readings.Reading.{says, error, unread as not_read}
 use Rattle.bib_entry.specs.declared.entry.Entry.{Entry}
@@ -103,21 +105,21 @@ superfluous_of entry =
     ++ superfluous_people (rules_of entry.entry_type).author entry)
     ++ superfluous_pages (rules_of entry.entry_type).pages entry
 
--- a field is read or isn't there, or it is refused with this kind, or with one that isn't promised
+-- a field is read or isn't there, or it is refused with this kind, or with one that isn't promised, at this place
 pub data Verdict : Type 0 where
   fine : Verdict
-  refused : TypeErrorKind → Verdict
-  unread : Verdict
+  refused : TypeErrorKind → Range ℕ → Verdict
+  unread : Range ℕ → Verdict
 
--- what is said of chunks that are read as this, and else are refused with this kind
-abbrev pub read_or : {M : Type 0} → Option M → TypeErrorKind → Verdict
-read_or (Some m) kind = fine
-read_or None kind = refused kind
+-- what is said of chunks that are read as this, and else are refused with this kind at this place
+abbrev pub read_or : {M : Type 0} → Option M → TypeErrorKind → Range ℕ → Verdict
+read_or (Some m) kind place = fine
+read_or None kind place = refused kind place
 
--- what is said of a field that is read so, and else is refused with this kind
+-- what is said of a field that is read so, and else is refused with this kind, at all of its chunks
 abbrev pub verdict : {M : Type 0} → (Value → Option M) → (Value → TypeErrorKind) → Option Value → Verdict
 verdict reads reason None = fine
-verdict reads reason (Some chunks) = read_or (reads chunks) (reason chunks)
+verdict reads reason (Some chunks) = read_or (reads chunks) (reason chunks) (whole_span chunks)
 
 -- the fields that have to be read as values of their types, in the order of their bytes, and what is said of each
 abbrev pub field_verdicts : Entry → List (List ℕ × Verdict)
@@ -129,17 +131,17 @@ field_verdicts entry =
     (codes "volume", verdict number_read number_error (by_name.get entry.fields (codes "volume"))) ∷
     (codes "volumes", verdict number_read number_error (by_name.get entry.fields (codes "volumes"))) ∷ []
 
--- what is said of a date that is read so
-abbrev pub date_verdict : {A : Type 0} → Reading A → Verdict
-date_verdict (says a) = fine
-date_verdict (error kind) = refused kind
-date_verdict not_read = unread
+-- what is said of a date that is read so, whose error lies at this place
+abbrev pub date_verdict : {A : Type 0} → Reading A → Range ℕ → Verdict
+date_verdict (says a) place = fine
+date_verdict (error kind) place = refused kind place
+date_verdict not_read place = unread place
 
 -- what is said of the date of four fields: one that holds it whole, or else the year, the month and the day
 abbrev pub fields_verdict : Option Value → Option Value → Option Value → Option Value → Verdict
 fields_verdict (Some date) year month day = fine
 fields_verdict None None month day = fine
-fields_verdict None (Some year) month day = date_verdict (three_fields_reading year month day)
+fields_verdict None (Some year) month day = date_verdict (three_fields_reading year month day) (three_fields_place year month day)
 
 -- what is said of the date whose fields have this before their names
 abbrev pub prefix_verdict : Entry → List ℕ → List ℕ × Verdict
@@ -157,18 +159,18 @@ date_verdicts entry =
 -- whether a verdict reports an error
 abbrev pub is_error : List ℕ × Verdict → Bool
 is_error (name, fine) = false
-is_error (name, refused kind) = true
-is_error (name, unread) = true
+is_error (name, refused kind place) = true
+is_error (name, unread place) = true
 
--- the kinds of errors that a verdict allows: where no kind is reported, those that dates have
-abbrev pub Allows : Verdict → TypeErrorKind → Type 0
-Allows fine kind = ⊥
-Allows (refused reported) kind = kind ≡ reported
-Allows unread kind = IsDateKind kind
+-- the errors that a verdict allows: where no kind is reported, those of the kinds that dates have
+abbrev pub Allows : Verdict → TypeError → Type 0
+Allows fine e = ⊥
+Allows (refused kind place) e = (e.kind ≡ kind) × (e.span ≡ place)
+Allows (unread place) e = IsDateKind e.kind × (e.span ≡ place)
 
 -- a field's error is the one that a verdict reports
 abbrev pub IsErrorOfField : List ℕ × Verdict → List ℕ × TypeError → Type 0
-IsErrorOfField said reported = (reported.0 ≡ said.0) × Allows said.1 reported.1.kind
+IsErrorOfField said reported = (reported.0 ≡ said.0) × Allows said.1 reported.1
 
 -- errors are those that the verdicts on an entry tell of, in this order: of the fields, then of the dates
 abbrev pub AreMalformed : Entry → List (List ℕ × TypeError) → Type 0

@@ -5,7 +5,8 @@ use Rattle.std.specs.List.{filter, AllZip}
 use Rattle.bib_enums.specs.declared.type_error.TypeError.{TypeError}
 use Rattle.bib_enums.specs.declared.type_error.TypeErrorKind.TheVariants.{OutOfMemory}
 use Rattle.bib_typed.specs.declared.typed.Type.{Ghosts}
-use Rattle.bib_enums.specs.ReadAs.{IsReadAs}
+use Rattle.bib_enums.specs.ReadAs.{IsReadAs, LiesAt}
+use Rattle.bib_chunks.specs.Styled.{whole_span}
 use Rattle.bib_chunks.specs.Values.{Value}
 use Rattle.bib_entry.specs.Reports.{Verdict, is_error, IsErrorOfField}
 
@@ -22,7 +23,7 @@ AppendsError (Err e) name old new = (e.kind ≢ OutOfMemory) × (new ≡ old ++ 
 abbrev pub AppendsFieldError : {V : Type 0} → Ghosts V → Option Value → List ℕ → FieldErrors → FieldErrors → Type 0
 AppendsFieldError type None name old new = new ≡ old
 AppendsFieldError {V} type (Some chunks) name old new =
-    (read : Result V TypeError) × IsReadAs type.meaning (type.reads chunks) (type.may_refuse chunks) read × AppendsError read name old new
+    (read : Result V TypeError) × IsReadAs type.meaning (type.reads chunks) (type.may_refuse chunks) read × LiesAt (whole_span chunks) read × AppendsError read name old new
 
 -- what the verdicts tell of is appended
 abbrev pub AppendsErrors : List (List ℕ × Verdict) → FieldErrors → FieldErrors → Type 0

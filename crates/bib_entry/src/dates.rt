@@ -1,7 +1,7 @@
 //! Dates of an entry: read from a field or from three, and set.
 
 ghost use Rattle.std.specs.Prelude.{◌≡◌, ◌++◌, codes};
-ghost use Rattle.bib_entry.specs.DateFields.{IsDateRead, GetsDate, SetsDate, three_parts};
+ghost use Rattle.bib_entry.specs.DateFields.{IsDateRead, GetsDate, SetsDate, three_parts, three_parts_place};
 ghost use Rattle.bib_entry.specs.Prefixes.{date_prefix};
 
 use crate::entry::Entry;
@@ -79,7 +79,8 @@ impl Entry {
         prefix: Prefix,
         year: ChunksRef<'_>,
     ) -> Result<PermissiveType<Date>, RetrievalError>
-        ensures { IsDateRead (three_parts (date_prefix prefix) self.now year.now) result }
+        ensures { IsDateRead (three_parts (date_prefix prefix) self.now year.now)
+            (three_parts_place (date_prefix prefix) self.now year.now) result }
     {
         let month = self.get(prefix.month());
         let day = self.get(prefix.day());

@@ -10,6 +10,7 @@ use Rattle.bib_enums.specs.declared.type_error.TypeErrorKind.TheVariants as kind
 use Rattle.bib_enums.specs.declared.type_error.TypeError.{TypeError as ATypeError}
 use Rattle.bib_maps.specs.Sorted.{ByText}
 use Rattle.bib_typed.specs.declared.typed.Type.{Ghosts}
+use Rattle.bib_chunks.specs.Styled.{whole_span}
 use Rattle.bib_chunks.specs.Values.{Value}
 use Rattle.bib_fields.specs.declared.retrieval.RetrievalError.{RetrievalError}
 use Rattle.bib_fields.specs.declared.retrieval.RetrievalError.TheVariants.{Missing, TypeError, OutOfMemory}
@@ -30,11 +31,11 @@ abbrev pub field_as : {M : Type 0} → (Value → Option M) → Option Value →
 field_as reads field = option_and_then reads field
 
 -- a result is what a field is read as: a value that means it; else there is no field, and the error has this name, or its
--- chunks are refused with a kind that they may be refused with, or memory was
+-- chunks are refused, at all of them and with a kind that they may be refused with, or memory was
 abbrev pub IsRetrieved : {V : Type 0} → Ghosts V → Option Value → List ℕ → Result V RetrievalError → Type 0
 IsRetrieved type field name (Ok v) = field_as type.reads field ≡ Some (type.meaning v)
 IsRetrieved type field name (Err (Missing reported)) = (field ≡ None) × (reported ≡ name)
-IsRetrieved type field name (Err (TypeError e)) = IsSomeAnd field (λ chunks. (e.kind ≢ kind.OutOfMemory) × (type.reads chunks ≡ None) × type.may_refuse chunks e.kind)
+IsRetrieved type field name (Err (TypeError e)) = IsSomeAnd field (λ chunks. (e.kind ≢ kind.OutOfMemory) × (type.reads chunks ≡ None) × type.may_refuse chunks e.kind × (e.span ≡ whole_span chunks))
 IsRetrieved type field name (Err OutOfMemory) = ⊤
 
 -- a result is the chunks of a field; else there is none, and the error has this name, or memory was refused for the name

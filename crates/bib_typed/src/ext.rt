@@ -6,7 +6,7 @@ ghost use Rattle.bib_text.specs.declared.spanned.Spanned.{Spanned as APlaced};
 ghost use Rattle.bib_chunks.specs.Formatted.{formatted, sentence};
 ghost use Rattle.bib_chunks.specs.Styled.{whole_span};
 ghost use Rattle.bib_chunks.specs.Written.{written_value};
-ghost use Rattle.bib_enums.specs.ReadAs.{IsReadAs};
+ghost use Rattle.bib_enums.specs.ReadAs.{IsReadAs, LiesAt};
 
 use crate::typed::Type;
 use bib_chunks::chunk::{
@@ -20,10 +20,11 @@ pub trait ChunksExt {
     // The chunks.
     ghost contents: { Self → List (APlaced AChunk) };
 
-    /// The value of a type that the chunks are read as.
+    /// The value of a type that the chunks are read as. An error stands at all of them, out of memory aside.
     fn parse<T: Type>(&self, alloc: Global) -> Result<T, TypeError>
-        ensures { IsReadAs T.meaning (T.reads (contents self.now))
-            (T.may_refuse (contents self.now)) result };
+        ensures reads { IsReadAs T.meaning (T.reads (contents self.now))
+            (T.may_refuse (contents self.now)) result }
+        ensures place { LiesAt (whole_span (contents self.now)) result };
 
     /// The text of the chunks: math between dollar signs, and in normal text a line break as a space, or as nothing
     /// after white space.

@@ -11,7 +11,8 @@ ghost use Rattle.bib_values.specs.Permissive.{Permissive, permissive, permissive
 ghost use Rattle.bib_chunks.specs.Values.{text, alone};
 ghost use Rattle.bib_values.proofs.PermissiveFacts.{permissive_survives};
 ghost use Rattle.bib_chunks.proofs.ValueFacts.{string_survives};
-ghost use Rattle.bib_enums.specs.ReadAs.{IsReadAs};
+ghost use Rattle.bib_chunks.specs.Styled;
+ghost use Rattle.bib_enums.specs.ReadAs.{IsReadAs, LiesAt};
 ghost use Rattle.bib_typed.specs.Typed.{permissive_meaning};
 
 use bib_chunks::chunk::making::{copy_of, verbatim};
@@ -39,9 +40,10 @@ pub trait Type: Sized {
     ghost kept: { Meaning → Type 0 };
 
     /// The value that chunks are read as. An error is of the kind `OutOfMemory` and stands at `0..0`, or says that the
-    /// chunks aren't read.
+    /// chunks aren't read, and stands at all of them, in bytes of the file.
     fn from_chunks(alloc: Global, chunks: ChunksRef<'_>) -> Result<Self, TypeError>
-        ensures { IsReadAs meaning (reads chunks.now) (may_refuse chunks.now) result };
+        ensures reads { IsReadAs meaning (reads chunks.now) (may_refuse chunks.now) result }
+        ensures place { LiesAt (Styled.whole_span chunks.now) result };
 
     /// The chunks that a value is written as.
     fn to_chunks(&self, alloc: Global) -> Result<Chunks, AllocError>
@@ -58,7 +60,8 @@ pub(crate) fn found<T: Drop>(
     kind: TypeErrorKind,
 ) -> Result<T, TypeError>
     requires { kind ≢ OutOfMemory }
-    ensures { IsReadAs (λ value. value) read (λ reported. reported ≡ kind) result }
+    ensures reads { IsReadAs (λ value. value) read (λ reported. reported ≡ kind) result }
+    ensures place { LiesAt (Styled.whole_span chunks.now) result }
 {
     match read {
         Some(value) => Ok(value),

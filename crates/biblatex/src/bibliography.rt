@@ -124,6 +124,9 @@ impl Bibliography {
 
     /// The bibliography of a file that was read already. What the file says of texts and indices is believed.
     ///
+    /// An entry's own fields that stay keep their chunks, one for one; of a field that it inherits the styled text is promised, and
+    /// not how chunks cut it, nor where they stand.
+    ///
     /// Refused, in the order of the file, for the first entry whose key an earlier one claimed (`DuplicateKey`, at the
     /// entry) or which has a field that can't be read; else for the first entry that refers to itself, by others or at once
     /// (`ReferenceCycle`, at the entry); else for the first entry that looks for a date, which its type needs and of which it
