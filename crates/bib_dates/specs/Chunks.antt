@@ -44,7 +44,7 @@ three_fields_reading year month day = three_fields_of (text year) (option_map te
 abbrev pub day_error_place : Value → Option Value → Parsed (Option ℕ) → Range ℕ
 day_error_place month (Some day) (says read) = whole_span day
 day_error_place month None (says read) = day_place (text month) read.1
-day_error_place month day unread = whole_span month
+day_error_place month day other = whole_span month
 
 -- where an error of a month, or of the day beside it or after it, lies
 abbrev pub month_error_place : Value → Option Value → Range ℕ
@@ -58,7 +58,7 @@ parts_error_place nowhere (Some month) day = month_error_place month day
 -- where an error lies after a year was read, or wasn't
 abbrev pub year_error_place : Value → Option Value → Option Value → Reading ℤ → Range ℕ
 year_error_place year month day (says read) = parts_error_place (whole_span year) month day
-year_error_place year month day unread = whole_span year
+year_error_place year month day other = whole_span year
 
 -- where an error of three fields lies: at the first of them that isn't read
 abbrev pub three_fields_place : Value → Option Value → Option Value → Range ℕ

@@ -135,8 +135,8 @@ day_after text =
 -- where the digits of a day after a month stand, in bytes of the month's text: they end where what stands after them begins
 abbrev pub day_place : List ℕ → List ℕ → Range ℕ
 day_place month following = record {
-  start = length month - length (after_gap following)
-  end = length month - length (after_run is_ascii_digit (after_gap following))
+  start = length month - length (after_gap following);
+  end = length month - length (after_run is_ascii_digit (after_gap following));
 }
 
 -- digits alone

@@ -53,8 +53,8 @@ pub adds_nothing : (name : List ℕ) (old new : FieldErrors) → new ≡ old →
 adds_nothing name old new same = ([], same ∙ sym (append-nil old), _)
 
 -- an error that isn't out of memory lies where it has to
-lies_there : {V : Type 0} (place : Range ℕ) (e : TypeError) → e.kind ≢ OutOfMemory → LiesAt {V} place (Err e) → e.span ≡ place
-lies_there place e some h = ⊎_elim (λ no_room. absurd (some (ap (λ error. error.kind) no_room))) (λ at. at) h
+lies_there : (V : Type 0) (place : Range ℕ) (e : TypeError) → e.kind ≢ OutOfMemory → LiesAt {V = V} place (Err e) → e.span ≡ place
+lies_there V place e some h = ⊎_elim (λ no_room. absurd (some (ap (λ error. error.kind) no_room))) (λ at. at) h
 
 -- chunks that are read as a value, or refused with this kind alone, at this place
 pub adds_read : {V M : Type 0} (meaning : V → M) (reads : Option M) (allowed : TypeErrorKind → Type 0) (reason : TypeErrorKind) → ((kind : TypeErrorKind) → allowed kind → kind ≡ reason)
@@ -62,10 +62,10 @@ pub adds_read : {V M : Type 0} (meaning : V → M) (reads : Option M) (allowed :
     → AppendsErrors ((name, read_or reads reason place) ∷ []) old new
 adds_read meaning reads allowed reason is_reason place (Ok v) name old new h at same =
     subst (λ found. AppendsErrors ((name, read_or found reason place) ∷ []) old new) (sym h) (adds_nothing name old new same)
-adds_read {V} meaning reads allowed reason is_reason place (Err e) name old new h at reported =
+adds_read {V = V} meaning reads allowed reason is_reason place (Err e) name old new h at reported =
     ⊎_elim (λ no_room. absurd (reported.0 (ap (λ error. error.kind) no_room)))
     (λ refusal. subst (λ found. AppendsErrors ((name, read_or found reason place) ∷ []) old new) (sym refusal.1)
-    ((name, e) ∷ [], reported.1, ((refl, is_reason e.kind refusal.2, lies_there {V} place e reported.0 at), _))) h
+    ((name, e) ∷ [], reported.1, ((refl, is_reason e.kind refusal.2, lies_there V place e reported.0 at), _))) h
 
 -- a field as a value of a type that refuses chunks with one kind
 pub adds_field : {V : Type 0} (type : Ghosts V) (reason : Value → TypeErrorKind) → ((chunks : Value) (kind : TypeErrorKind) → type.may_refuse chunks kind → kind ≡ reason chunks)
@@ -97,10 +97,10 @@ adds_date (says date) place (Ok d) name old new h at same = adds_nothing name ol
 adds_date (says date) place (Err e) name old new h at reported = ⊎_elim (λ no_room. absurd (reported.0 (ap (λ error. error.kind) no_room))) (λ refusal. absurd refusal.2) h
 adds_date (error kind) place (Ok d) name old new h at same = absurd (none_is_some h)
 adds_date (error kind) place (Err e) name old new h at reported =
-    ⊎_elim (λ no_room. absurd (reported.0 (ap (λ error. error.kind) no_room))) (λ refusal. ((name, e) ∷ [], reported.1, ((refl, refusal.2.0, lies_there {Date} place e reported.0 at), _))) h
+    ⊎_elim (λ no_room. absurd (reported.0 (ap (λ error. error.kind) no_room))) (λ refusal. ((name, e) ∷ [], reported.1, ((refl, refusal.2.0, lies_there Date place e reported.0 at), _))) h
 adds_date not_read place (Ok d) name old new h at same = absurd (none_is_some h)
 adds_date not_read place (Err e) name old new h at reported =
-    ⊎_elim (λ no_room. absurd (reported.0 (ap (λ error. error.kind) no_room))) (λ refusal. ((name, e) ∷ [], reported.1, ((refl, refusal.2, lies_there {Date} place e reported.0 at), _))) h
+    ⊎_elim (λ no_room. absurd (reported.0 (ap (λ error. error.kind) no_room))) (λ refusal. ((name, e) ∷ [], reported.1, ((refl, refusal.2, lies_there Date place e reported.0 at), _))) h
 
 -- what is reported of six fields, or of four dates, one after the other
 pub adds_fields : (v₁ v₂ v₃ v₄ v₅ v₆ : List ℕ × Verdict) (old t₁ t₂ t₃ t₄ t₅ new : FieldErrors) → AppendsErrors (v₁ ∷ []) old t₁ → AppendsErrors (v₂ ∷ []) t₁ t₂ → AppendsErrors (v₃ ∷ []) t₂ t₃ → AppendsErrors (v₄ ∷ []) t₃ t₄ → AppendsErrors (v₅ ∷ []) t₄ t₅ → AppendsErrors (v₆ ∷ []) t₅ new

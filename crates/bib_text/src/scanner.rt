@@ -43,6 +43,16 @@ impl<'s> Scanner<'s> {
         Scanner { text, at: 0 }
     }
 
+    /// Another scanner at this place. Unlike `clone` it can't fail.
+    pub fn copied(&self) -> Self
+        ensures { result ≡ self.now }
+    {
+        Scanner {
+            text: self.text,
+            at: self.at,
+        }
+    }
+
     /// The place, in bytes from the start of the text.
     pub fn cursor(&self) -> usize
         ensures place { result ≡ self.now.at }
