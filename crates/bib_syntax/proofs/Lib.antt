@@ -5,5 +5,6 @@ pub mod LawFacts
 pub mod ModeFacts
 pub mod QuoteFacts
 pub mod ReadingFacts
+pub mod RecoveryFacts
 pub mod SliceFacts
 pub mod WordFacts

@@ -144,7 +144,7 @@ block_stands text same b =
     let kind = identifier_stands text (b.head.sign.same ∙ same) b.head.name in
     body_stands text (head.text ∙ same) head.at kind b.body
 
-all_append : {A : Type 0} (P : A → Type 0) (xs ys : List A) → AllByRecursion P xs → AllByRecursion P ys → AllByRecursion P (xs ++ ys)
+pub all_append : {A : Type 0} (P : A → Type 0) (xs ys : List A) → AllByRecursion P xs → AllByRecursion P ys → AllByRecursion P (xs ++ ys)
 all_append P [] ys none rest = rest
 all_append P (x ∷ xs) ys all rest = (all.0, all_append P xs ys all.1 rest)
 

@@ -4,4 +4,6 @@ pub mod Errors
 pub mod Grammar
 pub mod Views
 pub mod Reading
+pub mod Recovering
+pub mod Recovery
 pub mod Slices

@@ -1,9 +1,13 @@
 //! Laws of the file grammar. These functions do nothing: what they ensure is proved of the definitions alone.
 
-ghost use Rattle.std.specs.Prelude.{◌≡◌, ◌↔◌, ℕ, List};
+ghost use Rattle.std.specs.Prelude.{◌≡◌, ◌↔◌, ◌⊎◌, ℕ, List, [], map};
+ghost use Rattle.std.specs.List.{AllByRecursion, Contains};
+ghost use Rattle.bib_text.specs.Places.{place};
 ghost use Rattle.bib_syntax.specs.Grammar.{IsFile, IsRawReading};
-ghost use Rattle.bib_syntax.specs.Reading.{FileReading};
+ghost use Rattle.bib_syntax.specs.Reading.{EntryReading, FileReading};
+ghost use Rattle.bib_syntax.specs.Recovery.{IsBlockOf, IsPassedOver, IsRecovery, LiesInside, stretch};
 ghost use Rattle.bib_syntax.specs.Slices.{ReadingStandsIn};
+ghost use Rattle.bib_syntax.specs.declared.raw.recovery.SkippedBlock.{SkippedBlock};
 
 /// A text has at most one raw reading.
 pub fn one_reading()
@@ -21,4 +25,31 @@ pub fn same_texts()
 pub fn parts_stand()
     ensures { (text : List ℕ) (says : FileReading) → IsRawReading text says →
         ReadingStandsIn text says }
+{}
+
+/// Nothing is passed over exactly where the file grammar reads the text, and then the text's reading is what is read.
+pub fn recovered_is_read()
+    ensures { (text : List ℕ) (says : FileReading) → IsRawReading text says ↔
+        IsRecovery text says [] }
+{}
+
+/// Of each text one thing is read, and the same stretches are passed over.
+pub fn one_recovery()
+    ensures { (text : List ℕ) (says tells : FileReading) (errors others : List SkippedBlock) →
+        IsRecovery text says errors → IsRecovery text tells others →
+        (says ≡ tells) × (map stretch errors ≡ map stretch others) }
+{}
+
+/// Each entry that is read is a block of the file grammar where it stands.
+pub fn recovered_entries_stand()
+    ensures { (text : List ℕ) (says : FileReading) (errors : List SkippedBlock) →
+        IsRecovery text says errors → AllByRecursion (IsBlockOf text) says.entries }
+{}
+
+/// What the file grammar could read as an entry is read, but where it begins in another block, in a line comment, or in
+/// what is passed over.
+pub fn nothing_is_lost()
+    ensures { (text : List ℕ) (says : FileReading) (errors : List SkippedBlock) (e : EntryReading) →
+        IsRecovery text says errors → IsBlockOf text e → Contains says.entries e ⊎
+        LiesInside (place text e.start) ⊎ IsPassedOver errors (place text e.start) }
 {}

@@ -4,11 +4,13 @@ ghost use Rattle.std.specs.Prelude.{◌≡◌, ◌≢◌, [], ◌∷◌, ◌++�
 ghost use Rattle.bib_syntax.specs.Characters as characters;
 ghost use Rattle.bib_syntax.specs.Errors.{token_text, kind_text, error_text, out_of_memory, Refuses};
 ghost use Rattle.bib_syntax.specs.Grammar.{IsFile, IsRawReading};
+ghost use Rattle.bib_syntax.specs.Recovery.{IsRecovery};
 ghost use Rattle.bib_syntax.specs.Views.{file_of};
 ghost use Rattle.bib_syntax.specs.declared.raw.ParseErrorKind.TheVariants.{OutOfMemory};
 
 mod fields;
 mod file;
+mod recovery;
 mod words;
 
 use bib_enums::type_error::TypeErrorKind;
@@ -17,6 +19,8 @@ use bib_text::spanned::{Span, Spanned};
 use bib_text::text::Text;
 use file::blocks;
 pub use file::is_word;
+use recovery::recovered;
+pub use recovery::{RawRecovery, SkippedBlock};
 use std::alloc::{AllocError, AllocFailed, Global};
 use std::error::Error;
 use std::fmt;
@@ -47,6 +51,15 @@ impl<'s> RawBibliography<'s> {
         ensures refused { IfErr result (λ e. Refuses src.now e (IsFile src.now → ⊥)) }
     {
         BiblatexParser::new(src).parse(alloc)
+    }
+
+    /// Reads what can be read of a bibliography file, and says what is passed over. The blocks that `parse` would read are
+    /// read; where none can be read at an at sign, its error is kept, and reading goes on at the next line that begins with
+    /// an at sign. Without errors exactly where `parse` reads the text.
+    pub fn recover(alloc: Global, src: &'s str) -> Result<RawRecovery<'s>, AllocError>
+        ensures { IfOk result (λ found. IsRecovery src.now (file_of found.raw) found.skipped.items) }
+    {
+        recovered(&mut Scanner::new(src), alloc)
     }
 }
 

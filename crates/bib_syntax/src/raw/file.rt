@@ -48,7 +48,7 @@ fn block_kind(name: &str) -> BlockKind
 
 // What a block says.
 #[derive(Drop)]
-enum Item<'s> {
+pub(crate) enum Item<'s> {
     Nothing,
     Preamble(&'s str),
     Strings(Vec<Pair<'s>>),
@@ -136,7 +136,7 @@ fn entry<'s>(
 }
 
 // A block: a comment, a preamble, a list of abbreviations or an entry.
-fn block<'s>(s: &mut Scanner<'s>, alloc: Global) -> Result<Item<'s>, ParseError>
+pub(crate) fn block<'s>(s: &mut Scanner<'s>, alloc: Global) -> Result<Item<'s>, ParseError>
     requires { (v : Place) × CharAt s.old 64 v }
     ensures found { IfOk result (λ item. Block longest s.old (item_of item) s.new) }
     ensures refused { IfErr result (λ e. Refuses s.old.text e ((r : FileReading) (v : Place) →
@@ -156,7 +156,7 @@ fn block<'s>(s: &mut Scanner<'s>, alloc: Global) -> Result<Item<'s>, ParseError>
 }
 
 // Adds what a block says to what the blocks before it say.
-fn add<'s>(raw: &mut RawBibliography<'s>, item: Item<'s>) -> Result<(), AllocError>
+pub(crate) fn add<'s>(raw: &mut RawBibliography<'s>, item: Item<'s>) -> Result<(), AllocError>
     ensures { OnOk result (file_of raw.new ≡ then (file_of raw.old) (item_of item.entry)) }
 {
     match item {
@@ -174,7 +174,7 @@ fn add<'s>(raw: &mut RawBibliography<'s>, item: Item<'s>) -> Result<(), AllocErr
 }
 
 // Whether a character between blocks is skipped.
-fn is_skipped(c: char) -> bool
+pub(crate) fn is_skipped(c: char) -> bool
     ensures { result ≡ (not (c == 64) && not (c == 37)) }
 {
     c != '@' && c != '%'

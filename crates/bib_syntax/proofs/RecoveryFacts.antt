@@ -1,0 +1,328 @@
+-- How what can be read of a file is read block after block, and that it is read in one way.
+use Rattle.std.proofs.Common.{◌≡◌, ◌≢◌, ◌⊎◌, ⊎_elim, ℕ, zero, suc, ◌+◌, ◌-◌, ◌<◌, ◌≤◌, arith, lit<, length, drop, get_or, Bool, true, false, List, [], ◌∷◌, ◌++◌, inl, inr, Option, Some, None, MatchOption, Result, Ok, Err, OnOk, refl, sym, ap, ◌∙◌, subst, append_assoc, append-nil}
+use Rattle.std.specs.Prelude.{not, ◌==◌, ◌&&◌, take, map, encode_utf8}
+use Rattle.std.specs.declared.ops.Range.{Range}
+use Rattle.std.specs.List.{AllByRecursion, Any, Contains}
+use Rattle.std.proofs.lemmas.List.{get_or-drop}
+use Rattle.std.proofs.lemmas.List.Elements.{Contains-append_left, Contains-append_right}
+use Rattle.std.proofs.lemmas.Str.{byte_from_char, inside_one, length-encode, len_utf8_bounds}
+use Rattle.std.proofs.lemmas.Bool.{eqb-true}
+use Rattle.bib_text.specs.Places.{Place, place, CharAt, Run, Longest, AtEnd, EndsOr}
+use Rattle.bib_text.specs.Places.Run.{stop, step}
+use Rattle.bib_text.proofs.PlaceFacts.{same_place, char_left, same_char, char_clash, pass_clash, no_char_at_end, left_smaller, Ahead, ahead_here, ahead_then, ahead_char, ahead_run}
+use Rattle.bib_syntax.specs.Reading.{Part, EntryReading, FileReading, empty_reading, then}
+use Rattle.bib_syntax.specs.Errors.{IsSyntaxError, Refuses, out_of_memory}
+use Rattle.bib_syntax.specs.declared.raw.ParseErrorKind.TheVariants.{OutOfMemory}
+use Rattle.bib_syntax.specs.Grammar.{LineComment, BlockKind, Body, Block, File, longest}
+use Rattle.bib_syntax.specs.Grammar.{Body as body}
+use Rattle.bib_syntax.specs.Grammar.{File as file}
+use Rattle.bib_syntax.specs.Recovering.{RecoveredTo}
+use Rattle.bib_syntax.specs.Recovery.{ends_blank, BeginsLine, Passed, GoesOnAt, IsUnread, Recovered, skipped_block, stretch, entry_alone, IsBlockOf, LiesInside, IsPassedOver}
+use Rattle.bib_syntax.specs.Recovery.{Passed as passed}
+use Rattle.bib_syntax.specs.Recovery.{Recovered as recovered}
+use Rattle.bib_syntax.specs.declared.raw.ParseError.{ParseError}
+use Rattle.bib_syntax.specs.declared.raw.recovery.SkippedBlock.{SkippedBlock}
+use Rattle.bib_syntax.proofs.LawFacts.{moved, line_comment_same}
+use Rattle.bib_syntax.proofs.SliceFacts.{all_append}
+use Rattle.bib_syntax.proofs.FileFacts.{ahead_block, ahead_line_comment, block_same, is_skipped, then-then, then-empty_reading}
+
+-- ---- where reading goes on
+
+pub passed_then : {u v w : Place} → Passed u v → Passed v w → Passed u w
+passed_then passed.stop more = more
+passed_then (passed.step char other rest) more = passed.step char other (passed_then rest more)
+
+-- other characters than an at sign are passed
+pub other_passed : {u v : Place} → Run (λ c. not (c == 64)) u v → Passed u v
+other_passed stop = passed.stop
+other_passed (step char other rest) = passed.step char (λ line. pass_clash (λ c. not (c == 64)) char other line.1 refl) (other_passed rest)
+
+pub ahead_passed : {u v : Place} → Passed u v → Ahead u v
+ahead_passed passed.stop = ahead_here _
+ahead_passed (passed.step char other rest) = ahead_then (ahead_char char) (ahead_passed rest)
+
+-- reading goes on at one place
+no_step : {u v : Place} {c : ℕ} → AtEnd u ⊎ BeginsLine u → CharAt u c v → (BeginsLine u → ⊥) → ⊥
+no_step (inl end) char other = no_char_at_end end char
+no_step (inr line) char other = other line
+
+passed_same : {u v w : Place} → Passed u v → AtEnd v ⊎ BeginsLine v → Passed u w → AtEnd w ⊎ BeginsLine w → v ≡ w
+passed_same passed.stop stands passed.stop stands' = refl
+passed_same passed.stop stands (passed.step char other rest) stands' = absurd (no_step stands char other)
+passed_same (passed.step char other rest) stands passed.stop stands' = absurd (no_step stands' char other)
+passed_same {w = w} (passed.step char other rest) stands (passed.step char' other' rest') stands' =
+    passed_same rest stands (subst (λ p. Passed p w) (sym (same_char char char').1) rest') stands'
+
+pub goes_on_same : {u v w : Place} → GoesOnAt u v → GoesOnAt u w → v ≡ w
+goes_on_same first second = passed_same first.passed first.stands second.passed second.stands
+
+-- ---- what was recovered up to a place
+
+pub nothing_recovered : (start : Place) → RecoveredTo start empty_reading [] start
+nothing_recovered start more others x = x
+
+run_recovered : {u v : Place} {r : FileReading} {errors : List SkippedBlock} → Run is_skipped u v → Recovered v r errors → Recovered u r errors
+run_recovered stop x = x
+run_recovered (step char passes rest) x = recovered.skipped char passes (run_recovered rest x)
+
+pub skip_recovered : {start u v : Place} (says : FileReading) (errors : List SkippedBlock) → RecoveredTo start says errors u → Longest is_skipped u v → RecoveredTo start says errors v
+skip_recovered says errors read run more others x = read more others (run_recovered run.run x)
+
+pub comment_recovered : {start u v : Place} (says : FileReading) (errors : List SkippedBlock) → RecoveredTo start says errors u → LineComment u v → RecoveredTo start says errors v
+comment_recovered says errors read m more others x = read more others (recovered.line_comment m x)
+
+pub block_recovered : {start u v : Place} (says : FileReading) {first : FileReading} (errors : List SkippedBlock) → RecoveredTo start says errors u → Block longest u first v → RecoveredTo start (then says first) errors v
+block_recovered {start} says {first} errors read b more others x =
+    subst (λ r. Recovered start r (errors ++ others)) (sym (then-then says first more)) (read (then first more) others (recovered.block b x))
+
+pub unread_recovered : {start u v w : Place} {e : ParseError} (says : FileReading) (errors : List SkippedBlock) → RecoveredTo start says errors u → CharAt u 64 v → IsUnread u e → GoesOnAt v w
+    → RecoveredTo start says (errors ++ skipped_block e u w ∷ []) w
+unread_recovered {start} {u} {w = w} {e = e} says errors read sign none on more others x =
+    subst (λ es. Recovered start (then says more) es) (sym (append_assoc errors (skipped_block e u w ∷ []) others)) (read more (skipped_block e u w ∷ others) (recovered.unread sign none on x))
+
+pub all_recovered : {start u : Place} (says : FileReading) (errors : List SkippedBlock) → RecoveredTo start says errors u → AtEnd u → Recovered start says errors
+all_recovered {start} says errors read end =
+    subst (λ r. Recovered start r errors) (then-empty_reading says) (subst (λ es. Recovered start (then says empty_reading) es) (append-nil errors) (read empty_reading [] (recovered.end end)))
+
+-- less is left after what is passed over
+pub unread_smaller : {u v w : Place} {c : ℕ} → CharAt u c v → GoesOnAt v w → length w.text - w.at < length u.text - u.at
+unread_smaller {u} char on = left_smaller (ahead_here u) char (ahead_passed on.passed)
+
+-- ---- a text is read where nothing is passed over
+
+pub kept : {u : Place} {says : FileReading} → File longest u says → Recovered u says []
+kept (file.end end) = recovered.end end
+kept (file.skipped char other rest) = recovered.skipped char other (kept rest)
+kept (file.line_comment line rest) = recovered.line_comment line (kept rest)
+kept (file.block block rest) = recovered.block block (kept rest)
+
+pub all_read : {u : Place} {says : FileReading} → Recovered u says [] → File longest u says
+all_read (recovered.end end) = file.end end
+all_read (recovered.skipped char other rest) = file.skipped char other (all_read rest)
+all_read (recovered.line_comment line rest) = file.line_comment line (all_read rest)
+all_read (recovered.block block rest) = file.block block (all_read rest)
+
+-- ---- the search for the next line that begins with an at sign
+
+-- what stands at the end of a run of other characters
+no_other : (b : Bool) → false ≡ not b → b ≡ true
+no_other true other = refl
+no_other false other = cc
+
+at_sign_here : {u v : Place} (c : ℕ) → CharAt u c v → false ≡ not (c == 64) → (w : Place) × CharAt u 64 w
+at_sign_here {u} {v} c char other = (v, subst (λ x. CharAt u x v) (eqb-true c 64 (no_other (c == 64) other)) char)
+
+-- where the text ends, or a line begins with an at sign, reading goes on
+stands_here : {u : Place} → EndsOr (λ c. false ≡ not (c == 64)) u → AtEnd u ⊎ (ends_blank (take u.at u.text) ≡ true) → AtEnd u ⊎ BeginsLine u
+stands_here (inl end) blank = inl end
+stands_here (inr here) (inl end) = inl end
+stands_here (inr here) (inr blank) = let sign = at_sign_here here.0 here.2 here.3 in inr (sign.0, sign.1, blank)
+
+pub search_ends : {start u v : Place} → Passed start u → Longest (λ c. not (c == 64)) u v → EndsOr (λ c. false ≡ not (c == 64)) v → AtEnd v ⊎ (ends_blank (take v.at v.text) ≡ true) → GoesOnAt start v
+search_ends before run here blank = record { passed = passed_then before (other_passed run.run); stands = stands_here here blank }
+
+-- a character is taken before the end of the text
+taken_here : {u v : Place} (taken : Option ℕ) → MatchOption taken (AtEnd u × (v ≡ u)) (λ c. CharAt u c v) → (AtEnd u → ⊥) → (c : ℕ) × CharAt u c v
+taken_here None ended going = absurd (going ended.0)
+taken_here (Some c) char going = (c, char)
+
+-- the search goes on after an at sign that begins no line
+no_line : (b : Bool) → b ≡ false → b ≡ true → ⊥
+no_line b fails passes = cc
+
+pub search_more : {start u v w : Place} (taken : Option ℕ) → Passed start u → Longest (λ c. not (c == 64)) u v → (AtEnd v → ⊥) × (ends_blank (take v.at v.text) ≡ false) → MatchOption taken (AtEnd v × (w ≡ v)) (λ c. CharAt v c w) → Passed start w
+search_more {v = v} taken before run (going, blank) is =
+    let char = taken_here taken is going in
+    passed_then before (passed_then (other_passed run.run) (passed.step char.1 (λ line. no_line (ends_blank (take v.at v.text)) blank line.2) passed.stop))
+
+pub search_smaller : {u v : Place} (w : Place) (taken : Option ℕ) → Longest (λ c. not (c == 64)) u v → (AtEnd v → ⊥) × (ends_blank (take v.at v.text) ≡ false) → MatchOption taken (AtEnd v × (w ≡ v)) (λ c. CharAt v c w) → length w.text - w.at < length u.text - u.at
+search_smaller w taken run (going, blank) is = let char = taken_here taken is going in left_smaller (ahead_run run.run) char.1 (ahead_here _)
+
+-- ---- one block more, or one that is passed over
+
+pub on_ok : {E P Q : Type 0} (r : Result (Unit {0}) E) → OnOk r P → (P → Q) → OnOk r Q
+on_ok (Ok done) h f = f h
+on_ok (Err e) h f = h
+
+pub all_ok : {E P Q R S : Type 0} (r : Result (Unit {0}) E) → OnOk r P → OnOk r Q → OnOk r R → (P → Q → R → S) → OnOk r S
+all_ok (Ok done) p q r f = f p q r
+all_ok (Err e) p q r f = p
+
+pub at_sign_taken : {u v w : Place} (taken : Option ℕ) → CharAt u 64 w → MatchOption taken (AtEnd u × (v ≡ u)) (λ c. CharAt u c v) → CharAt u 64 v
+at_sign_taken None sign ended = absurd (no_char_at_end ended.0 sign)
+at_sign_taken {u} {v} (Some c) sign char = subst (λ x. CharAt u x v) (same_char char sign).0 char
+
+pub unread_from : {u : Place} {e : ParseError} → Refuses u.text e ((r : FileReading) (v : Place) → Block longest u r v → ⊥) → e.kind ≢ OutOfMemory → IsUnread u e
+unread_from (inl no_room) some = absurd (some (ap (λ error. error.kind) no_room))
+unread_from (inr refused) some = record { none = refused.1; error = refused.0 }
+
+pub block_found : {u v : Place} {first : FileReading} (says all : FileReading) (errors : List SkippedBlock) → Block longest u first v → all ≡ then says first → (start : Place) → RecoveredTo start says errors u → RecoveredTo start all errors v
+block_found {u} {v} {first} says all errors b same start read = subst (λ r. RecoveredTo start r errors v) (sym same) (block_recovered says errors read b)
+
+pub unread_found : {u w : Place} {e : ParseError} (says all : FileReading) (errors more : List SkippedBlock) → IsUnread u e → ((v : Place) × CharAt u 64 v × GoesOnAt v w) → all ≡ says → more ≡ errors ++ skipped_block e u w ∷ []
+    → (start : Place) → RecoveredTo start says errors u → RecoveredTo start all more w
+unread_found {u} {w} {e} says all errors more none (v, sign, on) same grown start read =
+    subst (λ r. RecoveredTo start r more w) (sym same) (subst (λ es. RecoveredTo start says es w) (sym grown) (unread_recovered says errors read sign none on))
+
+-- ---- a text is recovered in one way
+
+-- what is left after a character that is skipped, after a comment and after a block
+skipped_left : {u v : Place} {c : ℕ} {r : FileReading} {errors : List SkippedBlock} → CharAt u c v → is_skipped c ≡ true → Recovered u r errors → Recovered v r errors
+skipped_left char passes (recovered.end end) = absurd (no_char_at_end end char)
+skipped_left {r = r} {errors = errors} char passes (recovered.skipped char' passes' x) = subst (λ y. Recovered y r errors) (same_char char' char).1 x
+skipped_left char passes (recovered.line_comment m x) = absurd (pass_clash is_skipped char passes m.sign refl)
+skipped_left char passes (recovered.block b x) = absurd (pass_clash is_skipped char passes b.head.sign refl)
+skipped_left char passes (recovered.unread sign none on x) = absurd (pass_clash is_skipped char passes sign refl)
+
+comment_left : {u v : Place} {r : FileReading} {errors : List SkippedBlock} → LineComment u v → Recovered u r errors → Recovered v r errors
+comment_left m (recovered.end end) = absurd (no_char_at_end end m.sign)
+comment_left m (recovered.skipped char passes x) = absurd (pass_clash is_skipped char passes m.sign refl)
+comment_left {r = r} {errors = errors} m (recovered.line_comment m' x) = subst (λ y. Recovered y r errors) (line_comment_same m' m) x
+comment_left m (recovered.block b x) = absurd (char_clash m.sign b.head.sign refl)
+comment_left m (recovered.unread sign none on x) = absurd (char_clash m.sign sign refl)
+
+record BlockLeft (u v : Place) (first says : FileReading) (errors : List SkippedBlock) : Type 0 where
+  rest : FileReading
+  left : Recovered v rest errors
+  whole : says ≡ then first rest
+
+block_left : {u v : Place} {first says : FileReading} {errors : List SkippedBlock} → Block longest u first v → Recovered u says errors → BlockLeft u v first says errors
+block_left b (recovered.end end) = absurd (no_char_at_end end b.head.sign)
+block_left b (recovered.skipped char passes x) = absurd (pass_clash is_skipped char passes b.head.sign refl)
+block_left b (recovered.line_comment m x) = absurd (char_clash b.head.sign m.sign refl)
+block_left {errors = errors} b (recovered.block {rest = rest} b' x) =
+    let same = block_same b' b in
+    record { rest = rest; left = subst (λ y. Recovered y rest errors) same.1 x; whole = ap (λ q. then q rest) same.0 }
+block_left b (recovered.unread sign none on x) = absurd (none.none _ _ b)
+
+record UnreadLeft (u w : Place) (says : FileReading) (errors : List SkippedBlock) : Type 0 where
+  error : ParseError
+  rest : List SkippedBlock
+  none : IsUnread u error
+  left : Recovered w says rest
+  whole : errors ≡ skipped_block error u w ∷ rest
+
+unread_left : {u v w : Place} {e : ParseError} {says : FileReading} {errors : List SkippedBlock} → CharAt u 64 v → IsUnread u e → GoesOnAt v w → Recovered u says errors → UnreadLeft u w says errors
+unread_left sign none on (recovered.end end) = absurd (no_char_at_end end sign)
+unread_left sign none on (recovered.skipped char passes x) = absurd (pass_clash is_skipped char passes sign refl)
+unread_left sign none on (recovered.line_comment m x) = absurd (char_clash sign m.sign refl)
+unread_left sign none on (recovered.block b x) = absurd (none.none _ _ b)
+unread_left {u} {w = w} {says = says} sign none on (recovered.unread {w = w'} {e = e} {errors = errors} sign' none' on' x) =
+    let same : w' ≡ w = goes_on_same (subst (λ y. GoesOnAt y w') (same_char sign' sign).1 on') on in
+    record { error = e; rest = errors; none = none'; left = subst (λ y. Recovered y says errors) same x; whole = ap (λ y. skipped_block e u y ∷ errors) same }
+
+pub recovery_same : {u : Place} {r s : FileReading} {f g : List SkippedBlock} → Recovered u r f → Recovered u s g → (r ≡ s) × (map stretch f ≡ map stretch g)
+recovery_same (recovered.end end) (recovered.end end') = (refl, refl)
+recovery_same (recovered.end end) (recovered.skipped char passes x) = absurd (no_char_at_end end char)
+recovery_same (recovered.end end) (recovered.line_comment m x) = absurd (no_char_at_end end m.sign)
+recovery_same (recovered.end end) (recovered.block b x) = absurd (no_char_at_end end b.head.sign)
+recovery_same (recovered.end end) (recovered.unread sign none on x) = absurd (no_char_at_end end sign)
+recovery_same (recovered.skipped char passes x) second = recovery_same x (skipped_left char passes second)
+recovery_same (recovered.line_comment m x) second = recovery_same x (comment_left m second)
+recovery_same (recovered.block {first = first} b x) second =
+    let following = block_left b second in
+    let left = recovery_same x following.left in
+    (ap (then first) left.0 ∙ sym following.whole, left.1)
+recovery_same {u} (recovered.unread {w = w} sign none on x) second =
+    let following = unread_left sign none on second in
+    let left = recovery_same x following.left in
+    let start : Range ℕ = record { start = u.at; end = w.at } in
+    (left.0, ap (λ l. start ∷ l) left.1 ∙ sym (ap (map stretch) following.whole))
+
+-- ---- each entry that is read is a block of the file grammar
+
+entry_block : {start a v : Place} {p : Part} {k : BlockKind} {r : FileReading} → Body longest start p k a r v → Block longest start r v → AllByRecursion (IsBlockOf start.text) r.entries
+entry_block (body.comment v inside close) b = _
+entry_block (body.preamble quoted white close is_close) b = _
+entry_block (body.strings fields close) b = _
+entry_block (body.entry v key white comma gap fields close) b = ((_, b), _)
+
+pub entries_stand : {u : Place} {says : FileReading} {errors : List SkippedBlock} (text : List ℕ) → u.text ≡ text → Recovered u says errors → AllByRecursion (IsBlockOf text) says.entries
+entries_stand text same (recovered.end end) = _
+entries_stand text same (recovered.skipped char passes x) = entries_stand text (char.same ∙ same) x
+entries_stand text same (recovered.line_comment m x) = entries_stand text ((ahead_line_comment m).text ∙ same) x
+entries_stand text same (recovered.block {first = first} {rest = rest} b x) =
+    all_append (IsBlockOf text) first.entries rest.entries (subst (λ t. AllByRecursion (IsBlockOf t) first.entries) same (entry_block b.body b)) (entries_stand text ((ahead_block b).text ∙ same) x)
+entries_stand text same (recovered.unread sign none on x) = entries_stand text ((ahead_passed on.passed).text ∙ (sign.same ∙ same)) x
+
+-- ---- what could be read is read, or lies in what was passed
+
+sum-zero : (n : ℕ) → n ≡ n + 0
+sum-zero n = omega arith
+
+order : (m n : ℕ) → (m < n) ⊎ (n ≤ m)
+order zero zero = inr (omega arith)
+order zero (suc n) = inl (omega arith)
+order (suc m) zero = inr (omega arith)
+order (suc m) (suc n) = ⊎_elim (λ below. inl (omega (arith, below))) (λ above. inr (omega (arith, above))) (order m n)
+
+-- an at sign doesn't stand in another character
+in_character : {w v u x : Place} {c : ℕ} → CharAt w c v → CharAt u 64 x → u.text ≡ w.text → w.at ≤ u.at → u.at < v.at → c ≡ 64
+in_character {w} {v} {u} {x} {c} char sign same before inside =
+    let left : w.at + (u.at - w.at) ≡ u.at = omega (arith, before) in
+    let here : get_or (drop u.at w.text) 0 0 ≡ 64 = ap (λ t. get_or (drop u.at t) 0 0) (sym same) ∙ byte_from_char (drop u.at u.text) (drop x.at u.text) 64 sign.here (lit< tt) in
+    let byte : get_or (drop w.at w.text) (u.at - w.at) 0 ≡ 64 =
+    get_or-drop w.at w.text (u.at - w.at) 0 ∙ ap (λ n. get_or w.text n 0) (left ∙ sum-zero u.at) ∙ sym (get_or-drop u.at w.text 0 0) ∙ here in
+    let width : u.at - w.at < length (encode_utf8 c) = omega (arith, char.next, length-encode c, before, inside) in
+    inside_one c (drop v.at w.text) (drop w.at w.text) (u.at - w.at) char.here width (omega (arith, byte)) ∙ byte
+
+-- where an at sign stands that isn't passed yet, and what is read next ends
+data Next (w v u : Place) : Type 0 where
+  reached : w ≡ u → Next w v u
+  begun : w.at < u.at → u.at < v.at → Next w v u
+  ended : v.at ≤ u.at → v.text ≡ u.text → Next w v u
+
+next : (w v u : Place) → w.text ≡ u.text → Ahead w v → w.at ≤ u.at → Next w v u
+next w v u same ahead before = ⊎_elim
+    (λ below. ⊎_elim (λ inside. Next.begun below inside) (λ later. Next.ended later (ahead.text ∙ same)) (order u.at v.at))
+    (λ above. Next.reached (same_place same (omega (arith, above, before))))
+    (order w.at u.at)
+
+abbrev pub Found : List SkippedBlock → Place → FileReading → EntryReading → Type 0
+Found errors u says e = Contains says.entries e ⊎ LiesInside u ⊎ IsPassedOver errors u
+
+passed_later : (u : Place) (block : SkippedBlock) (errors : List SkippedBlock) → IsPassedOver errors u → IsPassedOver (block ∷ errors) u
+passed_later u block errors (k, s, below, is, lies) = (suc k, s, omega (arith, below), is, lies)
+
+found_later : {u : Place} (first rest : FileReading) (errors : List SkippedBlock) (e : EntryReading) → Found errors u rest e → Found errors u (then first rest) e
+found_later first rest errors e (inl read) = inl (Contains-append_right first.entries rest.entries e read)
+found_later first rest errors e (inr other) = inr other
+
+found_past : (u : Place) (says : FileReading) (block : SkippedBlock) (errors : List SkippedBlock) (e : EntryReading) → Found errors u says e → Found (block ∷ errors) u says e
+found_past u says block errors e (inl read) = inl read
+found_past u says block errors e (inr (inl inside)) = inr (inl inside)
+found_past u says block errors e (inr (inr lost)) = inr (inr (passed_later u block errors lost))
+
+same_entry : {u v : Place} {r : FileReading} (text : List ℕ) (e : EntryReading) → u ≡ place text e.start → Block longest u r v → IsBlockOf text e → Contains r.entries e
+same_entry {u} {r = r} text e here b at =
+    let same : r ≡ entry_alone e = (block_same b (subst (λ y. Block longest y (entry_alone e) at.0) (sym here) at.1)).0 in
+    subst (λ q. Contains q.entries e) (sym same) (0, lit< tt, refl)
+
+at_not_skipped : (c : ℕ) → is_skipped c ≡ true → c ≡ 64 → ⊥
+at_not_skipped c passes is = let fails : is_skipped 64 ≡ true = subst (λ d. is_skipped d ≡ true) is passes in cc
+
+pub nothing_lost : {w : Place} {says : FileReading} {errors : List SkippedBlock} (text : List ℕ) (e : EntryReading) → w.text ≡ text → w.at ≤ e.start → IsBlockOf text e → Recovered w says errors
+    → Found errors (place text e.start) says e
+nothing_lost {w} text e same before at (recovered.end end) =
+    let left = char_left at.1.head.sign in
+    absurd (omega (arith, before, left, end, ap length same, (len_utf8_bounds 64).0))
+nothing_lost {w} text e same before at (recovered.skipped {v = v} {c = c} char passes x) = elim (next w v (place text e.start) same (ahead_char char) before) [
+  | Next.reached here ↦ absurd (pass_clash is_skipped char passes (subst (λ y. CharAt y 64 at.1.head.name_start) (sym here) at.1.head.sign) refl)
+  | Next.begun below inside ↦ absurd (at_not_skipped c passes (in_character char at.1.head.sign (sym same) before inside))
+  | Next.ended later text' ↦ nothing_lost text e text' later at x
+]
+nothing_lost {w} text e same before at (recovered.line_comment {v = v} m x) = elim (next w v (place text e.start) same (ahead_line_comment m) before) [
+  | Next.reached here ↦ absurd (char_clash m.sign (subst (λ y. CharAt y 64 at.1.head.name_start) (sym here) at.1.head.sign) refl)
+  | Next.begun below inside ↦ inr (inl (record { start = w; end = v; is = inr m; same = same; before = below; following = inside }))
+  | Next.ended later text' ↦ nothing_lost text e text' later at x
+]
+nothing_lost {w} {errors = errors} text e same before at (recovered.block {v = v} {first = first} {rest = rest} b x) = elim (next w v (place text e.start) same (ahead_block b) before) [
+  | Next.reached here ↦ inl (Contains-append_left first.entries rest.entries e (same_entry text e here b at))
+  | Next.begun below inside ↦ inr (inl (record { start = w; end = v; is = inl (first, b); same = same; before = below; following = inside }))
+  | Next.ended later text' ↦ found_later first rest errors e (nothing_lost text e text' later at x)
+]
+nothing_lost {w} {says = says} text e same before at (recovered.unread {w = z} {e = error} {errors = errors} sign none on x) = elim (next w z (place text e.start) same (ahead_then (ahead_char sign) (ahead_passed on.passed)) before) [
+  | Next.reached here ↦ absurd (none.none _ _ (subst (λ y. Block longest y (entry_alone e) at.0) (sym here) at.1))
+  | Next.begun below inside ↦ inr (inr (zero, skipped_block error w z, omega arith, refl, (below, inside)))
+  | Next.ended later text' ↦ found_past _ says (skipped_block error w z) errors e (nothing_lost text e text' later at x)
+]

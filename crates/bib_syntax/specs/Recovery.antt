@@ -1,0 +1,90 @@
+-- Meaning: words of public contracts.
+-- What is read of a text of which not each block can be read. BibTeX reports an error, passes over the rest of the block and
+-- goes on; here reading goes on at the next at sign that begins a line, so that a brace that isn't closed costs one block.
+use Rattle.std.specs.Prelude.{◌≡◌, ◌⊎◌, ℕ, ◌<◌, Bool, true, not, ◌&&◌, ◌||◌, ◌==◌, List, [], ◌∷◌, length, take, drop}
+use Rattle.std.specs.List.{list_any, Any}
+use Rattle.std.specs.declared.ops.Range.{Range}
+use Rattle.std.specs.Str.{trim_end}
+use Rattle.bib_text.specs.Places.{Place, place, CharAt, AtEnd}
+use Rattle.bib_syntax.specs.Errors.{IsSyntaxError}
+use Rattle.bib_syntax.specs.Grammar.{Block, LineComment, longest}
+use Rattle.bib_syntax.specs.Reading.{EntryReading, FileReading, empty_reading, then}
+use Rattle.bib_syntax.specs.declared.raw.ParseError.{ParseError}
+use Rattle.bib_syntax.specs.declared.raw.recovery.SkippedBlock.{SkippedBlock}
+use Rattle.bib_text.specs.Characters as char
+
+-- whether this byte stands in a text
+abbrev pub has_byte : ℕ → List ℕ → Bool
+has_byte byte text = list_any (λ b. b == byte) text
+
+-- whether a line ends in a text
+abbrev pub has_line_end : List ℕ → Bool
+has_line_end text = has_byte char.line_feed text || has_byte char.carriage_return text
+
+-- whether a line begins after this text, white space aside: it is blank, or a line ends in the white space at its end
+abbrev pub ends_blank : List ℕ → Bool
+ends_blank before = length (trim_end before) == 0 || has_line_end (drop (length (trim_end before)) before)
+
+-- an at sign stands here, the first character of its line but for white space
+abbrev pub BeginsLine : Place → Type 0
+BeginsLine u = (v : Place) × CharAt u char.at v × (ends_blank (take u.at u.text) ≡ true)
+
+-- characters from one place to another, none of which is an at sign that begins a line
+pub data Passed : Place → Place → Type 0 where
+  stop : {u : Place} → Passed u u
+  step : {u v w : Place} {c : ℕ} → CharAt u c v → (BeginsLine u → ⊥) → Passed v w → Passed u w
+
+-- where reading goes on from a place: at the next at sign that begins a line, or at the end of the text
+pub record GoesOnAt (u v : Place) : Type 0 where
+  pub passed : Passed u v
+  pub stands : AtEnd v ⊎ BeginsLine v
+
+-- no block of the file grammar begins here, and this error says so
+pub record IsUnread (u : Place) (e : ParseError) : Type 0 where
+  pub none : (says : FileReading) (v : Place) → Block longest u says v → ⊥
+  pub error : IsSyntaxError u.text e
+
+-- what is passed over: an error, and the stretch from an at sign to where reading goes on
+abbrev pub skipped_block : ParseError → Place → Place → SkippedBlock
+skipped_block e u w = record { error = e; span = record { start = u.at; end = w.at } }
+
+-- the stretch of the text that is passed over
+abbrev pub stretch : SkippedBlock → Range ℕ
+stretch block = block.span
+
+-- a file, from a place on, as the file grammar has it, with one more rule: where an at sign stands and no block begins, the
+-- error is kept, and reading goes on at the next line that begins with an at sign
+pub data Recovered : Place → FileReading → List SkippedBlock → Type 0 where
+  end : {u : Place} → AtEnd u → Recovered u empty_reading []
+  skipped : {u v : Place} {c : ℕ} {says : FileReading} {errors : List SkippedBlock} → CharAt u c v → not (c == char.at) && not (c == char.percent) ≡ true
+      → Recovered v says errors → Recovered u says errors
+  line_comment : {u v : Place} {says : FileReading} {errors : List SkippedBlock} → LineComment u v → Recovered v says errors → Recovered u says errors
+  block : {u v : Place} {first rest : FileReading} {errors : List SkippedBlock} → Block longest u first v → Recovered v rest errors
+      → Recovered u (then first rest) errors
+  unread : {u v w : Place} {e : ParseError} {says : FileReading} {errors : List SkippedBlock} → CharAt u char.at v → IsUnread u e → GoesOnAt v w
+      → Recovered w says errors → Recovered u says (skipped_block e u w ∷ errors)
+
+-- this is what is read of the text, and this is passed over
+abbrev pub IsRecovery : List ℕ → FileReading → List SkippedBlock → Type 0
+IsRecovery text says errors = Recovered (place text 0) says errors
+
+-- what a block says that is this entry
+abbrev pub entry_alone : EntryReading → FileReading
+entry_alone e = record { preamble = []; entries = e ∷ []; abbreviations = [] }
+
+-- a block of the file grammar begins where this entry does, and is the entry
+abbrev pub IsBlockOf : List ℕ → EntryReading → Type 0
+IsBlockOf text e = (v : Place) × Block longest (place text e.start) (entry_alone e) v
+
+-- a place lies in a block of the file grammar, or in a line comment, that begins before it
+pub record LiesInside (u : Place) : Type 0 where
+  pub start : Place
+  pub end : Place
+  pub is : ((says : FileReading) × Block longest start says end) ⊎ LineComment start end
+  pub same : start.text ≡ u.text
+  pub before : start.at < u.at
+  pub following : u.at < end.at
+
+-- a place lies in a stretch that is passed over, after its at sign
+abbrev pub IsPassedOver : List SkippedBlock → Place → Type 0
+IsPassedOver errors u = Any (λ block. (block.span.start < u.at) × (u.at < block.span.end)) errors

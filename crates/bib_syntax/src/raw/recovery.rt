@@ -1,0 +1,141 @@
+//! What is read of a file of which not each block can be read.
+
+ghost use Rattle.std.specs.Prelude.{◌≡◌, ◌⊎◌, ◌<◌, ◌-◌, ◌==◌, ◌++◌, [], ◌∷◌, not, true, false, length, take, MatchBool, IfOk, OnOk};
+ghost use Rattle.bib_text.specs.Places.{Place, CharAt, AtEnd};
+ghost use Rattle.bib_syntax.specs.Recovery as Spec;
+ghost use Rattle.bib_syntax.specs.Recovering.{RecoveredTo};
+ghost use Rattle.bib_syntax.specs.Recovery.{Recovered, GoesOnAt, skipped_block};
+ghost use Rattle.bib_syntax.specs.Views.{file_of};
+
+use crate::raw::fields::line_comment;
+use crate::raw::file::{add, block, is_skipped};
+use crate::raw::{ParseError, RawBibliography};
+use bib_text::scanner::Scanner;
+use bib_text::spanned::Span;
+use std::alloc::{AllocError, Global};
+
+/// A block of a file that can't be read, and what is passed over for it.
+#[derive(Debug, Clone, PartialEq, Eq, Drop)]
+pub struct SkippedBlock {
+    /// Why it can't be read.
+    pub error: ParseError,
+    /// From its at sign to where reading goes on: to the next at sign that begins a line, or to the end of the file. In
+    /// bytes of the file.
+    pub span: Span,
+}
+
+/// What is read of a file, and what is passed over.
+#[derive(Debug, Clone, Drop)]
+pub struct RawRecovery<'s> {
+    /// What all blocks say that can be read.
+    pub raw: RawBibliography<'s>,
+    /// The blocks that can't be read, in the order of the file.
+    pub skipped: Vec<SkippedBlock>,
+}
+
+// Whether a line begins after this text, white space aside.
+fn ends_blank(before: &str) -> bool
+    ensures { result ≡ Spec.ends_blank before.now }
+{
+    let filled = before.trim_end().len();
+    let blank = &before.as_bytes()[filled..];
+    filled == 0 || blank.contains(&b'\n') || blank.contains(&b'\r')
+}
+
+// Whether the text ends here, or a line begins, white space aside.
+fn begins_line(s: &Scanner<'_>) -> bool
+    ensures { MatchBool result
+        (AtEnd s.now ⊎ (Spec.ends_blank (take s.now.at s.now.text) ≡ true))
+        ((AtEnd s.now → ⊥) × (Spec.ends_blank (take s.now.at s.now.text) ≡ false)) }
+{
+    if s.done() {
+        return true;
+    }
+    ends_blank(s.before())
+}
+
+// Whether a character isn't an at sign.
+fn is_other(c: char) -> bool
+    ensures { result ≡ not (c == 64) }
+{
+    c != '@'
+}
+
+// Goes on to the next at sign that begins a line, or to the end of the text.
+fn go_on(s: &mut Scanner<'_>)
+    ensures { GoesOnAt s.old s.new }
+{
+    'search: loop {
+        s.eat_while(is_other);
+        if begins_line(s) {
+            return;
+        }
+        s.eat();
+    }
+}
+
+impl<'s> RawRecovery<'s> {
+    // Passes over the block at this at sign, and keeps its error.
+    fn skip(&mut self, s: &mut Scanner<'s>, error: ParseError) -> Result<(), AllocError>
+        requires { (v : Place) × CharAt s.old 64 v }
+        ensures passed { OnOk result ((v : Place) × CharAt s.old 64 v × GoesOnAt v s.new) }
+        ensures kept { OnOk result (self.new.raw ≡ self.old.raw) }
+        ensures skipped { OnOk result (self.new.skipped.items ≡
+            self.old.skipped.items ++ skipped_block error s.old s.new ∷ []) }
+    {
+        let start = s.cursor();
+        s.eat();
+        go_on(s);
+        let span = start..s.cursor();
+        self.skipped.push(SkippedBlock { error, span })?;
+        Ok(())
+    }
+
+    // Reads the block at this at sign, or passes over it.
+    fn add_block(&mut self, s: &mut Scanner<'s>, alloc: Global) -> Result<(), AllocError>
+        requires { (v : Place) × CharAt s.old 64 v }
+        ensures found { OnOk result ((start : Place) →
+            RecoveredTo start (file_of self.old.raw) self.old.skipped.items s.old →
+            RecoveredTo start (file_of self.new.raw) self.new.skipped.items s.new) }
+        ensures smaller { OnOk result (length s.new.text - s.new.at < length s.old.text - s.old.at) }
+    {
+        let mut reader = s.copied();
+        match block(&mut reader, alloc) {
+            Ok(item) => {
+                *s = reader;
+                add(&mut self.raw, item)
+            }
+            Err(error) => {
+                error.unless_out_of_memory()?;
+                self.skip(s, error)
+            }
+        }
+    }
+}
+
+// The blocks of a file, up to its end, and what is passed over among them.
+pub(crate) fn recovered<'s>(
+    s: &mut Scanner<'s>,
+    alloc: Global,
+) -> Result<RawRecovery<'s>, AllocError>
+    ensures { IfOk result (λ found. Recovered s.old (file_of found.raw) found.skipped.items) }
+{
+    let mut found = RawRecovery {
+        raw: RawBibliography {
+            preamble: String::new(alloc),
+            entries: Vec::new(alloc),
+            abbreviations: Vec::new(alloc),
+        },
+        skipped: Vec::new(alloc),
+    };
+    'file: while let Some(c) = s.peek() {
+        if c == '@' {
+            found.add_block(s, alloc)?;
+        } else if c == '%' {
+            line_comment(s);
+        } else {
+            s.eat_while(is_skipped);
+        }
+    }
+    Ok(found)
+}
