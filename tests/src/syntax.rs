@@ -4,6 +4,7 @@ mod characters;
 mod errors;
 mod keys;
 mod reading;
+mod recovery;
 
 use std::alloc::{AllocError, Global};
 use crate::support::rows::Calls;
@@ -16,6 +17,8 @@ impl Calls for Syntax {
             "keys" => keys::keys(alloc, text)?,
             "fronts" => keys::prefixes(alloc, text)?,
             "raw" => reading::raw(alloc, text)?,
+            "recover" => recovery::recover(alloc, text)?,
+            "recovered_fronts" => recovery::recovered_prefixes(alloc, text)?,
             "is_key" => characters::key_characters(alloc, text)?,
             "is_id_start" => characters::id_starts(alloc, text)?,
             "is_id_continue" => characters::id_continuations(alloc, text)?,

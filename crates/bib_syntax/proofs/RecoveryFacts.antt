@@ -17,7 +17,7 @@ use Rattle.bib_syntax.specs.Grammar.{LineComment, BlockKind, Body, Block, File, 
 use Rattle.bib_syntax.specs.Grammar.{Body as body}
 use Rattle.bib_syntax.specs.Grammar.{File as file}
 use Rattle.bib_syntax.specs.Recovering.{RecoveredTo}
-use Rattle.bib_syntax.specs.Recovery.{ends_blank, BeginsLine, Passed, GoesOnAt, IsUnread, Recovered, skipped_block, stretch, entry_alone, IsBlockOf, LiesInside, IsPassedOver}
+use Rattle.bib_syntax.specs.Recovery.{ends_blank, BeginsLine, Passed, GoesOnAt, IsUnreadBlock, Recovered, skipped_block, stretch, entry_alone, IsBlockOf, LiesInside, IsPassedOver}
 use Rattle.bib_syntax.specs.Recovery.{Passed as passed}
 use Rattle.bib_syntax.specs.Recovery.{Recovered as recovered}
 use Rattle.bib_syntax.specs.declared.raw.ParseError.{ParseError}
@@ -75,7 +75,7 @@ pub block_recovered : {start u v : Place} (says : FileReading) {first : FileRead
 block_recovered {start} says {first} errors read b more others x =
     subst (λ r. Recovered start r (errors ++ others)) (sym (then-then says first more)) (read (then first more) others (recovered.block b x))
 
-pub unread_recovered : {start u v w : Place} {e : ParseError} (says : FileReading) (errors : List SkippedBlock) → RecoveredTo start says errors u → CharAt u 64 v → IsUnread u e → GoesOnAt v w
+pub unread_recovered : {start u v w : Place} {e : ParseError} (says : FileReading) (errors : List SkippedBlock) → RecoveredTo start says errors u → CharAt u 64 v → IsUnreadBlock u e → GoesOnAt v w
     → RecoveredTo start says (errors ++ skipped_block e u w ∷ []) w
 unread_recovered {start} {u} {w = w} {e = e} says errors read sign none on more others x =
     subst (λ es. Recovered start (then says more) es) (sym (append_assoc errors (skipped_block e u w ∷ []) others)) (read more (skipped_block e u w ∷ others) (recovered.unread sign none on x))
@@ -152,14 +152,14 @@ pub at_sign_taken : {u v w : Place} (taken : Option ℕ) → CharAt u 64 w → M
 at_sign_taken None sign ended = absurd (no_char_at_end ended.0 sign)
 at_sign_taken {u} {v} (Some c) sign char = subst (λ x. CharAt u x v) (same_char char sign).0 char
 
-pub unread_from : {u : Place} {e : ParseError} → Refuses u.text e ((r : FileReading) (v : Place) → Block longest u r v → ⊥) → e.kind ≢ OutOfMemory → IsUnread u e
+pub unread_from : {u : Place} {e : ParseError} → Refuses u.text e ((r : FileReading) (v : Place) → Block longest u r v → ⊥) → e.kind ≢ OutOfMemory → IsUnreadBlock u e
 unread_from (inl no_room) some = absurd (some (ap (λ error. error.kind) no_room))
 unread_from (inr refused) some = record { none = refused.1; error = refused.0 }
 
 pub block_found : {u v : Place} {first : FileReading} (says all : FileReading) (errors : List SkippedBlock) → Block longest u first v → all ≡ then says first → (start : Place) → RecoveredTo start says errors u → RecoveredTo start all errors v
 block_found {u} {v} {first} says all errors b same start read = subst (λ r. RecoveredTo start r errors v) (sym same) (block_recovered says errors read b)
 
-pub unread_found : {u w : Place} {e : ParseError} (says all : FileReading) (errors more : List SkippedBlock) → IsUnread u e → ((v : Place) × CharAt u 64 v × GoesOnAt v w) → all ≡ says → more ≡ errors ++ skipped_block e u w ∷ []
+pub unread_found : {u w : Place} {e : ParseError} (says all : FileReading) (errors more : List SkippedBlock) → IsUnreadBlock u e → ((v : Place) × CharAt u 64 v × GoesOnAt v w) → all ≡ says → more ≡ errors ++ skipped_block e u w ∷ []
     → (start : Place) → RecoveredTo start says errors u → RecoveredTo start all more w
 unread_found {u} {w} {e} says all errors more none (v, sign, on) same grown start read =
     subst (λ r. RecoveredTo start r more w) (sym same) (subst (λ es. RecoveredTo start says es w) (sym grown) (unread_recovered says errors read sign none on))
@@ -198,11 +198,11 @@ block_left b (recovered.unread sign none on x) = absurd (none.none _ _ b)
 record UnreadLeft (u w : Place) (says : FileReading) (errors : List SkippedBlock) : Type 0 where
   error : ParseError
   rest : List SkippedBlock
-  none : IsUnread u error
+  none : IsUnreadBlock u error
   left : Recovered w says rest
   whole : errors ≡ skipped_block error u w ∷ rest
 
-unread_left : {u v w : Place} {e : ParseError} {says : FileReading} {errors : List SkippedBlock} → CharAt u 64 v → IsUnread u e → GoesOnAt v w → Recovered u says errors → UnreadLeft u w says errors
+unread_left : {u v w : Place} {e : ParseError} {says : FileReading} {errors : List SkippedBlock} → CharAt u 64 v → IsUnreadBlock u e → GoesOnAt v w → Recovered u says errors → UnreadLeft u w says errors
 unread_left sign none on (recovered.end end) = absurd (no_char_at_end end sign)
 unread_left sign none on (recovered.skipped char passes x) = absurd (pass_clash is_skipped char passes sign refl)
 unread_left sign none on (recovered.line_comment m x) = absurd (char_clash sign m.sign refl)

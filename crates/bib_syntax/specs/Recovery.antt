@@ -40,7 +40,7 @@ pub record GoesOnAt (u v : Place) : Type 0 where
   pub stands : AtEnd v ⊎ BeginsLine v
 
 -- no block of the file grammar begins here, and this error says so
-pub record IsUnread (u : Place) (e : ParseError) : Type 0 where
+pub record IsUnreadBlock (u : Place) (e : ParseError) : Type 0 where
   pub none : (says : FileReading) (v : Place) → Block longest u says v → ⊥
   pub error : IsSyntaxError u.text e
 
@@ -61,7 +61,7 @@ pub data Recovered : Place → FileReading → List SkippedBlock → Type 0 wher
   line_comment : {u v : Place} {says : FileReading} {errors : List SkippedBlock} → LineComment u v → Recovered v says errors → Recovered u says errors
   block : {u v : Place} {first rest : FileReading} {errors : List SkippedBlock} → Block longest u first v → Recovered v rest errors
       → Recovered u (then first rest) errors
-  unread : {u v w : Place} {e : ParseError} {says : FileReading} {errors : List SkippedBlock} → CharAt u char.at v → IsUnread u e → GoesOnAt v w
+  unread : {u v w : Place} {e : ParseError} {says : FileReading} {errors : List SkippedBlock} → CharAt u char.at v → IsUnreadBlock u e → GoesOnAt v w
       → Recovered w says errors → Recovered u says (skipped_block e u w ∷ errors)
 
 -- this is what is read of the text, and this is passed over

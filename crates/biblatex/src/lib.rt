@@ -25,7 +25,7 @@ pub use bib_people::person::Person;
 pub use bib_styled::settling::is_settled;
 pub use bib_syntax::raw::{
     BiblatexParser, Field, Pair, ParseError, ParseErrorKind, RawBibliography, RawChunk, RawEntry,
-    Token, is_id_continue, is_id_start, is_key,
+    RawRecovery, SkippedBlock, Token, is_id_continue, is_id_start, is_key,
 };
 pub use bib_text::items::Items;
 pub use bib_text::scanner::Scanner;

@@ -1,7 +1,10 @@
 //! Reading: files, errors, people, dates, pages.
 
-use biblatex::{Bibliography, ChunksExt, DateValue, Entry, ParseError, PermissiveType};
-use std::alloc::Global;
+use biblatex::{
+    Bibliography, ChunksExt, DateValue, Entry, ParseError, PermissiveType, RawBibliography,
+    RawRecovery,
+};
+use std::alloc::{AllocError, Global};
 use std::test::Fail;
 
 // The bibliography of a file. (It has no contract, so that an example that calls it proves nothing of the reading again.)
@@ -51,7 +54,7 @@ fn line_and_column(src: &str, at: usize) -> (usize, usize) {
 }
 
 #[test]
-fn tell_a_error(rt: HostRuntime) -> Result<(), Fail> {
+fn report_an_error(rt: HostRuntime) -> Result<(), Fail> {
     let alloc = rt.alloc();
     let src = "@misc{a, title={A}}\n@misc{b, title={B}";
     let Err(error) = parsed(alloc, src) else {
@@ -60,6 +63,28 @@ fn tell_a_error(rt: HostRuntime) -> Result<(), Fail> {
     assert!(rt; line_and_column(src, error.span.start) == (2, 19));
     let text = error.to_string(alloc)?;
     assert!(rt; text.as_str() == "expected comma: 38-38");
+    Ok(())
+}
+
+// What can be read of a file. (It has no contract, as `parsed` has none.)
+fn recovered(alloc: Global, src: &str) -> Result<RawRecovery<'_>, AllocError> {
+    RawBibliography::recover(alloc, src)
+}
+
+#[test]
+fn read_the_rest(rt: HostRuntime) -> Result<(), Fail> {
+    let alloc = rt.alloc();
+    let src = "@misc{a, title={A}\n@misc{b, title={B}}\n@misc{c title={C}}";
+    let RawRecovery { raw, skipped } = recovered(alloc, src)?;
+    let mut errors = String::new(alloc);
+    for block in &skipped {
+        let (line, column) = line_and_column(src, block.error.span.start);
+        let text = format!(in alloc; "{line}:{column}: {}; ", block.error)?;
+        errors.push_str(text.as_str())?;
+    }
+    assert!(rt; errors.as_str() == "2:1: expected comma: 19-19; 3:9: expected comma: 47-47; ");
+    let rest = Bibliography::from_raw(alloc, raw)?;
+    assert!(rt; rest.get("b").is_some());
     Ok(())
 }
 

@@ -10,7 +10,7 @@ fn parsed(alloc: Global, file: &str) -> Result<RawBibliography<'_>, ParseError> 
 }
 
 // The keys of entries, a bar before each.
-fn barred(alloc: Global, entries: &[Spanned<RawEntry<'_>>]) -> Result<String, AllocError> {
+pub(crate) fn barred(alloc: Global, entries: &[Spanned<RawEntry<'_>>]) -> Result<String, AllocError> {
     let mut out = String::new(alloc);
     for entry in entries {
         out.push('|')?;

@@ -2,7 +2,7 @@ use Rattle.std.proofs.Common.{sym, ap, subst}
 use Rattle.bib_text.specs.Places.{Place}
 use Rattle.bib_syntax.specs.Blocks.{item_of}
 use Rattle.bib_syntax.specs.Grammar.{Block, longest}
-use Rattle.bib_syntax.specs.Recovery.{IsUnread}
+use Rattle.bib_syntax.specs.Recovery.{IsUnreadBlock}
 use Rattle.bib_syntax.specs.Views.{file_of}
 use Rattle.bib_syntax.proofs.FileFacts.{block_smaller}
 use Rattle.bib_syntax.proofs.RecoveryFacts.{on_ok, all_ok, unread_from, block_found, unread_found, unread_smaller}
@@ -20,7 +20,7 @@ returns-in-Ok-clause-smaller c =
 
 pub returns-in_ok-unless_out_of_memory-in-Err-clause-found : goal.returns-in_ok-unless_out_of_memory-in-Err-clause-found
 returns-in_ok-unless_out_of_memory-in-Err-clause-found c =
-    let unread : IsUnread c.args.s.now c.in-Err.error = subst (λ u. IsUnread u c.in-Err.error) c.copied-reader.ensures (unread_from c.in-Err.ensures.refused c.in_ok-unless_out_of_memory-in-Err.ensures.ok) in
+    let unread : IsUnreadBlock c.args.s.now c.in-Err.error = subst (λ u. IsUnreadBlock u c.in-Err.error) c.copied-reader.ensures (unread_from c.in-Err.ensures.refused c.in_ok-unless_out_of_memory-in-Err.ensures.ok) in
     all_ok c.skip.result c.skip.ensures.passed c.skip.ensures.kept c.skip.ensures.skipped (λ on kept more. unread_found _ _ _ _ unread on (ap file_of kept) more)
 
 pub returns-in_ok-unless_out_of_memory-in-Err-clause-smaller : goal.returns-in_ok-unless_out_of_memory-in-Err-clause-smaller
