@@ -1,8 +1,8 @@
 -- How what can be read of a file is read block after block, and that it is read in one way.
 use Rattle.std.proofs.Common.{◌≡◌, ◌≢◌, ◌⊎◌, ⊎_elim, ℕ, zero, suc, ◌+◌, ◌-◌, ◌<◌, ◌≤◌, arith, lit<, length, drop, get_or, Bool, true, false, List, [], ◌∷◌, ◌++◌, inl, inr, Option, Some, None, MatchOption, Result, Ok, Err, OnOk, refl, sym, ap, ◌∙◌, subst, append_assoc, append-nil}
-use Rattle.std.specs.Prelude.{not, ◌==◌, ◌&&◌, take, map, encode_utf8}
+use Rattle.std.specs.Prelude.{not, ◌==◌, take, map, encode_utf8}
 use Rattle.std.specs.declared.ops.Range.{Range}
-use Rattle.std.specs.List.{AllByRecursion, Any, Contains}
+use Rattle.std.specs.List.{AllByRecursion, Contains}
 use Rattle.std.proofs.lemmas.List.{get_or-drop}
 use Rattle.std.proofs.lemmas.List.Elements.{Contains-append_left, Contains-append_right}
 use Rattle.std.proofs.lemmas.Str.{byte_from_char, inside_one, length-encode, len_utf8_bounds}
@@ -11,7 +11,7 @@ use Rattle.bib_text.specs.Places.{Place, place, CharAt, Run, Longest, AtEnd, End
 use Rattle.bib_text.specs.Places.Run.{stop, step}
 use Rattle.bib_text.proofs.PlaceFacts.{same_place, char_left, same_char, char_clash, pass_clash, no_char_at_end, left_smaller, Ahead, ahead_here, ahead_then, ahead_char, ahead_run}
 use Rattle.bib_syntax.specs.Reading.{Part, EntryReading, FileReading, empty_reading, then}
-use Rattle.bib_syntax.specs.Errors.{IsSyntaxError, Refuses, out_of_memory}
+use Rattle.bib_syntax.specs.Errors.{Refuses}
 use Rattle.bib_syntax.specs.declared.raw.ParseErrorKind.TheVariants.{OutOfMemory}
 use Rattle.bib_syntax.specs.Grammar.{LineComment, BlockKind, Body, Block, File, longest}
 use Rattle.bib_syntax.specs.Grammar.{Body as body}
@@ -22,7 +22,7 @@ use Rattle.bib_syntax.specs.Recovery.{Passed as passed}
 use Rattle.bib_syntax.specs.Recovery.{Recovered as recovered}
 use Rattle.bib_syntax.specs.declared.raw.ParseError.{ParseError}
 use Rattle.bib_syntax.specs.declared.raw.recovery.SkippedBlock.{SkippedBlock}
-use Rattle.bib_syntax.proofs.LawFacts.{moved, line_comment_same}
+use Rattle.bib_syntax.proofs.LawFacts.{line_comment_same}
 use Rattle.bib_syntax.proofs.SliceFacts.{all_append}
 use Rattle.bib_syntax.proofs.FileFacts.{ahead_block, ahead_line_comment, block_same, is_skipped, then-then, then-empty_reading}
 

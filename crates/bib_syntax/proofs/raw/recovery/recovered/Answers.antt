@@ -1,5 +1,4 @@
 use Rattle.bib_text.specs.Places.{Longest}
-use Rattle.bib_syntax.specs.Views.{file_of}
 use Rattle.bib_syntax.proofs.FileFacts.{line_comment_smaller, skip_smaller, is_skipped, is_skipped_from}
 use Rattle.bib_syntax.proofs.RecoveryFacts.{skip_recovered, comment_recovered, all_recovered}
 use Rattle.bib_syntax.proofs.raw.recovery.recovered.Goals as goal

@@ -1,5 +1,4 @@
-use Rattle.std.proofs.Common.{sym, ap, subst}
-use Rattle.bib_text.specs.Places.{Place}
+use Rattle.std.proofs.Common.{ap, subst}
 use Rattle.bib_syntax.specs.Blocks.{item_of}
 use Rattle.bib_syntax.specs.Grammar.{Block, longest}
 use Rattle.bib_syntax.specs.Recovery.{IsUnreadBlock}
