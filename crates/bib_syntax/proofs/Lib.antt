@@ -1,4 +1,5 @@
 pub mod BraceFacts
+pub mod ErrorFacts
 pub mod FieldFacts
 pub mod FileFacts
 pub mod LawFacts

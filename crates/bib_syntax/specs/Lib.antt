@@ -5,3 +5,4 @@ pub mod Grammar
 pub mod Views
 pub mod Reading
 pub mod Slices
+pub mod SyntaxErrors
