@@ -1,14 +1,13 @@
 -- Each part of a raw reading stands in its text.
-use Rattle.std.proofs.Common.{◌≡◌, ℕ, Bool, ◌+◌, ◌-◌, ◌≤◌, List, [], ◌∷◌, ◌++◌, length, take, drop, refl, sym, ap, ◌∙◌, subst, arith}
+use Rattle.std.proofs.Common.{◌≡◌, ℕ, Bool, ◌-◌, ◌≤◌, List, [], ◌∷◌, ◌++◌, length, drop, sym, ap, ◌∙◌, subst, arith}
 use Rattle.std.specs.Prelude.{min}
 use Rattle.std.proofs.lemmas.List.{length-take, length-drop}
 use Rattle.std.specs.List.{AllByRecursion}
 use Rattle.bib_text.specs.Places.{Place, place, CharAt, Run, between}
 use Rattle.bib_text.specs.Places.Run.{stop, step}
-use Rattle.bib_text.proofs.PlaceFacts.{Ahead, ahead_here, ahead_then, ahead_char, ahead_run, char_left}
-use Rattle.bib_syntax.specs.Reading.{Part, part, Piece, FieldReading, EntryReading, FileReading, then}
-use Rattle.bib_syntax.specs.Reading.Piece.{literal, abbreviation}
-use Rattle.bib_syntax.specs.Grammar.{BlockKind, Body, Block, Braced, Element, Elements, Field, Fields, File, Head, Identifier, Number, Quoted, longest}
+use Rattle.bib_text.proofs.PlaceFacts.{Ahead, ahead_then, ahead_char, ahead_run, char_left}
+use Rattle.bib_syntax.specs.Reading.{Part, part, Piece, FieldReading, FileReading, then}
+use Rattle.bib_syntax.specs.Grammar.{BlockKind, Body, Block, Braced, Element, Elements, Field, Fields, File, Identifier, Number, Quoted, longest}
 use Rattle.bib_syntax.specs.Grammar.{Body as body}
 use Rattle.bib_syntax.specs.Grammar.{Element as element}
 use Rattle.bib_syntax.specs.Grammar.{Elements as elements}
@@ -16,7 +15,7 @@ use Rattle.bib_syntax.specs.Grammar.{Fields as fields}
 use Rattle.bib_syntax.specs.Grammar.{File as file}
 use Rattle.bib_syntax.specs.Grammar.Number.{whole, broken}
 use Rattle.bib_syntax.specs.Slices.{StandsIn, PieceStandsIn, FieldStandsIn, EntryStandsIn, ReadingStandsIn}
-use Rattle.bib_syntax.proofs.FieldFacts.{ahead_fields, ahead_element, ahead_elements, ahead_field, ahead_gap, ahead_identifier, ahead_parts, ahead_quoted_parts}
+use Rattle.bib_syntax.proofs.FieldFacts.{ahead_fields, ahead_element, ahead_field, ahead_gap, ahead_identifier, ahead_parts, ahead_quoted_parts}
 use Rattle.bib_syntax.proofs.WordFacts.{ahead_number}
 use Rattle.bib_syntax.proofs.FileFacts.{ahead_block, ahead_head, ahead_line_comment}
 

@@ -1,6 +1,6 @@
 -- Meaning: words of public contracts.
 -- Errors of a text, and how they are printed, as the Rust crate `biblatex` prints them.
-use Rattle.std.specs.Prelude.{◌≡◌, ℕ, ◌≤◌, Bool, true, false, List, [], ◌∷◌, ◌++◌, Option, Some, length, codes, IsTrue, ◌⊎◌}
+use Rattle.std.specs.Prelude.{◌≡◌, ℕ, ◌≤◌, Bool, true, false, List, ◌++◌, Option, Some, length, codes, IsTrue, ◌⊎◌}
 use Rattle.std.specs.Fmt.{◌++?◌, decimal, debug_str}
 use Rattle.bib_enums.specs.TypeError.{type_kind_text}
 use Rattle.bib_syntax.specs.declared.raw.Token.{Token}

@@ -4,7 +4,7 @@
 -- Beside a rule of the grammar, taken with the longest runs, stands how it fails. It relates the place where the rule
 -- begins, the kind of error, and the place at which that is reported: the first place where what has to come doesn't
 -- stand. What is missing is missing where no character of its test stands (`Stops`).
-use Rattle.std.specs.Prelude.{◌≡◌, ℕ, ◌==◌, ◌||◌, ◌&&◌, not, Bool, false, true, List, length}
+use Rattle.std.specs.Prelude.{◌≡◌, ℕ, ◌==◌, ◌||◌, ◌&&◌, not, Bool, true, List, length}
 use Rattle.std.specs.Char.{is_ascii_digit}
 use Rattle.bib_text.specs.Places.{Place, place, CharAt, Stops, Longest, AtEnd}
 use Rattle.bib_text.specs.Braces.{Parts}
@@ -112,15 +112,15 @@ pub data FileFails : Place → ParseErrorKind → Place → Type 0 where
   first : {u v : Place} {kind : ParseErrorKind} → BlockFails u kind v → FileFails u kind v
 
 -- an error of this kind at this place, with an empty span
-abbrev pub error_at : ParseErrorKind → Place → ParseError
-error_at kind u = record { span = record { start = u.at; end = u.at }; kind = kind }
+abbrev pub error_at_place : ParseErrorKind → Place → ParseError
+error_at_place kind u = record { span = record { start = u.at; end = u.at }; kind = kind }
 
 -- the error is that of the kind with which a rule fails, at the place where it does
 pub record Reports (Fails : ParseErrorKind → Place → Type 0) (e : ParseError) : Type 0 where
   pub kind : ParseErrorKind
   pub place : Place
   pub fails : Fails kind place
-  pub is : e ≡ error_at kind place
+  pub is : e ≡ error_at_place kind place
 
 -- the error that is reported of a text
 abbrev pub IsReported : List ℕ → ParseError → Type 0

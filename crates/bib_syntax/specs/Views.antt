@@ -1,6 +1,6 @@
 -- Meaning: words of public contracts.
 -- What the values of the program that hold what a file says, say: their texts and spans, wherever these are kept.
-use Rattle.std.specs.Prelude.{ℕ, List, [], ◌∷◌, map}
+use Rattle.std.specs.Prelude.{ℕ, List, map}
 use Rattle.std.specs.String.{string_bytes}
 use Rattle.std.specs.Borrow.{Bor}
 use Rattle.bib_text.specs.declared.spanned.Spanned.{Spanned}
@@ -9,7 +9,7 @@ use Rattle.bib_syntax.specs.declared.raw.RawChunk.TheVariants.{Normal, Abbreviat
 use Rattle.bib_syntax.specs.declared.raw.Pair.{Pair}
 use Rattle.bib_syntax.specs.declared.raw.RawEntry.{RawEntry}
 use Rattle.bib_syntax.specs.declared.raw.RawBibliography.{RawBibliography}
-use Rattle.bib_syntax.specs.Reading.{Part, Piece, FieldReading, EntryReading, FileReading, empty_reading}
+use Rattle.bib_syntax.specs.Reading.{Part, Piece, FieldReading, EntryReading, FileReading}
 use Rattle.bib_syntax.specs.Reading.Piece.{literal, abbreviation}
 
 -- a text at its span

@@ -4,6 +4,8 @@ ghost use Rattle.std.specs.Prelude.{◌≡◌, ◌↔◌, ℕ, List};
 ghost use Rattle.bib_syntax.specs.Grammar.{IsFile, IsRawReading};
 ghost use Rattle.bib_syntax.specs.Reading.{FileReading};
 ghost use Rattle.bib_syntax.specs.Slices.{ReadingStandsIn};
+ghost use Rattle.bib_syntax.specs.SyntaxErrors.{IsReported};
+ghost use Rattle.bib_syntax.specs.declared.raw.ParseError.{ParseError};
 
 /// A text has at most one raw reading.
 pub fn one_reading()
@@ -15,6 +17,16 @@ pub fn one_reading()
 /// run is as long as it can be.
 pub fn same_texts()
     ensures { (text : List ℕ) → IsFile text ↔ ((says : FileReading) × IsRawReading text says) }
+{}
+
+/// Of a text at most one error is reported.
+pub fn one_error()
+    ensures { (text : List ℕ) (e f : ParseError) → IsReported text e → IsReported text f → e ≡ f }
+{}
+
+/// A text of which an error is reported isn't one that the file grammar reads.
+pub fn error_or_reading()
+    ensures { (text : List ℕ) (e : ParseError) → IsReported text e → IsFile text → ⊥ }
 {}
 
 /// Each key, kind, field name and element of a raw reading is the text between its ends.

@@ -8,7 +8,7 @@ ghost use Rattle.bib_syntax.specs.Characters as characters;
 ghost use Rattle.bib_syntax.specs.Errors.{IsSyntaxError, is_syntax};
 ghost use Rattle.bib_syntax.specs.Grammar.{Identifier, Number, Quoted, QuotedParts, Braced, Element, longest};
 ghost use Rattle.bib_syntax.specs.Reading.{Part, Piece, part};
-ghost use Rattle.bib_syntax.specs.SyntaxErrors.{IdentifierFails, NumberFails, QuotedFails, BracedFails, ElementFails, Reports, error_at, text_end};
+ghost use Rattle.bib_syntax.specs.SyntaxErrors.{IdentifierFails, NumberFails, QuotedFails, BracedFails, ElementFails, Reports, error_at_place, text_end};
 ghost use Rattle.bib_syntax.specs.Views.{part_of, piece_of};
 ghost use Rattle.bib_syntax.specs.declared.raw.ParseErrorKind.TheVariants.{UnexpectedEof, Expected};
 
@@ -22,7 +22,7 @@ use bib_text::spanned::Spanned;
 pub(crate) fn error(s: &Scanner<'_>, kind: ParseErrorKind) -> ParseError
     requires { IsTrue (is_syntax kind) }
     ensures syntax { IsSyntaxError s.now.text result }
-    ensures here { result ≡ error_at kind s.now }
+    ensures here { result ≡ error_at_place kind s.now }
 {
     let here = s.cursor();
     ParseError {
@@ -36,7 +36,7 @@ pub(crate) fn expect(s: &mut Scanner<'_>, c: char, token: Token) -> Result<(), P
     ensures found { OnOk result (CharAt s.old c s.new) }
     ensures none { OnErr result ((v : Place) → CharAt s.old c v → ⊥) }
     ensures error { IfErr result (IsSyntaxError s.old.text) }
-    ensures here { IfErr result (λ e. e ≡ error_at (Expected token) s.old) }
+    ensures here { IfErr result (λ e. e ≡ error_at_place (Expected token) s.old) }
 {
     if !s.eat_if(c) {
         return Err(error(s, ParseErrorKind::Expected(token)));
@@ -50,7 +50,7 @@ pub(crate) fn brace(s: &mut Scanner<'_>, c: char, token: Token) -> Result<(), Pa
     ensures none { OnErr result ((d : ℕ) (v : Place) → CharAt s.old d v →
         d == c || d == 34 ≡ true → ⊥) }
     ensures error { IfErr result (IsSyntaxError s.old.text) }
-    ensures here { IfErr result (λ e. e ≡ error_at (Expected token) s.old) }
+    ensures here { IfErr result (λ e. e ≡ error_at_place (Expected token) s.old) }
 {
     if s.eat_if(c) || s.eat_if('"') {
         return Ok(());
@@ -144,7 +144,7 @@ fn quoted_parts<'s>(s: &mut Scanner<'s>) -> Result<Spanned<&'s str>, ParseError>
     ensures reading { IfOk result (λ text. part_of text ≡ part s.old s.new) }
     ensures none { OnErr result ((v w : Place) → QuotedParts s.old v → CharAt v 34 w → ⊥) }
     ensures error { IfErr result (IsSyntaxError s.old.text) }
-    ensures end { IfErr result (λ e. e ≡ error_at UnexpectedEof (text_end s.old)) }
+    ensures end { IfErr result (λ e. e ≡ error_at_place UnexpectedEof (text_end s.old)) }
 {
     let start = s.cursor();
     'parts: loop {
@@ -184,7 +184,7 @@ fn braced_parts<'s>(s: &mut Scanner<'s>) -> Result<Spanned<&'s str>, ParseError>
     ensures reading { IfOk result (λ text. part_of text ≡ part s.old s.new) }
     ensures none { OnErr result ((v w : Place) → Parts s.old v → CharAt v 125 w → ⊥) }
     ensures error { IfErr result (IsSyntaxError s.old.text) }
-    ensures end { IfErr result (λ e. e ≡ error_at UnexpectedEof (text_end s.old)) }
+    ensures end { IfErr result (λ e. e ≡ error_at_place UnexpectedEof (text_end s.old)) }
 {
     let start = s.cursor();
     let mut depth = 0usize;
