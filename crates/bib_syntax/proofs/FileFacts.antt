@@ -1,14 +1,18 @@
 -- How blocks are read one after another.
 use Rattle.std.proofs.Common.{◌≡◌, ℕ, ◌-◌, ◌<◌, length, Bool, true, List, [], ◌∷◌, ◌++◌, refl, sym, ap, ◌∙◌, subst, append_assoc, append-nil, codes}
 use Rattle.std.proofs.lemmas.Bool.{ne_eqb}
-use Rattle.std.specs.Prelude.{not, ◌==◌, ◌&&◌, ◌||◌}
+use Rattle.std.specs.Prelude.{not, ◌==◌, ◌&&◌}
 use Rattle.std.specs.Char.{is_whitespace}
 use Rattle.bib_text.specs.Places.{Place, CharAt, Run, Longest, AtEnd, between}
 use Rattle.bib_text.specs.Places.Run.{stop, step}
 use Rattle.bib_text.proofs.PlaceFacts.{same_char, char_clash, pass_clash, longest_same, longest_rest, left_smaller, Ahead, ahead_here, ahead_then, ahead_char, ahead_run, no_char_at_end}
 use Rattle.bib_syntax.specs.Characters.{is_key}
 use Rattle.bib_syntax.specs.Reading.{Part, part, FieldReading, EntryReading, FileReading, empty_reading, then, joined_preambles}
-use Rattle.bib_syntax.specs.Grammar.{Identifier, Quoted, LineComment, Gap, Fields, Head, Body, Block, File, block_kind, longest}
+use Rattle.bib_syntax.specs.Grammar.{Identifier, LineComment, Gap, Fields, Head, Body, Block, File, block_kind, longest}
+use Rattle.bib_syntax.specs.SyntaxErrors.{BodyFails, BlockFails, FileFails}
+use Rattle.bib_syntax.specs.SyntaxErrors.{FileFails as file_fail}
+use Rattle.bib_syntax.specs.SyntaxErrors.{BlockFails as block_fail}
+use Rattle.bib_syntax.specs.declared.raw.ParseErrorKind.{ParseErrorKind}
 use Rattle.bib_syntax.specs.Grammar.{Body as body}
 use Rattle.bib_syntax.specs.Grammar.{File as file}
 use Rattle.bib_syntax.specs.Grammar.{BlockKind}
@@ -22,50 +26,11 @@ head_same a b =
     let brace = (same_char (subst (λ x. CharAt x a.brace a.after_brace) white a.opens) b.opens).1 in
     (name.0, longest_same (moved (Longest is_whitespace) brace a.white') b.white')
 
--- a head whose name doesn't stand there, or whose brace is missing
-pub no_head_name : {u x : Place} → CharAt u 64 x → ((p : Part) (v : Place) → Identifier longest x p v → ⊥) → (p : Part) (v : Place) → Head longest u p v → ⊥
-no_head_name sign none p v head = none p _ (subst (λ y. Identifier longest y p head.name_end) (same_char head.sign sign).1 head.name)
-
-pub no_head_brace : {u x a b : Place} {q : Part} → CharAt u 64 x → Identifier longest x q a → Longest is_whitespace a b → ((d : ℕ) (v : Place) → CharAt b d v → d == 123 || d == 34 ≡ true → ⊥)
-    → (p : Part) (v : Place) → Head longest u p v → ⊥
-no_head_brace {q = q} sign name white none p v head =
-    let names = identifier_same name (subst (λ y. Identifier longest y p head.name_end) (same_char head.sign sign).1 head.name) in
-    let there = longest_same (moved (Longest is_whitespace) names.1 white) head.white in
-    none head.brace head.after_brace (subst (λ y. CharAt y head.brace head.after_brace) (sym there) head.opens) head.is_brace
-
 pub ahead_head : {u v : Place} {p : Part} → Head longest u p v → Ahead u v
 ahead_head h = ahead_then (ahead_char h.sign) (ahead_then (ahead_identifier h.name) (ahead_then (ahead_run h.white.run) (ahead_then (ahead_char h.opens) (ahead_run h.white'.run))))
 
 abbrev pub not_close : ℕ → Bool
 not_close c = not (c == 125)
-
-pub no_comment : {u a : Place} → Longest not_close u a → ((v : Place) → CharAt a 125 v → ⊥) → (start : Place) (p : Part) (r : FileReading) (v : Place) → Body longest start p BlockKind.comment u r v → ⊥
-no_comment run none start p r v (body.comment a inside close) = none v (moved (λ x y. CharAt x 125 y) (longest_same inside run) close)
-
-pub no_preamble : {u : Place} → ((p : Part) (v : Place) → Quoted u p v → ⊥) → (start : Place) (p : Part) (r : FileReading) (v : Place) → Body longest start p BlockKind.preamble u r v → ⊥
-no_preamble none start p r v (body.preamble quoted white close is_close) = none _ _ quoted
-
-pub no_preamble_close : {u a b : Place} {q : Part} → Quoted u q a → Longest is_whitespace a b → ((d : ℕ) (v : Place) → CharAt b d v → d == 125 || d == 34 ≡ true → ⊥)
-    → (start : Place) (p : Part) (r : FileReading) (v : Place) → Body longest start p BlockKind.preamble u r v → ⊥
-no_preamble_close quoted white none start p r v (body.preamble {c = c} quoted' white' close is_close) =
-    let there = longest_same (moved (Longest is_whitespace) (quoted_same quoted quoted').1 white) white' in
-    none c v (subst (λ y. CharAt y c v) (sym there) close) is_close
-
-pub no_strings : {u : Place} → ((fs : List FieldReading) (v w : Place) → Fields longest u fs v → CharAt v 125 w → ⊥) → (start : Place) (p : Part) (r : FileReading) (v : Place) → Body longest start p BlockKind.strings u r v → ⊥
-no_strings none start p r v (body.strings fields close) = none _ _ _ fields close
-
-pub no_entry_comma : {u a b : Place} → Longest is_key u a → Longest is_whitespace a b → ((v : Place) → CharAt b 44 v → ⊥) → (start : Place) (p : Part) (r : FileReading) (v : Place) → Body longest start p BlockKind.entry u r v → ⊥
-no_entry_comma key white none start p r v (body.entry a key' white' comma gap fields close) =
-    let there = longest_same (moved (Longest is_whitespace) (longest_same key key') white) white' in
-    none _ (moved (λ x y. CharAt x 44 y) (sym there) comma)
-
-pub no_entry_fields : {u a b c d : Place} → Longest is_key u a → Longest is_whitespace a b → CharAt b 44 c → Gap longest c d
-    → ((fs : List FieldReading) (v w : Place) → Fields longest d fs v → CharAt v 125 w → ⊥) → (start : Place) (p : Part) (r : FileReading) (v : Place) → Body longest start p BlockKind.entry u r v → ⊥
-no_entry_fields key white comma gap none start p r v (body.entry {z = z} {fs = fs} a key' white' comma' gap' fields close) =
-    let there = longest_same (moved (Longest is_whitespace) (longest_same key key') white) white' in
-    let following = (same_char (moved (λ x y. CharAt x 44 y) there comma) comma').1 in
-    let start' = gap_same (moved (Gap longest) following gap) gap' in
-    none fs z v (subst (λ x. Fields longest x fs z) (sym start') fields) close
 
 pub body_same : {start u v w : Place} {p : Part} {k : BlockKind} {r s : FileReading} → Body longest start p k u r v → Body longest start p k u s w → (r ≡ s) × (v ≡ w)
 body_same (body.comment a inside close) (body.comment b inside' close') =
@@ -103,7 +68,7 @@ pub ahead_block : {u v : Place} {r : FileReading} → Block longest u r v → Ah
 ahead_block b = ahead_then (ahead_head b.head) (ahead_body b.body)
 
 -- the body of a block whose head was read
-body_at : {u a v : Place} {p : Part} {r : FileReading} → Head longest u p a → (b : Block longest u r v) → Body longest u p (block_kind p.text) a r v
+pub body_at : {u a v : Place} {p : Part} {r : FileReading} → Head longest u p a → (b : Block longest u r v) → Body longest u p (block_kind p.text) a r v
 body_at {u} {a} {v} {p} {r} head b =
     let same = head_same b.head head in
     subst (λ x. Body longest u p (block_kind p.text) x r v) same.1 (subst (λ q. Body longest u q (block_kind q.text) b.inside r v) same.0 b.body)
@@ -111,13 +76,9 @@ body_at {u} {a} {v} {p} {r} head b =
 pub block_same : {u v w : Place} {r s : FileReading} → Block longest u r v → Block longest u s w → (r ≡ s) × (v ≡ w)
 block_same a b = body_same a.body (body_at a.head b)
 
--- a block is missing where its head is, or its body
-pub no_block_head : {u : Place} → ((p : Part) (v : Place) → Head longest u p v → ⊥) → (r : FileReading) (v : Place) → Block longest u r v → ⊥
-no_block_head none r v b = none _ _ b.head
-
-pub no_block_body : {u a : Place} {p : Part} (k : BlockKind) → Head longest u p a → k ≡ block_kind p.text → ((start : Place) (q : Part) (r : FileReading) (v : Place) → Body longest start q k a r v → ⊥)
-    → (r : FileReading) (v : Place) → Block longest u r v → ⊥
-no_block_body {u} {a} {p} k head kind none r v b = none u p r v (subst (λ x. Body longest u p x a r v) (sym kind) (body_at head b))
+-- a body that fails after a head
+pub body_fails : {u a v : Place} {p : Part} {kind : ParseErrorKind} (k : BlockKind) → Head longest u p a → k ≡ block_kind p.text → BodyFails k a kind v → BlockFails u kind v
+body_fails {u} {a} {v} {p} {kind} k head is f = block_fail.body head (subst (λ b. BodyFails b a kind v) is f)
 
 -- what blocks say is joined in any order of joining
 joined_preambles-nil : (p : List ℕ) → joined_preambles p [] ≡ p
@@ -153,45 +114,45 @@ empty_reading-then a = refl
 -- what was read of a file from `start`, up to `here`
 pub record FileRead (start : Place) (says : FileReading) (here : Place) : Type 0 where
   pub there : (r : FileReading) → File longest here r → File longest start (then says r)
-  pub back : (r : FileReading) → File longest start r → (s : FileReading) × File longest here s
+  pub fails : (kind : ParseErrorKind) (v : Place) → FileFails here kind v → FileFails start kind v
 
 abbrev pub is_skipped : ℕ → Bool
 is_skipped c = not (c == 64) && not (c == 37)
 
 pub no_file_read : (start : Place) → FileRead start empty_reading start
-no_file_read start = record { there = λ r x. x; back = λ r x. (r, x) }
+no_file_read start = record { there = λ r x. x; fails = λ kind v f. f }
 
 skip_there : {u v : Place} {r : FileReading} → Run is_skipped u v → File longest v r → File longest u r
 skip_there stop x = x
 skip_there (step char passes rest) x = file.skipped char passes (skip_there rest x)
 
 -- what is left of a file after a character that is skipped, a comment and a block
-skipped_rest : {u v : Place} {c : ℕ} {r : FileReading} → CharAt u c v → is_skipped c ≡ true → File longest u r → File longest v r
+pub skipped_rest : {u v : Place} {c : ℕ} {r : FileReading} → CharAt u c v → is_skipped c ≡ true → File longest u r → File longest v r
 skipped_rest char passes (file.end end) = absurd (no_char_at_end end char)
 skipped_rest {r = r} char passes (file.skipped char' passes' x) = subst (λ y. File longest y r) (same_char char' char).1 x
 skipped_rest char passes (file.line_comment m x) = absurd (pass_clash is_skipped char passes m.sign refl)
 skipped_rest char passes (file.block b x) = absurd (pass_clash is_skipped char passes b.head.sign refl)
 
-skip_back : {u v : Place} {r : FileReading} → Run is_skipped u v → File longest u r → File longest v r
-skip_back stop x = x
-skip_back (step char passes rest) x = skip_back rest (skipped_rest char passes x)
+skip_fails : {u v w : Place} {kind : ParseErrorKind} → Run is_skipped u v → FileFails v kind w → FileFails u kind w
+skip_fails stop f = f
+skip_fails (step char passes rest) f = file_fail.skipped char passes (skip_fails rest f)
 
-line_comment_rest : {u v : Place} {r : FileReading} → LineComment u v → File longest u r → File longest v r
+pub line_comment_rest : {u v : Place} {r : FileReading} → LineComment u v → File longest u r → File longest v r
 line_comment_rest m (file.end end) = absurd (no_char_at_end end m.sign)
 line_comment_rest m (file.skipped char passes x) = absurd (pass_clash is_skipped char passes m.sign refl)
 line_comment_rest {r = r} m (file.line_comment m' x) = subst (λ y. File longest y r) (line_comment_same m' m) x
 line_comment_rest m (file.block b x) = absurd (char_clash m.sign b.head.sign refl)
 
 -- a block at its at sign, and what is left after it
-record FirstBlock (u : Place) (r : FileReading) : Type 0 where
-  following : Place
-  first : FileReading
-  rest : FileReading
-  block : Block longest u first following
-  left : File longest following rest
-  whole : r ≡ then first rest
+pub record FirstBlock (u : Place) (r : FileReading) : Type 0 where
+  pub following : Place
+  pub first : FileReading
+  pub rest : FileReading
+  pub block : Block longest u first following
+  pub left : File longest following rest
+  pub whole : r ≡ then first rest
 
-first_block : {u x : Place} {r : FileReading} → CharAt u 64 x → File longest u r → FirstBlock u r
+pub first_block : {u x : Place} {r : FileReading} → CharAt u 64 x → File longest u r → FirstBlock u r
 first_block sign (file.end end) = absurd (no_char_at_end end sign)
 first_block sign (file.skipped char passes x) = absurd (pass_clash is_skipped char passes sign refl)
 first_block sign (file.line_comment m x) = absurd (char_clash sign m.sign refl)
@@ -200,31 +161,24 @@ first_block sign (file.block b x) = record { following = _; first = _; rest = _;
 pub skip_read : {start u v : Place} {says : FileReading} → FileRead start says u → Longest is_skipped u v → FileRead start says v
 skip_read read run = record {
   there = λ r x. read.there r (skip_there run.run x);
-  back = λ r x. let y = read.back r x in (y.0, skip_back run.run y.1);
+  fails = λ kind v f. read.fails kind v (skip_fails run.run f);
 }
 
 pub line_comment_read : {start u v : Place} {says : FileReading} → FileRead start says u → LineComment u v → FileRead start says v
 line_comment_read read m = record {
   there = λ r x. read.there r (file.line_comment m x);
-  back = λ r x. let y = read.back r x in (y.0, line_comment_rest m y.1);
+  fails = λ kind v f. read.fails kind v (file_fail.line_comment m f);
 }
 
 pub block_read : {start u v : Place} {says first : FileReading} → FileRead start says u → Block longest u first v → FileRead start (then says first) v
 block_read {start} {u} {v} {says} {first} read b = record {
   there = λ r x. subst (λ s. File longest start s) (sym (then-then says first r)) (read.there (then first r) (file.block b x));
-  back = λ r x.
-      let y = read.back r x in
-      let f = first_block b.head.sign y.1 in
-      (f.rest, subst (λ z. File longest z f.rest) (block_same f.block b).1 f.left);
+  fails = λ kind w f. read.fails kind w (file_fail.more b f);
 }
 
 -- the whole file
 pub file_found : {start u : Place} {says : FileReading} → FileRead start says u → AtEnd u → File longest start says
 file_found {start} {u} {says} read end = subst (λ r. File longest start r) (then-empty_reading says) (read.there empty_reading (file.end end))
-
--- a block is missing
-pub no_file_block : {start u x : Place} {says : FileReading} → FileRead start says u → CharAt u 64 x → ((r : FileReading) (v : Place) → Block longest u r v → ⊥) → (r : FileReading) → File longest start r → ⊥
-no_file_block read sign none r x = let f = first_block sign (read.back r x).1 in none f.first f.following f.block
 
 -- a text has one raw reading
 pub file_same : {u : Place} {r s : FileReading} → File longest u r → File longest u s → r ≡ s

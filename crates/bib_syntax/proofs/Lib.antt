@@ -1,6 +1,9 @@
 pub mod BraceFacts
+pub mod ErrorFacts
+pub mod FailureFacts
 pub mod FieldFacts
 pub mod FileFacts
+pub mod FileFailureFacts
 pub mod LawFacts
 pub mod ModeFacts
 pub mod QuoteFacts

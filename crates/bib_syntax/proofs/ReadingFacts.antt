@@ -1,6 +1,5 @@
 -- Facts on parts of a text and on errors in it.
-use Rattle.std.specs.Prelude.{OnErr, OnOk, IfOk, IfErr}
-use Rattle.std.proofs.Common.{Result, Ok, Err, Bool, true, false, MatchBool, ◌≡◌, ℕ, ◌-◌, ◌≤◌, List, take, drop, ap, ◌∙◌, subst, arith}
+use Rattle.std.proofs.Common.{Bool, true, false, MatchBool, ◌≡◌, ℕ, ◌-◌, ◌≤◌, List, take, drop, ap, ◌∙◌, subst, arith}
 use Rattle.bib_text.specs.Places.{Place, CharAt, place, between}
 use Rattle.bib_text.proofs.PlaceFacts.{Ahead}
 use Rattle.bib_syntax.specs.Reading.{Part, part}
@@ -29,11 +28,6 @@ pub taken_if : {u v : Place} (c : ℕ) (b : Bool) → MatchBool b (CharAt u c v)
 taken_if c true char here = char
 taken_if c false absent here = absurd (absent.1 here.0 here.1)
 
--- a fact that holds anyhow holds of a result that is an error
-pub on_err : {T E P : Type 0} (r : Result T E) → P → OnErr r P
-on_err (Ok x) holds = tt
-on_err (Err e) holds = holds
-
 -- the bytes that a scanner took, with their ends, are a part of the text
 pub part_eaten : (u v : Place) (start end : ℕ) (bytes : List ℕ) → start ≡ u.at → end ≡ v.at → bytes ≡ between u v
     → (let p : Part = record { text = bytes; start = start; end = end } in p) ≡ part u v
@@ -41,12 +35,3 @@ part_eaten u v start end bytes starts ends is =
     ap (λ t. let p : Part = record { text = t; start = start; end = end } in p) is
     ∙ ap (λ s. let p : Part = record { text = between u v; start = s; end = end } in p) starts
     ∙ ap (λ e. let p : Part = record { text = between u v; start = u.at; end = e } in p) ends
-
--- what two clauses on one result say together
-pub ok_both : {T E : Type 0} (r : Result T E) (P : T → Type 0) (Q : Type 0) (R : T → Type 0) → IfOk r P → OnOk r Q → ((x : T) → P x → Q → R x) → IfOk r R
-ok_both (Ok x) P Q R p q both = both x p q
-ok_both (Err e) P Q R p q both = tt
-
-pub err_both : {T E : Type 0} (r : Result T E) (P : Type 0) (Q R : E → Type 0) → OnErr r P → IfErr r Q → ((e : E) → P → Q e → R e) → IfErr r R
-err_both (Ok x) P Q R p q both = tt
-err_both (Err e) P Q R p q both = both e p q

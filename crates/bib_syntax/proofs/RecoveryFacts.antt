@@ -1,7 +1,6 @@
 -- How what can be read of a file is read block after block, and that it is read in one way.
 use Rattle.std.proofs.Common.{◌≡◌, ◌≢◌, ◌⊎◌, ⊎_elim, ℕ, zero, suc, ◌+◌, ◌-◌, ◌<◌, ◌≤◌, arith, lit<, length, drop, get_or, Bool, true, false, List, [], ◌∷◌, ◌++◌, inl, inr, Option, Some, None, MatchOption, Result, Ok, Err, OnOk, refl, sym, ap, ◌∙◌, subst, append_assoc, append-nil}
-use Rattle.std.specs.Prelude.{not, ◌==◌, take, map, encode_utf8}
-use Rattle.std.specs.declared.ops.Range.{Range}
+use Rattle.std.specs.Prelude.{not, ◌==◌, take, encode_utf8}
 use Rattle.std.specs.List.{AllByRecursion, Contains}
 use Rattle.std.proofs.lemmas.List.{get_or-drop}
 use Rattle.std.proofs.lemmas.List.Elements.{Contains-append_left, Contains-append_right}
@@ -17,12 +16,13 @@ use Rattle.bib_syntax.specs.Grammar.{LineComment, BlockKind, Body, Block, File, 
 use Rattle.bib_syntax.specs.Grammar.{Body as body}
 use Rattle.bib_syntax.specs.Grammar.{File as file}
 use Rattle.bib_syntax.specs.Recovering.{RecoveredTo}
-use Rattle.bib_syntax.specs.Recovery.{ends_blank, BeginsLine, Passed, GoesOnAt, IsUnreadBlock, Recovered, skipped_block, stretch, entry_alone, IsBlockOf, LiesInside, IsPassedOver}
+use Rattle.bib_syntax.specs.Recovery.{ends_blank, BeginsLine, Passed, GoesOnAt, IsUnreadBlock, Recovered, skipped_block, entry_alone, IsBlockOf, LiesInside, IsPassedOver}
 use Rattle.bib_syntax.specs.Recovery.{Passed as passed}
 use Rattle.bib_syntax.specs.Recovery.{Recovered as recovered}
 use Rattle.bib_syntax.specs.declared.raw.ParseError.{ParseError}
 use Rattle.bib_syntax.specs.declared.raw.recovery.SkippedBlock.{SkippedBlock}
 use Rattle.bib_syntax.proofs.LawFacts.{line_comment_same}
+use Rattle.bib_syntax.proofs.FileFailureFacts.{block_unread, block_error}
 use Rattle.bib_syntax.proofs.SliceFacts.{all_append}
 use Rattle.bib_syntax.proofs.FileFacts.{ahead_block, ahead_line_comment, block_same, is_skipped, then-then, then-empty_reading}
 
@@ -152,9 +152,9 @@ pub at_sign_taken : {u v w : Place} (taken : Option ℕ) → CharAt u 64 w → M
 at_sign_taken None sign ended = absurd (no_char_at_end ended.0 sign)
 at_sign_taken {u} {v} (Some c) sign char = subst (λ x. CharAt u x v) (same_char char sign).0 char
 
-pub unread_from : {u : Place} {e : ParseError} → Refuses u.text e ((r : FileReading) (v : Place) → Block longest u r v → ⊥) → e.kind ≢ OutOfMemory → IsUnreadBlock u e
+pub unread_from : {u : Place} {e : ParseError} → Refuses u.text e (IsUnreadBlock u e) → e.kind ≢ OutOfMemory → IsUnreadBlock u e
 unread_from (inl no_room) some = absurd (some (ap (λ error. error.kind) no_room))
-unread_from (inr refused) some = record { none = refused.1; error = refused.0 }
+unread_from (inr refused) some = refused.1
 
 pub block_found : {u v : Place} {first : FileReading} (says all : FileReading) (errors : List SkippedBlock) → Block longest u first v → all ≡ then says first → (start : Place) → RecoveredTo start says errors u → RecoveredTo start all errors v
 block_found {u} {v} {first} says all errors b same start read = subst (λ r. RecoveredTo start r errors v) (sym same) (block_recovered says errors read b)
@@ -193,7 +193,7 @@ block_left b (recovered.line_comment m x) = absurd (char_clash b.head.sign m.sig
 block_left {errors = errors} b (recovered.block {rest = rest} b' x) =
     let same = block_same b' b in
     record { rest = rest; left = subst (λ y. Recovered y rest errors) same.1 x; whole = ap (λ q. then q rest) same.0 }
-block_left b (recovered.unread sign none on x) = absurd (none.none _ _ b)
+block_left b (recovered.unread sign none on x) = absurd (block_unread none.fails b)
 
 record UnreadLeft (u w : Place) (says : FileReading) (errors : List SkippedBlock) : Type 0 where
   error : ParseError
@@ -206,12 +206,12 @@ unread_left : {u v w : Place} {e : ParseError} {says : FileReading} {errors : Li
 unread_left sign none on (recovered.end end) = absurd (no_char_at_end end sign)
 unread_left sign none on (recovered.skipped char passes x) = absurd (pass_clash is_skipped char passes sign refl)
 unread_left sign none on (recovered.line_comment m x) = absurd (char_clash sign m.sign refl)
-unread_left sign none on (recovered.block b x) = absurd (none.none _ _ b)
+unread_left sign none on (recovered.block b x) = absurd (block_unread none.fails b)
 unread_left {u} {w = w} {says = says} sign none on (recovered.unread {w = w'} {e = e} {errors = errors} sign' none' on' x) =
     let same : w' ≡ w = goes_on_same (subst (λ y. GoesOnAt y w') (same_char sign' sign).1 on') on in
     record { error = e; rest = errors; none = none'; left = subst (λ y. Recovered y says errors) same x; whole = ap (λ y. skipped_block e u y ∷ errors) same }
 
-pub recovery_same : {u : Place} {r s : FileReading} {f g : List SkippedBlock} → Recovered u r f → Recovered u s g → (r ≡ s) × (map stretch f ≡ map stretch g)
+pub recovery_same : {u : Place} {r s : FileReading} {f g : List SkippedBlock} → Recovered u r f → Recovered u s g → (r ≡ s) × (f ≡ g)
 recovery_same (recovered.end end) (recovered.end end') = (refl, refl)
 recovery_same (recovered.end end) (recovered.skipped char passes x) = absurd (no_char_at_end end char)
 recovery_same (recovered.end end) (recovered.line_comment m x) = absurd (no_char_at_end end m.sign)
@@ -223,11 +223,11 @@ recovery_same (recovered.block {first = first} b x) second =
     let following = block_left b second in
     let left = recovery_same x following.left in
     (ap (then first) left.0 ∙ sym following.whole, left.1)
-recovery_same {u} (recovered.unread {w = w} sign none on x) second =
+recovery_same {u} (recovered.unread {w = w} {e = e} sign none on x) second =
     let following = unread_left sign none on second in
     let left = recovery_same x following.left in
-    let start : Range ℕ = record { start = u.at; end = w.at } in
-    (left.0, ap (λ l. start ∷ l) left.1 ∙ sym (ap (map stretch) following.whole))
+    let error : e ≡ following.error = block_error none following.none in
+    (left.0, ap (λ l. skipped_block e u w ∷ l) left.1 ∙ ap (λ y. skipped_block y u w ∷ following.rest) error ∙ sym following.whole)
 
 -- ---- each entry that is read is a block of the file grammar
 
@@ -322,7 +322,7 @@ nothing_lost {w} {errors = errors} text e same before at (recovered.block {v = v
   | Next.ended later text' ↦ found_later first rest errors e (nothing_lost text e text' later at x)
 ]
 nothing_lost {w} {says = says} text e same before at (recovered.unread {w = z} {e = error} {errors = errors} sign none on x) = elim (next w z (place text e.start) same (ahead_then (ahead_char sign) (ahead_passed on.passed)) before) [
-  | Next.reached here ↦ absurd (none.none _ _ (subst (λ y. Block longest y (entry_alone e) at.0) (sym here) at.1))
+  | Next.reached here ↦ absurd (block_unread none.fails (subst (λ y. Block longest y (entry_alone e) at.0) (sym here) at.1))
   | Next.begun below inside ↦ inr (inr (zero, skipped_block error w z, omega arith, refl, (below, inside)))
   | Next.ended later text' ↦ found_past _ says (skipped_block error w z) errors e (nothing_lost text e text' later at x)
 ]

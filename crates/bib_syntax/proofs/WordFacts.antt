@@ -1,17 +1,17 @@
 -- Facts on names and numbers.
-use Rattle.std.proofs.Common.{List, ◌≡◌, ℕ, Bool, true, false, refl, sym, subst, MatchBool, nat_eq}
+use Rattle.std.proofs.Common.{List, ◌≡◌, ℕ, Bool, true, false, refl, sym, subst, MatchBool}
 use Rattle.std.specs.Prelude.{not, ◌||◌, ◌==◌}
 use Rattle.std.proofs.lemmas.Bool.{and_parts}
 use Rattle.std.specs.Char.{is_ascii_digit}
 use Rattle.bib_text.specs.Places.{Place, CharAt, Longest}
-use Rattle.bib_text.proofs.PlaceFacts.{same_char, char_clash, pass_clash, longest_rest, longest_same, stops_without, test_clash, Ahead, ahead_then, ahead_char, ahead_run}
+use Rattle.bib_text.proofs.PlaceFacts.{same_char, pass_clash, longest_rest, longest_same, stops_without, test_clash, Ahead, ahead_then, ahead_char, ahead_run}
 use Rattle.std.specs.Borrow.{Bor}
 use Rattle.bib_text.specs.declared.spanned.Spanned.{Spanned}
 use Rattle.bib_syntax.specs.declared.raw.RawChunk.{RawChunk}
 use Rattle.bib_syntax.specs.declared.raw.RawChunk.TheVariants.{Normal, Abbreviation}
 use Rattle.bib_syntax.specs.Views.{part_of, piece_of}
 use Rattle.bib_syntax.specs.Characters.{is_id_start, is_id_continue}
-use Rattle.bib_syntax.specs.Reading.{Part, part, Piece}
+use Rattle.bib_syntax.specs.Reading.{Part, part}
 use Rattle.bib_syntax.specs.Reading.Piece.{literal}
 use Rattle.bib_syntax.specs.Grammar.{Identifier, Number, Braced, Quoted, Element, NoDigit, longest}
 use Rattle.bib_syntax.specs.Grammar.Element.{number, named, braced, quoted}
@@ -59,39 +59,12 @@ number_points {u} {w} {x} {y} {z} run point more again v (broken char digit rest
 pub identifier_found : {u w : Place} {p : Part} → ((c : ℕ) × (v : Place) × CharAt u c v × (is_id_start c ≡ true)) → Longest is_id_continue u w → p ≡ part u w → Identifier longest u p w
 identifier_found (c, v, char, starts) run reading = identifier_from char starts run reading
 
--- no element stands where none of its four forms does
-pub no_element : {u : Place} → ((v : Place) → Number longest u v → ⊥) → ((p : Part) (v : Place) → NoDigit u → Identifier longest u p v → ⊥) → ((p : Part) (v : Place) → Braced u p v → ⊥)
-    → ((p : Part) (v : Place) → Quoted u p v → ⊥) → (e : Piece) (v : Place) → Element longest u e v → ⊥
-no_element no_number no_name no_braced no_quoted e v (number n) = no_number _ n
-no_element no_number no_name no_braced no_quoted e v (named no_digit i) = no_name _ _ no_digit i
-no_element no_number no_name no_braced no_quoted e v (braced b) = no_braced _ _ b
-no_element no_number no_name no_braced no_quoted e v (quoted q) = no_quoted _ _ q
-
 pub not_number : {u x : Place} {c : ℕ} → CharAt u c x → is_ascii_digit c ≡ false → (v : Place) → Number longest u v → ⊥
 not_number char differs v (whole first digit rest ends) = pass_clash is_ascii_digit first digit char differs
 not_number char differs v (broken first digit rest dot rest2 ends) = pass_clash is_ascii_digit first digit char differs
 
 pub not_name : {u x : Place} {c : ℕ} → CharAt u c x → is_id_start c ≡ false → (p : Part) (v : Place) → Identifier longest u p v → ⊥
 not_name char differs p v name = pass_clash is_id_start name.here name.starts char differs
-
-pub not_braced : {u x : Place} {c : ℕ} → CharAt u c x → nat_eq c 123 ≡ false → (p : Part) (v : Place) → Braced u p v → ⊥
-not_braced char differs p v b = char_clash char b.opens differs
-
-pub not_quoted : {u x : Place} {c : ℕ} → CharAt u c x → nat_eq c 34 ≡ false → (p : Part) (v : Place) → Quoted u p v → ⊥
-not_quoted char differs p v q = char_clash char q.opens differs
-
-pub no_number_without : {u : Place} → ((c : ℕ) (v : Place) → CharAt u c v → is_ascii_digit c ≡ false) → (v : Place) → Number longest u v → ⊥
-no_number_without none v (whole first digit rest ends) = test_clash _ digit (none _ _ first)
-no_number_without none v (broken first digit rest dot rest2 ends) = test_clash _ digit (none _ _ first)
-
-pub no_name_without : {u : Place} → ((c : ℕ) (v : Place) → CharAt u c v → is_id_start c ≡ false) → (p : Part) (v : Place) → Identifier longest u p v → ⊥
-no_name_without none p v name = test_clash _ name.starts (none _ _ name.here)
-
-pub no_braced_without : {u : Place} → ((v : Place) → CharAt u 123 v → ⊥) → (p : Part) (v : Place) → Braced u p v → ⊥
-no_braced_without none p v b = none _ b.opens
-
-pub no_quoted_without : {u : Place} → ((v : Place) → CharAt u 34 v → ⊥) → (p : Part) (v : Place) → Quoted u p v → ⊥
-no_quoted_without none p v q = none _ q.opens
 
 -- a number's part is an element
 pub number_element : {u v : Place} (p : Part) → Number longest u v → p ≡ part u v → Element longest u (literal p) v

@@ -7,3 +7,4 @@ pub mod Reading
 pub mod Recovering
 pub mod Recovery
 pub mod Slices
+pub mod SyntaxErrors

@@ -3,12 +3,11 @@
 -- goes on; here reading goes on at the next at sign that begins a line, so that a brace that isn't closed costs one block.
 use Rattle.std.specs.Prelude.{◌≡◌, ◌⊎◌, ℕ, ◌<◌, Bool, true, not, ◌&&◌, ◌||◌, ◌==◌, List, [], ◌∷◌, length, take, drop}
 use Rattle.std.specs.List.{list_any, Any}
-use Rattle.std.specs.declared.ops.Range.{Range}
 use Rattle.std.specs.Str.{trim_end}
 use Rattle.bib_text.specs.Places.{Place, place, CharAt, AtEnd}
-use Rattle.bib_syntax.specs.Errors.{IsSyntaxError}
 use Rattle.bib_syntax.specs.Grammar.{Block, LineComment, longest}
 use Rattle.bib_syntax.specs.Reading.{EntryReading, FileReading, empty_reading, then}
+use Rattle.bib_syntax.specs.SyntaxErrors.{BlockFails, Reports}
 use Rattle.bib_syntax.specs.declared.raw.ParseError.{ParseError}
 use Rattle.bib_syntax.specs.declared.raw.recovery.SkippedBlock.{SkippedBlock}
 use Rattle.bib_text.specs.Characters as char
@@ -39,18 +38,13 @@ pub record GoesOnAt (u v : Place) : Type 0 where
   pub passed : Passed u v
   pub stands : AtEnd v ⊎ BeginsLine v
 
--- no block of the file grammar begins here, and this error says so
-pub record IsUnreadBlock (u : Place) (e : ParseError) : Type 0 where
-  pub none : (says : FileReading) (v : Place) → Block longest u says v → ⊥
-  pub error : IsSyntaxError u.text e
+-- no block of the file grammar begins here, and this is why
+abbrev pub IsUnreadBlock : Place → ParseError → Type 0
+IsUnreadBlock u e = Reports (BlockFails u) e
 
 -- what is passed over: an error, and the stretch from an at sign to where reading goes on
 abbrev pub skipped_block : ParseError → Place → Place → SkippedBlock
 skipped_block e u w = record { error = e; span = record { start = u.at; end = w.at } }
-
--- the stretch of the text that is passed over
-abbrev pub stretch : SkippedBlock → Range ℕ
-stretch block = block.span
 
 -- a file, from a place on, as the file grammar has it, with one more rule: where an at sign stands and no block begins, the
 -- error is kept, and reading goes on at the next line that begins with an at sign

@@ -1,12 +1,14 @@
 //! Laws of the file grammar. These functions do nothing: what they ensure is proved of the definitions alone.
 
-ghost use Rattle.std.specs.Prelude.{◌≡◌, ◌↔◌, ◌⊎◌, ℕ, List, [], map};
+ghost use Rattle.std.specs.Prelude.{◌≡◌, ◌↔◌, ◌⊎◌, ℕ, List, []};
 ghost use Rattle.std.specs.List.{AllByRecursion, Contains};
 ghost use Rattle.bib_text.specs.Places.{place};
 ghost use Rattle.bib_syntax.specs.Grammar.{IsFile, IsRawReading};
 ghost use Rattle.bib_syntax.specs.Reading.{EntryReading, FileReading};
-ghost use Rattle.bib_syntax.specs.Recovery.{IsBlockOf, IsPassedOver, IsRecovery, LiesInside, stretch};
+ghost use Rattle.bib_syntax.specs.Recovery.{IsBlockOf, IsPassedOver, IsRecovery, LiesInside};
 ghost use Rattle.bib_syntax.specs.Slices.{ReadingStandsIn};
+ghost use Rattle.bib_syntax.specs.SyntaxErrors.{IsReported};
+ghost use Rattle.bib_syntax.specs.declared.raw.ParseError.{ParseError};
 ghost use Rattle.bib_syntax.specs.declared.raw.recovery.SkippedBlock.{SkippedBlock};
 
 /// A text has at most one raw reading.
@@ -21,6 +23,16 @@ pub fn same_texts()
     ensures { (text : List ℕ) → IsFile text ↔ ((says : FileReading) × IsRawReading text says) }
 {}
 
+/// Of a text at most one error is reported.
+pub fn one_error()
+    ensures { (text : List ℕ) (e f : ParseError) → IsReported text e → IsReported text f → e ≡ f }
+{}
+
+/// A text of which an error is reported isn't one that the file grammar reads.
+pub fn error_or_reading()
+    ensures { (text : List ℕ) (e : ParseError) → IsReported text e → IsFile text → ⊥ }
+{}
+
 /// Each key, kind, field name and element of a raw reading is the text between its ends.
 pub fn parts_stand()
     ensures { (text : List ℕ) (says : FileReading) → IsRawReading text says →
@@ -33,11 +45,11 @@ pub fn recovered_is_read()
         IsRecovery text says [] }
 {}
 
-/// Of each text one thing is read, and the same stretches are passed over.
+/// Of each text one thing is read, and the same is passed over, with the same errors.
 pub fn one_recovery()
     ensures { (text : List ℕ) (says tells : FileReading) (errors others : List SkippedBlock) →
         IsRecovery text says errors → IsRecovery text tells others →
-        (says ≡ tells) × (map stretch errors ≡ map stretch others) }
+        (says ≡ tells) × (errors ≡ others) }
 {}
 
 /// Each entry that is read is a block of the file grammar where it stands.

@@ -1,10 +1,11 @@
 //! The low-level representation of a bibliography file, with abbreviations not yet resolved.
 
-ghost use Rattle.std.specs.Prelude.{◌≡◌, ◌≢◌, [], ◌∷◌, ◌++◌, codes, Some, IfOk, IfErr, OnOk, OnErr};
+ghost use Rattle.std.specs.Prelude.{◌≡◌, ◌≢◌, ◌⊎◌, [], ◌∷◌, ◌++◌, codes, Some, IfOk, IfErr, OnOk, OnErr};
 ghost use Rattle.bib_syntax.specs.Characters as characters;
 ghost use Rattle.bib_syntax.specs.Errors.{token_text, kind_text, error_text, out_of_memory, Refuses};
 ghost use Rattle.bib_syntax.specs.Grammar.{IsFile, IsRawReading};
 ghost use Rattle.bib_syntax.specs.Recovery.{IsRecovery};
+ghost use Rattle.bib_syntax.specs.SyntaxErrors.{IsReported};
 ghost use Rattle.bib_syntax.specs.Views.{file_of};
 ghost use Rattle.bib_syntax.specs.declared.raw.ParseErrorKind.TheVariants.{OutOfMemory};
 
@@ -49,6 +50,7 @@ impl<'s> RawBibliography<'s> {
         ensures read { IfOk result (λ raw. IsRawReading src.now (file_of raw)) }
         ensures accepted { OnOk result (IsFile src.now) }
         ensures refused { IfErr result (λ e. Refuses src.now e (IsFile src.now → ⊥)) }
+        ensures reported { IfErr result (λ e. (e ≡ out_of_memory) ⊎ IsReported src.now e) }
     {
         BiblatexParser::new(src).parse(alloc)
     }
@@ -94,6 +96,7 @@ impl<'s> BiblatexParser<'s> {
         ensures read { IfOk result (λ raw. IsRawReading self.entry (file_of raw)) }
         ensures accepted { OnOk result (IsFile self.entry) }
         ensures refused { IfErr result (λ e. Refuses self.entry e (IsFile self.entry → ⊥)) }
+        ensures reported { IfErr result (λ e. (e ≡ out_of_memory) ⊎ IsReported self.entry e) }
     {
         Ok(blocks(&mut self.scanner, alloc)?)
     }

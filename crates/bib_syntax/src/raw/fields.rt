@@ -1,11 +1,13 @@
 //! Fields: names with values, separated by commas.
 
-ghost use Rattle.std.specs.Prelude.{◌≡◌, List, map, IfOk, IfErr, OnOk, OnErr};
+ghost use Rattle.std.specs.Prelude.{◌≡◌, ℕ, true, List, map, IfOk, IfErr, OnOk, OnErr};
 ghost use Rattle.std.specs.Char.{is_whitespace};
-ghost use Rattle.bib_text.specs.Places.{Place, CharAt, Longest};
+ghost use Rattle.bib_text.specs.Places.{Place, CharAt, Stops, Longest};
+ghost use Rattle.bib_syntax.specs.Characters.{is_id_start};
 ghost use Rattle.bib_syntax.specs.Errors.{IsSyntaxError, Refuses};
 ghost use Rattle.bib_syntax.specs.Grammar.{Elements, Field, Fields, Gap, LineComment, longest};
 ghost use Rattle.bib_syntax.specs.Reading.{Piece, FieldReading};
+ghost use Rattle.bib_syntax.specs.SyntaxErrors.{ElementsFails, FieldFails, FieldsFails, Reports};
 ghost use Rattle.bib_syntax.specs.Views.{piece_of, field_of};
 
 use crate::raw::words::{begins_identifier, element, error, expect, identifier};
@@ -38,8 +40,7 @@ pub(crate) fn gap(s: &mut Scanner<'_>)
 fn elements<'s>(s: &mut Scanner<'s>, alloc: Global) -> Result<Field<'s>, ParseError>
     ensures found { IfOk result (λ pieces. Elements longest s.old
         (map piece_of pieces.items) s.new) }
-    ensures refused { IfErr result (λ e. Refuses s.old.text e ((es : List Piece) (v : Place) →
-        Elements longest s.old es v → ⊥)) }
+    ensures fails { IfErr result (λ e. Refuses s.old.text e (Reports (ElementsFails s.old) e)) }
 {
     let mut pieces = Vec::with_capacity(alloc, 1)?;
     'elements: loop {
@@ -55,9 +56,9 @@ fn elements<'s>(s: &mut Scanner<'s>, alloc: Global) -> Result<Field<'s>, ParseEr
 
 // A field: a name, an equals sign and a value.
 fn field<'s>(s: &mut Scanner<'s>, alloc: Global) -> Result<Pair<'s>, ParseError>
+    requires { (c : ℕ) × (v : Place) × CharAt s.old c v × (is_id_start c ≡ true) }
     ensures found { IfOk result (λ pair. Field longest s.old (field_of pair) s.new) }
-    ensures refused { IfErr result (λ e. Refuses s.old.text e ((f : FieldReading) (v : Place) →
-        Field longest s.old f v → ⊥)) }
+    ensures fails { IfErr result (λ e. Refuses s.old.text e (Reports (FieldFails s.old) e)) }
 {
     let name = identifier(s)?;
     s.eat_whitespace();
@@ -68,30 +69,29 @@ fn field<'s>(s: &mut Scanner<'s>, alloc: Global) -> Result<Pair<'s>, ParseError>
     Ok(Pair::new(name, Spanned::new(pieces, start..s.cursor())))
 }
 
-// The brace after fields, with white space before it; `missing` is what is reported where it doesn't stand.
-fn closed(s: &mut Scanner<'_>, missing: Token) -> Result<(), ParseError>
+// The brace after fields, with white space before it, where no name stands.
+fn closed(s: &mut Scanner<'_>) -> Result<(), ParseError>
+    requires { Stops is_id_start s.old }
     ensures found { OnOk result (Longest is_whitespace s.old s.new ×
         ((v : Place) × CharAt s.new 125 v)) }
-    ensures none { OnErr result ((v w : Place) → Longest is_whitespace s.old v →
-        CharAt v 125 w → ⊥) }
+    ensures fails { IfErr result (Reports (FieldsFails s.old)) }
     ensures error { IfErr result (IsSyntaxError s.old.text) }
 {
     s.eat_whitespace();
     if s.at('}') {
         return Ok(());
     }
-    if missing == Token::Identifier && s.done() {
+    if s.done() {
         return Err(error(s, ParseErrorKind::UnexpectedEof));
     }
-    Err(error(s, ParseErrorKind::Expected(missing)))
+    Err(error(s, ParseErrorKind::Expected(Token::Identifier)))
 }
 
 // Fields up to the brace that closes their block.
 pub(crate) fn fields<'s>(s: &mut Scanner<'s>, alloc: Global) -> Result<Vec<Pair<'s>>, ParseError>
     ensures found { IfOk result (λ pairs. Fields longest s.old (map field_of pairs.items) s.new) }
     ensures closed { OnOk result ((v : Place) × CharAt s.new 125 v) }
-    ensures refused { IfErr result (λ e. Refuses s.old.text e
-        ((fs : List FieldReading) (v w : Place) → Fields longest s.old fs v → CharAt v 125 w → ⊥)) }
+    ensures fails { IfErr result (λ e. Refuses s.old.text e (Reports (FieldsFails s.old) e)) }
 {
     let mut pairs = Vec::new(alloc);
     'fields: while begins_identifier(s) {
@@ -99,11 +99,13 @@ pub(crate) fn fields<'s>(s: &mut Scanner<'s>, alloc: Global) -> Result<Vec<Pair<
         pairs.push(pair)?;
         gap(s);
         if !s.eat_if(',') {
-            closed(s, Token::Comma)?;
+            if !s.at('}') {
+                return Err(error(s, ParseErrorKind::Expected(Token::Comma)));
+            }
             return Ok(pairs);
         }
         gap(s);
     }
-    closed(s, Token::Identifier)?;
+    closed(s)?;
     Ok(pairs)
 }

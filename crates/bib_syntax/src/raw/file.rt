@@ -8,6 +8,7 @@ ghost use Rattle.bib_syntax.specs.Grammar.{BlockKind as ABlock};
 ghost use Rattle.bib_syntax.specs.Grammar.{Head, Body, Block, LineComment, File, Quoted, longest};
 ghost use Rattle.bib_syntax.specs.Reading.{Part, FileReading, empty_reading, then};
 ghost use Rattle.bib_syntax.specs.Errors.{IsSyntaxError, Refuses, out_of_memory};
+ghost use Rattle.bib_syntax.specs.SyntaxErrors.{HeadFails, BodyFails, BlockFails, FileFails, Reports};
 ghost use Rattle.bib_syntax.specs.Views.{part_of, file_of};
 
 use crate::raw::fields::{fields, gap, line_comment};
@@ -59,7 +60,7 @@ pub(crate) enum Item<'s> {
 fn head<'s>(s: &mut Scanner<'s>) -> Result<Spanned<&'s str>, ParseError>
     requires { (v : Place) × CharAt s.old 64 v }
     ensures found { IfOk result (λ kind. Head longest s.old (part_of kind) s.new) }
-    ensures none { OnErr result ((p : Part) (v : Place) → Head longest s.old p v → ⊥) }
+    ensures fails { IfErr result (Reports (HeadFails s.old)) }
     ensures error { IfErr result (IsSyntaxError s.old.text) }
 {
     s.eat_if('@');
@@ -74,8 +75,7 @@ fn head<'s>(s: &mut Scanner<'s>) -> Result<Spanned<&'s str>, ParseError>
 fn comment(s: &mut Scanner<'_>) -> Result<(), ParseError>
     ensures found { OnOk result ((u : Place) (p : Part) →
         Body longest u p ABlock.comment s.old empty_reading s.new) }
-    ensures none { OnErr result ((u : Place) (p : Part) (r : FileReading) (v : Place) →
-        Body longest u p ABlock.comment s.old r v → ⊥) }
+    ensures fails { IfErr result (Reports (BodyFails ABlock.comment s.old)) }
     ensures error { IfErr result (IsSyntaxError s.old.text) }
 {
     s.eat_until(|c| c == '}');
@@ -87,8 +87,7 @@ fn comment(s: &mut Scanner<'_>) -> Result<(), ParseError>
 fn preamble<'s>(s: &mut Scanner<'s>) -> Result<&'s str, ParseError>
     ensures found { IfOk result (λ text. (u : Place) (p : Part) →
         Body longest u p ABlock.preamble s.old (item_of (Item.Preamble text)) s.new) }
-    ensures none { OnErr result ((u : Place) (p : Part) (r : FileReading) (v : Place) →
-        Body longest u p ABlock.preamble s.old r v → ⊥) }
+    ensures fails { IfErr result (Reports (BodyFails ABlock.preamble s.old)) }
     ensures error { IfErr result (IsSyntaxError s.old.text) }
 {
     let start = s.cursor();
@@ -103,9 +102,8 @@ fn preamble<'s>(s: &mut Scanner<'s>) -> Result<&'s str, ParseError>
 fn strings<'s>(s: &mut Scanner<'s>, alloc: Global) -> Result<Vec<Pair<'s>>, ParseError>
     ensures found { IfOk result (λ pairs. (u : Place) (p : Part) →
         Body longest u p ABlock.strings s.old (item_of (Item.Strings pairs)) s.new) }
-    ensures refused { IfErr result (λ e. Refuses s.old.text e
-        ((u : Place) (p : Part) (r : FileReading) (v : Place) →
-        Body longest u p ABlock.strings s.old r v → ⊥)) }
+    ensures fails { IfErr result (λ e. Refuses s.old.text e
+        (Reports (BodyFails ABlock.strings s.old) e)) }
 {
     let pairs = fields(s, alloc)?;
     s.eat_if('}');
@@ -121,9 +119,8 @@ fn entry<'s>(
 ) -> Result<Spanned<RawEntry<'s>>, ParseError>
     ensures found { IfOk result (λ e. (u : Place) → u.at ≡ start →
         Body longest u (part_of kind.entry) ABlock.entry s.old (item_of (Item.Entry e)) s.new) }
-    ensures refused { IfErr result (λ e. Refuses s.old.text e
-        ((u : Place) (p : Part) (r : FileReading) (v : Place) →
-        Body longest u p ABlock.entry s.old r v → ⊥)) }
+    ensures fails { IfErr result (λ e. Refuses s.old.text e
+        (Reports (BodyFails ABlock.entry s.old) e)) }
 {
     let key = key(s);
     s.eat_whitespace();
@@ -139,8 +136,7 @@ fn entry<'s>(
 pub(crate) fn block<'s>(s: &mut Scanner<'s>, alloc: Global) -> Result<Item<'s>, ParseError>
     requires { (v : Place) × CharAt s.old 64 v }
     ensures found { IfOk result (λ item. Block longest s.old (item_of item) s.new) }
-    ensures refused { IfErr result (λ e. Refuses s.old.text e ((r : FileReading) (v : Place) →
-        Block longest s.old r v → ⊥)) }
+    ensures fails { IfErr result (λ e. Refuses s.old.text e (Reports (BlockFails s.old) e)) }
 {
     let start = s.cursor();
     let kind = head(s)?;
@@ -186,8 +182,7 @@ pub(crate) fn blocks<'s>(
     alloc: Global,
 ) -> Result<RawBibliography<'s>, ParseError>
     ensures found { IfOk result (λ raw. File longest s.old (file_of raw)) }
-    ensures refused { IfErr result (λ e. Refuses s.old.text e ((r : FileReading) →
-        File longest s.old r → ⊥)) }
+    ensures fails { IfErr result (λ e. Refuses s.old.text e (Reports (FileFails s.old) e)) }
 {
     let mut raw = RawBibliography {
         preamble: String::new(alloc),

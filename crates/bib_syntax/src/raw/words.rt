@@ -8,7 +8,9 @@ ghost use Rattle.bib_syntax.specs.Characters as characters;
 ghost use Rattle.bib_syntax.specs.Errors.{IsSyntaxError, is_syntax};
 ghost use Rattle.bib_syntax.specs.Grammar.{Identifier, Number, Quoted, QuotedParts, Braced, Element, longest};
 ghost use Rattle.bib_syntax.specs.Reading.{Part, Piece, part};
+ghost use Rattle.bib_syntax.specs.SyntaxErrors.{IdentifierFails, NumberFails, QuotedFails, BracedFails, ElementFails, Reports, error_at_place, text_end};
 ghost use Rattle.bib_syntax.specs.Views.{part_of, piece_of};
+ghost use Rattle.bib_syntax.specs.declared.raw.ParseErrorKind.TheVariants.{UnexpectedEof, Expected};
 
 use crate::raw::{
     ParseError, ParseErrorKind, RawChunk, Token, is_id_continue, is_id_start, is_key,
@@ -19,7 +21,8 @@ use bib_text::spanned::Spanned;
 // An error of the grammar at this place.
 pub(crate) fn error(s: &Scanner<'_>, kind: ParseErrorKind) -> ParseError
     requires { IsTrue (is_syntax kind) }
-    ensures { IsSyntaxError s.now.text result }
+    ensures syntax { IsSyntaxError s.now.text result }
+    ensures here { result ≡ error_at_place kind s.now }
 {
     let here = s.cursor();
     ParseError {
@@ -33,6 +36,7 @@ pub(crate) fn expect(s: &mut Scanner<'_>, c: char, token: Token) -> Result<(), P
     ensures found { OnOk result (CharAt s.old c s.new) }
     ensures none { OnErr result ((v : Place) → CharAt s.old c v → ⊥) }
     ensures error { IfErr result (IsSyntaxError s.old.text) }
+    ensures here { IfErr result (λ e. e ≡ error_at_place (Expected token) s.old) }
 {
     if !s.eat_if(c) {
         return Err(error(s, ParseErrorKind::Expected(token)));
@@ -46,6 +50,7 @@ pub(crate) fn brace(s: &mut Scanner<'_>, c: char, token: Token) -> Result<(), Pa
     ensures none { OnErr result ((d : ℕ) (v : Place) → CharAt s.old d v →
         d == c || d == 34 ≡ true → ⊥) }
     ensures error { IfErr result (IsSyntaxError s.old.text) }
+    ensures here { IfErr result (λ e. e ≡ error_at_place (Expected token) s.old) }
 {
     if s.eat_if(c) || s.eat_if('"') {
         return Ok(());
@@ -68,7 +73,7 @@ pub(crate) fn begins_identifier(s: &Scanner<'_>) -> bool
 // An identifier: a field's name, an entry's kind or the name of an abbreviation.
 pub(crate) fn identifier<'s>(s: &mut Scanner<'s>) -> Result<Spanned<&'s str>, ParseError>
     ensures found { IfOk result (λ name. Identifier longest s.old (part_of name) s.new) }
-    ensures none { OnErr result ((p : Part) (v : Place) → Identifier longest s.old p v → ⊥) }
+    ensures fails { IfErr result (Reports (IdentifierFails s.old)) }
     ensures error { IfErr result (IsSyntaxError s.old.text) }
 {
     if !begins_identifier(s) {
@@ -99,7 +104,7 @@ fn is_digit(c: char) -> bool
 fn digits(s: &mut Scanner<'_>) -> Result<(), ParseError>
     requires { (c : ℕ) × (v : Place) × CharAt s.old c v × (is_ascii_digit c ≡ true) }
     ensures found { OnOk result (Number longest s.old s.new) }
-    ensures none { OnErr result ((v : Place) → Number longest s.old v → ⊥) }
+    ensures fails { IfErr result (Reports (NumberFails s.old)) }
     ensures error { IfErr result (IsSyntaxError s.old.text) }
 {
     s.eat_while(is_digit);
@@ -118,7 +123,7 @@ fn number<'s>(s: &mut Scanner<'s>) -> Result<Spanned<&'s str>, ParseError>
     requires { (c : ℕ) × (v : Place) × CharAt s.old c v × (is_ascii_digit c ≡ true) }
     ensures found { OnOk result (Number longest s.old s.new) }
     ensures reading { IfOk result (λ text. part_of text ≡ part s.old s.new) }
-    ensures none { OnErr result ((v : Place) → Number longest s.old v → ⊥) }
+    ensures fails { IfErr result (Reports (NumberFails s.old)) }
     ensures error { IfErr result (IsSyntaxError s.old.text) }
 {
     let start = s.cursor();
@@ -139,6 +144,7 @@ fn quoted_parts<'s>(s: &mut Scanner<'s>) -> Result<Spanned<&'s str>, ParseError>
     ensures reading { IfOk result (λ text. part_of text ≡ part s.old s.new) }
     ensures none { OnErr result ((v w : Place) → QuotedParts s.old v → CharAt v 34 w → ⊥) }
     ensures error { IfErr result (IsSyntaxError s.old.text) }
+    ensures end { IfErr result (λ e. e ≡ error_at_place UnexpectedEof (text_end s.old)) }
 {
     let start = s.cursor();
     'parts: loop {
@@ -156,7 +162,7 @@ fn quoted_parts<'s>(s: &mut Scanner<'s>) -> Result<Spanned<&'s str>, ParseError>
 // A quoted text.
 pub(crate) fn quoted<'s>(s: &mut Scanner<'s>) -> Result<Spanned<&'s str>, ParseError>
     ensures found { IfOk result (λ text. Quoted s.old (part_of text) s.new) }
-    ensures none { OnErr result ((p : Part) (v : Place) → Quoted s.old p v → ⊥) }
+    ensures fails { IfErr result (Reports (QuotedFails s.old)) }
     ensures error { IfErr result (IsSyntaxError s.old.text) }
 {
     expect(s, '"', Token::QuotationMark)?;
@@ -178,6 +184,7 @@ fn braced_parts<'s>(s: &mut Scanner<'s>) -> Result<Spanned<&'s str>, ParseError>
     ensures reading { IfOk result (λ text. part_of text ≡ part s.old s.new) }
     ensures none { OnErr result ((v w : Place) → Parts s.old v → CharAt v 125 w → ⊥) }
     ensures error { IfErr result (IsSyntaxError s.old.text) }
+    ensures end { IfErr result (λ e. e ≡ error_at_place UnexpectedEof (text_end s.old)) }
 {
     let start = s.cursor();
     let mut depth = 0usize;
@@ -201,8 +208,9 @@ fn braced_parts<'s>(s: &mut Scanner<'s>) -> Result<Spanned<&'s str>, ParseError>
 
 // A braced text.
 fn braced<'s>(s: &mut Scanner<'s>) -> Result<Spanned<&'s str>, ParseError>
+    requires { (v : Place) × CharAt s.old 123 v }
     ensures found { IfOk result (λ text. Braced s.old (part_of text) s.new) }
-    ensures none { OnErr result ((p : Part) (v : Place) → Braced s.old p v → ⊥) }
+    ensures fails { IfErr result (Reports (BracedFails s.old)) }
     ensures error { IfErr result (IsSyntaxError s.old.text) }
 {
     expect(s, '{', Token::OpeningBrace)?;
@@ -226,7 +234,7 @@ fn begins_number(s: &Scanner<'_>) -> bool
 // An element of a value: a number, the name of an abbreviation, a braced or a quoted text.
 pub(crate) fn element<'s>(s: &mut Scanner<'s>) -> Result<Spanned<RawChunk<'s>>, ParseError>
     ensures found { IfOk result (λ chunk. Element longest s.old (piece_of chunk) s.new) }
-    ensures none { OnErr result ((e : Piece) (v : Place) → Element longest s.old e v → ⊥) }
+    ensures fails { IfErr result (Reports (ElementFails s.old)) }
     ensures error { IfErr result (IsSyntaxError s.old.text) }
 {
     if s.at('{') {

@@ -4,6 +4,8 @@ use Rattle.bib_text.specs.Places.{Place, place}
 use Rattle.bib_text.proofs.PlaceFacts.{same_place, ahead_same}
 use Rattle.bib_syntax.specs.Grammar.{File, longest}
 use Rattle.bib_syntax.specs.Views.{file_of}
+use Rattle.bib_syntax.proofs.FileFailureFacts.{file_unread}
+use Rattle.bib_syntax.proofs.ErrorFacts.{reported_from}
 use Rattle.bib_syntax.proofs.FieldFacts.{refuses_from}
 use Rattle.bib_syntax.proofs.ModeFacts.{file_any, file_longest}
 use Rattle.bib_syntax.proofs.raw.BiblatexParser.parse.Goals as goal
@@ -25,4 +27,9 @@ returns-in_err-blocks-clause-refused c =
     let p = err_from_is_err_and c.from_residual.result c.from_residual.ensures.1 in
     let at = start _ _ c.self.view_is c.self.invariant in
     rw (p.1, p.2) (refuses_from {u = place c.args.self 0} _ _ (ahead_same at)
-    (λ none read. let l = file_longest read.1 in none l.0 (subst (λ q. File longest q l.0) (sym at) l.1)) c.in_err-blocks.ensures.refused)
+    (λ r read. let l = file_longest read.1 in file_unread r.fails (subst (λ q. File longest q l.0) (sym at) l.1)) c.in_err-blocks.ensures.fails)
+
+pub returns-in_err-blocks-clause-reported : goal.returns-in_err-blocks-clause-reported
+returns-in_err-blocks-clause-reported c =
+    let p = err_from_is_err_and c.from_residual.result c.from_residual.ensures.1 in
+    rw (p.1, p.2) (reported_from (start _ _ c.self.view_is c.self.invariant) c.in_err-blocks.ensures.fails)

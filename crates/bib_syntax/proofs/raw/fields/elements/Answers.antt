@@ -3,14 +3,17 @@ use Rattle.std.proofs.lemmas.List.{map-append}
 use Rattle.std.proofs.lemmas.Result.{err_from_is_err_and}
 use Rattle.bib_text.proofs.PlaceFacts.{ahead_then, ahead_run, ahead_char, left_smaller}
 use Rattle.bib_syntax.specs.Views.{piece_of}
-use Rattle.bib_syntax.proofs.FieldFacts.{element_read, elements_found, no_elements, ahead_element}
+use Rattle.bib_syntax.proofs.FieldFacts.{element_read, elements_found, ahead_element}
+use Rattle.bib_syntax.specs.SyntaxErrors.{ElementsFails as fails}
+use Rattle.bib_syntax.proofs.ErrorFacts.{reports_as}
 use Rattle.bib_syntax.proofs.ReadingFacts.{error_back}
 use Rattle.bib_syntax.proofs.raw.fields.elements.Goals as goal
 
-pub returns-in_err-piece-clause-refused : goal.returns-in_err-piece-clause-refused
-returns-in_err-piece-clause-refused c =
+pub returns-in_err-piece-clause-fails : goal.returns-in_err-piece-clause-fails
+returns-in_err-piece-clause-fails c =
     let p = err_from_is_err_and c.from_residual-in_err-piece.result c.from_residual-in_err-piece.ensures.1 in
-    rw (p.1, p.2) (inr (error_back c.elements.invariant.0 c.in_err-piece.ensures.error, no_elements c.elements.invariant.1 c.in_err-piece.ensures.none))
+    let read = c.elements.invariant.1 in
+    rw (p.1, p.2) (inr (error_back c.elements.invariant.0 c.in_err-piece.ensures.error, reports_as (λ kind v f. read.fails kind v (fails.first f)) c.in_err-piece.ensures.fails))
 
 pub returns-then-not-eat_if-clause-found : goal.returns-then-not-eat_if-clause-found
 returns-then-not-eat_if-clause-found c =

@@ -1,9 +1,12 @@
 use Rattle.std.proofs.Common.{inr}
+use Rattle.std.specs.Prelude.{◌==◌}
 use Rattle.std.proofs.lemmas.List.{map-append}
 use Rattle.std.proofs.lemmas.Result.{err_from_is_err_and}
-use Rattle.bib_text.proofs.PlaceFacts.{ahead_then, ahead_char, ahead_same, left_smaller}
+use Rattle.bib_text.proofs.PlaceFacts.{ahead_then, ahead_char, ahead_same, left_smaller, stops_without}
 use Rattle.bib_syntax.specs.Views.{field_of}
-use Rattle.bib_syntax.proofs.FieldFacts.{field_read, fields_last, no_fields_last, fields_end, no_fields_end, no_field, ahead_field, ahead_gap, refuses_from}
+use Rattle.bib_syntax.proofs.FieldFacts.{field_read, fields_last, fields_end, ahead_field, ahead_gap, refuses_from}
+use Rattle.bib_syntax.specs.SyntaxErrors.{FieldsFails as fails}
+use Rattle.bib_syntax.proofs.ErrorFacts.{reports_at, reports_as, reported_same, stops_either}
 use Rattle.bib_syntax.proofs.ReadingFacts.{error_back}
 use Rattle.bib_syntax.proofs.raw.fields.fields.Goals as goal
 
@@ -17,34 +20,30 @@ fields-preserved c = (
       (field_read _ c.fields.invariant.1 c.in_ok-pair.ensures.found c.gap.ensures c.if-not-eat_if.ensures c.gap-in-fields.ensures),
 )
 
-pub returns-in_err-pair-clause-refused : goal.returns-in_err-pair-clause-refused
-returns-in_err-pair-clause-refused c =
+pub returns-in_err-pair-clause-fails : goal.returns-in_err-pair-clause-fails
+returns-in_err-pair-clause-fails c =
     let p = err_from_is_err_and c.from_residual.result c.from_residual.ensures.1 in
-    rw (p.1, p.2) (refuses_from _ _ c.fields.invariant.0 (no_field c.fields.invariant.1 c.fields-test.ensures) c.in_err-pair.ensures.refused)
+    let read = c.fields.invariant.1 in
+    rw (p.1, p.2) (refuses_from _ _ c.fields.invariant.0 (reports_as (λ kind v f. read.fails kind v (fails.first f))) c.in_err-pair.ensures.fails)
 
-pub returns-in_err-closed-clause-refused : goal.returns-in_err-closed-clause-refused
-returns-in_err-closed-clause-refused c =
-    let p = err_from_is_err_and c.from_residual-in_err-closed.result c.from_residual-in_err-closed.ensures.1 in
+pub returns-then-not-at-clause-fails : goal.returns-then-not-at-clause-fails
+returns-then-not-at-clause-fails c =
     let one = c.in_ok-pair.ensures.found in
     let same = c.if-not-eat_if.ensures.0 in
     let passed = ahead_then c.fields.invariant.0 (ahead_then (ahead_field one) (ahead_then (ahead_gap c.gap.ensures) (ahead_same same))) in
-    rw (p.1, p.2) (inr (
-      error_back passed c.in_err-closed.ensures.error,
-      no_fields_last c.fields.invariant.1 one c.gap.ensures c.if-not-eat_if.ensures.1 (rw (← same) c.in_err-closed.ensures.none),
-    ))
+    let stops = stops_either (λ d. d == 44) (λ d. d == 125) (stops_without 44 c.if-not-eat_if.ensures.1) (stops_without 125 (λ x. rw (← same) (c.if-not-at.ensures x))) in
+    let failed = c.fields.invariant.1.fails _ _ (fails.comma one c.gap.ensures stops) in
+    inr (error_back passed c.error.ensures.syntax, reports_at _ (reported_same c.error.ensures.here same) failed)
 
 pub returns-then-not-eat_if-clause-found : goal.returns-then-not-eat_if-clause-found
 returns-then-not-eat_if-clause-found c =
-    rw (c.in_ok-push.ensures.items, map-append field_of c.fields.pairs.items _)
-    (fields_last _ c.fields.invariant.1 c.in_ok-pair.ensures.found c.gap.ensures (rw (← c.if-not-eat_if.ensures.0) c.in_ok-closed.ensures.found.0))
+    rw (c.if-not-eat_if.ensures.0, c.in_ok-push.ensures.items, map-append field_of c.fields.pairs.items _)
+    (fields_last _ c.fields.invariant.1 c.in_ok-pair.ensures.found c.gap.ensures)
 
-pub returns-in_err-closed-2-clause-refused : goal.returns-in_err-closed-2-clause-refused
-returns-in_err-closed-2-clause-refused c =
-    let p = err_from_is_err_and c.from_residual-in_err-closed-2.result c.from_residual-in_err-closed-2.ensures.1 in
-    rw (p.1, p.2) (inr (
-      error_back c.fields.invariant.0 c.in_err-closed-2.ensures.error,
-      no_fields_end c.fields.invariant.1 c.fields-test.ensures c.in_err-closed-2.ensures.none,
-    ))
+pub returns-in_err-closed-clause-fails : goal.returns-in_err-closed-clause-fails
+returns-in_err-closed-clause-fails c =
+    let p = err_from_is_err_and c.from_residual-in_err-closed.result c.from_residual-in_err-closed.ensures.1 in
+    rw (p.1, p.2) (inr (error_back c.fields.invariant.0 c.in_err-closed.ensures.error, reports_as c.fields.invariant.1.fails c.in_err-closed.ensures.fails))
 
 pub returns-clause-found : goal.returns-clause-found
-returns-clause-found c = fields_end c.fields.invariant.1 c.in_ok-closed-2.ensures.found.0
+returns-clause-found c = fields_end c.fields.invariant.1 c.in_ok-closed.ensures.found.0

@@ -1,14 +1,17 @@
 use Rattle.std.proofs.lemmas.Result.{err_from_is_err_and}
 use Rattle.bib_text.specs.Places.{Longest}
 use Rattle.bib_text.proofs.PlaceFacts.{ahead_then, ahead_run}
+use Rattle.bib_syntax.specs.SyntaxErrors.{FileFails as fails}
+use Rattle.bib_syntax.proofs.ErrorFacts.{reports_as}
 use Rattle.bib_syntax.proofs.FieldFacts.{refuses_from}
-use Rattle.bib_syntax.proofs.FileFacts.{file_found, no_file_block, block_read, line_comment_read, skip_read, ahead_block, ahead_line_comment, block_smaller, line_comment_smaller, skip_smaller, is_skipped, is_skipped_from}
+use Rattle.bib_syntax.proofs.FileFacts.{file_found, block_read, line_comment_read, skip_read, ahead_block, ahead_line_comment, block_smaller, line_comment_smaller, skip_smaller, is_skipped, is_skipped_from}
 use Rattle.bib_syntax.proofs.raw.file.blocks.Goals as goal
 
-pub returns-in_err-item-clause-refused : goal.returns-in_err-item-clause-refused
-returns-in_err-item-clause-refused c =
+pub returns-in_err-item-clause-fails : goal.returns-in_err-item-clause-fails
+returns-in_err-item-clause-fails c =
     let p = err_from_is_err_and c.from_residual.result c.from_residual.ensures.1 in
-    rw (p.1, p.2) (refuses_from _ _ c.file.invariant.0 (no_file_block c.file.invariant.1 (rw c.if-c-eq64.true at c.in-Some.ensures.1)) c.in_err-item.ensures.refused)
+    let read = c.file.invariant.1 in
+    rw (p.1, p.2) (refuses_from _ _ c.file.invariant.0 (reports_as (λ kind v f. read.fails kind v (fails.first f))) c.in_err-item.ensures.fails)
 
 pub file-smaller-in-Continue-branch-2 : goal.file-smaller-in-Continue-branch-2
 file-smaller-in-Continue-branch-2 c = block_smaller c.in_ok-item.ensures.found

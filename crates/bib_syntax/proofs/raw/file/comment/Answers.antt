@@ -4,16 +4,21 @@ use Rattle.std.proofs.lemmas.Result.{err_from_is_err_and}
 use Rattle.bib_text.specs.Places.{Longest}
 use Rattle.bib_text.proofs.PlaceFacts.{ahead_run}
 use Rattle.bib_syntax.specs.Grammar.{Body as body}
-use Rattle.bib_syntax.proofs.FileFacts.{no_comment, not_close}
-use Rattle.bib_syntax.proofs.ReadingFacts.{error_back, on_err}
+use Rattle.bib_syntax.proofs.FileFacts.{not_close}
+use Rattle.bib_syntax.specs.SyntaxErrors.{BodyFails as fails}
+use Rattle.bib_syntax.proofs.ErrorFacts.{reports_at, comment_at_end}
+use Rattle.bib_syntax.proofs.ReadingFacts.{error_back}
 use Rattle.bib_syntax.proofs.raw.file.comment.Goals as goal
 use Rattle.bib_syntax.proofs.raw.file.comment.Goals.{After-eat_until}
 
 inside : (c : After-eat_until) → Longest not_close c.args.s.now c.eat_until.new.self
 inside c = c.eat_until.ensures.longest (λ d. d == 125) (λ x r post. search rules)
 
-pub returns-in_err-expect-clause-none : goal.returns-in_err-expect-clause-none
-returns-in_err-expect-clause-none c = on_err _ (no_comment (inside (goal.at.returns-in_err-expect-clause-none c).After-eat_until) c.in_err-expect.ensures.none)
+pub returns-in_err-expect-clause-fails : goal.returns-in_err-expect-clause-fails
+returns-in_err-expect-clause-fails c =
+    let p = err_from_is_err_and c.from_residual.result c.from_residual.ensures.1 in
+    let end = comment_at_end c.eat_until.ensures.stopped (λ d post. search rules) c.in_err-expect.ensures.none in
+    rw (p.1, p.2) (reports_at _ c.in_err-expect.ensures.here (fails.comment (inside (goal.at.returns-in_err-expect-clause-fails c).After-eat_until) end))
 
 pub returns-in_err-expect-clause-error : goal.returns-in_err-expect-clause-error
 returns-in_err-expect-clause-error c =

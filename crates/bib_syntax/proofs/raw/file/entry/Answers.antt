@@ -1,26 +1,28 @@
 use Rattle.std.proofs.Common.{inr}
 use Rattle.std.proofs.lemmas.Result.{err_from_is_err_and}
-use Rattle.bib_text.proofs.PlaceFacts.{ahead_run, ahead_then, ahead_char}
+use Rattle.bib_text.proofs.PlaceFacts.{ahead_run, ahead_then, ahead_char, stops_without}
 use Rattle.bib_syntax.proofs.FieldFacts.{ahead_gap, refuses_from}
-use Rattle.bib_syntax.proofs.FileFacts.{no_entry_comma, no_entry_fields, entry_found}
+use Rattle.bib_syntax.proofs.FileFacts.{entry_found}
+use Rattle.bib_syntax.specs.SyntaxErrors.{BodyFails as fails}
+use Rattle.bib_syntax.proofs.ErrorFacts.{reports_at, reports_as}
 use Rattle.bib_syntax.proofs.ReadingFacts.{error_back, taken_if}
 use Rattle.bib_syntax.proofs.raw.file.entry.Goals as goal
 
-pub returns-in_err-expect-clause-refused : goal.returns-in_err-expect-clause-refused
-returns-in_err-expect-clause-refused c =
+pub returns-in_err-expect-clause-fails : goal.returns-in_err-expect-clause-fails
+returns-in_err-expect-clause-fails c =
     let p = err_from_is_err_and c.from_residual.result c.from_residual.ensures.1 in
     let key = c.key-key.ensures.longest in
     let white = c.eat_whitespace.ensures.longest in
-    rw (p.1, p.2) (inr (error_back (ahead_then (ahead_run key.run) (ahead_run white.run)) c.in_err-expect.ensures.error, no_entry_comma key white c.in_err-expect.ensures.none))
+    rw (p.1, p.2) (inr (error_back (ahead_then (ahead_run key.run) (ahead_run white.run)) c.in_err-expect.ensures.error, reports_at _ c.in_err-expect.ensures.here (fails.comma key white (stops_without 44 c.in_err-expect.ensures.none))))
 
-pub returns-in_err-fields-clause-refused : goal.returns-in_err-fields-clause-refused
-returns-in_err-fields-clause-refused c =
+pub returns-in_err-fields-clause-fails : goal.returns-in_err-fields-clause-fails
+returns-in_err-fields-clause-fails c =
     let p = err_from_is_err_and c.from_residual-in_err-fields.result c.from_residual-in_err-fields.ensures.1 in
     let key = c.key-key.ensures.longest in
     let white = c.eat_whitespace.ensures.longest in
     let comma = c.in_ok-expect.ensures.found in
     let passed = ahead_then (ahead_run key.run) (ahead_then (ahead_run white.run) (ahead_then (ahead_char comma) (ahead_gap c.gap.ensures))) in
-    rw (p.1, p.2) (refuses_from _ _ passed (no_entry_fields key white comma c.gap.ensures) c.in_err-fields.ensures.refused)
+    rw (p.1, p.2) (refuses_from _ _ passed (reports_as (λ kind v f. fails.fields key white comma c.gap.ensures f)) c.in_err-fields.ensures.fails)
 
 pub returns-clause-found : goal.returns-clause-found
 returns-clause-found c u starts =

@@ -1,8 +1,10 @@
+use Rattle.std.specs.Prelude.{◌==◌, ◌||◌}
 use Rattle.std.proofs.lemmas.Result.{err_from_is_err_and}
 use Rattle.bib_text.proofs.PlaceFacts.{ahead_then, ahead_run, ahead_char}
 use Rattle.bib_syntax.proofs.FieldFacts.{ahead_identifier}
-use Rattle.bib_syntax.proofs.FileFacts.{no_head_name, no_head_brace}
-use Rattle.bib_syntax.proofs.ReadingFacts.{error_back, on_err, taken_if}
+use Rattle.bib_syntax.specs.SyntaxErrors.{HeadFails as fails}
+use Rattle.bib_syntax.proofs.ErrorFacts.{reports_at, reports_as, stops_unless}
+use Rattle.bib_syntax.proofs.ReadingFacts.{error_back, taken_if}
 use Rattle.bib_syntax.proofs.raw.file.head.Goals as goal
 use Rattle.bib_syntax.proofs.raw.file.head.Goals.{After-eat_if}
 use Rattle.bib_text.specs.Places.{CharAt}
@@ -10,12 +12,18 @@ use Rattle.bib_text.specs.Places.{CharAt}
 sign : (c : After-eat_if) → CharAt c.args.s.now 64 c.eat_if.new.self
 sign c = taken_if 64 _ c.eat_if.ensures c.requires
 
-pub returns-in_err-kind-clause-none : goal.returns-in_err-kind-clause-none
-returns-in_err-kind-clause-none c = on_err _ (no_head_name (sign (goal.at.returns-in_err-kind-clause-none c).After-eat_if) c.in_err-kind.ensures.none)
+pub returns-in_err-kind-clause-fails : goal.returns-in_err-kind-clause-fails
+returns-in_err-kind-clause-fails c =
+    let p = err_from_is_err_and c.from_residual.result c.from_residual.ensures.1 in
+    let at = (goal.at.returns-in_err-kind-clause-fails c).After-eat_if in
+    rw (p.1, p.2) (reports_as (λ kind v f. fails.name (sign at) f) c.in_err-kind.ensures.fails)
 
-pub returns-in_err-brace-clause-none : goal.returns-in_err-brace-clause-none
-returns-in_err-brace-clause-none c =
-    on_err _ (no_head_brace (sign (goal.at.returns-in_err-brace-clause-none c).After-eat_if) c.in_ok-kind.ensures.found c.eat_whitespace.ensures.longest c.in_err-brace.ensures.none)
+pub returns-in_err-brace-clause-fails : goal.returns-in_err-brace-clause-fails
+returns-in_err-brace-clause-fails c =
+    let p = err_from_is_err_and c.from_residual-in_err-brace.result c.from_residual-in_err-brace.ensures.1 in
+    let at = (goal.at.returns-in_err-brace-clause-fails c).After-eat_if in
+    let stops = stops_unless (λ d. d == 123 || d == 34) c.in_err-brace.ensures.none in
+    rw (p.1, p.2) (reports_at _ c.in_err-brace.ensures.here (fails.brace (sign at) c.in_ok-kind.ensures.found c.eat_whitespace.ensures.longest stops))
 
 pub returns-in_err-kind-clause-error : goal.returns-in_err-kind-clause-error
 returns-in_err-kind-clause-error c =

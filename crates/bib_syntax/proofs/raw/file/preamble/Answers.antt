@@ -1,14 +1,18 @@
+use Rattle.std.specs.Prelude.{◌==◌, ◌||◌}
 use Rattle.std.proofs.Common.{refl, ap}
 use Rattle.std.proofs.lemmas.Result.{err_from_is_err_and}
 use Rattle.bib_text.proofs.PlaceFacts.{ahead_run, ahead_then, boundary_ahead}
 use Rattle.bib_syntax.specs.Grammar.{Body as body}
 use Rattle.bib_syntax.proofs.FieldFacts.{ahead_quoted}
-use Rattle.bib_syntax.proofs.FileFacts.{no_preamble, no_preamble_close}
-use Rattle.bib_syntax.proofs.ReadingFacts.{error_back, on_err, not_after, part_from}
+use Rattle.bib_syntax.specs.SyntaxErrors.{BodyFails as fails}
+use Rattle.bib_syntax.proofs.ErrorFacts.{reports_at, reports_as, stops_unless}
+use Rattle.bib_syntax.proofs.ReadingFacts.{error_back, not_after, part_from}
 use Rattle.bib_syntax.proofs.raw.file.preamble.Goals as goal
 
-pub returns-in_err-quoted-clause-none : goal.returns-in_err-quoted-clause-none
-returns-in_err-quoted-clause-none c = on_err _ (no_preamble c.in_err-quoted.ensures.none)
+pub returns-in_err-quoted-clause-fails : goal.returns-in_err-quoted-clause-fails
+returns-in_err-quoted-clause-fails c =
+    let p = err_from_is_err_and c.from_residual.result c.from_residual.ensures.1 in
+    rw (p.1, p.2) (reports_as (λ kind v f. fails.preamble f) c.in_err-quoted.ensures.fails)
 
 pub from-text-requires-clause-boundary : goal.from-text-requires-clause-boundary
 from-text-requires-clause-boundary c = boundary_ahead _ (ahead_quoted c.in_ok-quoted.ensures.found) c.cursor-start.ensures.boundary
@@ -16,8 +20,11 @@ from-text-requires-clause-boundary c = boundary_ahead _ (ahead_quoted c.in_ok-qu
 pub from-text-requires-clause-following : goal.from-text-requires-clause-following
 from-text-requires-clause-following c = not_after _ (ahead_quoted c.in_ok-quoted.ensures.found) c.cursor-start.ensures.place
 
-pub returns-in_err-brace-clause-none : goal.returns-in_err-brace-clause-none
-returns-in_err-brace-clause-none c = on_err _ (no_preamble_close c.in_ok-quoted.ensures.found c.eat_whitespace.ensures.longest c.in_err-brace.ensures.none)
+pub returns-in_err-brace-clause-fails : goal.returns-in_err-brace-clause-fails
+returns-in_err-brace-clause-fails c =
+    let p = err_from_is_err_and c.from_residual-in_err-brace.result c.from_residual-in_err-brace.ensures.1 in
+    let stops = stops_unless (λ d. d == 125 || d == 34) c.in_err-brace.ensures.none in
+    rw (p.1, p.2) (reports_at _ c.in_err-brace.ensures.here (fails.preamble_end c.in_ok-quoted.ensures.found c.eat_whitespace.ensures.longest stops))
 
 pub returns-in_err-brace-clause-error : goal.returns-in_err-brace-clause-error
 returns-in_err-brace-clause-error c =

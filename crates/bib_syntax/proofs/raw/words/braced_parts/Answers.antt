@@ -1,4 +1,4 @@
-use Rattle.std.proofs.Common.{ℕ, ◌≡◌, ◌≤◌, ◌<◌, ◌^◌, ◌+◌, zero, length, arith, ap, add-one}
+use Rattle.std.proofs.Common.{ℕ, ◌≡◌, ◌≤◌, ◌<◌, ◌^◌, ◌+◌, zero, length, arith, ap, ◌∙◌, add-one}
 use Rattle.std.specs.Char.{len_utf8}
 use Rattle.std.proofs.lemmas.Str.{len_utf8_bounds}
 use Rattle.bib_text.specs.Places.{Place, CharAt, Longest}
@@ -6,6 +6,7 @@ use Rattle.bib_text.specs.Braces.{is_plain}
 use Rattle.bib_text.proofs.PlaceFacts.{Ahead, ahead_here, ahead_then, ahead_char, ahead_run, ahead_same, ahead_taken, boundary_ahead, left_smaller, char_left}
 use Rattle.bib_syntax.proofs.BraceFacts.{SameBraced, braced_then, braced_run, braced_open, braced_hidden, braced_same, braced_less, braced_stuck, found_parts}
 use Rattle.bib_syntax.proofs.BraceFacts.Closes.{last}
+use Rattle.bib_syntax.proofs.ErrorFacts.{braced_at_end, reported_at_end}
 use Rattle.bib_syntax.proofs.ReadingFacts.{error_back, taken_if, part_from, not_after}
 use Rattle.bib_syntax.proofs.raw.words.braced_parts.Goals as goal
 use Rattle.bib_syntax.proofs.raw.words.braced_parts.Goals.{After-eat_while}
@@ -98,7 +99,13 @@ returns-else-eat_if-2-clause-none c v w parts close =
 pub returns-else-eat_if-2-clause-error : goal.returns-else-eat_if-2-clause-error
 returns-else-eat_if-2-clause-error c =
     let at = (goal.at.returns-else-eat_if-2-clause-error c).After-eat_while in
-    error_back (ahead_then (passed at) (ahead_then (ahead_same c.if-eat_if.ensures.0) (ahead_same c.if-eat_if-2.ensures.0))) c.error.ensures
+    error_back (ahead_then (passed at) (ahead_then (ahead_same c.if-eat_if.ensures.0) (ahead_same c.if-eat_if-2.ensures.0))) c.error.ensures.syntax
+
+pub returns-else-eat_if-2-clause-end : goal.returns-else-eat_if-2-clause-end
+returns-else-eat_if-2-clause-end c =
+    let same = c.if-eat_if.ensures.0 in
+    let end = braced_at_end c.eat_while.ensures.stopped c.if-eat_if.ensures.1 (λ x. rw (← same) (c.if-at.ensures x)) (λ x. rw (← same) (c.if-eat_if-2.ensures.1 x)) in
+    reported_at_end c.error.ensures.here (c.if-eat_if-2.ensures.0 ∙ same) (passed (goal.at.returns-else-eat_if-2-clause-end c).After-eat_while) end
 
 pub from-requires-clause-boundary : goal.from-requires-clause-boundary
 from-requires-clause-boundary c =

@@ -1,30 +1,33 @@
-use Rattle.std.proofs.Common.{refl}
-use Rattle.bib_syntax.proofs.WordFacts.{no_element, not_number, not_name, not_braced, not_quoted, no_number_without, no_name_without, no_braced_without, no_quoted_without, braced_element, quoted_element, number_piece, named_piece, no_digit_without}
-use Rattle.bib_syntax.proofs.ReadingFacts.{on_err}
+use Rattle.std.proofs.lemmas.Result.{err_from_is_err_and}
+use Rattle.bib_syntax.specs.SyntaxErrors.{ElementFails as fails}
+use Rattle.bib_syntax.proofs.ErrorFacts.{reports_at, reports_as, identifier_begins, no_beginning}
+use Rattle.bib_syntax.proofs.WordFacts.{braced_element, quoted_element, number_piece, named_piece, no_digit_without}
 use Rattle.bib_syntax.proofs.raw.words.element.Goals as goal
 
-pub returns-in_err-braced-clause-none : goal.returns-in_err-braced-clause-none
-returns-in_err-braced-clause-none c =
-    let here = c.if-at.ensures.1 in
-    on_err _ (no_element (not_number here refl) (λ p v no_digit name. not_name here refl p v name) c.in_err-braced.ensures.none (not_quoted here refl))
+pub returns-in_err-braced-clause-fails : goal.returns-in_err-braced-clause-fails
+returns-in_err-braced-clause-fails c =
+    let p = err_from_is_err_and c.from_residual.result c.from_residual.ensures.1 in
+    rw (p.1, p.2) (reports_as (λ kind v f. fails.braced f) c.in_err-braced.ensures.fails)
 
-pub returns-in_err-quoted-clause-none : goal.returns-in_err-quoted-clause-none
-returns-in_err-quoted-clause-none c =
-    let here = c.if-at-2.ensures.1 in
-    on_err _ (no_element (not_number here refl) (λ p v no_digit name. not_name here refl p v name) (not_braced here refl) c.in_err-quoted.ensures.none)
+pub returns-in_err-quoted-clause-fails : goal.returns-in_err-quoted-clause-fails
+returns-in_err-quoted-clause-fails c =
+    let p = err_from_is_err_and c.from_residual-in_err-quoted.result c.from_residual-in_err-quoted.ensures.1 in
+    rw (p.1, p.2) (reports_as (λ kind v f. fails.quoted c.if-at-2.ensures.1 f) c.in_err-quoted.ensures.fails)
 
-pub returns-in_err-number-clause-none : goal.returns-in_err-number-clause-none
-returns-in_err-number-clause-none c =
+pub returns-in_err-number-clause-fails : goal.returns-in_err-number-clause-fails
+returns-in_err-number-clause-fails c =
+    let p = err_from_is_err_and c.from_residual-in_err-number.result c.from_residual-in_err-number.ensures.1 in
     let first = c.if-begins_number.ensures in
-    on_err _ (no_element c.in_err-number.ensures.none (λ p v no_digit name. no_digit first.0 first.1 first.2 first.3) (no_braced_without c.if-at.ensures) (no_quoted_without c.if-at-2.ensures))
+    rw (p.1, p.2) (reports_as (λ kind v f. fails.number first.2 first.3 f) c.in_err-number.ensures.fails)
 
-pub returns-in_err-identifier-clause-none : goal.returns-in_err-identifier-clause-none
-returns-in_err-identifier-clause-none c =
-    on_err _ (no_element (no_number_without c.if-begins_number.ensures) (λ p v no_digit name. c.in_err-identifier.ensures.none p v name) (no_braced_without c.if-at.ensures) (no_quoted_without c.if-at-2.ensures))
+pub returns-in_err-identifier-clause-fails : goal.returns-in_err-identifier-clause-fails
+returns-in_err-identifier-clause-fails c =
+    let p = err_from_is_err_and c.from_residual-in_err-identifier.result c.from_residual-in_err-identifier.ensures.1 in
+    rw (p.1, p.2) (reports_as (λ kind v f. absurd (identifier_begins c.if-begins_identifier.ensures f)) c.in_err-identifier.ensures.fails)
 
-pub returns-clause-none : goal.returns-clause-none
-returns-clause-none c =
-    no_element (no_number_without c.if-begins_number.ensures) (λ p v no_digit name. no_name_without c.if-begins_identifier.ensures p v name) (no_braced_without c.if-at.ensures) (no_quoted_without c.if-at-2.ensures)
+pub returns-clause-fails : goal.returns-clause-fails
+returns-clause-fails c =
+    reports_at _ c.error.ensures.here (fails.missing (no_beginning c.if-at.ensures c.if-at-2.ensures c.if-begins_number.ensures c.if-begins_identifier.ensures))
 
 pub returns-then-at-clause-found : goal.returns-then-at-clause-found
 returns-then-at-clause-found c = braced_element _ _ c.map.ensures.value c.map.ensures.span c.in_ok-braced.ensures.found

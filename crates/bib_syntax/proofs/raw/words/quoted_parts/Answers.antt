@@ -2,6 +2,7 @@ use Rattle.bib_text.specs.Places.{Longest}
 use Rattle.bib_text.proofs.PlaceFacts.{Ahead, ahead_then, ahead_char, ahead_run, ahead_same, ahead_taken, boundary_ahead, left_smaller}
 use Rattle.bib_syntax.specs.Grammar.QuotedParts.{none}
 use Rattle.bib_syntax.proofs.QuoteFacts.{is_quotable, quoted_then, quoted_run, quoted_hidden, quoted_stuck}
+use Rattle.bib_syntax.proofs.ErrorFacts.{quoted_at_end, reported_at_end}
 use Rattle.bib_syntax.proofs.ReadingFacts.{error_back, part_from, not_after}
 use Rattle.bib_syntax.proofs.raw.words.quoted_parts.Goals as goal
 use Rattle.bib_syntax.proofs.raw.words.quoted_parts.Goals.{After-eat_while}
@@ -38,7 +39,12 @@ returns-then-not-eat_if-clause-none c v w parts quote =
 
 pub returns-then-not-eat_if-clause-error : goal.returns-then-not-eat_if-clause-error
 returns-then-not-eat_if-clause-error c =
-    error_back (ahead_then (passed (goal.at.returns-then-not-eat_if-clause-error c).After-eat_while) (ahead_same c.if-not-eat_if.ensures.0)) c.error.ensures
+    error_back (ahead_then (passed (goal.at.returns-then-not-eat_if-clause-error c).After-eat_while) (ahead_same c.if-not-eat_if.ensures.0)) c.error.ensures.syntax
+
+pub returns-then-not-eat_if-clause-end : goal.returns-then-not-eat_if-clause-end
+returns-then-not-eat_if-clause-end c =
+    let end = quoted_at_end c.eat_while.ensures.stopped c.if-at.ensures c.if-not-eat_if.ensures.1 in
+    reported_at_end c.error.ensures.here c.if-not-eat_if.ensures.0 (passed (goal.at.returns-then-not-eat_if-clause-end c).After-eat_while) end
 
 pub parts-smaller : goal.parts-smaller
 parts-smaller c = left_smaller (ahead_run (run (goal.at.parts-smaller c).After-eat_while).run) c.if-not-eat_if.ensures (ahead_taken _ c.eat.ensures)

@@ -19,7 +19,7 @@ returns-in-Ok-clause-smaller c =
 
 pub returns-in_ok-unless_out_of_memory-in-Err-clause-found : goal.returns-in_ok-unless_out_of_memory-in-Err-clause-found
 returns-in_ok-unless_out_of_memory-in-Err-clause-found c =
-    let unread : IsUnreadBlock c.args.s.now c.in-Err.error = subst (λ u. IsUnreadBlock u c.in-Err.error) c.copied-reader.ensures (unread_from c.in-Err.ensures.refused c.in_ok-unless_out_of_memory-in-Err.ensures.ok) in
+    let unread : IsUnreadBlock c.args.s.now c.in-Err.error = subst (λ u. IsUnreadBlock u c.in-Err.error) c.copied-reader.ensures (unread_from c.in-Err.ensures.fails c.in_ok-unless_out_of_memory-in-Err.ensures.ok) in
     all_ok c.skip.result c.skip.ensures.passed c.skip.ensures.kept c.skip.ensures.skipped (λ on kept more. unread_found _ _ _ _ unread on (ap file_of kept) more)
 
 pub returns-in_ok-unless_out_of_memory-in-Err-clause-smaller : goal.returns-in_ok-unless_out_of_memory-in-Err-clause-smaller
