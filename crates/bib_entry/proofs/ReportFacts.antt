@@ -65,7 +65,7 @@ adds_read meaning reads allowed reason is_reason place (Ok v) name old new h at 
 adds_read {V = V} meaning reads allowed reason is_reason place (Err e) name old new h at reported =
     ⊎_elim (λ no_room. absurd (reported.0 (ap (λ error. error.kind) no_room)))
     (λ refusal. subst (λ found. AppendsErrors ((name, read_or found reason place) ∷ []) old new) (sym refusal.1)
-    ((name, e) ∷ [], reported.1, ((refl, is_reason e.kind refusal.2, lies_there V place e reported.0 at), _))) h
+    ((name, e) ∷ [], reported.1, ((refl, (is_reason e.kind refusal.2, lies_there V place e reported.0 at)), _))) h
 
 -- a field as a value of a type that refuses chunks with one kind
 pub adds_field : {V : Type 0} (type : Ghosts V) (reason : Value → TypeErrorKind) → ((chunks : Value) (kind : TypeErrorKind) → type.may_refuse chunks kind → kind ≡ reason chunks)
@@ -97,10 +97,10 @@ adds_date (says date) place (Ok d) name old new h at same = adds_nothing name ol
 adds_date (says date) place (Err e) name old new h at reported = ⊎_elim (λ no_room. absurd (reported.0 (ap (λ error. error.kind) no_room))) (λ refusal. absurd refusal.2) h
 adds_date (error kind) place (Ok d) name old new h at same = absurd (none_is_some h)
 adds_date (error kind) place (Err e) name old new h at reported =
-    ⊎_elim (λ no_room. absurd (reported.0 (ap (λ error. error.kind) no_room))) (λ refusal. ((name, e) ∷ [], reported.1, ((refl, refusal.2.0, lies_there Date place e reported.0 at), _))) h
+    ⊎_elim (λ no_room. absurd (reported.0 (ap (λ error. error.kind) no_room))) (λ refusal. ((name, e) ∷ [], reported.1, ((refl, (refusal.2.0, lies_there Date place e reported.0 at)), _))) h
 adds_date not_read place (Ok d) name old new h at same = absurd (none_is_some h)
 adds_date not_read place (Err e) name old new h at reported =
-    ⊎_elim (λ no_room. absurd (reported.0 (ap (λ error. error.kind) no_room))) (λ refusal. ((name, e) ∷ [], reported.1, ((refl, refusal.2, lies_there Date place e reported.0 at), _))) h
+    ⊎_elim (λ no_room. absurd (reported.0 (ap (λ error. error.kind) no_room))) (λ refusal. ((name, e) ∷ [], reported.1, ((refl, (refusal.2, lies_there Date place e reported.0 at)), _))) h
 
 -- what is reported of six fields, or of four dates, one after the other
 pub adds_fields : (v₁ v₂ v₃ v₄ v₅ v₆ : List ℕ × Verdict) (old t₁ t₂ t₃ t₄ t₅ new : FieldErrors) → AppendsErrors (v₁ ∷ []) old t₁ → AppendsErrors (v₂ ∷ []) t₁ t₂ → AppendsErrors (v₃ ∷ []) t₂ t₃ → AppendsErrors (v₄ ∷ []) t₃ t₄ → AppendsErrors (v₅ ∷ []) t₄ t₅ → AppendsErrors (v₆ ∷ []) t₅ new
