@@ -1,7 +1,7 @@
 -- How what the program prints follows from what its parts found.
 use Rattle.std.specs.Str.{bytes_eq}
 use Rattle.std.proofs.lemmas.Slice.Eq.{bytes_eq-Decides}
-use Rattle.biblatex.specs.Syntax.{Refuses, IsFile, ParseError, OutOfMemory, out_of_memory}
+use Rattle.biblatex.specs.Syntax.{Refuses, IsFile, IsReported, ParseError, OutOfMemory, out_of_memory}
 use Rattle.std.specs.Str.{IsUtf8}
 use Rattle.biblatex.specs.Headline.{IsAcceptedText, IsErrorOf}
 use Rattle.biblatex.specs.Syntax.{Bibliography}
@@ -35,16 +35,17 @@ decides_one b word text words named tests one same =
       head_same e = cc
 
 -- an error of the text, where memory was there
-pub error_reported : {bytes text : List ℕ} {e : ParseError} → IsUtf8 bytes → Refuses bytes e (IsFile bytes → ⊥) → (e.kind ≡ OutOfMemory → ⊥) → ShowsError e text → IsKeysAnswer bytes text 1
-error_reported utf8 (inl memory) other listed = absurd (other (ap (λ x. x.kind) memory))
-error_reported utf8 (inr error_answer) other listed = no_file utf8 error_answer.0 error_answer.1 listed
+pub error_reported : {bytes text : List ℕ} {e : ParseError} → IsUtf8 bytes → Refuses bytes e (IsFile bytes → ⊥) → (e ≡ out_of_memory) ⊎ IsReported bytes e → (e.kind ≡ OutOfMemory → ⊥) → ShowsError e text → IsKeysAnswer bytes text 1
+error_reported utf8 (inl memory) reported other listed = absurd (other (ap (λ x. x.kind) memory))
+error_reported utf8 (inr error_answer) (inl memory) other listed = absurd (other (ap (λ x. x.kind) memory))
+error_reported utf8 (inr error_answer) (inr reported) other listed = no_file utf8 reported error_answer.1 listed
 
 -- the answer for an error
 pub error_answered : {E : Type 0} {bytes : List ℕ} (e : ParseError) (r : Result Answer E)
     → IfOk r (λ answer. (e.kind ≢ OutOfMemory) × ShowsError e (string_bytes answer.text) × (answer.status ≡ 1))
-    → IsUtf8 bytes → Refuses bytes e (IsFile bytes → ⊥) → IfOk r (λ answer. IsKeysAnswer bytes (string_bytes answer.text) answer.status)
-error_answered e (Ok answer) listed utf8 refused = rw listed.2 (error_reported utf8 refused listed.0 listed.1)
-error_answered e (Err x) listed utf8 refused = tt
+    → IsUtf8 bytes → Refuses bytes e (IsFile bytes → ⊥) → (e ≡ out_of_memory) ⊎ IsReported bytes e → IfOk r (λ answer. IsKeysAnswer bytes (string_bytes answer.text) answer.status)
+error_answered e (Ok answer) listed utf8 refused reported = rw listed.2 (error_reported utf8 refused reported listed.0 listed.1)
+error_answered e (Err x) listed utf8 refused reported = tt
 
 -- a text that is no bibliography, where memory was there
 pub no_bibliography : {bytes text : List ℕ} {e : ParseError} → (e ≡ out_of_memory) ⊎ (IsErrorOf bytes e × (IsAcceptedText bytes → ⊥)) → (e.kind ≡ OutOfMemory → ⊥) → ShowsError e text

@@ -6,7 +6,7 @@ use Rattle.std.specs.declared.ops.Range.{Range}
 use Rattle.std.specs.List.{flat_map}
 use Rattle.std.specs.Str.{IsUtf8}
 use Rattle.biblatex.specs.Headline.{IsAcceptedText, IsBibliographyOf, IsErrorOf}
-use Rattle.biblatex.specs.Syntax.{IsSyntaxError, error_text, IsFile, IsRawReading, FileReading, ParseError, ParseErrorKind, Entry, Bibliography, AreSettled, biblatex_entry, bibtex_entry, entries_text, TypeError, type_kind_text, missing_of, superfluous_of, AreMalformed}
+use Rattle.biblatex.specs.Syntax.{IsReported, error_text, IsFile, IsRawReading, FileReading, ParseError, ParseErrorKind, Entry, Bibliography, AreSettled, biblatex_entry, bibtex_entry, entries_text, TypeError, type_kind_text, missing_of, superfluous_of, AreMalformed}
 use Rattle.biblatex.specs.Syntax.{UnknownAbbreviation, DuplicateKey, AbbreviationCycle, ReferenceCycle}
 use Rattle.bib.specs.declared.run.Command.{Command}
 use Rattle.bib.specs.declared.run.Command.TheVariants.{Keys, Biblatex, Bibtex, Check, Settled}
@@ -49,7 +49,7 @@ key_lines says = flat_map (λ e. line e.key.text) says.entries
 -- what the command `keys` prints for these bytes, and the status
 pub data IsKeysAnswer (bytes : List ℕ) : List ℕ → ℕ → Type 0 where
   no_text : (IsUtf8 bytes → ⊥) → IsKeysAnswer bytes not_utf8 1
-  no_file : {e : ParseError} {text : List ℕ} → IsUtf8 bytes → IsSyntaxError bytes e → (IsFile bytes → ⊥) → ShowsError e text → IsKeysAnswer bytes text 1
+  no_file : {e : ParseError} {text : List ℕ} → IsUtf8 bytes → IsReported bytes e → (IsFile bytes → ⊥) → ShowsError e text → IsKeysAnswer bytes text 1
   keys : {says : FileReading} → IsUtf8 bytes → IsRawReading bytes says → IsKeysAnswer bytes (key_lines says) 0
 
 -- a text reports why these bytes are no bibliography: their error

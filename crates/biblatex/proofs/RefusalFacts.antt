@@ -19,6 +19,7 @@ use Rattle.bib_text.specs.declared.spanned.Spanned.{Spanned}
 use Rattle.bib_file_entries.specs.Bibliography.{Bibliography}
 use Rattle.bib_file_entries.specs.Loaded.{AreEntries, definition_in}
 use Rattle.bib_references.specs.Resolving.{AreDatesRead, AreResolved, Inherits, IsCycleAt, IsDateError, IsResolvingError, graph_by, has_bad_date, sources_of}
+use Rattle.bib_syntax.specs.SyntaxErrors.{IsReported}
 use Rattle.biblatex.specs.Headline.{IsAcceptedText, IsBibliographyOf, IsErrorOf}
 use Rattle.biblatex.specs.Resolved.{AreOwn, IsAccepted, IsFirstErrorOf, IsLoaded, graph_of, names_of}
 use Rattle.biblatex.proofs.ResolvedFacts.{dates_of_each, accepted_faultless}
@@ -80,9 +81,10 @@ refused_text text (Err e) reads (inl memory) = inl memory
 refused_text text (Err e) reads (inr error) = inr (IsErrorOf.first reads error.0, not_accepted text reads error.1)
 
 -- a text that the file grammar doesn't read
-pub refused_syntax : {text : List ℕ} {e : ParseError} → Refuses text e (IsFile text → ⊥) → (e ≡ out_of_memory) ⊎ (IsErrorOf text e × (IsAcceptedText text → ⊥))
-refused_syntax (inl memory) = inl memory
-refused_syntax (inr error) = inr (IsErrorOf.syntax error.0 error.1, λ accepted. error.1 (accepted.says, file_any accepted.reading))
+pub refused_syntax : {text : List ℕ} {e : ParseError} → Refuses text e (IsFile text → ⊥) → (e ≡ out_of_memory) ⊎ IsReported text e → (e ≡ out_of_memory) ⊎ (IsErrorOf text e × (IsAcceptedText text → ⊥))
+refused_syntax (inl memory) reported = inl memory
+refused_syntax (inr error) (inl memory) = inl memory
+refused_syntax (inr error) (inr reported) = inr (IsErrorOf.syntax reported error.1, λ accepted. error.1 (accepted.says, file_any accepted.reading))
 
 -- ---- a slice of all that a vector has
 

@@ -9,9 +9,9 @@ use Rattle.bib_entry.specs.declared.entry.Entry.{Entry}
 use Rattle.bib_file_entries.specs.Bibliography.{Bibliography}
 use Rattle.bib_roundtrip.specs.Mapped.{IsMapped}
 use Rattle.bib_roundtrip.specs.Settled.{AreSettled}
-use Rattle.bib_syntax.specs.Errors.{IsSyntaxError}
 use Rattle.bib_syntax.specs.Grammar.{IsFile, IsRawReading}
 use Rattle.bib_syntax.specs.Reading.{FileReading}
+use Rattle.bib_syntax.specs.SyntaxErrors.{IsReported}
 use Rattle.bib_syntax.specs.declared.raw.ParseError.{ParseError}
 use Rattle.biblatex.specs.Resolved.{IsAccepted, IsFirstErrorOf, IsLoaded}
 
@@ -28,9 +28,10 @@ pub record IsBibliographyOf (text : List ℕ) (bibliography : Bibliography) : Ty
   pub reading : IsRawReading text says
   pub loaded : IsLoaded says bibliography
 
--- the error of a text: one of the file grammar, where that doesn't read the text, else the first of what the text says
+-- the error of a text: the one that the file grammar reports, where that doesn't read the text, else the first of what the
+-- text says
 pub data IsErrorOf (text : List ℕ) (e : ParseError) : Type 0 where
-  syntax : IsSyntaxError text e → (IsFile text → ⊥) → IsErrorOf text e
+  syntax : IsReported text e → (IsFile text → ⊥) → IsErrorOf text e
   first : {says : FileReading} → IsRawReading text says → IsFirstErrorOf says e → IsErrorOf text e
 
 -- a settled bibliography: each entry is one that is read again as it was, and no two have one key

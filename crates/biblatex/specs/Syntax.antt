@@ -2,9 +2,10 @@
 -- The words of the layers below that contracts of this crate's users cite.
 pub use Rattle.bib_abbreviations.specs.Abbreviations.{Evaluates, IsFirstError, IsReadable, defined_in}
 pub use Rattle.bib_contents.specs.Contents.{IsContent}
-pub use Rattle.bib_syntax.specs.Errors.{IsSyntaxError, Refuses, error_text, out_of_memory}
+pub use Rattle.bib_syntax.specs.Errors.{Refuses, error_text, out_of_memory}
 pub use Rattle.bib_syntax.specs.Grammar.{IsFile, IsRawReading}
 pub use Rattle.bib_syntax.specs.Reading.{EntryReading, FileReading, Part}
+pub use Rattle.bib_syntax.specs.SyntaxErrors.{IsReported}
 pub use Rattle.bib_syntax.specs.Views.{entry_reading_of, file_of}
 pub use Rattle.bib_syntax.specs.declared.raw.ParseError.{ParseError}
 pub use Rattle.bib_syntax.specs.declared.raw.ParseErrorKind.{ParseErrorKind}

@@ -7,7 +7,7 @@ use Rattle.biblatex.proofs.bibliography.Bibliography.parse.Goals as goal
 pub returns-in_err-raw-clause-refused : goal.returns-in_err-raw-clause-refused
 returns-in_err-raw-clause-refused c =
     let p = err_from_is_err_and c.from_residual.result c.from_residual.ensures.1 in
-    rw (p.1, p.2) (refused_syntax c.in_err-raw.ensures.refused)
+    rw (p.1, p.2) (refused_syntax c.in_err-raw.ensures.refused c.in_err-raw.ensures.reported)
 
 pub returns-clause-loaded : goal.returns-clause-loaded
 returns-clause-loaded c = bibliography_of c.args.src.now c.from_raw.result c.in_ok-raw.ensures.read c.from_raw.ensures.loaded
