@@ -3,6 +3,7 @@
 mod checks;
 mod chunks;
 mod contents;
+mod encodings;
 mod maps;
 mod readings;
 mod scanner;

@@ -1,0 +1,3 @@
+pub mod InvalidFacts
+pub mod Rows
+pub mod TableFacts
