@@ -12,6 +12,7 @@ pub use bib_chunks::chunk::{Chunk, Chunks, ChunksRef, Span, Spanned};
 pub use bib_contents::classes::is_escapable;
 pub use bib_dates::date::{Date, DateValue, Datetime, Time, TimeOffset};
 pub use bib_dates::separators::{parse_colon, parse_hyphen};
+pub use bib_encoding::decoding::{Decoded, Encoding, decode};
 pub use bib_entry::entry::Entry;
 pub use bib_entry::report::Report;
 pub use bib_entry_types::mechanics::{AuthorMode, EntryType, PagesChapterMode, Requirements, Row};
