@@ -1,6 +1,5 @@
 -- Facts on parts of a text and on errors in it.
-use Rattle.std.specs.Prelude.{OnErr, OnOk, IfOk, IfErr}
-use Rattle.std.proofs.Common.{Result, Ok, Err, Bool, true, false, MatchBool, ◌≡◌, ℕ, ◌-◌, ◌≤◌, List, take, drop, ap, ◌∙◌, subst, arith}
+use Rattle.std.proofs.Common.{Bool, true, false, MatchBool, ◌≡◌, ℕ, ◌-◌, ◌≤◌, List, take, drop, ap, ◌∙◌, subst, arith}
 use Rattle.bib_text.specs.Places.{Place, CharAt, place, between}
 use Rattle.bib_text.proofs.PlaceFacts.{Ahead}
 use Rattle.bib_syntax.specs.Reading.{Part, part}

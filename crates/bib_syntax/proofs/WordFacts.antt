@@ -1,17 +1,17 @@
 -- Facts on names and numbers.
-use Rattle.std.proofs.Common.{List, ◌≡◌, ℕ, Bool, true, false, refl, sym, subst, MatchBool, nat_eq}
+use Rattle.std.proofs.Common.{List, ◌≡◌, ℕ, Bool, true, false, refl, sym, subst, MatchBool}
 use Rattle.std.specs.Prelude.{not, ◌||◌, ◌==◌}
 use Rattle.std.proofs.lemmas.Bool.{and_parts}
 use Rattle.std.specs.Char.{is_ascii_digit}
 use Rattle.bib_text.specs.Places.{Place, CharAt, Longest}
-use Rattle.bib_text.proofs.PlaceFacts.{same_char, char_clash, pass_clash, longest_rest, longest_same, stops_without, test_clash, Ahead, ahead_then, ahead_char, ahead_run}
+use Rattle.bib_text.proofs.PlaceFacts.{same_char, pass_clash, longest_rest, longest_same, stops_without, test_clash, Ahead, ahead_then, ahead_char, ahead_run}
 use Rattle.std.specs.Borrow.{Bor}
 use Rattle.bib_text.specs.declared.spanned.Spanned.{Spanned}
 use Rattle.bib_syntax.specs.declared.raw.RawChunk.{RawChunk}
 use Rattle.bib_syntax.specs.declared.raw.RawChunk.TheVariants.{Normal, Abbreviation}
 use Rattle.bib_syntax.specs.Views.{part_of, piece_of}
 use Rattle.bib_syntax.specs.Characters.{is_id_start, is_id_continue}
-use Rattle.bib_syntax.specs.Reading.{Part, part, Piece}
+use Rattle.bib_syntax.specs.Reading.{Part, part}
 use Rattle.bib_syntax.specs.Reading.Piece.{literal}
 use Rattle.bib_syntax.specs.Grammar.{Identifier, Number, Braced, Quoted, Element, NoDigit, longest}
 use Rattle.bib_syntax.specs.Grammar.Element.{number, named, braced, quoted}

@@ -1,18 +1,21 @@
 //! The grammar of bibliography files.
 //!
 //! `raw` reads in one pass and never backs up. Each function has two clauses: `found` (Ok: the rule stands between the
-//! place before and the place after, with this reading) and `none` or `refused` (Err: the rule stands nowhere from
-//! here). `words` has names, keys, numbers and texts in braces and quotes; `fields` has comments, elements and fields;
-//! `file` has blocks and the file. Nested braces are counted, not recursed on, so that reading is linear in the text,
-//! in the depth of braces too.
+//! place before and the place after, with this reading) and `fails` (Err: the rule fails here, with this error).
+//! `words` has names, keys, numbers and texts in braces and quotes; `fields` has comments, elements and fields; `file`
+//! has blocks and the file. Nested braces are counted, not recursed on, so that reading is linear in the text, in the
+//! depth of braces too.
+//!
+//! Beside the grammar stands how each of its rules fails, with which error and where (specs/SyntaxErrors.antt). That a
+//! rule that fails isn't read, and fails in one way, is proved of the definitions alone.
 //!
 //! The grammar is written once and taken in two modes: with runs of characters that may end anywhere (the file grammar,
 //! by which a text is accepted or not), and with the longest runs (the raw reading, by which each part has one place).
 //! Three rules say in the longest mode what may not follow: a point after a number, `#` after the last element, `%`
 //! after white space in a gap. A line comment ends at the line feed or the end of the text, which is the longest run of
 //! other characters. A block answers what it says, and one function adds that to what the blocks before said, so that
-//! no rule of the grammar speaks of the list that is filled. The proofs of the loops keep a record of two directions:
-//! what stands from here stands from the start, and back.
+//! no rule of the grammar speaks of the list that is filled. The proofs of the loops keep a record of two facts: what
+//! stands from here stands from the start, and what fails from here fails from the start.
 #![tactic(auto)]
 
 pub mod laws;

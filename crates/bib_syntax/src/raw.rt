@@ -41,7 +41,8 @@ impl<'s> RawBibliography<'s> {
     /// Reads a bibliography file.
     ///
     /// A text that the file grammar doesn't read is refused with an error of kind `UnexpectedEof`, `Unexpected` or
-    /// `Expected`, whose span is in bytes of the text.
+    /// `Expected`, whose span is empty and in bytes of the text. It is the one error of the text that the rules of
+    /// specs/SyntaxErrors.antt give.
     pub fn parse(alloc: Global, src: &'s str) -> Result<Self, ParseError>
         ensures read { IfOk result (λ raw. IsRawReading src.now (file_of raw)) }
         ensures accepted { OnOk result (IsFile src.now) }
