@@ -1,6 +1,7 @@
 //! Laws of the file grammar. These functions do nothing: what they ensure is proved of the definitions alone.
 
 ghost use Rattle.std.specs.Prelude.{◌≡◌, ◌↔◌, ℕ, List};
+ghost use Rattle.bib_syntax.specs.Errors.{IsSyntaxError};
 ghost use Rattle.bib_syntax.specs.Grammar.{IsFile, IsRawReading};
 ghost use Rattle.bib_syntax.specs.Reading.{FileReading};
 ghost use Rattle.bib_syntax.specs.Slices.{ReadingStandsIn};
@@ -27,6 +28,11 @@ pub fn one_error()
 /// A text of which an error is reported isn't one that the file grammar reads.
 pub fn error_or_reading()
     ensures { (text : List ℕ) (e : ParseError) → IsReported text e → IsFile text → ⊥ }
+{}
+
+/// The error that is reported of a text is one of the grammar, and lies in the text.
+pub fn errors_stand()
+    ensures { (text : List ℕ) (e : ParseError) → IsReported text e → IsSyntaxError text e }
 {}
 
 /// Each key, kind, field name and element of a raw reading is the text between its ends.
