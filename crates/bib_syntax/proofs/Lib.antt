@@ -1,5 +1,6 @@
 pub mod BraceFacts
 pub mod ErrorFacts
+pub mod ErrorPlaceFacts
 pub mod FailureFacts
 pub mod FieldFacts
 pub mod FileFacts

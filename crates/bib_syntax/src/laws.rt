@@ -3,6 +3,7 @@
 ghost use Rattle.std.specs.Prelude.{◌≡◌, ◌↔◌, ◌⊎◌, ℕ, List, []};
 ghost use Rattle.std.specs.List.{AllByRecursion, Contains};
 ghost use Rattle.bib_text.specs.Places.{place};
+ghost use Rattle.bib_syntax.specs.Errors.{IsSyntaxError};
 ghost use Rattle.bib_syntax.specs.Grammar.{IsFile, IsRawReading};
 ghost use Rattle.bib_syntax.specs.Reading.{EntryReading, FileReading};
 ghost use Rattle.bib_syntax.specs.Recovery.{IsBlockOf, IsPassedOver, IsRecovery, LiesInside};
@@ -31,6 +32,11 @@ pub fn one_error()
 /// A text of which an error is reported isn't one that the file grammar reads.
 pub fn error_or_reading()
     ensures { (text : List ℕ) (e : ParseError) → IsReported text e → IsFile text → ⊥ }
+{}
+
+/// The error that is reported of a text is one of the grammar, and lies in the text.
+pub fn errors_stand()
+    ensures { (text : List ℕ) (e : ParseError) → IsReported text e → IsSyntaxError text e }
 {}
 
 /// Each key, kind, field name and element of a raw reading is the text between its ends.
