@@ -1,0 +1,95 @@
+#!/usr/bin/env python3
+"""Measures what reading costs where not each block can be read.
+
+    bench/recover.py [--program PROGRAM] [--rounds N]
+
+PROGRAM reads standard input by `RawBibliography::parse` or `recover`, and prints how many entries it read and how many blocks it
+passed over; without one it is proved and built from bench/recover/, which takes some minutes. Prints, on one core: for a file
+without errors the time of `recover` over that of `parse`, the least of the rounds; and for files with errors how long it takes and
+how that grows with the file, as a power.
+"""
+import argparse
+import importlib.util
+import math
+import os
+import pathlib
+import random
+import resource
+import shutil
+import subprocess
+import sys
+import tempfile
+import time
+
+TOP = pathlib.Path(__file__).resolve().parent.parent
+
+
+def generated(count):
+    """A file without errors, as bench/compare.py makes them."""
+    spec = importlib.util.spec_from_file_location("compare", TOP / "bench" / "compare.py")
+    compare = importlib.util.module_from_spec(spec)
+    spec.loader.exec_module(compare)
+    chance = random.Random(1)
+    return "".join(compare.entry(chance, number) for number in range(count)).encode()
+
+
+def built(folder):
+    """Proves and builds the program in a crate that is there for so long."""
+    program = os.path.join(folder, "recover")
+    with tempfile.TemporaryDirectory(dir=TOP / "bench", prefix="recover-") as crate:
+        work = pathlib.Path(crate)
+        (work / "src").mkdir()
+        shutil.copy(TOP / "bench" / "recover" / "main.rt.txt", work / "src" / "main.rt")
+        (work / "BUILD.bazel").write_text('rattle_crate(name = "recover", deps = ["//crates/bib_syntax"])\n')
+        done = subprocess.run(["rt", "run", "--", "parse"], cwd=work, stdin=subprocess.DEVNULL, stdout=subprocess.PIPE,
+                              stderr=subprocess.STDOUT, text=True)
+        if done.returncode:
+            sys.exit("\n".join(done.stdout.splitlines()[-20:]) + "\nrecover: the program was not built")
+        shutil.copy(work / "out" / "recover", program)
+    return program
+
+
+def seconds(program, word, text):
+    """The processor time of a run, and what it printed."""
+    before = resource.getrusage(resource.RUSAGE_CHILDREN)
+    done = subprocess.run([program, word], input=text, stdout=subprocess.PIPE, timeout=600)
+    after = resource.getrusage(resource.RUSAGE_CHILDREN)
+    return after.ru_utime + after.ru_stime - before.ru_utime - before.ru_stime, done.stdout.decode().strip()
+
+
+def least(program, word, text, rounds):
+    return min(seconds(program, word, text)[0] for _ in range(rounds))
+
+
+ROWS = [
+    ("each tenth entry without its comma", lambda n: b"".join(
+        b"@misc{k%d%s title={Some title}, year=1999}\n" % (i, b"" if i % 10 == 0 else b",") for i in range(n)), 20_000),
+    ("each block in error", lambda n: b"@misc{k title={x}}\n" * n, 50_000),
+    ("at signs alone", lambda n: b"@\n" * n, 100_000),
+    ("heads whose braces never close", lambda n: b"@misc{k, t={\n" * n, 2_000),
+    ("comments that never close", lambda n: b"@comment{x\n" * n, 2_000),
+    ("quotes and braces in turn", lambda n: b"@misc{k, t=\"{\n@misc{k, t={\"\n" * n, 2_000),
+    ("braces that close before an error", lambda n: b"@misc{k, t={\n" * n + b"} x\n" * n, 2_000),
+]
+
+
+def main():
+    parser = argparse.ArgumentParser(description=__doc__, formatter_class=argparse.RawDescriptionHelpFormatter)
+    parser.add_argument("--program")
+    parser.add_argument("--rounds", type=int, default=9)
+    given = parser.parse_args()
+    os.sched_setaffinity(0, {min(os.sched_getaffinity(0))})
+    with tempfile.TemporaryDirectory() as folder:
+        program = given.program or built(folder)
+        text = generated(10_000)
+        parse, recover = (least(program, word, text, given.rounds) for word in ("parse", "recover"))
+        print(f"10,000 entries without errors: recover {recover / parse:.2f} of parse ({recover:.3f} s)")
+        for name, made, count in ROWS:
+            once, said = seconds(program, "recover", made(count))
+            twice, _ = seconds(program, "recover", made(2 * count))
+            power = math.log2(max(twice, 1e-3) / max(once, 1e-3))
+            print(f"{name}, {count:,}: {once:.3f} s, twice as many {twice:.3f} s, power {power:.2f}; read and passed over: {said}")
+
+
+if __name__ == "__main__":
+    main()
