@@ -4,17 +4,9 @@ use Rattle.bib_text.specs.Places.{Place, CharAt, Run, Stops, AtEnd}
 use Rattle.bib_text.specs.Places.Run.{stop, step}
 use Rattle.bib_text.specs.Braces.{Parts, is_plain}
 use Rattle.bib_text.specs.Braces.Parts.{none, plain, hidden, nested}
+use Rattle.bib_syntax.specs.OpenBraces.{ClosesOpen, SameBraced}
+use Rattle.bib_syntax.specs.OpenBraces.ClosesOpen.{last, level}
 use Rattle.bib_text.proofs.PlaceFacts.{same_char, char_clash, pass_clash, no_char_at_end}
-
--- from u, parts and a closing brace for each brace that is open, and then parts up to v
-pub data Closes : ℕ → Place → Place → Type 0 where
-  last : {u v : Place} → Parts u v → Closes zero u v
-  level : {n : ℕ} {u v w x : Place} → Parts u v → CharAt v 125 w → Closes n w x → Closes (suc n) u x
-
--- what closes n braces from u closes m braces from v, up to the closing brace of the whole, and the other way round
-pub record SameBraced (n : ℕ) (u : Place) (m : ℕ) (v : Place) : Type 0 where
-  pub there : (x y : Place) → Closes m v x → CharAt x 125 y → Closes n u x
-  pub back : (x y : Place) → Closes n u x → CharAt x 125 y → Closes m v x
 
 pub same_braced : (n : ℕ) (u : Place) → SameBraced n u n u
 same_braced n u = record { there = λ x y p c. p; back = λ x y p c. p }
@@ -26,7 +18,7 @@ braced_then first second = record {
 }
 
 -- a change of the first parts changes the whole alike
-closes_map : {n : ℕ} {u v x y : Place} → ((a b : Place) → Parts u a → CharAt a 125 b → Parts v a) → Closes n u x → CharAt x 125 y → Closes n v x
+closes_map : {n : ℕ} {u v x y : Place} → ((a b : Place) → Parts u a → CharAt a 125 b → Parts v a) → ClosesOpen n u x → CharAt x 125 y → ClosesOpen n v x
 closes_map change (last parts) brace = last (change _ _ parts brace)
 closes_map change (level parts close rest) brace = level (change _ _ parts close) close rest
 
@@ -51,7 +43,7 @@ braced_run n run = record {
   back = λ x y p c. closes_map (λ a b parts close. run_back run parts close) p c;
 }
 
-opened_there : {n : ℕ} {u v w x y : Place} → CharAt u 123 v → Parts v w → CharAt w 125 x → Closes n x y → Closes n u y
+opened_there : {n : ℕ} {u v w x y : Place} → CharAt u 123 v → Parts v w → CharAt w 125 x → ClosesOpen n x y → ClosesOpen n u y
 opened_there brace inner close (last parts) = last (nested brace inner close parts)
 opened_there brace inner close (level parts close' rest) = level (nested brace inner close parts) close' rest
 
@@ -70,11 +62,11 @@ opened_parts brace (hidden slash any parts) closing = absurd (char_clash brace s
 opened_parts {u} {v} {x} brace (nested {w = w} {x = b} brace' inner close rest) closing =
     record { inner_end = w; following = b; inner = subst (λ p. Parts p w) (same_char brace' brace).1 inner; close = close; rest = rest }
 
-opened_back : {n : ℕ} {u v x y : Place} → CharAt u 123 v → Closes n u x → CharAt x 125 y → Closes (suc n) v x
+opened_back : {n : ℕ} {u v x y : Place} → CharAt u 123 v → ClosesOpen n u x → CharAt x 125 y → ClosesOpen (suc n) v x
 opened_back brace (last parts) closing = let o = opened_parts brace parts closing in level o.inner o.close (last o.rest)
 opened_back brace (level parts close' rest) closing = let o = opened_parts brace parts close' in level o.inner o.close (level o.rest close' rest)
 
-closes_suc : {n : ℕ} {u v x : Place} → CharAt u 123 v → Closes (suc n) v x → Closes n u x
+closes_suc : {n : ℕ} {u v x : Place} → CharAt u 123 v → ClosesOpen (suc n) v x → ClosesOpen n u x
 closes_suc brace (level parts close rest) = opened_there brace parts close rest
 
 -- over a brace that opens
@@ -88,10 +80,10 @@ no_parts close (plain char passes parts) = absurd (pass_clash is_plain char pass
 no_parts close (hidden slash any parts) = absurd (char_clash close slash refl)
 no_parts close (nested brace inner close' rest) = absurd (char_clash close brace refl)
 
-closed_back : {n : ℕ} {u v x : Place} → CharAt u 125 v → Closes (suc n) u x → Closes n v x
+closed_back : {n : ℕ} {u v x : Place} → CharAt u 125 v → ClosesOpen (suc n) u x → ClosesOpen n v x
 closed_back {n} {u} {v} {x} close (level {w = w} parts close' rest) =
     let moved : CharAt u 125 w = subst (λ p. CharAt p 125 w) (sym (no_parts close parts)) close' in
-    subst (λ p. Closes n p x) (same_char moved close).1 rest
+    subst (λ p. ClosesOpen n p x) (same_char moved close).1 rest
 
 -- over a brace that closes
 pub braced_close : {u v : Place} (n : ℕ) → CharAt u 125 v → SameBraced (suc n) u n v
@@ -104,7 +96,7 @@ parts_end end (plain char passes parts) = absurd (no_char_at_end end char)
 parts_end end (hidden slash any parts) = absurd (no_char_at_end end slash)
 parts_end end (nested brace inner close rest) = absurd (no_char_at_end end brace)
 
-closes_end : {n : ℕ} {u x y : Place} → AtEnd u → Closes n u x → CharAt x 125 y → ⊥
+pub closes_end : {n : ℕ} {u x y : Place} → AtEnd u → ClosesOpen n u x → CharAt x 125 y → ⊥
 closes_end {n} {u} {x} {y} end (last parts) closing = no_char_at_end end (subst (λ p. CharAt p 125 y) (sym (parts_end end parts)) closing)
 closes_end {n} {u} {x} {y} end (level {w = w} parts close rest) closing = no_char_at_end end (subst (λ p. CharAt p 125 w) (sym (parts_end end parts)) close)
 
@@ -122,14 +114,14 @@ hidden_end slash end (plain char passes parts) brace = pass_clash is_plain char 
 hidden_end slash end (hidden {w = w'} {c = c'} slash' char' parts) brace = no_char_at_end end (subst (λ p. CharAt p c' w') (same_char slash' slash).1 char')
 hidden_end slash end (nested open' inner close rest) brace = char_clash slash open' refl
 
-closes_hidden_end : {n : ℕ} {u v x y : Place} → CharAt u 92 v → AtEnd v → Closes n u x → CharAt x 125 y → ⊥
+closes_hidden_end : {n : ℕ} {u v x y : Place} → CharAt u 92 v → AtEnd v → ClosesOpen n u x → CharAt x 125 y → ⊥
 closes_hidden_end slash end (last parts) brace = hidden_end slash end parts brace
 closes_hidden_end slash end (level parts close rest) brace = hidden_end slash end parts close
 
 -- over a backslash and the character after it, if one stands there
 pub braced_hidden : {u v w : Place} (n : ℕ) (taken : Option ℕ) → CharAt u 92 v → MatchOption taken (AtEnd v × (w ≡ v)) (λ c. CharAt v c w) → SameBraced n u n w
 braced_hidden {u} {v} {w} n None slash ended = record {
-  there = λ x y p c. absurd (closes_end ended.0 (subst (λ q. Closes n q x) ended.1 p) c);
+  there = λ x y p c. absurd (closes_end ended.0 (subst (λ q. ClosesOpen n q x) ended.1 p) c);
   back = λ x y p c. absurd (closes_hidden_end slash ended.0 p c);
 }
 braced_hidden n (Some c) slash char = record {
@@ -144,17 +136,17 @@ parts_stuck stops brace close slash (hidden char any parts) closing = slash _ ch
 parts_stuck stops brace close slash (nested char inner end rest) closing = brace _ char
 
 -- nothing is closed where neither a plain character nor a brace nor a backslash stands
-pub braced_stuck : {n : ℕ} {u x y : Place} → Stops is_plain u → ((v : Place) → CharAt u 123 v → ⊥) → ((v : Place) → CharAt u 125 v → ⊥) → ((v : Place) → CharAt u 92 v → ⊥) → Closes n u x → CharAt x 125 y → ⊥
+pub braced_stuck : {n : ℕ} {u x y : Place} → Stops is_plain u → ((v : Place) → CharAt u 123 v → ⊥) → ((v : Place) → CharAt u 125 v → ⊥) → ((v : Place) → CharAt u 92 v → ⊥) → ClosesOpen n u x → CharAt x 125 y → ⊥
 braced_stuck stops brace close slash (last parts) closing = parts_stuck stops brace close slash parts closing
 braced_stuck stops brace close slash (level parts end rest) closing = parts_stuck stops brace close slash parts end
 
-closes_zero : {u x : Place} → Closes zero u x → Parts u x
+closes_zero : {u x : Place} → ClosesOpen zero u x → Parts u x
 closes_zero (last parts) = parts
 
 -- what closes no brace is the parts themselves
 pub found_parts : {u v w : Place} {n : ℕ} → SameBraced zero u n v → n ≡ 0 → CharAt v 125 w → Parts u v
 found_parts {u} {v} {w} {n} same none_open close =
-    closes_zero (same.there v w (subst (λ k. Closes k v v) (sym none_open) (last none)) close)
+    closes_zero (same.there v w (subst (λ k. ClosesOpen k v v) (sym none_open) (last none)) close)
 
 pub braced_same : {n m : ℕ} {u v w : Place} → SameBraced n u m v → w ≡ v → SameBraced n u m w
 braced_same {n} {m} {u} {v} {w} all same = subst (λ p. SameBraced n u m p) (sym same) all

@@ -1,4 +1,5 @@
 pub mod BraceFacts
+pub mod ClosingFacts
 pub mod ErrorFacts
 pub mod ErrorPlaceFacts
 pub mod FailureFacts

@@ -1,8 +1,10 @@
 pub mod Blocks
 pub mod Characters
+pub mod Closings
 pub mod Errors
 pub mod Grammar
 pub mod Views
+pub mod OpenBraces
 pub mod Reading
 pub mod Recovering
 pub mod Recovery

@@ -9,8 +9,10 @@ ghost use Rattle.bib_syntax.specs.SyntaxErrors.{IsReported};
 ghost use Rattle.bib_syntax.specs.Views.{file_of};
 ghost use Rattle.bib_syntax.specs.declared.raw.ParseErrorKind.TheVariants.{OutOfMemory};
 
+mod closings;
 mod fields;
 mod file;
+mod reader;
 mod recovery;
 mod words;
 
@@ -20,6 +22,7 @@ use bib_text::spanned::{Span, Spanned};
 use bib_text::text::Text;
 use file::blocks;
 pub use file::is_word;
+use reader::Reader;
 use recovery::recovered;
 pub use recovery::{RawRecovery, SkippedBlock};
 use std::alloc::{AllocError, AllocFailed, Global};
@@ -62,7 +65,7 @@ impl<'s> RawBibliography<'s> {
     pub fn recover(alloc: Global, src: &'s str) -> Result<RawRecovery<'s>, AllocError>
         ensures { IfOk result (λ found. IsRecovery src.now (file_of found.raw) found.skipped.items) }
     {
-        recovered(&mut Scanner::new(src), alloc)
+        recovered(alloc, src)
     }
 }
 
@@ -93,13 +96,13 @@ impl<'s> BiblatexParser<'s> {
     }
 
     /// Reads the text, as `RawBibliography::parse` does.
-    pub fn parse(mut self, alloc: Global) -> Result<RawBibliography<'s>, ParseError>
+    pub fn parse(self, alloc: Global) -> Result<RawBibliography<'s>, ParseError>
         ensures read { IfOk result (λ raw. IsRawReading self.entry (file_of raw)) }
         ensures accepted { OnOk result (IsFile self.entry) }
         ensures refused { IfErr result (λ e. Refuses self.entry e (IsFile self.entry → ⊥)) }
         ensures reported { IfErr result (λ e. (e ≡ out_of_memory) ⊎ IsReported self.entry e) }
     {
-        Ok(blocks(&mut self.scanner, alloc)?)
+        Ok(blocks(&mut Reader::new(self.scanner), alloc)?)
     }
 }
 

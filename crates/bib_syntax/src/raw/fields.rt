@@ -10,14 +10,14 @@ ghost use Rattle.bib_syntax.specs.Reading.{Piece, FieldReading};
 ghost use Rattle.bib_syntax.specs.SyntaxErrors.{ElementsFails, FieldFails, FieldsFails, Reports};
 ghost use Rattle.bib_syntax.specs.Views.{piece_of, field_of};
 
+use crate::raw::reader::Reader;
 use crate::raw::words::{begins_identifier, element, error, expect, identifier};
 use crate::raw::{Field, Pair, ParseError, ParseErrorKind, Token};
-use bib_text::scanner::Scanner;
 use bib_text::spanned::Spanned;
 use std::alloc::Global;
 
 // A percent sign and the rest of its line.
-pub(crate) fn line_comment(s: &mut Scanner<'_>)
+pub(crate) fn line_comment(s: &mut Reader<'_, '_>)
     requires { (v : Place) × CharAt s.old 37 v }
     ensures { LineComment s.old s.new }
 {
@@ -26,7 +26,7 @@ pub(crate) fn line_comment(s: &mut Scanner<'_>)
 }
 
 // White space, in which one comment may stand.
-pub(crate) fn gap(s: &mut Scanner<'_>)
+pub(crate) fn gap(s: &mut Reader<'_, '_>)
     ensures { Gap longest s.old s.new }
 {
     s.eat_whitespace();
@@ -37,7 +37,7 @@ pub(crate) fn gap(s: &mut Scanner<'_>)
 }
 
 // The elements of a value, joined by `#`.
-fn elements<'s>(s: &mut Scanner<'s>, alloc: Global) -> Result<Field<'s>, ParseError>
+fn elements<'s>(s: &mut Reader<'s, '_>, alloc: Global) -> Result<Field<'s>, ParseError>
     ensures found { IfOk result (λ pieces. Elements longest s.old
         (map piece_of pieces.items) s.new) }
     ensures fails { IfErr result (λ e. Refuses s.old.text e (Reports (ElementsFails s.old) e)) }
@@ -55,7 +55,7 @@ fn elements<'s>(s: &mut Scanner<'s>, alloc: Global) -> Result<Field<'s>, ParseEr
 }
 
 // A field: a name, an equals sign and a value.
-fn field<'s>(s: &mut Scanner<'s>, alloc: Global) -> Result<Pair<'s>, ParseError>
+fn field<'s>(s: &mut Reader<'s, '_>, alloc: Global) -> Result<Pair<'s>, ParseError>
     requires { (c : ℕ) × (v : Place) × CharAt s.old c v × (is_id_start c ≡ true) }
     ensures found { IfOk result (λ pair. Field longest s.old (field_of pair) s.new) }
     ensures fails { IfErr result (λ e. Refuses s.old.text e (Reports (FieldFails s.old) e)) }
@@ -70,7 +70,7 @@ fn field<'s>(s: &mut Scanner<'s>, alloc: Global) -> Result<Pair<'s>, ParseError>
 }
 
 // The brace after fields, with white space before it, where no name stands.
-fn closed(s: &mut Scanner<'_>) -> Result<(), ParseError>
+fn closed(s: &mut Reader<'_, '_>) -> Result<(), ParseError>
     requires { Stops is_id_start s.old }
     ensures found { OnOk result (Longest is_whitespace s.old s.new ×
         ((v : Place) × CharAt s.new 125 v)) }
@@ -88,7 +88,7 @@ fn closed(s: &mut Scanner<'_>) -> Result<(), ParseError>
 }
 
 // Fields up to the brace that closes their block.
-pub(crate) fn fields<'s>(s: &mut Scanner<'s>, alloc: Global) -> Result<Vec<Pair<'s>>, ParseError>
+pub(crate) fn fields<'s>(s: &mut Reader<'s, '_>, alloc: Global) -> Result<Vec<Pair<'s>>, ParseError>
     ensures found { IfOk result (λ pairs. Fields longest s.old (map field_of pairs.items) s.new) }
     ensures closed { OnOk result ((v : Place) × CharAt s.new 125 v) }
     ensures fails { IfErr result (λ e. Refuses s.old.text e (Reports (FieldsFails s.old) e)) }

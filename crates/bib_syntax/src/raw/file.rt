@@ -12,9 +12,9 @@ ghost use Rattle.bib_syntax.specs.SyntaxErrors.{HeadFails, BodyFails, BlockFails
 ghost use Rattle.bib_syntax.specs.Views.{part_of, file_of};
 
 use crate::raw::fields::{fields, gap, line_comment};
+use crate::raw::reader::Reader;
 use crate::raw::words::{brace, expect, identifier, key, quoted};
 use crate::raw::{Pair, ParseError, RawBibliography, RawEntry, Token};
-use bib_text::scanner::Scanner;
 use bib_text::spanned::Spanned;
 use std::alloc::{AllocError, Global};
 
@@ -57,7 +57,7 @@ pub(crate) enum Item<'s> {
 }
 
 // The head of a block after its at sign: its name and a brace.
-fn head<'s>(s: &mut Scanner<'s>) -> Result<Spanned<&'s str>, ParseError>
+fn head<'s>(s: &mut Reader<'s, '_>) -> Result<Spanned<&'s str>, ParseError>
     requires { (v : Place) × CharAt s.old 64 v }
     ensures found { IfOk result (λ kind. Head longest s.old (part_of kind) s.new) }
     ensures fails { IfErr result (Reports (HeadFails s.old)) }
@@ -72,7 +72,7 @@ fn head<'s>(s: &mut Scanner<'s>) -> Result<Spanned<&'s str>, ParseError>
 }
 
 // A comment, up to its first closing brace.
-fn comment(s: &mut Scanner<'_>) -> Result<(), ParseError>
+fn comment(s: &mut Reader<'_, '_>) -> Result<(), ParseError>
     ensures found { OnOk result ((u : Place) (p : Part) →
         Body longest u p ABlock.comment s.old empty_reading s.new) }
     ensures fails { IfErr result (Reports (BodyFails ABlock.comment s.old)) }
@@ -84,7 +84,7 @@ fn comment(s: &mut Scanner<'_>) -> Result<(), ParseError>
 }
 
 // A preamble: one quoted text, of which the quotes are a part.
-fn preamble<'s>(s: &mut Scanner<'s>) -> Result<&'s str, ParseError>
+fn preamble<'s>(s: &mut Reader<'s, '_>) -> Result<&'s str, ParseError>
     ensures found { IfOk result (λ text. (u : Place) (p : Part) →
         Body longest u p ABlock.preamble s.old (item_of (Item.Preamble text)) s.new) }
     ensures fails { IfErr result (Reports (BodyFails ABlock.preamble s.old)) }
@@ -99,7 +99,7 @@ fn preamble<'s>(s: &mut Scanner<'s>) -> Result<&'s str, ParseError>
 }
 
 // Definitions of abbreviations.
-fn strings<'s>(s: &mut Scanner<'s>, alloc: Global) -> Result<Vec<Pair<'s>>, ParseError>
+fn strings<'s>(s: &mut Reader<'s, '_>, alloc: Global) -> Result<Vec<Pair<'s>>, ParseError>
     ensures found { IfOk result (λ pairs. (u : Place) (p : Part) →
         Body longest u p ABlock.strings s.old (item_of (Item.Strings pairs)) s.new) }
     ensures fails { IfErr result (λ e. Refuses s.old.text e
@@ -112,7 +112,7 @@ fn strings<'s>(s: &mut Scanner<'s>, alloc: Global) -> Result<Vec<Pair<'s>>, Pars
 
 // The key of an entry and the comma after it, and its fields. The entry began at `start`.
 fn entry<'s>(
-    s: &mut Scanner<'s>,
+    s: &mut Reader<'s, '_>,
     alloc: Global,
     kind: Spanned<&'s str>,
     start: usize,
@@ -133,7 +133,7 @@ fn entry<'s>(
 }
 
 // A block: a comment, a preamble, a list of abbreviations or an entry.
-pub(crate) fn block<'s>(s: &mut Scanner<'s>, alloc: Global) -> Result<Item<'s>, ParseError>
+pub(crate) fn block<'s>(s: &mut Reader<'s, '_>, alloc: Global) -> Result<Item<'s>, ParseError>
     requires { (v : Place) × CharAt s.old 64 v }
     ensures found { IfOk result (λ item. Block longest s.old (item_of item) s.new) }
     ensures fails { IfErr result (λ e. Refuses s.old.text e (Reports (BlockFails s.old) e)) }
@@ -178,7 +178,7 @@ pub(crate) fn is_skipped(c: char) -> bool
 
 // The blocks of a file, up to its end.
 pub(crate) fn blocks<'s>(
-    s: &mut Scanner<'s>,
+    s: &mut Reader<'s, '_>,
     alloc: Global,
 ) -> Result<RawBibliography<'s>, ParseError>
     ensures found { IfOk result (λ raw. File longest s.old (file_of raw)) }

@@ -1,14 +1,16 @@
 //! What is read of a file of which not each block can be read.
 
 ghost use Rattle.std.specs.Prelude.{◌≡◌, ◌⊎◌, ◌<◌, ◌-◌, ◌==◌, ◌++◌, [], ◌∷◌, not, true, false, length, take, MatchBool, IfOk, OnOk};
-ghost use Rattle.bib_text.specs.Places.{Place, CharAt, AtEnd};
+ghost use Rattle.bib_text.specs.Places.{Place, CharAt, AtEnd, place};
 ghost use Rattle.bib_syntax.specs.Recovery as Spec;
 ghost use Rattle.bib_syntax.specs.Recovering.{RecoveredTo};
 ghost use Rattle.bib_syntax.specs.Recovery.{Recovered, GoesOnAt, skipped_block};
 ghost use Rattle.bib_syntax.specs.Views.{file_of};
 
+use crate::raw::closings::closings;
 use crate::raw::fields::line_comment;
 use crate::raw::file::{add, block, is_skipped};
+use crate::raw::reader::Reader;
 use crate::raw::{ParseError, RawBibliography};
 use bib_text::scanner::Scanner;
 use bib_text::spanned::Span;
@@ -43,7 +45,7 @@ fn ends_blank(before: &str) -> bool
 }
 
 // Whether the text ends here, or a line begins, white space aside.
-fn begins_line(s: &Scanner<'_>) -> bool
+fn begins_line(s: &Reader<'_, '_>) -> bool
     ensures { MatchBool result
         (AtEnd s.now ⊎ (Spec.ends_blank (take s.now.at s.now.text) ≡ true))
         ((AtEnd s.now → ⊥) × (Spec.ends_blank (take s.now.at s.now.text) ≡ false)) }
@@ -62,7 +64,7 @@ fn is_other(c: char) -> bool
 }
 
 // Goes on to the next at sign that begins a line, or to the end of the text.
-fn go_on(s: &mut Scanner<'_>)
+fn go_on(s: &mut Reader<'_, '_>)
     ensures { GoesOnAt s.old s.new }
 {
     'search: loop {
@@ -76,7 +78,7 @@ fn go_on(s: &mut Scanner<'_>)
 
 impl<'s> RawRecovery<'s> {
     // Passes over the block at this at sign, and keeps its error.
-    fn skip(&mut self, s: &mut Scanner<'s>, error: ParseError) -> Result<(), AllocError>
+    fn skip(&mut self, s: &mut Reader<'s, '_>, error: ParseError) -> Result<(), AllocError>
         requires { (v : Place) × CharAt s.old 64 v }
         ensures passed { OnOk result ((v : Place) × CharAt s.old 64 v × GoesOnAt v s.new) }
         ensures kept { OnOk result (self.new.raw ≡ self.old.raw) }
@@ -92,11 +94,12 @@ impl<'s> RawRecovery<'s> {
     }
 
     // Reads the block at this at sign, or passes over it.
-    fn add_block(&mut self, s: &mut Scanner<'s>, alloc: Global) -> Result<(), AllocError>
+    fn add_block(&mut self, s: &mut Reader<'s, '_>, alloc: Global) -> Result<(), AllocError>
         requires { (v : Place) × CharAt s.old 64 v }
         ensures found { OnOk result ((start : Place) →
             RecoveredTo start (file_of self.old.raw) self.old.skipped.items s.old →
             RecoveredTo start (file_of self.new.raw) self.new.skipped.items s.new) }
+        ensures same { OnOk result (s.new.text ≡ s.old.text) }
         ensures smaller { OnOk result (length s.new.text - s.new.at < length s.old.text - s.old.at) }
     {
         let mut reader = s.copied();
@@ -113,12 +116,40 @@ impl<'s> RawRecovery<'s> {
     }
 }
 
-// The blocks of a file, up to its end, and what is passed over among them.
-pub(crate) fn recovered<'s>(
-    s: &mut Scanner<'s>,
-    alloc: Global,
-) -> Result<RawRecovery<'s>, AllocError>
-    ensures { IfOk result (λ found. Recovered s.old (file_of found.raw) found.skipped.items) }
+impl<'s> RawRecovery<'s> {
+    // Reads the blocks of a file: up to its end, or to what stands after the first one that is passed over.
+    fn add_blocks(
+        &mut self,
+        s: &mut Reader<'s, '_>,
+        alloc: Global,
+        to_the_end: bool,
+    ) -> Result<(), AllocError>
+        ensures found { OnOk result ((start : Place) →
+            RecoveredTo start (file_of self.old.raw) self.old.skipped.items s.old →
+            RecoveredTo start (file_of self.new.raw) self.new.skipped.items s.new) }
+        ensures same { OnOk result (s.new.text ≡ s.old.text) }
+        ensures end { OnOk result (to_the_end ≡ true → AtEnd s.new) }
+    {
+        'file: while let Some(c) = s.peek() {
+            if c == '@' {
+                self.add_block(s, alloc)?;
+                if !to_the_end && !self.skipped.is_empty() {
+                    return Ok(());
+                }
+            } else if c == '%' {
+                line_comment(s);
+            } else {
+                s.eat_while(is_skipped);
+            }
+        }
+        Ok(())
+    }
+}
+
+// The blocks of a file, up to its end, and what is passed over among them. Where braces close is noted once a block was passed
+// over, since what stands in it is read again.
+pub(crate) fn recovered(alloc: Global, src: &str) -> Result<RawRecovery<'_>, AllocError>
+    ensures { IfOk result (λ found. Recovered (place src.now 0) (file_of found.raw) found.skipped.items) }
 {
     let mut found = RawRecovery {
         raw: RawBibliography {
@@ -128,14 +159,13 @@ pub(crate) fn recovered<'s>(
         },
         skipped: Vec::new(alloc),
     };
-    'file: while let Some(c) = s.peek() {
-        if c == '@' {
-            found.add_block(s, alloc)?;
-        } else if c == '%' {
-            line_comment(s);
-        } else {
-            s.eat_while(is_skipped);
-        }
+    let mut s = Reader::new(Scanner::new(src));
+    found.add_blocks(&mut s, alloc, false)?;
+    if s.done() {
+        return Ok(found);
     }
+    let closings = closings(alloc, src)?;
+    let mut noted = s.with_closings(closings.as_slice());
+    found.add_blocks(&mut noted, alloc, true)?;
     Ok(found)
 }

@@ -12,14 +12,14 @@ ghost use Rattle.bib_syntax.specs.SyntaxErrors.{IdentifierFails, NumberFails, Qu
 ghost use Rattle.bib_syntax.specs.Views.{part_of, piece_of};
 ghost use Rattle.bib_syntax.specs.declared.raw.ParseErrorKind.TheVariants.{UnexpectedEof, Expected};
 
+use crate::raw::reader::Reader;
 use crate::raw::{
     ParseError, ParseErrorKind, RawChunk, Token, is_id_continue, is_id_start, is_key,
 };
-use bib_text::scanner::Scanner;
 use bib_text::spanned::Spanned;
 
 // An error of the grammar at this place.
-pub(crate) fn error(s: &Scanner<'_>, kind: ParseErrorKind) -> ParseError
+pub(crate) fn error(s: &Reader<'_, '_>, kind: ParseErrorKind) -> ParseError
     requires { IsTrue (is_syntax kind) }
     ensures syntax { IsSyntaxError s.now.text result }
     ensures here { result ≡ error_at_place kind s.now }
@@ -32,7 +32,7 @@ pub(crate) fn error(s: &Scanner<'_>, kind: ParseErrorKind) -> ParseError
 }
 
 // A character that has to stand here.
-pub(crate) fn expect(s: &mut Scanner<'_>, c: char, token: Token) -> Result<(), ParseError>
+pub(crate) fn expect(s: &mut Reader<'_, '_>, c: char, token: Token) -> Result<(), ParseError>
     ensures found { OnOk result (CharAt s.old c s.new) }
     ensures none { OnErr result ((v : Place) → CharAt s.old c v → ⊥) }
     ensures error { IfErr result (IsSyntaxError s.old.text) }
@@ -45,7 +45,7 @@ pub(crate) fn expect(s: &mut Scanner<'_>, c: char, token: Token) -> Result<(), P
 }
 
 // A brace, for which a quote may stand.
-pub(crate) fn brace(s: &mut Scanner<'_>, c: char, token: Token) -> Result<(), ParseError>
+pub(crate) fn brace(s: &mut Reader<'_, '_>, c: char, token: Token) -> Result<(), ParseError>
     ensures found { OnOk result ((d : ℕ) × CharAt s.old d s.new × (d == c || d == 34 ≡ true)) }
     ensures none { OnErr result ((d : ℕ) (v : Place) → CharAt s.old d v →
         d == c || d == 34 ≡ true → ⊥) }
@@ -59,7 +59,7 @@ pub(crate) fn brace(s: &mut Scanner<'_>, c: char, token: Token) -> Result<(), Pa
 }
 
 // Whether an identifier begins here.
-pub(crate) fn begins_identifier(s: &Scanner<'_>) -> bool
+pub(crate) fn begins_identifier(s: &Reader<'_, '_>) -> bool
     ensures { MatchBool result
         ((c : ℕ) × (v : Place) × CharAt s.now c v × (characters.is_id_start c ≡ true))
         ((c : ℕ) (v : Place) → CharAt s.now c v → characters.is_id_start c ≡ false) }
@@ -71,7 +71,7 @@ pub(crate) fn begins_identifier(s: &Scanner<'_>) -> bool
 }
 
 // An identifier: a field's name, an entry's kind or the name of an abbreviation.
-pub(crate) fn identifier<'s>(s: &mut Scanner<'s>) -> Result<Spanned<&'s str>, ParseError>
+pub(crate) fn identifier<'s>(s: &mut Reader<'s, '_>) -> Result<Spanned<&'s str>, ParseError>
     ensures found { IfOk result (λ name. Identifier longest s.old (part_of name) s.new) }
     ensures fails { IfErr result (Reports (IdentifierFails s.old)) }
     ensures error { IfErr result (IsSyntaxError s.old.text) }
@@ -85,7 +85,7 @@ pub(crate) fn identifier<'s>(s: &mut Scanner<'s>) -> Result<Spanned<&'s str>, Pa
 }
 
 // The key of an entry, possibly empty.
-pub(crate) fn key<'s>(s: &mut Scanner<'s>) -> Spanned<&'s str>
+pub(crate) fn key<'s>(s: &mut Reader<'s, '_>) -> Spanned<&'s str>
     ensures longest { Longest characters.is_key s.old s.new }
     ensures reading { part_of result ≡ part s.old s.new }
 {
@@ -101,7 +101,7 @@ fn is_digit(c: char) -> bool
 }
 
 // The digits of a number, with at most one point among them.
-fn digits(s: &mut Scanner<'_>) -> Result<(), ParseError>
+fn digits(s: &mut Reader<'_, '_>) -> Result<(), ParseError>
     requires { (c : ℕ) × (v : Place) × CharAt s.old c v × (is_ascii_digit c ≡ true) }
     ensures found { OnOk result (Number longest s.old s.new) }
     ensures fails { IfErr result (Reports (NumberFails s.old)) }
@@ -119,7 +119,7 @@ fn digits(s: &mut Scanner<'_>) -> Result<(), ParseError>
 }
 
 // A number.
-fn number<'s>(s: &mut Scanner<'s>) -> Result<Spanned<&'s str>, ParseError>
+fn number<'s>(s: &mut Reader<'s, '_>) -> Result<Spanned<&'s str>, ParseError>
     requires { (c : ℕ) × (v : Place) × CharAt s.old c v × (is_ascii_digit c ≡ true) }
     ensures found { OnOk result (Number longest s.old s.new) }
     ensures reading { IfOk result (λ text. part_of text ≡ part s.old s.new) }
@@ -139,7 +139,7 @@ fn is_quotable(c: char) -> bool
 }
 
 // The parts of a quoted text, up to the quote that closes it.
-fn quoted_parts<'s>(s: &mut Scanner<'s>) -> Result<Spanned<&'s str>, ParseError>
+fn quoted_parts<'s>(s: &mut Reader<'s, '_>) -> Result<Spanned<&'s str>, ParseError>
     ensures found { OnOk result (QuotedParts s.old s.new × ((v : Place) × CharAt s.new 34 v)) }
     ensures reading { IfOk result (λ text. part_of text ≡ part s.old s.new) }
     ensures none { OnErr result ((v w : Place) → QuotedParts s.old v → CharAt v 34 w → ⊥) }
@@ -160,7 +160,7 @@ fn quoted_parts<'s>(s: &mut Scanner<'s>) -> Result<Spanned<&'s str>, ParseError>
 }
 
 // A quoted text.
-pub(crate) fn quoted<'s>(s: &mut Scanner<'s>) -> Result<Spanned<&'s str>, ParseError>
+pub(crate) fn quoted<'s>(s: &mut Reader<'s, '_>) -> Result<Spanned<&'s str>, ParseError>
     ensures found { IfOk result (λ text. Quoted s.old (part_of text) s.new) }
     ensures fails { IfErr result (Reports (QuotedFails s.old)) }
     ensures error { IfErr result (IsSyntaxError s.old.text) }
@@ -172,14 +172,14 @@ pub(crate) fn quoted<'s>(s: &mut Scanner<'s>) -> Result<Spanned<&'s str>, ParseE
 }
 
 // Whether a character in braces is neither a brace nor a backslash.
-fn is_plain_char(c: char) -> bool
+pub(crate) fn is_plain_char(c: char) -> bool
     ensures { result ≡ is_plain c }
 {
     c != '{' && c != '}' && c != '\\'
 }
 
-// The parts of a braced text, up to the brace that closes it.
-fn braced_parts<'s>(s: &mut Scanner<'s>) -> Result<Spanned<&'s str>, ParseError>
+// The parts of a braced text, up to the brace that closes it, where nothing is noted of it.
+fn scanned_parts<'s>(s: &mut Reader<'s, '_>) -> Result<Spanned<&'s str>, ParseError>
     ensures found { OnOk result (Parts s.old s.new × ((v : Place) × CharAt s.new 125 v)) }
     ensures reading { IfOk result (λ text. part_of text ≡ part s.old s.new) }
     ensures none { OnErr result ((v w : Place) → Parts s.old v → CharAt v 125 w → ⊥) }
@@ -206,8 +206,28 @@ fn braced_parts<'s>(s: &mut Scanner<'s>) -> Result<Spanned<&'s str>, ParseError>
     }
 }
 
+// The parts of a braced text, up to the brace that closes it.
+fn braced_parts<'s>(s: &mut Reader<'s, '_>) -> Result<Spanned<&'s str>, ParseError>
+    ensures found { OnOk result (Parts s.old s.new × ((v : Place) × CharAt s.new 125 v)) }
+    ensures reading { IfOk result (λ text. part_of text ≡ part s.old s.new) }
+    ensures none { OnErr result ((v w : Place) → Parts s.old v → CharAt v 125 w → ⊥) }
+    ensures error { IfErr result (IsSyntaxError s.old.text) }
+    ensures end { IfErr result (λ e. e ≡ error_at_place UnexpectedEof (text_end s.old)) }
+{
+    let Some(close) = s.noted_close() else {
+        return scanned_parts(s);
+    };
+    let start = s.cursor();
+    let Some(at) = close else {
+        s.jump_to_end();
+        return Err(error(s, ParseErrorKind::UnexpectedEof));
+    };
+    s.jump(at);
+    Ok(Spanned::new(s.from(start), start..s.cursor()))
+}
+
 // A braced text.
-fn braced<'s>(s: &mut Scanner<'s>) -> Result<Spanned<&'s str>, ParseError>
+fn braced<'s>(s: &mut Reader<'s, '_>) -> Result<Spanned<&'s str>, ParseError>
     requires { (v : Place) × CharAt s.old 123 v }
     ensures found { IfOk result (λ text. Braced s.old (part_of text) s.new) }
     ensures fails { IfErr result (Reports (BracedFails s.old)) }
@@ -220,7 +240,7 @@ fn braced<'s>(s: &mut Scanner<'s>) -> Result<Spanned<&'s str>, ParseError>
 }
 
 // Whether a number begins here.
-fn begins_number(s: &Scanner<'_>) -> bool
+fn begins_number(s: &Reader<'_, '_>) -> bool
     ensures { MatchBool result
         ((c : ℕ) × (v : Place) × CharAt s.now c v × (is_ascii_digit c ≡ true))
         ((c : ℕ) (v : Place) → CharAt s.now c v → is_ascii_digit c ≡ false) }
@@ -232,7 +252,7 @@ fn begins_number(s: &Scanner<'_>) -> bool
 }
 
 // An element of a value: a number, the name of an abbreviation, a braced or a quoted text.
-pub(crate) fn element<'s>(s: &mut Scanner<'s>) -> Result<Spanned<RawChunk<'s>>, ParseError>
+pub(crate) fn element<'s>(s: &mut Reader<'s, '_>) -> Result<Spanned<RawChunk<'s>>, ParseError>
     ensures found { IfOk result (λ chunk. Element longest s.old (piece_of chunk) s.new) }
     ensures fails { IfErr result (Reports (ElementFails s.old)) }
     ensures error { IfErr result (IsSyntaxError s.old.text) }

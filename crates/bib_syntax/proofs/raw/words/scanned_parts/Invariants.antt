@@ -1,7 +1,7 @@
 use Rattle.std.proofs.Common.{length, ◌-◌, ◌≤◌, zero}
 use Rattle.bib_text.proofs.PlaceFacts.{Ahead}
-use Rattle.bib_syntax.proofs.BraceFacts.{SameBraced}
-use Rattle.bib_syntax.proofs.raw.words.braced_parts.Given as goal
+use Rattle.bib_syntax.specs.OpenBraces.{SameBraced}
+use Rattle.bib_syntax.proofs.raw.words.scanned_parts.Given as goal
 
 abbrev pub invariant-parts : goal.invariant-parts
 invariant-parts l = Ahead l.fn.s l.s × SameBraced zero l.fn.s l.depth l.s × (l.depth ≤ l.s.at)

@@ -1,0 +1,102 @@
+//! Where the braces of a text close, noted once for a text that is read more than once.
+
+ghost use Rattle.std.specs.Prelude.{◌≡◌, ◌<◌, ◌-◌, ◌++◌, ◌∷◌, [], ℕ, List, length, MatchBool, IfOk, OnOk};
+ghost use Rattle.bib_text.specs.Places.{Place, AtEnd, CharAt};
+ghost use Rattle.bib_syntax.specs.Closings.{AreClosings};
+ghost use Rattle.bib_syntax.specs.OpenBraces.{AreNoted, Closed};
+
+use crate::raw::words::is_plain_char;
+use bib_text::scanner::Scanner;
+use std::alloc::{AllocError, Global};
+
+// What is noted of an opening brace: the place after it, and that of the brace that closes it, if one does.
+#[derive(Clone, Copy)]
+pub(crate) struct Closing {
+    pub(crate) start: usize,
+    pub(crate) close: Option<usize>,
+}
+
+// The braces of a text up to a place: the places after those that are open, and what is noted of the others.
+#[derive(Drop)]
+struct Braces {
+    opened: Vec<usize>,
+    found: Vec<Closing>,
+}
+
+impl Braces {
+    // Notes that a brace closes at this place.
+    fn close(&mut self, at: usize) -> Result<(), AllocError>
+        ensures { OnOk result (Closed self.old.opened.items self.old.found.items at
+            self.new.opened.items self.new.found.items) }
+    {
+        if let Some(start) = self.opened.pop() {
+            let close = Some(at);
+            self.found.push(Closing { start, close })?;
+        }
+        Ok(())
+    }
+
+    // Passes the run of plain characters at this place, and the brace, or the backslash and a character, after it; says
+    // whether the text went on.
+    fn pass(&mut self, s: &mut Scanner<'_>) -> Result<bool, AllocError>
+        ensures noted { OnOk result ((text : List ℕ) →
+            AreNoted text self.old.opened.items self.old.found.items s.old →
+            AreNoted text self.new.opened.items self.new.found.items s.new) }
+        ensures goes_on { IfOk result (λ goes_on. MatchBool goes_on
+            (length s.new.text - s.new.at < length s.old.text - s.old.at) (AtEnd s.new)) }
+    {
+        s.eat_while(is_plain_char);
+        if s.eat_if('{') {
+            self.opened.push(s.cursor())?;
+            return Ok(true);
+        }
+        if s.at('}') {
+            self.close(s.cursor())?;
+            s.eat_if('}');
+            return Ok(true);
+        }
+        if s.eat_if('\\') {
+            s.eat();
+            return Ok(true);
+        }
+        Ok(false)
+    }
+
+    // Passes the whole text.
+    fn pass_all(&mut self, s: &mut Scanner<'_>) -> Result<(), AllocError>
+        ensures noted { OnOk result ((text : List ℕ) →
+            AreNoted text self.old.opened.items self.old.found.items s.old →
+            AreNoted text self.new.opened.items self.new.found.items s.new) }
+        ensures end { OnOk result (AtEnd s.new) }
+    {
+        'text: while self.pass(s)? {}
+        Ok(())
+    }
+
+    // Notes at the end of a text that what is open there never closes.
+    fn end(&mut self) -> Result<(), AllocError>
+        ensures { OnOk result ((text : List ℕ) (here : Place) → AtEnd here →
+            AreNoted text self.old.opened.items self.old.found.items here →
+            AreClosings text self.new.found.items) }
+    {
+        'opened: while let Some(start) = self.opened.pop() {
+            self.found.push(Closing { start, close: None })?;
+        }
+        Ok(())
+    }
+}
+
+// Where the braces of a text close, by the places after them.
+pub(crate) fn closings(alloc: Global, text: &str) -> Result<Vec<Closing>, AllocError>
+    ensures { IfOk result (λ found. AreClosings text.now found.items) }
+{
+    let mut braces = Braces {
+        opened: Vec::new(alloc),
+        found: Vec::new(alloc),
+    };
+    braces.pass_all(&mut Scanner::new(text))?;
+    braces.end()?;
+    let mut found = braces.found;
+    found.sort_unstable_by_key(|it| it.start);
+    Ok(found)
+}
