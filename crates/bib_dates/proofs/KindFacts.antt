@@ -9,7 +9,7 @@ use Rattle.bib_dates.specs.Readings.Reading.{says, error, unread}
 use Rattle.bib_dates.specs.Parts.{begins_with, number, small_number, after_byte, after_hyphens, year}
 use Rattle.bib_dates.specs.Times.{offset_minute, signed_offset, offset, after_minute, after_hour, after_day}
 use Rattle.bib_dates.specs.Dates.{after_month, after_year, side, all_months, all_days, unknown_month, century, decade, after_four_digits, unknown, range, date_value, without_mark, marked_date, date_of}
-use Rattle.bib_dates.specs.ThreeFields.{starts_word, stands, of_era, with_era, year_field, month_field, reported_day, unreported_day, day_after, only_day, day_field, day_of, month_with_day, month_and_day, three_fields_of}
+use Rattle.bib_dates.specs.ThreeFields.{starts_word, stands, of_era, with_era, year_field, month_field, reported_day, day_after, only_day, day_field, day_of, month_with_day, month_and_day, three_fields_of}
 
 -- an error's kind is one that dates have
 pub has_date_kind : {A : Type 0} (r : Reading A) (kind : TypeErrorKind) → MayRefuse r kind → IsDateKind kind
@@ -183,17 +183,13 @@ fine_reported : (day : Option ℕ) → Fine (reported_day day)
 fine_reported (Some day) = Fine.said
 fine_reported None = Fine.reported tt
 
-fine_unreported : (day : Option ℕ) → Fine (unreported_day day)
-fine_unreported (Some day) = Fine.said
-fine_unreported None = Fine.not_read
-
 fine_day_after : (text : List ℕ) → Fine (day_after text)
 unfolding day_after
 fine_day_after text = fine_if _ Fine.said (fine_if _ Fine.not_read (fine_reported _))
 
 fine_only_day : (text : List ℕ) → Fine (only_day text)
 unfolding only_day
-fine_only_day text = fine_if _ (fine_unreported _) Fine.not_read
+fine_only_day text = fine_if _ (fine_reported _) Fine.not_read
 
 fine_day_field : (text : List ℕ) → Fine (day_field text)
 unfolding day_field

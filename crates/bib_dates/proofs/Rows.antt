@@ -54,6 +54,10 @@ third_before : three_fields_of (codes "3 BCE") (Some (codes "Mar~5")) (Some (cod
 unfolding trim_start trim_end chars year_field sign with_era of_era month_field month_named day_field only_day month_with_day three_fields_of lib.Utf8.encode
 third_before = refl
 
+no_such_day : three_fields_of (codes "2020") (Some (codes "5")) (Some (codes "32")) ≡ error DayOutOfRange
+unfolding trim_start trim_end chars year_field sign with_era of_era month_field month_named day_field only_day month_with_day three_fields_of lib.Utf8.encode
+no_such_day = refl
+
 day_after_month : three_fields_of (codes "2020") (Some (codes "May 32")) None ≡ error DayOutOfRange
 unfolding trim_start trim_end chars year_field sign with_era of_era month_field month_named day_after month_with_day three_fields_of lib.Utf8.encode
 day_after_month = refl

@@ -2,7 +2,7 @@
 -- Dates in three fields: a year with an era, a month by number or name, and a day in a field of its own or after the
 -- month. After the manual of BibLaTeX and BibTeX's fields `year`, `month` and `day`, as the Rust crate `biblatex` reads them.
 -- The eras and the names of months are ASCII; the texts are not put into uppercase letters.
-use Rattle.std.specs.Prelude.{ℕ, ◌-◌, Bool, true, false, ◌&&◌, ◌||◌, ◌==◌, not, if◌then◌else◌, ℤ, pos, ◌-ℤ◌, List, [], ◌∷◌, length, drop, codes, encode_utf8_all, Option, Some, None}
+use Rattle.std.specs.Prelude.{ℕ, ◌-◌, Bool, true, false, ◌&&◌, ◌||◌, ◌==◌, nat_lt, not, if◌then◌else◌, ℤ, pos, ◌-ℤ◌, List, [], ◌∷◌, length, drop, codes, encode_utf8_all, Option, Some, None}
 use Rattle.std.specs.List.{prefix_len}
 use Rattle.std.specs.declared.ops.Range.{Range}
 use Rattle.std.specs.Char.{is_ascii_digit, is_ascii_alphabetic, is_whitespace}
@@ -120,10 +120,6 @@ abbrev pub reported_day : Option ℕ → Reading (Option ℕ)
 reported_day (Some day) = says (Some day)
 reported_day None = error DayOutOfRange
 
-abbrev pub unreported_day : Option ℕ → Reading (Option ℕ)
-unreported_day (Some day) = says (Some day)
-unreported_day None = unread
-
 -- the day after a month: digits after a gap; without a gap there is no day
 unfoldable pub day_after : List ℕ → Reading (Option ℕ)
 day_after text =
@@ -139,10 +135,11 @@ day_place month following = record {
   end = length month - length (after_run is_ascii_digit (after_gap following));
 }
 
--- digits alone
+-- digits alone, a number of at most 255
 unfoldable pub only_day : List ℕ → Reading (Option ℕ)
 only_day text =
-    if length (after_run is_ascii_digit text) == 0 then unreported_day (day_number (run is_ascii_digit text)) else unread
+    if length (after_run is_ascii_digit text) == 0 && (not (prefix_len is_ascii_digit text == 0) && not (nat_lt 255 (digits_value 10 (run is_ascii_digit text))))
+    then reported_day (day_number (run is_ascii_digit text)) else unread
 
 -- the day field: a decimal from 1 to 31, with an optional plus
 unfoldable pub day_field : List ℕ → Reading (Option ℕ)

@@ -63,7 +63,7 @@ impl Date {
 
     /// The date that the formatted texts of a year, a month and a day are. The year may have an era after it, and the
     /// month may be a name; without a field of its own, the day may stand after the month. Refused with
-    /// `MonthOutOfRange` where there is no such month, with `DayOutOfRange` where no month has the day after the month,
+    /// `MonthOutOfRange` where there is no such month, with `DayOutOfRange` where no month has the day, in its own field a number of at most 255,
     /// with `YearZeroCE` where the year 0 has an era, with `InvalidFormat` where a sign has an era or is separated from its
     /// digits, and else with a kind that isn't promised.
     pub fn parse_three_fields(

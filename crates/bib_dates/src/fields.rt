@@ -1,9 +1,9 @@
 // The reader of a date in three fields: each function reads a part from the prefix of a text, and gives it with the rest.
 
-ghost use Rattle.std.specs.Prelude.{◌≡◌, ◌<◌, ◌&&◌, is_some, IfSome, drop, codes};
+ghost use Rattle.std.specs.Prelude.{◌≡◌, ◌<◌, ◌&&◌, ◌==◌, not, nat_lt, length, is_some, IfSome, drop, codes};
 ghost use Rattle.std.specs.List.{prefix_len};
 ghost use Rattle.std.specs.Char.{is_ascii_alphabetic};
-ghost use Rattle.std.specs.Str.Parse.{AllDigits};
+ghost use Rattle.std.specs.Str.Parse.{AllDigits, digits_value};
 ghost use Rattle.bib_dates.specs.Code.{reading, parsed};
 ghost use Rattle.bib_dates.specs.Parts;
 ghost use Rattle.bib_dates.specs.Readings.Reading.{says};
@@ -244,12 +244,12 @@ pub(crate) fn day_after(text: &str) -> Result<Option<u8>, ReadError>
     Ok(Some(day))
 }
 
-// Why digits alone are no day: a number of eight bits is out of range, and another text is refused for this reason.
-fn no_day(digits: &str, reason: DateErrorKind) -> DateErrorKind {
-    match digits.parse::<u8>() {
-        Ok(_) => DateErrorKind::DayOutOfRange,
-        Err(_) => reason,
-    }
+// Whether digits are a number of at most 255.
+fn is_short(digits: &str) -> bool
+    requires { AllDigits 10 digits.now }
+    ensures { result ≡ (not (length digits.now == 0) && not (nat_lt 255 (digits_value 10 digits.now))) }
+{
+    digits.parse::<u8>().is_ok()
 }
 
 // A day in digits alone; other texts are refused for this reason.
@@ -258,11 +258,11 @@ fn only_day(text: &str, reason: DateErrorKind) -> Result<Option<u8>, ReadError>
     ensures { reading result ≡ Spec.only_day text.now }
 {
     let (digits, following) = digits(text);
-    if !following.is_empty() {
+    if !following.is_empty() || !is_short(digits) {
         return Err(ReadError::Unspecified(reason));
     }
     let Some(day) = day_number(digits) else {
-        return Err(ReadError::Unspecified(no_day(digits, reason)));
+        return Err(ReadError::Specified(DateErrorKind::DayOutOfRange));
     };
     Ok(Some(day))
 }
