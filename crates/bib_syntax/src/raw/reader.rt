@@ -11,14 +11,16 @@ use crate::raw::closings::Closing;
 use bib_text::scanner::Scanner;
 use std::marker::Model;
 
-// A text and a place in it, and what is noted of its braces.
+// A text and a place in it, and what is noted of its braces and its end.
 #[derive(Drop)]
 pub(crate) struct Reader<'s, 'c> {
     scanner: Scanner<'s>,
     closings: &'c [Closing],
+    end: Option<usize>,
 }
 
 impl<'s, 'c> Model for Reader<'s, 'c> {
+    ghost use Rattle.std.specs.Prelude.{◌≡◌, length, IfSome};
     ghost use Rattle.bib_text.specs.Places.{Place};
     ghost use Rattle.bib_syntax.specs.Closings.{AreClosings};
 
@@ -26,7 +28,7 @@ impl<'s, 'c> Model for Reader<'s, 'c> {
 
     ghost view = { λ r. r.scanner };
 
-    ghost invariant = { λ r. AreClosings r.scanner.text r.closings.now };
+    ghost invariant = { λ r. AreClosings r.scanner.text r.closings.now × IfSome r.end (λ end. end ≡ length r.scanner.text) };
 }
 
 impl<'s, 'c> Reader<'s, 'c> {
@@ -37,17 +39,20 @@ impl<'s, 'c> Reader<'s, 'c> {
         Reader {
             scanner,
             closings: &[],
+            end: None,
         }
     }
 
-    // A reader at this place of a text of whose braces this is noted.
-    pub(crate) fn with_closings<'n>(&self, closings: &'n [Closing]) -> Reader<'s, 'n>
-        requires { AreClosings self.now.text closings.now }
+    // A reader at this place of a text that ends at this place, and of whose braces this is noted.
+    pub(crate) fn with_closings<'n>(&self, closings: &'n [Closing], end: usize) -> Reader<'s, 'n>
+        requires closings { AreClosings self.now.text closings.now }
+        requires end { end ≡ length self.now.text }
         ensures { result ≡ self.now }
     {
         Reader {
             scanner: self.scanner.copied(),
             closings,
+            end: Some(end),
         }
     }
 
@@ -58,6 +63,7 @@ impl<'s, 'c> Reader<'s, 'c> {
         Reader {
             scanner: self.scanner.copied(),
             closings: self.closings,
+            end: self.end,
         }
     }
 
@@ -163,7 +169,12 @@ impl<'s, 'c> Reader<'s, 'c> {
     pub(crate) fn jump_to_end(&mut self)
         ensures { self.new ≡ text_end self.old }
     {
-        self.scanner.eat_while(|_| true);
+        match self.end {
+            Some(end) => self.scanner.jump(end),
+            None => {
+                self.scanner.eat_while(|_| true);
+            }
+        }
     }
 
     // Where a brace closes what stands here, if that is noted.

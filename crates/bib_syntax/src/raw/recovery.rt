@@ -165,7 +165,7 @@ pub(crate) fn recovered(alloc: Global, src: &str) -> Result<RawRecovery<'_>, All
         return Ok(found);
     }
     let closings = closings(alloc, src)?;
-    let mut noted = s.with_closings(closings.as_slice());
+    let mut noted = s.with_closings(closings.as_slice(), src.len());
     found.add_blocks(&mut noted, alloc, true)?;
     Ok(found)
 }
