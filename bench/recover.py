@@ -66,10 +66,10 @@ ROWS = [
         b"@misc{k%d%s title={Some title}, year=1999}\n" % (i, b"" if i % 10 == 0 else b",") for i in range(n)), 20_000),
     ("each block in error", lambda n: b"@misc{k title={x}}\n" * n, 50_000),
     ("at signs alone", lambda n: b"@\n" * n, 100_000),
-    ("heads whose braces never close", lambda n: b"@misc{k, t={\n" * n, 2_000),
+    ("heads whose braces never close", lambda n: b"@misc{k, t={\n" * n, 100_000),
     ("comments that never close", lambda n: b"@comment{x\n" * n, 2_000),
-    ("quotes and braces in turn", lambda n: b"@misc{k, t=\"{\n@misc{k, t={\"\n" * n, 2_000),
-    ("braces that close before an error", lambda n: b"@misc{k, t={\n" * n + b"} x\n" * n, 2_000),
+    ("quotes and braces in turn", lambda n: b"@misc{k, t=\"{\n@misc{k, t={\"\n" * n, 50_000),
+    ("braces that close before an error", lambda n: b"@misc{k, t={\n" * n + b"} x\n" * n, 100_000),
 ]
 
 
