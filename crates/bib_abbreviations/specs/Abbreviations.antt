@@ -1,7 +1,7 @@
 -- Meaning: words of public contracts.
 -- Abbreviations: what a field says once each name in it is replaced by its definition. Names and texts are given by
 -- their bytes.
-use Rattle.std.specs.Prelude.{◌≡◌, ◌+◌, ◌<◌, ◌^◌, ℕ, Bool, List, [], ◌∷◌, ◌++◌, length, map, ◌⊎◌, Option, Some, None, codes, if◌then◌else◌, bytes_eq}
+use Rattle.std.specs.Prelude.{◌≡◌, ◌+◌, ◌<◌, ◌^◌, ℕ, Bool, List, [], ◌∷◌, ◌++◌, length, map, ◌⊎◌, ◌||◌, Option, Some, None, is_some, codes, if◌then◌else◌, bytes_eq}
 use Rattle.std.specs.List.{list_any}
 use Rattle.std.specs.Option.{option_map}
 use Rattle.std.specs.Borrow.{Bor}
@@ -64,6 +64,10 @@ pub data Reaches (definitions : Definitions) (field : List Piece) : List ℕ →
 -- a name stands for something: it is defined, or the start of a month
 abbrev pub IsKnown : Definitions → List ℕ → Type 0
 IsKnown definitions name = ((definition : List Piece) × (definitions name ≡ Some definition)) ⊎ ((english : List ℕ) × (month name ≡ Some english))
+
+-- whether a name stands for something
+abbrev pub is_known : Definitions → List ℕ → Bool
+is_known definitions name = is_some (definitions name) || is_some (month name)
 
 -- each text among these pieces is read
 abbrev pub AreRead : Bool → List Piece → Type 0

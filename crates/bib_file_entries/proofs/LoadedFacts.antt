@@ -94,24 +94,37 @@ loaded_none definitions said = record {
   below = below_empty 0;
 }
 
+-- what is known of names once an entry was read after others, which claims its names
+pub same_next : (earlier : List (List ℕ)) (entry : Entry) (names : ByText ℕ) (index : ℕ) → ((name : List ℕ) → is_some (by_name.get names name) ≡ is_claimed earlier name)
+    → (name : List ℕ) → is_some (by_name.get (claimed names (claims_for (claims entry) index)) name) ≡ is_claimed (earlier ++ claims entry) name
+same_next earlier entry names index same name =
+    names_claimed index (claims entry) names name
+    ∙ ap (λ b. b || is_claimed (claims entry) name) (same name)
+    ∙ sym (list_any-append (bytes_eq name) earlier (claims entry))
+
+pub bibliography_next : (found : List Entry) (entry : Entry) (names : ByText ℕ) → loaded_after empty_bibliography found ≡ record { entries = found; names = names }
+    → loaded_after empty_bibliography (found ++ entry ∷ []) ≡ record { entries = found ++ entry ∷ []; names = claimed names (claims_for (claims entry) (length found)) }
+bibliography_next found entry names loaded = loaded_more empty_bibliography found (entry ∷ []) ∙ ap (λ bibliography. appended bibliography entry) loaded
+
+pub below_next : (found : List Entry) (entry : Entry) (names : ByText ℕ) → AreIndicesBelow (length found) names
+    → AreIndicesBelow (length (found ++ entry ∷ [])) (claimed names (claims_for (claims entry) (length found)))
+below_next found entry names below =
+    let count : length (found ++ entry ∷ []) ≡ length found + 1 = length-append found (entry ∷ []) in
+    below_claimed (length (found ++ entry ∷ [])) (claims entry) names (length found)
+    (below_more (length found) (length (found ++ entry ∷ [])) names below (omega (arith, count))) (omega (arith, count))
+
 pub loaded_next : {definitions : Definitions} {said : List EntryReading} {one : EntryReading} {rest : List EntryReading} {found : List Entry} {names : ByText ℕ} (entry : Entry)
     → LoadedSoFar definitions said (one ∷ rest) found names → is_some (by_name.get names one.key.text) ≡ false → IsEntry definitions one entry
     → LoadedSoFar definitions said rest (found ++ entry ∷ []) (claimed names (claims_for (claims entry) (length found)))
 loaded_next {definitions} {said} {one} {rest} {found} {names} entry loaded absent read =
     let fresh : is_claimed loaded.earlier one.key.text ≡ false = sym (loaded.same one.key.text) ∙ absent in
-    let count : length (found ++ entry ∷ []) ≡ length found + 1 = length-append found (entry ∷ []) in
     record {
       earlier = loaded.earlier ++ claims entry;
-      same = λ name.
-          names_claimed (length found) (claims entry) names name
-          ∙ ap (λ b. b || is_claimed (claims entry) name) (loaded.same name)
-          ∙ sym (list_any-append (bytes_eq name) loaded.earlier (claims entry));
+      same = same_next loaded.earlier entry names (length found) loaded.same;
       onward = λ others following. subst (AreEntries definitions [] said) (sym (append_assoc found (entry ∷ []) others)) (loaded.onward (entry ∷ others) (AreEntries.next fresh read following));
       faulty = λ e error. loaded.faulty e (IsFirstErrorOfEntries.following fresh read error);
-      bibliography = loaded_more empty_bibliography found (entry ∷ []) ∙ ap (λ bibliography. appended bibliography entry) loaded.bibliography;
-      below =
-          below_claimed (length (found ++ entry ∷ [])) (claims entry) names (length found)
-          (below_more (length found) (length (found ++ entry ∷ [])) names loaded.below (omega (arith, count))) (omega (arith, count));
+      bibliography = bibliography_next found entry names loaded.bibliography;
+      below = below_next found entry names loaded.below;
     }
 
 -- all were read

@@ -18,7 +18,7 @@ use Rattle.bib_syntax.specs.Errors.{out_of_memory}
 use Rattle.bib_syntax.specs.Reading.{Piece}
 use Rattle.bib_syntax.specs.declared.raw.Pair.{Pair}
 use Rattle.bib_syntax.specs.declared.raw.ParseError.{ParseError}
-use Rattle.bib_file_entries.specs.Loading.{AreReadable, IsFieldOf, IsFieldReadable, IsFieldsError, field_name, last_definition, last_field, pieces_of}
+use Rattle.bib_file_entries.specs.Loading.{AreReadable, IsFieldOf, IsFieldsError, IsRead, field_name, last_definition, last_field, pieces_of}
 use Rattle.bib_file_entries.specs.Reading.{IsFieldError}
 use Rattle.bib_maps.specs.Sorted.{by_bytes}
 
@@ -45,12 +45,6 @@ defined_more f pairs i p field name before after within here same so_far updated
     ∙ ap (cond (bytes_eq name p.key.v.now) (Some (pieces_of p))) so_far
     ∙ sym (last_definition-push (take i pairs) p name)
     ∙ ap (λ l. last_definition l name) (ap (λ q. take i pairs ++ q ∷ []) here ∙ sym (take_more pairs i p within))
-
--- a name and chunks are a field, which can be read
-pub record IsRead (definitions : Definitions) (p : Pair) (pair : List ℕ × List (Spanned Chunk)) : Type 0 where
-  pub name : pair.0 ≡ field_name p
-  pub value : IsFieldOf definitions p pair.1
-  pub readable : IsFieldReadable definitions p
 
 module _ {A B : Type 0} (R : A → B → Type 0) where
   -- one more at the ends

@@ -49,7 +49,7 @@ definition_same pairs name =
 pub definitions_same : {one two : Definitions} → ((name : List ℕ) → one name ≡ two name) → one ≡ two
 definitions_same same = λ i. λ name. same name i
 
-readable_same : (definitions : Definitions) (pairs : List Pair) → AreReadable definitions pairs → AllCanBeRead definitions (map field_of pairs)
+pub readable_same : (definitions : Definitions) (pairs : List Pair) → AreReadable definitions pairs → AllCanBeRead definitions (map field_of pairs)
 readable_same definitions [] all = tt
 readable_same definitions (p ∷ rest) all = (all.0, readable_same definitions rest all.1)
 
@@ -63,15 +63,21 @@ field_same : (definitions : Definitions) (o : Option Pair) (at : Option (List (S
 field_same definitions None at found = found
 field_same definitions (Some p) at found = found
 
+-- what a name has among fields
+pub found_same : (definitions : Definitions) (fields : List Pair) (name : List ℕ) (at : Option (List (Spanned Chunk)))
+    → MatchOption (last_field fields name) (at ≡ None) (λ p. (chunks : List (Spanned Chunk)) × (at ≡ Some chunks) × IsFieldOf definitions p chunks)
+    → MatchOption (field_in (map field_of fields) name) (at ≡ None) (λ f. (chunks : List (Spanned Chunk)) × (at ≡ Some chunks) × FieldSays definitions f chunks)
+found_same definitions fields name at found =
+    let same : field_in (map field_of fields) name ≡ option_map field_of (last_field fields name) =
+    ap (find (λ f. bytes_eq name (name_of f))) (reverse_map field_of fields) ∙ find_map (λ f. bytes_eq name (name_of f)) field_of (reverse fields) in
+    subst (λ o. MatchOption o (at ≡ None) (λ f. (chunks : List (Spanned Chunk)) × (at ≡ Some chunks) × FieldSays definitions f chunks)) (sym same)
+    (field_same definitions (last_field fields name) at found)
+
 -- an entry
 pub entry_same : {definitions : Definitions} {raw : Spanned RawEntry} {entry : Entry} → IsEntryOf definitions raw.v entry → IsEntry definitions (entry_reading_of raw) entry
 entry_same {definitions} {raw} {entry} read = record {
   key = read.key;
   kind = read.kind;
-  fields = λ name.
-      let found : field_in (map field_of raw.v.fields.items) name ≡ option_map field_of (last_field raw.v.fields.items name) =
-      ap (find (λ f. bytes_eq name (name_of f))) (reverse_map field_of raw.v.fields.items) ∙ find_map (λ f. bytes_eq name (name_of f)) field_of (reverse raw.v.fields.items) in
-      subst (λ o. MatchOption o (by_name.get entry.fields name ≡ None) (λ f. (chunks : List (Spanned Chunk)) × (by_name.get entry.fields name ≡ Some chunks) × FieldSays definitions f chunks)) (sym found)
-      (field_same definitions (last_field raw.v.fields.items name) (by_name.get entry.fields name) (read.fields name));
+  fields = λ name. found_same definitions raw.v.fields.items name (by_name.get entry.fields name) (read.fields name);
   readable = readable_same definitions raw.v.fields.items read.readable;
 }

@@ -40,6 +40,12 @@ IsFieldOf definitions p chunks = AreContents definitions (is_verbatim_field (fie
 abbrev pub IsFieldReadable : Definitions → Pair → Type 0
 IsFieldReadable definitions p = IsReadable definitions (is_verbatim_field (field_name p)) (pieces_of p)
 
+-- a name and chunks are a field, which can be read
+pub record IsRead (definitions : Definitions) (p : Pair) (pair : List ℕ × List (Spanned Chunk)) : Type 0 where
+  pub name : pair.0 ≡ field_name p
+  pub value : IsFieldOf definitions p pair.1
+  pub readable : IsFieldReadable definitions p
+
 -- each field can be read
 abbrev pub AreReadable : Definitions → List Pair → Type 0
 AreReadable definitions [] = Unit {0}

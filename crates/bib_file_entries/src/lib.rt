@@ -7,8 +7,12 @@
 //! each name is kept once. Definitions of what is loaded are written on readings (`Loaded`), which say nothing of how
 //! the program keeps a file; the private ones (`Loading`) say the same on its values, and one file of lemmas goes
 //! between them.
+//!
+//! `keeping` does the same of a file with errors: it goes on after a key that was claimed and a field that can't be read, keeps
+//! each error, and takes a name that stands for nothing as text, in place.
 #![tactic(auto)]
 
 pub mod claiming;
+pub mod keeping;
 mod loading;
 pub mod reading;

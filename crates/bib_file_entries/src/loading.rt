@@ -1,7 +1,10 @@
 //! A file's entries as entries of a bibliography.
 
-ghost use Rattle.std.specs.Prelude.{◌≡◌, ◌⊎◌, OnOk, IfOk, IfErr, List, ℕ};
+ghost use Rattle.std.specs.Prelude.{◌≡◌, ◌⊎◌, OnOk, IfOk, IfErr, List, ℕ, reverse};
+ghost use Rattle.std.specs.FinMap as by_name;
 ghost use Rattle.bib_abbreviations.specs.Abbreviations.{given_by, sorted_in};
+ghost use Rattle.bib_entry_types.specs.EntryType.{entry_type_of};
+ghost use Rattle.bib_maps.specs.Sorted.{by_bytes};
 ghost use Rattle.bib_syntax.specs.Errors.{out_of_memory};
 ghost use Rattle.bib_file_entries.specs.Loading.{IsEntryOf, IsFieldOf, IsFieldReadable, IsFieldsError, field_name, last_definition};
 ghost use Rattle.bib_file_entries.specs.Reading.{IsFieldError};
@@ -47,8 +50,23 @@ pub(crate) fn read_entry<'f, 's>(
     'fields: for field in &raw.fields {
         pairs.push(read_field(alloc, field, reader)?)?;
     }
-    let key = Text::from_str(alloc, raw.key.v)?;
-    let entry_type = EntryType::new(alloc, raw.kind.v)?;
+    Ok(entry_with(alloc, raw.key.v, raw.kind.v, pairs)?)
+}
+
+// The entry with this key, kind and fields; of two with one name the last stands.
+pub(crate) fn entry_with(
+    alloc: Global,
+    key: &str,
+    kind: &str,
+    pairs: Vec<(Text, Chunks)>,
+) -> Result<Entry, AllocError>
+    ensures key { IfOk result (λ entry. entry.key ≡ key.now) }
+    ensures kind { IfOk result (λ entry. entry.entry_type ≡ entry_type_of kind.now) }
+    ensures fields { IfOk result (λ entry. entry.fields ≡
+        by_name.from_entries {R = by_bytes} (reverse pairs.items)) }
+{
+    let key = Text::from_str(alloc, key)?;
+    let entry_type = EntryType::new(alloc, kind)?;
     let fields = TextMap::from_pairs(pairs)?;
     Ok(Entry {
         key,
@@ -58,7 +76,7 @@ pub(crate) fn read_entry<'f, 's>(
 }
 
 // Reads a field: its name in lowercase letters, and what its value says.
-fn read_field<'f, 's>(
+pub(crate) fn read_field<'f, 's>(
     alloc: Global,
     field: &Pair<'s>,
     reader: &mut FieldReader<'f, 's>,

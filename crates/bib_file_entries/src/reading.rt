@@ -22,7 +22,10 @@ use std::alloc::{AllocError, Global};
 use std::collections::BTreeMap;
 
 // The error of a key that an earlier entry claimed.
-fn duplicate(alloc: Global, raw: &Spanned<RawEntry<'_>>) -> Result<ParseError, AllocError>
+pub(crate) fn duplicate(
+    alloc: Global,
+    raw: &Spanned<RawEntry<'_>>,
+) -> Result<ParseError, AllocError>
     ensures { IfOk result (λ e. e ≡
         record { span = raw.now.span; kind = DuplicateKey raw.now.v.key.v.now }) }
 {

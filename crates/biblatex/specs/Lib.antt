@@ -1,3 +1,4 @@
+pub mod BibliographyRecovery
 pub mod Distinct
 pub mod HandedOver
 pub mod Headline

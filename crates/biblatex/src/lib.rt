@@ -3,6 +3,7 @@
 
 pub mod bibliography;
 pub mod laws;
+pub mod recovery;
 mod settled;
 pub mod sink;
 pub mod write;
@@ -34,5 +35,6 @@ pub use bib_text::text::Text;
 pub use bib_typed::ext::ChunksExt;
 pub use bib_typed::typed::{PermissiveType, Type};
 pub use bibliography::{Bibliography, InsertError, Keys};
+pub use recovery::BibliographyRecovery;
 pub use sink::Sink;
 pub use write::WriteError;

@@ -360,7 +360,7 @@ impl<'m, 'f, 's> Source<'m, 'f, 's> {
 
 // The English name of the month with these first three letters, in any ASCII case.
 #[tactic(auto, unfolding(crate::specs::Abbreviations::month))]
-fn month(name: &str) -> Option<&'static str>
+pub(super) fn month(name: &str) -> Option<&'static str>
     ensures { option_map (λ english. english.now) result ≡ abbreviations.month name.now }
 {
     if is_word(name, "jan") {

@@ -2,7 +2,7 @@
 
 ghost use Rattle.std.specs.Prelude.{◌≡◌, ◌+◌, ◌⊎◌, [], ◌∷◌, map, length, OnOk, IfOk, IfErr};
 ghost use Rattle.bib_chunks.specs.Styled.{styled};
-ghost use Rattle.bib_abbreviations.specs.Abbreviations.{Evaluates, IsFirstError, IsReadable, given_by, pairs_in};
+ghost use Rattle.bib_abbreviations.specs.Abbreviations.{Evaluates, IsFirstError, IsReadable, given_by, is_known, pairs_in};
 ghost use Rattle.bib_syntax.specs.Errors.{out_of_memory};
 ghost use Rattle.bib_styled.specs.Joined.{AreJoined, ArePlaced};
 ghost use Rattle.bib_syntax.specs.Reading.{Part};
@@ -10,7 +10,7 @@ ghost use Rattle.bib_syntax.specs.Reading.Piece.{literal};
 ghost use Rattle.bib_syntax.specs.Views.{piece_of};
 ghost use Rattle.bib_entry_types.specs.VerbatimFields as names;
 
-use crate::resolve::abbreviations::{Memo, Source};
+use crate::resolve::abbreviations::{Memo, Source, month};
 use crate::resolve::definitions::Lookup;
 use bib_chunks::chunk::Chunks;
 use bib_entry_types::fields::is_verbatim_field;
@@ -54,6 +54,13 @@ impl<'f, 's> FieldReader<'f, 's> {
             verbatim: Memo::new(alloc),
             others: Memo::new(alloc),
         }
+    }
+
+    /// Whether a name stands for something: it is defined, or the start of a month. Does not allocate.
+    pub fn knows(&self, name: &str) -> bool
+        ensures { result ≡ is_known (given_by self.now) name.now }
+    {
+        Lookup::Sorted(&self.definitions).get(name).is_some() || month(name).is_some()
     }
 
     /// Reads the contents of a field with this name, as `parse_field` does.

@@ -4,8 +4,8 @@ use Rattle.std.specs.List.{AllZip}
 use Rattle.std.proofs.lemmas.List.{take_all}
 use Rattle.std.proofs.lemmas.Result.{err_from_is_err_and}
 use Rattle.bib_abbreviations.specs.Abbreviations.{given_by}
-use Rattle.bib_file_entries.proofs.LoadingFacts.{IsRead, IsFound, are_readable, found_last, read_more, refused_at}
-use Rattle.bib_file_entries.specs.Loading.{last_field}
+use Rattle.bib_file_entries.proofs.LoadingFacts.{IsFound, are_readable, found_last, read_more, refused_at}
+use Rattle.bib_file_entries.specs.Loading.{IsRead, last_field}
 use Rattle.bib_file_entries.proofs.loading.read_entry.Goals as goal
 
 pub fields-preserved : goal.fields-preserved
@@ -28,8 +28,8 @@ returns-clause-read c =
     let whole : take c.fields.field-index c.deref-field-items.result.now ≡ c.args.raw.now.fields.items = take_all c.fields.field-index c.deref-field-items.result.now c.fields-test.false ∙ c.fields.invariant.fields in
     let read : AllZip (IsRead definitions) c.args.raw.now.fields.items c.fields.pairs.items = subst (λ l. AllZip (IsRead definitions) l c.fields.pairs.items) whole c.fields.invariant.read in
     record {
-      key = c.in_ok-key.ensures;
-      kind = c.in_ok-entry_type.ensures.ok;
-      fields = λ name. subst (λ m. IsFound definitions name (last_field c.args.raw.now.fields.items name) (by_name.get m name)) (sym c.in_ok-fields.ensures) (found_last definitions name _ _ read);
+      key = c.in_ok-entry_with.ensures.key;
+      kind = c.in_ok-entry_with.ensures.kind;
+      fields = λ name. subst (λ m. IsFound definitions name (last_field c.args.raw.now.fields.items name) (by_name.get m name)) (sym c.in_ok-entry_with.ensures.fields) (found_last definitions name _ _ read);
       readable = are_readable definitions _ _ read;
     }

@@ -1,7 +1,7 @@
 use Rattle.std.proofs.Common.{◌≡◌, take}
 use Rattle.std.specs.List.{AllZip}
 use Rattle.bib_abbreviations.specs.Abbreviations.{given_by}
-use Rattle.bib_file_entries.proofs.LoadingFacts.{IsRead}
+use Rattle.bib_file_entries.specs.Loading.{IsRead}
 use Rattle.bib_file_entries.proofs.loading.read_entry.Given as goal
 
 -- the fields so far are read

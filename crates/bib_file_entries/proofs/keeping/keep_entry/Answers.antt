@@ -1,0 +1,5 @@
+use Rattle.bib_file_entries.proofs.KeepingFacts.{kept_entry}
+use Rattle.bib_file_entries.proofs.keeping.keep_entry.Goals as goal
+
+pub returns-clause-kept : goal.returns-clause-kept
+returns-clause-kept c = kept_entry c.args.raw c.in_ok-entry.entry c.in_ok-pairs.ensures.kept c.in_ok-entry.ensures.key c.in_ok-entry.ensures.kind c.in_ok-entry.ensures.fields

@@ -1,0 +1,205 @@
+//! What is kept of a file's entries where not all of it can be read.
+
+ghost use Rattle.std.specs.Prelude.{◌≡◌, ◌++◌, ◌∷◌, [], map, length, IfOk, OnOk};
+ghost use Rattle.bib_abbreviations.specs.Abbreviations.{given_by, sorted_in};
+ghost use Rattle.bib_syntax.specs.Views.{entry_reading_of, file_of, piece_of};
+ghost use Rattle.bib_syntax.specs.declared.raw.ParseErrorKind.TheVariants.{UnknownAbbreviation};
+ghost use Rattle.bib_file_entries.specs.Claiming.{IsKeptSoFar};
+ghost use Rattle.bib_file_entries.specs.Keeping.{AreKeptFields, IsKeptEntry, IsTried};
+ghost use Rattle.bib_file_entries.specs.Kept.{mended_piece, unknown_names};
+ghost use Rattle.bib_file_entries.specs.Loaded.{definition_in};
+ghost use Rattle.bib_maps.specs.Names.{AreIndicesBelow};
+
+use crate::claiming::claims;
+use crate::loading::{definitions, entry_with, read_field};
+use crate::reading::duplicate;
+use bib_abbreviations::resolve::FieldReader;
+use bib_chunks::chunk::{Chunks, Span, Spanned};
+use bib_entry::entry::Entry;
+use bib_maps::claims::Claims;
+use bib_maps::names::Names;
+use bib_syntax::raw::{
+    Field, Pair, ParseError, ParseErrorKind, RawBibliography, RawChunk, RawEntry,
+};
+use bib_text::text::Text;
+use std::alloc::{AllocError, Global};
+use std::collections::BTreeMap;
+
+/// What is kept of a file's entries.
+#[derive(Drop)]
+pub struct KeptEntries {
+    /// The entries, each with its own fields.
+    pub entries: Vec<Entry>,
+    /// The names that they claim.
+    pub names: Names,
+    /// Where each entry stands in the file, in bytes.
+    pub spans: Vec<Span>,
+    /// The error of each name that stands for nothing, and of each field and entry that is left out, in the order of the
+    /// file.
+    pub errors: Vec<ParseError>,
+}
+
+// The error of a name that stands for nothing, in its place.
+fn unknown(alloc: Global, name: &str, span: &Span) -> Result<ParseError, AllocError>
+    ensures { IfOk result (λ e. e ≡
+        record { span = span.now; kind = UnknownAbbreviation name.now }) }
+{
+    let name = Text::from_str(alloc, name)?;
+    Ok(ParseError {
+        span: span.start..span.end,
+        kind: ParseErrorKind::UnknownAbbreviation(name),
+    })
+}
+
+// An element becomes a text where it is a name that stands for nothing, whose error is kept.
+fn mend_piece<'f, 's>(
+    alloc: Global,
+    piece: &mut Spanned<RawChunk<'s>>,
+    reader: &FieldReader<'f, 's>,
+    errors: &mut Vec<ParseError>,
+) -> Result<(), AllocError>
+    ensures mended { OnOk result (piece_of piece.new ≡
+        mended_piece (given_by reader.now) (piece_of piece.old)) }
+    ensures errors { OnOk result (errors.new.items ≡ errors.old.items ++
+        unknown_names (given_by reader.now) (piece_of piece.old ∷ [])) }
+{
+    let RawChunk::Abbreviation(name) = piece.v else {
+        return Ok(());
+    };
+    if reader.knows(name) {
+        return Ok(());
+    }
+    errors.push(unknown(alloc, name, &piece.span)?)?;
+    piece.v = RawChunk::Normal(name);
+    Ok(())
+}
+
+// Each name in a field that stands for nothing becomes a text, and its error is kept.
+fn mend<'f, 's>(
+    alloc: Global,
+    field: &mut Field<'s>,
+    reader: &FieldReader<'f, 's>,
+    errors: &mut Vec<ParseError>,
+) -> Result<(), AllocError>
+    ensures mended { OnOk result (map piece_of field.new.items ≡
+        map (mended_piece (given_by reader.now)) (map piece_of field.old.items)) }
+    ensures errors { OnOk result (errors.new.items ≡ errors.old.items ++
+        unknown_names (given_by reader.now) (map piece_of field.old.items)) }
+{
+    'pieces: for piece in field.iter_mut() {
+        mend_piece(alloc, piece, reader, errors)?;
+    }
+    Ok(())
+}
+
+// Reads a field with such names as texts; None where it can't be read even so.
+fn keep_field<'f, 's>(
+    alloc: Global,
+    field: Pair<'s>,
+    reader: &mut FieldReader<'f, 's>,
+    errors: &mut Vec<ParseError>,
+) -> Result<Option<(Text, Chunks)>, AllocError>
+    ensures same { reader.new ≡ reader.old }
+    ensures tried { IfOk result (IsTried (given_by reader.old) field.entry errors.old.items errors.new.items) }
+{
+    let mut field = field;
+    mend(alloc, &mut field.value.v, reader, errors)?;
+    match read_field(alloc, &field, reader) {
+        Ok(read) => Ok(Some(read)),
+        Err(e) => {
+            e.unless_out_of_memory()?;
+            errors.push(e)?;
+            Ok(None)
+        }
+    }
+}
+
+// Reads the fields of an entry that can be read.
+fn keep_fields<'f, 's>(
+    alloc: Global,
+    fields: Vec<Pair<'s>>,
+    reader: &mut FieldReader<'f, 's>,
+    errors: &mut Vec<ParseError>,
+) -> Result<Vec<(Text, Chunks)>, AllocError>
+    ensures same { reader.new ≡ reader.old }
+    ensures kept { IfOk result (λ pairs. AreKeptFields (given_by reader.old) fields.entry.items
+        errors.old.items errors.new.items pairs.items) }
+{
+    let mut pairs = Vec::with_capacity(alloc, fields.len())?;
+    'fields: for field in fields {
+        let kept = keep_field(alloc, field, reader, errors)?;
+        match kept {
+            Some(pair) => pairs.push(pair)?,
+            None => continue 'fields,
+        }
+    }
+    Ok(pairs)
+}
+
+// Reads what can be read of an entry.
+fn keep_entry<'f, 's>(
+    alloc: Global,
+    raw: Spanned<RawEntry<'s>>,
+    reader: &mut FieldReader<'f, 's>,
+    errors: &mut Vec<ParseError>,
+) -> Result<Entry, AllocError>
+    ensures same { reader.new ≡ reader.old }
+    ensures kept { IfOk result (IsKeptEntry (given_by reader.old) (entry_reading_of raw.entry)
+        errors.old.items errors.new.items) }
+{
+    let RawEntry { key, kind, fields } = raw.v;
+    let pairs = keep_fields(alloc, fields, reader, errors)?;
+    let entry = entry_with(alloc, key.v, kind.v, pairs)?;
+    Ok(entry)
+}
+
+// What is kept of a file's entries with these definitions of abbreviations.
+fn keep_entries<'f, 's>(
+    alloc: Global,
+    raw: Vec<Spanned<RawEntry<'s>>>,
+    definitions: BTreeMap<&'s str, &'f Field<'s>>,
+) -> Result<KeptEntries, AllocError>
+    ensures kept { IfOk result (λ found. IsKeptSoFar (sorted_in definitions.entry)
+        (map entry_reading_of raw.entry.items) found.entries.items found.names found.spans.items found.errors.items) }
+    ensures below { IfOk result (λ found. AreIndicesBelow (length found.entries.items) found.names) }
+{
+    let mut reader = FieldReader::new(alloc, definitions);
+    let mut entries = Vec::with_capacity(alloc, raw.len())?;
+    let mut spans = Vec::with_capacity(alloc, raw.len())?;
+    let mut names = Claims::new(alloc);
+    let mut errors = Vec::new(alloc);
+    'entries: for said in raw {
+        if names.get(said.v.key.v).is_some() {
+            errors.push(duplicate(alloc, &said)?)?;
+            continue 'entries;
+        }
+        spans.push(said.span.start..said.span.end)?;
+        let entry = keep_entry(alloc, said, &mut reader, &mut errors)?;
+        names.claim_all(claims(alloc, &entry)?, entries.len())?;
+        entries.push(entry)?;
+    }
+    let names = names.into_names(alloc)?;
+    Ok(KeptEntries {
+        entries,
+        names,
+        spans,
+        errors,
+    })
+}
+
+/// What is kept of the entries of a file: each entry but those whose key an earlier one claimed, with each field that can be
+/// read, and each name pointing to the last kept entry that claims it. A name that stands for nothing is read as text.
+/// Each of these has its error. Refused only when out of memory.
+pub fn keep(alloc: Global, raw: RawBibliography<'_>) -> Result<KeptEntries, AllocError>
+    ensures kept { IfOk result (λ found. IsKeptSoFar (definition_in (file_of raw.entry).abbreviations)
+        (file_of raw.entry).entries found.entries.items found.names found.spans.items found.errors.items) }
+    ensures below { IfOk result (λ found. AreIndicesBelow (length found.entries.items) found.names) }
+{
+    let RawBibliography {
+        preamble: _,
+        entries,
+        abbreviations,
+    } = raw;
+    let definitions = definitions(alloc, abbreviations.as_slice())?;
+    keep_entries(alloc, entries, definitions)
+}

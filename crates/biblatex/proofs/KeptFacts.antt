@@ -1,0 +1,98 @@
+-- What is kept of a file's entries: it is read as it stands, it is all where there is no error, and there is none where all
+-- can be read.
+use Rattle.std.proofs.Common.{◌≡◌, ℕ, Bool, true, false, cond, List, [], ◌∷◌, ◌++◌, length, map, refl, sym, ap, ap₂, ◌∙◌, subst, inl, inr, ◌⊎◌, ◌||◌, is_some, Option, Some, None}
+use Rattle.std.specs.List.{AllZip}
+use Rattle.std.proofs.lemmas.Bool.{both_ways}
+use Rattle.bib_abbreviations.specs.Abbreviations.{AreOneError, Definitions, HoldsName, IsKnown, Reaches, error_at, is_known, month}
+use Rattle.bib_entry.specs.declared.entry.Entry.{Entry}
+use Rattle.bib_file_entries.specs.Bibliography.{claims}
+use Rattle.bib_file_entries.specs.Kept.{EntriesKept, FieldsKept, mended, mended_piece, unknown_names, with_fields}
+use Rattle.bib_file_entries.specs.Loaded.{AllCanBeRead, AreEntries, CanBeRead, IsEntry}
+use Rattle.bib_file_entries.proofs.LoadedFacts.{claims_same}
+use Rattle.bib_syntax.specs.Reading.{EntryReading, FieldReading, Part, Piece}
+use Rattle.bib_syntax.specs.Reading.Piece.{abbreviation, literal}
+use Rattle.bib_syntax.specs.declared.raw.ParseError.{ParseError}
+use Rattle.bib_syntax.specs.declared.raw.ParseErrorKind.TheVariants.{UnknownAbbreviation}
+
+-- what is kept is read as a file with just that is
+pub kept_are_entries : {d : Definitions} {claimed : List (List ℕ)} {said kept : List EntryReading} {entries : List Entry} {errors : List ParseError}
+    → EntriesKept d claimed said kept entries errors → AreEntries d claimed kept entries
+kept_are_entries EntriesKept.none = AreEntries.none
+kept_are_entries (EntriesKept.duplicate was rest) = kept_are_entries rest
+kept_are_entries (EntriesKept.next fresh fields is rest) = AreEntries.next fresh is (kept_are_entries rest)
+
+-- ---- without errors all is kept
+
+no_cons : {A B : Type 0} {x : A} {xs : List A} → x ∷ xs ≡ [] → B
+no_cons e = cc
+
+none_before : {A : Type 0} (xs ys : List A) → xs ++ ys ≡ [] → xs ≡ []
+none_before [] ys e = refl
+none_before (x ∷ xs) ys e = no_cons e
+
+none_after : {A : Type 0} (xs ys : List A) → xs ++ ys ≡ [] → ys ≡ []
+none_after [] ys e = e
+none_after (x ∷ xs) ys e = no_cons e
+
+mended_by : (d : Definitions) (p : Part) (rest : List Piece) (known : Bool) → cond known (unknown_names d rest) (error_at p (UnknownAbbreviation p.text) ∷ unknown_names d rest) ≡ []
+    → (unknown_names d rest ≡ [] → map (mended_piece d) rest ≡ rest) → cond known (abbreviation p) (literal p) ∷ map (mended_piece d) rest ≡ abbreviation p ∷ rest
+mended_by d p rest true e later = ap (λ l. abbreviation p ∷ l) (later e)
+mended_by d p rest false e later = no_cons e
+
+-- elements without unknown names stay as they are
+pub mended_known : (d : Definitions) (pieces : List Piece) → unknown_names d pieces ≡ [] → map (mended_piece d) pieces ≡ pieces
+mended_known d [] e = refl
+mended_known d (literal p ∷ rest) e = ap (λ l. literal p ∷ l) (mended_known d rest e)
+mended_known d (abbreviation p ∷ rest) e = mended_by d p rest (is_known d p.text) e (mended_known d rest)
+
+pub mended_same : (d : Definitions) (f : FieldReading) → unknown_names d f.value.pieces ≡ [] → mended d f ≡ f
+mended_same d f e =
+    ap (λ (pieces : List Piece). (let g : FieldReading = record { name = f.name; value = record { pieces = pieces; start = f.value.start; end = f.value.end } } in g)) (mended_known d f.value.pieces e)
+
+pub fields_all : {d : Definitions} {said fields : List FieldReading} {errors : List ParseError} → FieldsKept d said fields errors → errors ≡ [] → fields ≡ said
+fields_all FieldsKept.none e = refl
+fields_all {d} (FieldsKept.kept {f = f} {errors = later} can rest) e =
+    ap₂ (λ g gs. g ∷ gs) (mended_same d f (none_before (unknown_names d f.value.pieces) later e)) (fields_all rest (none_after (unknown_names d f.value.pieces) later e))
+fields_all {d} (FieldsKept.left_out {f = f} {e = error} {errors = later} first unread rest) e = no_cons (none_after (unknown_names d f.value.pieces) (error ∷ later) e)
+
+pub entries_all : {d : Definitions} {claimed : List (List ℕ)} {said kept : List EntryReading} {entries : List Entry} {errors : List ParseError}
+    → EntriesKept d claimed said kept entries errors → errors ≡ [] → kept ≡ said
+entries_all EntriesKept.none e = refl
+entries_all (EntriesKept.duplicate was rest) e = no_cons e
+entries_all (EntriesKept.next {said = s} {first = first} {errors = later} fresh fields is rest) e =
+    ap₂ (λ fs ks. with_fields s fs ∷ ks) (fields_all fields (none_before first later e)) (entries_all rest (none_after first later e))
+
+-- ---- where all can be read there is no error
+
+or_right : (b : Bool) → (b || true) ≡ true
+or_right true = refl
+or_right false = refl
+
+known_test : {d : Definitions} {name : List ℕ} → IsKnown d name → is_known d name ≡ true
+known_test {d} {name} (inl defined) = ap (λ o. is_some o || is_some (month name)) defined.1
+known_test {d} {name} (inr begins) = ap (λ o. is_some (d name) || is_some o) begins.1 ∙ or_right (is_some (d name))
+
+no_unknown : (d : Definitions) (pieces : List Piece) → ((name : List ℕ) → HoldsName pieces name → IsKnown d name) → unknown_names d pieces ≡ []
+no_unknown d [] known = refl
+no_unknown d (literal p ∷ rest) known = no_unknown d rest known
+no_unknown d (abbreviation p ∷ rest) known =
+    ap (λ b. cond b (unknown_names d rest) (error_at p (UnknownAbbreviation p.text) ∷ unknown_names d rest)) (known_test (known p.text (inl refl)))
+    ∙ no_unknown d rest (λ name held. known name (inr held))
+
+-- a field that can be read has no unknown name
+pub readable_known : (d : Definitions) (f : FieldReading) → CanBeRead d f → unknown_names d f.value.pieces ≡ []
+readable_known d f can = no_unknown d f.value.pieces (λ name held. can.known name (Reaches.held held))
+
+pub fields_fine : {d : Definitions} {said fields : List FieldReading} {errors : List ParseError} → AllCanBeRead d said → FieldsKept d said fields errors → errors ≡ []
+fields_fine all FieldsKept.none = refl
+fields_fine {d} all (FieldsKept.kept {f = f} can rest) = ap₂ (λ xs ys. xs ++ ys) (readable_known d f all.0) (fields_fine all.1 rest)
+fields_fine {d} all (FieldsKept.left_out {f = f} first unread rest) = absurd (unread (subst (CanBeRead d) (sym (mended_same d f (readable_known d f all.0))) all.0))
+
+pub entries_fine : {d : Definitions} {claimed : List (List ℕ)} {said kept : List EntryReading} {own entries : List Entry} {errors : List ParseError}
+    → AreEntries d claimed said own → EntriesKept d claimed said kept entries errors → errors ≡ []
+entries_fine AreEntries.none EntriesKept.none = refl
+entries_fine (AreEntries.next fresh read others) (EntriesKept.duplicate was rest) = absurd (both_ways _ fresh was)
+entries_fine {d} {claimed} (AreEntries.next {said = s} {rest = more} {entry = one} {entries = found} fresh read others) (EntriesKept.next {entry = two} {first = first} fresh' fields is rest) =
+    let fine : first ≡ [] = fields_fine read.readable fields in
+    let same : claims one ≡ claims two = claims_same one two read (subst (λ fs. IsEntry d (with_fields s fs) two) (fields_all fields fine) is) in
+    ap₂ (λ xs ys. xs ++ ys) fine (entries_fine (subst (λ names. AreEntries d (claimed ++ names) more found) same others) rest)
