@@ -3,6 +3,7 @@
 use Rattle.std.proofs.Common.{◌≡◌, ℕ, Bool, true, false, cond, List, [], ◌∷◌, ◌++◌, length, map, refl, sym, ap, ap₂, ◌∙◌, subst, inl, inr, ◌⊎◌, ◌||◌, is_some, Option, Some, None}
 use Rattle.std.specs.List.{AllZip}
 use Rattle.std.proofs.lemmas.Bool.{both_ways}
+use Rattle.bib_abbreviations.proofs.LawFacts.{error_is_one}
 use Rattle.bib_abbreviations.specs.Abbreviations.{AreOneError, Definitions, HoldsName, IsKnown, Reaches, error_at, is_known, month}
 use Rattle.bib_entry.specs.declared.entry.Entry.{Entry}
 use Rattle.bib_file_entries.specs.Bibliography.{claims}
@@ -68,15 +69,15 @@ or_right : (b : Bool) → (b || true) ≡ true
 or_right true = refl
 or_right false = refl
 
-known_test : {d : Definitions} {name : List ℕ} → IsKnown d name → is_known d name ≡ true
-known_test {d} {name} (inl defined) = ap (λ o. is_some o || is_some (month name)) defined.1
-known_test {d} {name} (inr begins) = ap (λ o. is_some (d name) || is_some o) begins.1 ∙ or_right (is_some (d name))
+known_test : (d : Definitions) (name : List ℕ) → IsKnown d name → is_known d name ≡ true
+known_test d name (inl defined) = ap (λ o. is_some o || is_some (month name)) defined.1
+known_test d name (inr begins) = ap (λ o. is_some (d name) || is_some o) begins.1 ∙ or_right (is_some (d name))
 
 no_unknown : (d : Definitions) (pieces : List Piece) → ((name : List ℕ) → HoldsName pieces name → IsKnown d name) → unknown_names d pieces ≡ []
 no_unknown d [] known = refl
 no_unknown d (literal p ∷ rest) known = no_unknown d rest known
 no_unknown d (abbreviation p ∷ rest) known =
-    ap (λ b. cond b (unknown_names d rest) (error_at p (UnknownAbbreviation p.text) ∷ unknown_names d rest)) (known_test (known p.text (inl refl)))
+    ap (λ b. cond b (unknown_names d rest) (error_at p (UnknownAbbreviation p.text) ∷ unknown_names d rest)) (known_test d p.text (known p.text (inl refl)))
     ∙ no_unknown d rest (λ name held. known name (inr held))
 
 -- a field that can be read has no unknown name
@@ -96,3 +97,44 @@ entries_fine {d} {claimed} (AreEntries.next {said = s} {rest = more} {entry = on
     let fine : first ≡ [] = fields_fine read.readable fields in
     let same : claims one ≡ claims two = claims_same one two read (subst (λ fs. IsEntry d (with_fields s fs) two) (fields_all fields fine) is) in
     ap₂ (λ xs ys. xs ++ ys) fine (entries_fine (subst (λ names. AreEntries d (claimed ++ names) more found) same others) rest)
+
+-- ---- one way to keep
+
+module _ {A B : Type 0} (R : A → B → Type 0) where
+  -- lists that are alike, one after another
+  pub AllZip-append : (xs more : List A) (ys others : List B) → AllZip R xs ys → AllZip R more others → AllZip R (xs ++ more) (ys ++ others)
+  AllZip-append [] more [] others first rest = rest
+  AllZip-append [] more (y ∷ ys) others first rest = absurd first
+  AllZip-append (x ∷ xs) more [] others first rest = absurd first
+  AllZip-append (x ∷ xs) more (y ∷ ys) others first rest = (first.0, AllZip-append xs more ys others first.1 rest)
+
+each_is_one : (errors : List ParseError) → AllZip AreOneError errors errors
+each_is_one [] = tt
+each_is_one (e ∷ errors) = (inl refl, each_is_one errors)
+
+fields_once : {d : Definitions} {said fields others : List FieldReading} {errors faults : List ParseError} → FieldsKept d said fields errors → FieldsKept d said others faults
+    → (fields ≡ others) × AllZip AreOneError errors faults
+fields_once FieldsKept.none FieldsKept.none = (refl, tt)
+fields_once {d} (FieldsKept.kept {f = f} {errors = es} can rest) (FieldsKept.kept {errors = fs} can' rest') =
+    let more = fields_once rest rest' in
+    (ap (λ gs. mended d f ∷ gs) more.0, AllZip-append AreOneError (unknown_names d f.value.pieces) es (unknown_names d f.value.pieces) fs (each_is_one (unknown_names d f.value.pieces)) more.1)
+fields_once (FieldsKept.kept can rest) (FieldsKept.left_out first unread rest') = absurd (unread can)
+fields_once (FieldsKept.left_out first unread rest) (FieldsKept.kept can rest') = absurd (unread can)
+fields_once {d} (FieldsKept.left_out {f = f} {e = one} {errors = es} first unread rest) (FieldsKept.left_out {e = other} {errors = fs} first' unread' rest') =
+    let more = fields_once rest rest' in
+    (more.0, AllZip-append AreOneError (unknown_names d f.value.pieces) (one ∷ es) (unknown_names d f.value.pieces) (other ∷ fs) (each_is_one (unknown_names d f.value.pieces)) (error_is_one first first', more.1))
+
+pub entries_once : {d : Definitions} {claimed : List (List ℕ)} {said kept others : List EntryReading} {one two : List Entry} {errors faults : List ParseError}
+    → EntriesKept d claimed said kept one errors → EntriesKept d claimed said others two faults → (kept ≡ others) × AllZip AreOneError errors faults
+entries_once EntriesKept.none EntriesKept.none = (refl, tt)
+entries_once (EntriesKept.duplicate was rest) (EntriesKept.duplicate was' rest') =
+    let more = entries_once rest rest' in
+    (more.0, (inl refl, more.1))
+entries_once (EntriesKept.duplicate was rest) (EntriesKept.next fresh fields is rest') = absurd (both_ways _ fresh was)
+entries_once (EntriesKept.next fresh fields is rest) (EntriesKept.duplicate was rest') = absurd (both_ways _ fresh was)
+entries_once {d} {claimed} (EntriesKept.next {said = s} {entry = a} {first = before} {errors = es} fresh fields is rest)
+    (EntriesKept.next {fields = gs} {entry = b} {rest = unsaid} {kept = ks} {entries = bs} {first = before'} {errors = fs} fresh' fields' is' rest') =
+    let first = fields_once fields fields' in
+    let same : claims b ≡ claims a = claims_same b a is' (subst (λ l. IsEntry d (with_fields s l) a) first.0 is) in
+    let more = entries_once rest (subst (λ names. EntriesKept d (claimed ++ names) unsaid ks bs fs) same rest') in
+    (ap₂ (λ l m. with_fields s l ∷ m) first.0 more.0, AllZip-append AreOneError before es before' fs first.1 more.1)

@@ -3,7 +3,9 @@ pub mod DistinctFacts
 pub mod ErrorFacts
 pub mod HandingFacts
 pub mod InsideFacts
+pub mod KeptFacts
 pub mod IndexLaws
+pub mod RecoveryFacts
 pub mod RefusalFacts
 pub mod RereadFacts
 pub mod ResolvedFacts

@@ -31,7 +31,7 @@ use Rattle.bib_file_entries.proofs.LoadedFacts.{claims_same, no_entries}
 
 -- ---- two lists of entries that one file says
 
-source_same : (k l : EntryType) (f g : FieldTexts) → k ≡ l → ((name : List ℕ) → f name ≡ g name) → (let s : Source = record { kind = k; fields = f } in s) ≡ (let t : Source = record { kind = l; fields = g } in t)
+pub source_same : (k l : EntryType) (f g : FieldTexts) → k ≡ l → ((name : List ℕ) → f name ≡ g name) → (let s : Source = record { kind = k; fields = f } in s) ≡ (let t : Source = record { kind = l; fields = g } in t)
 source_same k l f g kinds fields = λ i. record { kind = kinds i; fields = λ name. fields name i }
 
 found_same : (definitions : Definitions) (found : Option FieldReading) (one two : Option (List (Spanned Chunk)))
