@@ -1,10 +1,14 @@
 -- Meaning: words of public contracts.
 -- What an entry has as a date for those that inherit it.
-use Rattle.std.specs.Prelude.{◌≡◌, ℕ, Bool, true, false, not, ◌&&◌, ◌||◌, List, [], ◌∷◌, map, codes, option_map, Option, Some, None, IsSomeAnd, if◌then◌else◌}
+use Rattle.std.specs.Prelude.{◌≡◌, ℕ, Bool, true, false, not, ◌&&◌, ◌||◌, List, [], ◌∷◌, map, codes, option_map, Option, Some, None, IsSomeAnd, if◌then◌else◌, ⊤}
 use Rattle.std.specs.Str.{chars}
-use Rattle.bib_chunks.specs.Styled.{Atom, styled}
+use Rattle.std.specs.declared.ops.Range.{Range}
+use Rattle.bib_chunks.specs.Styled.{Atom, styled, whole_span}
+use Rattle.bib_chunks.specs.Values.{Value}
+use Rattle.bib_chunks.specs.declared.chunk.Chunk.TheVariants.{Verbatim}
 use Rattle.bib_enums.specs.declared.type_error.TypeErrorKind.{TypeErrorKind}
 use Rattle.bib_entry_types.specs.Requirements.{rules_of}
+use Rattle.bib_dates.specs.Chunks.{three_fields_place}
 use Rattle.bib_dates.specs.Rewritten.{rewritten_date}
 use Rattle.bib_dates.specs.Readings.{MayRefuse, Reading, readable_value}
 use Rattle.bib_dates.specs.ThreeFields.{three_fields_of}
@@ -83,3 +87,21 @@ abbrev pub IsInheritableDate : FieldTexts → Kept → Type 0
 IsInheritableDate fields Undated = inheritable_date fields ≡ InheritableDate.undated
 IsInheritableDate fields (Unreadable error) = (inheritable_date fields ≡ InheritableDate.unreadable) × DateMayFail fields error.kind
 IsInheritableDate fields (Dated chunks) = inheritable_date fields ≡ InheritableDate.dated (styled chunks)
+
+-- the chunks of fields, by their names
+abbrev pub FieldChunks : Type 0
+FieldChunks = List ℕ → Option Value
+
+-- the plain text of a field as one verbatim chunk, which stands where the chunks of the field do
+abbrev pub as_text : Value → Value
+as_text chunks = record { v = Verbatim (plain (styled chunks)); span = whole_span chunks } ∷ []
+
+-- the error of the year, the month and the day of an entry lies here: at the first of them that can't be read
+abbrev pub IsPlaceOfDate : FieldChunks → Range ℕ → Type 0
+IsPlaceOfDate fields place = IsSomeAnd (fields (codes "year")) (λ year. place ≡ three_fields_place (as_text year) (option_map as_text (fields (codes "month"))) (option_map as_text (fields (codes "day"))))
+
+-- the error of a date that was read, if there is one, lies there
+abbrev pub LiesAtDate : FieldChunks → Kept → Type 0
+LiesAtDate fields (Unreadable error) = IsPlaceOfDate fields error.span
+LiesAtDate fields Undated = ⊤
+LiesAtDate fields (Dated chunks) = ⊤

@@ -1,14 +1,16 @@
 //! What an entry has as a date for those that inherit it.
 
 ghost use Rattle.std.specs.Prelude.{◌≡◌, Some, IfOk, codes, option_map};
+ghost use Rattle.std.specs.FinMap as by_name;
 ghost use Rattle.std.specs.Option.{option_copied};
 ghost use Rattle.bib_chunks.specs.Styled.{styled};
 ghost use Rattle.bib_dates.specs.Rewritten.{rewritten_date};
-ghost use Rattle.bib_dates.specs.Chunks.{AnswersReading};
+ghost use Rattle.bib_dates.specs.Chunks.{AnswersReading, three_fields_place};
+ghost use Rattle.bib_enums.specs.ReadAs.{LiesAt};
 ghost use Rattle.bib_dates.specs.Readings.{Reading, readable_value};
 ghost use Rattle.bib_dates.specs.Written.{date_text};
 ghost use Rattle.bib_dates.specs.declared.date.Date.{Date as ADate};
-ghost use Rattle.bib_inheritance.specs.InheritableDate.{IsInheritableDate, dated_text, looks_for_date, of_one_field, three_fields, written_date};
+ghost use Rattle.bib_inheritance.specs.InheritableDate.{IsInheritableDate, LiesAtDate, as_text, dated_text, looks_for_date, of_one_field, three_fields, written_date};
 ghost use Rattle.bib_inheritance.specs.References.{plain};
 ghost use Rattle.bib_inheritance.specs.Sources.{fields_of, source_of};
 ghost use Rattle.bib_chunks.specs.Values.{text};
@@ -25,7 +27,8 @@ use std::alloc::{AllocError, Global};
 
 // The styled text as one verbatim chunk in its index, which is read as its plain text.
 fn as_text(alloc: Global, chunks: &Chunks) -> Result<Chunks, AllocError>
-    ensures { IfOk result (λ one. text one ≡ plain (styled chunks.now)) }
+    ensures read { IfOk result (λ one. text one ≡ plain (styled chunks.now)) }
+    ensures one { IfOk result (λ one. one ≡ as_text chunks.now) }
 {
     let text = format_styled(alloc, chunks.as_slice())?;
     let mut one = Items::new(alloc);
@@ -42,8 +45,9 @@ fn field_as_text(
     fields: &TextMap<Chunks>,
     name: &str,
 ) -> Result<Option<Chunks>, AllocError>
-    ensures { IfOk result (λ one. option_map text one ≡
+    ensures read { IfOk result (λ one. option_map text one ≡
         option_map plain (fields_of fields.now name.now)) }
+    ensures one { IfOk result (λ one. one ≡ option_map as_text (by_name.get fields.now name.now)) }
 {
     match fields.get(name) {
         Some(chunks) => Ok(Some(as_text(alloc, chunks)?)),
@@ -62,7 +66,10 @@ fn gathered_text(chunks: &Option<Chunks>) -> Option<ChunksRef<'_>>
 
 // What the year, the month and the day of an entry are read as.
 fn three_fields(alloc: Global, year: &Chunks, fields: &TextMap<Chunks>) -> Result<Date, TypeError>
-    ensures { AnswersReading (three_fields (fields_of fields.now) (plain (styled year.now))) result }
+    ensures reads { AnswersReading (three_fields (fields_of fields.now) (plain (styled year.now))) result }
+    ensures place { LiesAt (three_fields_place (as_text year.now)
+        (option_map as_text (by_name.get fields.now (codes "month")))
+        (option_map as_text (by_name.get fields.now (codes "day")))) result }
 {
     let year = as_text(alloc, year)?;
     let month = field_as_text(alloc, fields, "month")?;
@@ -116,7 +123,8 @@ pub enum InheritableDate {
 impl InheritableDate {
     /// Reads what an entry with these fields has as a date. A field `date` counts before `year`, `month` and `day`.
     pub fn of(alloc: Global, fields: &TextMap<Chunks>) -> Result<InheritableDate, AllocError>
-        ensures { IfOk result (IsInheritableDate (fields_of fields.now)) }
+        ensures read { IfOk result (IsInheritableDate (fields_of fields.now)) }
+        ensures placed { IfOk result (LiesAtDate (by_name.get fields.now)) }
     {
         if let Some(date) = fields.get("date") {
             return Ok(InheritableDate::Dated(from_one_field(alloc, date)?));

@@ -1,10 +1,11 @@
 -- Dates that were read.
-use Rattle.std.proofs.Common.{◌≡◌, ◌≢◌, ℕ, zero, suc, ◌+◌, ◌-◌, ◌<◌, List, [], ◌∷◌, ◌++◌, true, length, get_or, set, take, drop, map, eqb, eq-eqb, refl, sym, ap, ◌∙◌, subst, arith, Option, Some, None, is_some, inl, inr, ◌⊎◌, get_or-set_other, get_or-set_same}
+use Rattle.std.proofs.Common.{◌≡◌, ◌≢◌, ℕ, zero, suc, ◌+◌, ◌-◌, ◌<◌, List, [], ◌∷◌, ◌++◌, true, length, get_or, set, take, drop, map, eqb, eq-eqb, refl, sym, ap, ◌∙◌, subst, arith, Option, Some, None, is_some, inl, inr, ◌⊎◌, length-set, get_or-set_other, get_or-set_same}
 use Rattle.std.specs.Prelude.{IsNone, IsSome}
 use Rattle.std.specs.List.{Contains}
 use Rattle.std.proofs.lemmas.Bool.{both_ways, cases_Bool, false≢true}
 use Rattle.std.proofs.lemmas.List.{at_drop_more, get_or_default, map-set, take_more}
 use Rattle.std.proofs.lemmas.List.Elements.{Contains-append_left, Contains-get_or}
+use Rattle.std.proofs.lemmas.Option.{slice_get-get_or, slice_get_within}
 use Rattle.bib_text.specs.declared.spanned.Spanned.{Spanned}
 use Rattle.bib_chunks.specs.declared.chunk.Chunk.{Chunk}
 use Rattle.bib_chunks.specs.Styled.{Atom, styled}
@@ -16,7 +17,7 @@ use Rattle.bib_inheritance.specs.Sources.{Source, first_some, no_entry}
 use Rattle.bib_inheritance.specs.declared.inheritable_date.InheritableDate.{InheritableDate as Kept}
 use Rattle.bib_inheritance.specs.declared.inheritable_date.InheritableDate.TheVariants.{Undated, Unreadable, Dated}
 use Rattle.bib_references.specs.Resolving.{at_index, source_of_entry, sources_of}
-use Rattle.bib_references.specs.Turning.{AddsAmong, AreDates, Dates, date_at, dated_in}
+use Rattle.bib_references.specs.Turning.{AddsAmong, AreDates, Dates, IsDateAt, date_at, dated_in}
 
 some_same : {A : Type 0} {x y : A} → Some x ≡ Some y → x ≡ y
 some_same e = cc
@@ -32,17 +33,17 @@ unread_more [] none (suc index) = refl
 unread_more (d ∷ dates) none zero = none 0
 unread_more (d ∷ dates) none (suc index) = unread_more dates (λ k. none (suc k)) index
 
-module _ (values : List Source) where
-  pub none_read : (dates : Dates) → ((index : ℕ) → IsNone (date_at dates index)) → AreDates values dates
+module _ (entries : List Entry) where
+  pub none_read : (dates : Dates) → ((index : ℕ) → IsNone (date_at dates index)) → AreDates entries dates
   none_read dates none index d is = absurd (false≢true (sym (none index) ∙ ap is_some is))
 
   -- one more date
-  pub dates_more : (dates : Dates) (index : ℕ) (d : Kept) → index < length dates → IsInheritableDate (at_index values index).fields d → AreDates values dates → AreDates values (set dates index (Some d))
+  pub dates_more : (dates : Dates) (index : ℕ) (d : Kept) → index < length dates → IsDateAt entries index d → AreDates entries dates → AreDates entries (set dates index (Some d))
   dates_more dates index d within here are other e is = elim (cases_Bool (eqb other index)) [
     | inl same ↦
         let at : other ≡ index = same_index other index same in
         let now : Some d ≡ Some e = sym (get_or-set_same dates index (Some d) None within) ∙ ap (date_at (set dates index (Some d))) (sym at) ∙ is in
-        subst (λ k. IsInheritableDate (at_index values k).fields e) (sym at) (subst (IsInheritableDate (at_index values index).fields) (some_same now) here)
+        subst (λ k. IsDateAt entries k e) (sym at) (subst (IsDateAt entries index) (some_same now) here)
     | inr apart ↦ are other e (sym (get_or-set_other dates index other (Some d) None (λ x. both_ways _ apart (eq-eqb other index x))) ∙ is)
   ]
 
@@ -85,21 +86,24 @@ pub read_at : {A : Type 0} (of : Option Kept → A) (dates : Dates) (index : ℕ
 read_at of dates index o below = ap of (get_or_default dates index None o below)
 
 -- what an entry has as a date, once it is read
-module _ (values : List Source) (dates : Dates) (index : ℕ) (are : AreDates values dates) where
-  pub dated_here : (chunks : List (Spanned Chunk)) → dated_in (date_at dates index) ≡ Some chunks → dated_text (inheritable_date (at_index values index).fields) ≡ Some (styled chunks)
+module _ (entries : List Entry) (dates : Dates) (index : ℕ) (are : AreDates entries dates) where
+  abbrev here : Source
+  here = at_index (sources_of entries) index
+
+  pub dated_here : (chunks : List (Spanned Chunk)) → dated_in (date_at dates index) ≡ Some chunks → dated_text (inheritable_date here.fields) ≡ Some (styled chunks)
   dated_here chunks is = go (date_at dates index) refl is where
-    go : (o : Option Kept) → date_at dates index ≡ o → dated_in o ≡ Some chunks → dated_text (inheritable_date (at_index values index).fields) ≡ Some (styled chunks)
+    go : (o : Option Kept) → date_at dates index ≡ o → dated_in o ≡ Some chunks → dated_text (inheritable_date here.fields) ≡ Some (styled chunks)
     go None there is = cc
     go (Some Undated) there is = cc
     go (Some (Unreadable error)) there is = cc
-    go (Some (Dated found)) there is = ap dated_text (are index (Dated found) there) ∙ ap (λ c. Some (styled c)) (some_same is)
+    go (Some (Dated found)) there is = ap dated_text (are index (Dated found) there).is ∙ ap (λ c. Some (styled c)) (some_same is)
 
-  pub undated_here : IsSome (date_at dates index) → dated_in (date_at dates index) ≡ None → dated_text (inheritable_date (at_index values index).fields) ≡ None
+  pub undated_here : IsSome (date_at dates index) → dated_in (date_at dates index) ≡ None → dated_text (inheritable_date here.fields) ≡ None
   undated_here was is = go (date_at dates index) refl was is where
-    go : (o : Option Kept) → date_at dates index ≡ o → IsSome o → dated_in o ≡ None → dated_text (inheritable_date (at_index values index).fields) ≡ None
+    go : (o : Option Kept) → date_at dates index ≡ o → IsSome o → dated_in o ≡ None → dated_text (inheritable_date here.fields) ≡ None
     go None there was is = absurd (false≢true was)
-    go (Some Undated) there was is = ap dated_text (are index Undated there)
-    go (Some (Unreadable error)) there was is = ap dated_text (are index (Unreadable error) there).0
+    go (Some Undated) there was is = ap dated_text (are index Undated there).is
+    go (Some (Unreadable error)) there was is = ap dated_text (are index (Unreadable error) there).is.0
     go (Some (Dated found)) there was is = cc
 
 -- one date more was read
@@ -112,14 +116,22 @@ adds_more indices k old mid new within before more other there = elim (more othe
 -- ---- turns
 
 -- where an entry changes whose date wasn't read, the dates that were read stay
-pub dates_kept : (entries : List Entry) (index : ℕ) (new : Entry) (dates : Dates) → (IsSome (date_at dates index) → ⊥) → AreDates (sources_of entries) dates → AreDates (sources_of (set entries index new)) dates
+pub dates_kept : (entries : List Entry) (index : ℕ) (new : Entry) (dates : Dates) → (IsSome (date_at dates index) → ⊥) → AreDates entries dates → AreDates (set entries index new) dates
 dates_kept entries index new dates unread are other d is =
     let apart : other ≢ index = λ same. unread (subst (λ k. IsSome (date_at dates k)) same (ap is_some is)) in
     let all = map-set source_of_entry entries index new in
     let here : at_index (sources_of (set entries index new)) other ≡ at_index (sources_of entries) other =
     ap (λ l. at_index l other) all ∙ get_or-set_other (sources_of entries) index other (source_of_entry new) no_entry apart
     in
-    subst (λ (s : Source). IsInheritableDate s.fields d) (sym here) (are other d is)
+    let was = are other d is in
+    let within = slice_get_within entries other was.entry was.there in
+    record {
+      is = subst (λ (s : Source). IsInheritableDate s.fields d) (sym here) was.is;
+      entry = was.entry;
+      there = slice_get-get_or (set entries index new) other was.entry (omega (arith, within, length-set entries index new))
+          ∙ ap (λ e. Some e) (get_or-set_other entries index other new was.entry apart) ∙ sym (slice_get-get_or entries other was.entry within) ∙ was.there;
+      lies = was.lies;
+    }
 
 -- the indices whose dates were read have had their turns
 abbrev pub AreAfter : List ℕ → Dates → Type 0

@@ -1,6 +1,10 @@
 -- Whether each date that an entry looks for can be read.
-use Rattle.std.proofs.Common.{◌≡◌, ℕ, zero, suc, List, [], ◌∷◌, Bool, false, ◌&&◌, get_or, map, refl, sym, ap, ◌∙◌, Option, Some, None}
-use Rattle.std.specs.Prelude.{IsSomeAnd, codes}
+use Rattle.std.proofs.Common.{◌≡◌, ℕ, zero, suc, List, [], ◌∷◌, ◌++◌, take, drop, Bool, false, ◌&&◌, get_or, length, map, refl, sym, ap, subst, arith, ◌∙◌, Option, Some, None}
+use Rattle.std.specs.Prelude.{IsSomeAnd, codes, slice_get}
+use Rattle.std.specs.FinMap as by_name
+use Rattle.std.proofs.lemmas.List.{length-map}
+use Rattle.std.proofs.Math.Seq.{take-append_seam}
+use Rattle.std.proofs.lemmas.Option.{get_or_from_slice_get, slice_get-get_or, slice_get_within}
 use Rattle.std.specs.List.{list_any}
 use Rattle.std.specs.declared.ops.Range.{Range}
 use Rattle.bib_chunks.specs.Styled.{Atom}
@@ -10,13 +14,14 @@ use Rattle.bib_entry.specs.declared.entry.Entry.{Entry}
 use Rattle.bib_enums.specs.declared.type_error.TypeError.{TypeError}
 use Rattle.bib_enums.specs.declared.type_error.TypeErrorKind.{TypeErrorKind}
 use Rattle.bib_graph.specs.Graph.{Graph, HasNoCycle, refs_of}
-use Rattle.bib_inheritance.specs.InheritableDate.{DateMayFail, looks_for_date, three_fields}
+use Rattle.bib_inheritance.specs.InheritableDate.{DateMayFail, IsPlaceOfDate, looks_for_date, three_fields}
 use Rattle.bib_inheritance.specs.References.{plain}
 use Rattle.bib_inheritance.specs.Sources.{FieldTexts, Source}
 use Rattle.bib_syntax.specs.declared.raw.ParseError.{ParseError}
 use Rattle.bib_syntax.specs.declared.raw.ParseErrorKind.TheVariants.{ResolutionError}
-use Rattle.bib_references.specs.Resolving.{AreDatesRead, Inherits, IsResolvingError, at_index, has_bad_date, is_bad_date, source_of_entry, sources_of}
+use Rattle.bib_references.specs.Resolving.{AllKeepChunks, AreDatesRead, Inherits, IsPlaceAt, IsResolvingError, at_index, has_bad_date, is_bad_date, source_of_entry, sources_of}
 use Rattle.bib_references.specs.Turning.{IsFirstUnread, is_unread_at}
+use Rattle.bib_references.proofs.TurnFacts.{at_source}
 
 pub looks_at : (own : List Entry) (index : ℕ) → get_or (map (λ e. looks_for_date (source_of_entry e)) own) index false ≡ looks_for_date (at_index (sources_of own) index)
 looks_at [] index = refl
@@ -36,16 +41,43 @@ of_dates fields kind = go (fields (codes "year")) where
   go None may = absurd may
   go (Some y) may = has_date_kind (three_fields fields (plain y)) kind may
 
-pub date_unread : (spans : List (Range ℕ)) (own : List Entry) (looks : List Bool) (graph : Graph) (values : List Source) (error : TypeError) (e : ParseError) → looks ≡ map (λ e. looks_for_date (source_of_entry e)) own → HasNoCycle graph → Inherits (sources_of own) graph values
-    → IsFirstUnread looks graph values error → e ≡ record { span = error.span; kind = ResolutionError error.kind } → IsResolvingError spans own graph e
-date_unread spans own looks graph values error e are none solves first is =
+-- each entry of one list stands where one of another does that is as long
+written_at : (own entries : List Entry) (index : ℕ) (entry : Entry) → map (λ e. e.key) entries ≡ map (λ e. e.key) own → slice_get entries index ≡ Some entry → (written : Entry) × (slice_get own index ≡ Some written)
+written_at own entries index entry keys there =
+    let as_long : length entries ≡ length own = sym (length-map entries (λ (e : Entry). e.key)) ∙ ap length keys ∙ length-map own (λ (e : Entry). e.key) in
+    (get_or own index entry, slice_get-get_or own index entry (omega (arith, slice_get_within entries index entry there, as_long)))
+
+-- the place of a date that can't be read
+place_unread : (own entries : List Entry) (index : ℕ) (entry : Entry) (place : Range ℕ) → map (λ e. e.key) entries ≡ map (λ e. e.key) own → AllKeepChunks own entries → slice_get entries index ≡ Some entry → IsPlaceOfDate (by_name.get entry.fields) place
+    → IsPlaceAt own (sources_of entries) index place
+place_unread own entries index entry place keys kept there lies =
+    let written = written_at own entries index entry keys there in
+    let within = slice_get_within entries index entry there in
+    record {
+      written = written.0;
+      there = written.1;
+      entry = entry;
+      becomes = sym (at_source entries index entry within (sym (get_or_from_slice_get entries index entry entry there)));
+      keeps = kept index written.0 entry written.1 there;
+      lies = lies;
+    }
+
+pub date_unread : (spans : List (Range ℕ)) (own : List Entry) (looks : List Bool) (graph : Graph) (entries : List Entry) (error : TypeError) (e : ParseError) → looks ≡ map (λ e. looks_for_date (source_of_entry e)) own → HasNoCycle graph → Inherits (sources_of own) graph (sources_of entries)
+    → map (λ e. e.key) entries ≡ map (λ e. e.key) own → AllKeepChunks own entries → IsFirstUnread looks graph entries error → e ≡ record { span = error.span; kind = ResolutionError error.kind } → IsResolvingError spans own graph e
+date_unread spans own looks graph entries error e are none solves keys kept first is =
     IsResolvingError.date none solves (sym (ap (λ l. get_or l first.index false) are ∙ looks_at own first.index) ∙ first.marked)
-    (λ other before. sym (bad_at own looks graph values other are) ∙ first.earlier other before)
+    (λ other before. sym (bad_at own looks graph (sources_of entries) other are) ∙ first.earlier other before)
     (record {
       reference = first.unread.reference;
       first = first.unread.first;
       kind = error.kind;
       is = ap (λ (x : ParseError). x.kind) is;
       may = first.unread.may;
-      of_dates = of_dates (at_index values first.unread.reference).fields error.kind first.unread.may;
+      of_dates = of_dates (at_index (sources_of entries) first.unread.reference).fields error.kind first.unread.may;
+      place = subst (IsPlaceAt own (sources_of entries) first.unread.reference) (ap (λ (x : ParseError). x.span) (sym is))
+          (place_unread own entries first.unread.reference first.unread.entry error.span keys kept first.unread.there first.unread.lies);
     })
+
+-- a slice of all that a vector has
+pub all_taken : {A : Type 0} (n : ℕ) (new old : List A) → length new ≡ n → take n (new ++ drop (length new) old) ≡ new
+all_taken n new old e = subst (λ k. take k (new ++ drop (length new) old) ≡ new) e (take-append_seam new (drop (length new) old))

@@ -2,14 +2,16 @@
 use Rattle.std.proofs.Common.{◌≡◌, ℕ, zero, suc, ◌+◌, ◌<◌, List, [], ◌∷◌, Bool, true, false, cond, ◌||◌, length, get_or, take, refl, sym, ap, ◌∙◌, subst, arith, Option, Some, None}
 use Rattle.std.specs.Prelude.{IsSome, find}
 use Rattle.std.specs.List.{list_any}
+use Rattle.std.specs.FinMap as by_name
 use Rattle.std.proofs.lemmas.Bool.{false≢true}
 use Rattle.std.proofs.lemmas.List.Folds.{list_any_more}
+use Rattle.bib_entry.specs.declared.entry.Entry.{Entry}
 use Rattle.bib_enums.specs.declared.type_error.TypeError.{TypeError}
-use Rattle.bib_inheritance.specs.InheritableDate.{DateMayFail, is_unreadable}
+use Rattle.bib_inheritance.specs.InheritableDate.{DateMayFail, IsPlaceOfDate, is_unreadable}
 use Rattle.bib_inheritance.specs.Sources.{Source}
 use Rattle.bib_inheritance.specs.declared.inheritable_date.InheritableDate.{InheritableDate as Kept}
 use Rattle.bib_inheritance.specs.declared.inheritable_date.InheritableDate.TheVariants.{Undated, Unreadable, Dated}
-use Rattle.bib_references.specs.Resolving.{at_index, is_bad_date}
+use Rattle.bib_references.specs.Resolving.{at_index, is_bad_date, sources_of}
 use Rattle.bib_references.specs.Turning.{AreDates, Dates, IsUnreadDate, date_at, error_in}
 
 some_same : {A : Type 0} {x y : A} → Some x ≡ Some y → x ≡ y
@@ -32,13 +34,16 @@ find_here test (x ∷ xs) (suc i) d within none here = following (test x) (list_
   following false c none rest here = rest none here
 
 -- an entry whose date can't be read, or can
-module _ (values : List Source) (dates : Dates) (indices : List ℕ) (i : ℕ) (within : i < length indices) (are : AreDates values dates) (none : list_any (is_bad_date values) (take i indices) ≡ false) where
+module _ (entries : List Entry) (dates : Dates) (indices : List ℕ) (i : ℕ) (within : i < length indices) (are : AreDates entries dates) (none : list_any (is_bad_date (sources_of entries)) (take i indices) ≡ false) where
+  abbrev values : List Source
+  values = sources_of entries
+
   abbrev p : ℕ
   p = get_or indices i 0
 
-  pub unread_here : (error : TypeError) → error_in (date_at dates p) ≡ Some error → IsUnreadDate values indices error
+  pub unread_here : (error : TypeError) → error_in (date_at dates p) ≡ Some error → IsUnreadDate entries indices error
   unread_here error is = go (date_at dates p) refl is where
-    go : (o : Option Kept) → date_at dates p ≡ o → error_in o ≡ Some error → IsUnreadDate values indices error
+    go : (o : Option Kept) → date_at dates p ≡ o → error_in o ≡ Some error → IsUnreadDate entries indices error
     go None there is = cc
     go (Some Undated) there is = cc
     go (Some (Dated chunks)) there is = cc
@@ -46,14 +51,17 @@ module _ (values : List Source) (dates : Dates) (indices : List ℕ) (i : ℕ) (
         let bad = are p (Unreadable found) there in
         record {
           reference = p;
-          first = find_here (is_bad_date values) indices i 0 within none (ap is_unreadable bad.0);
-          may = subst (λ (f : TypeError). DateMayFail (at_index values p).fields f.kind) (some_same is) bad.1;
+          first = find_here (is_bad_date values) indices i 0 within none (ap is_unreadable bad.is.0);
+          may = subst (λ (f : TypeError). DateMayFail (at_index values p).fields f.kind) (some_same is) bad.is.1;
+          entry = bad.entry;
+          there = bad.there;
+          lies = subst (λ (f : TypeError). IsPlaceOfDate (by_name.get bad.entry.fields) f.span) (some_same is) bad.lies;
         }
 
   pub read_here : IsSome (date_at dates p) → error_in (date_at dates p) ≡ None → list_any (is_bad_date values) (take (i + 1) indices) ≡ false
   read_here was is = any_more (is_bad_date values) indices i 0 within (go (date_at dates p) refl was is) none where
     go : (o : Option Kept) → date_at dates p ≡ o → IsSome o → error_in o ≡ None → is_bad_date values p ≡ false
     go None there was is = absurd (false≢true was)
-    go (Some Undated) there was is = ap is_unreadable (are p Undated there)
-    go (Some (Dated chunks)) there was is = ap is_unreadable (are p (Dated chunks) there)
+    go (Some Undated) there was is = ap is_unreadable (are p Undated there).is
+    go (Some (Dated chunks)) there was is = ap is_unreadable (are p (Dated chunks) there).is
     go (Some (Unreadable found)) there was is = cc

@@ -9,7 +9,7 @@ use Rattle.bib_dates.specs.Readings.{IsDateKind}
 use Rattle.bib_entry.specs.declared.entry.Entry.{Entry}
 use Rattle.bib_enums.specs.declared.type_error.TypeErrorKind.{TypeErrorKind}
 use Rattle.bib_graph.specs.Graph.{Graph, HasNoCycle, IsFirstOnCycle, refs_of, Solves}
-use Rattle.bib_inheritance.specs.InheritableDate.{DateMayFail, inheritable_date, is_unreadable, looks_for_date}
+use Rattle.bib_inheritance.specs.InheritableDate.{DateMayFail, IsPlaceOfDate, inheritable_date, is_unreadable, looks_for_date}
 use Rattle.bib_inheritance.specs.Inherited.{inherited}
 use Rattle.bib_inheritance.specs.References.{references}
 use Rattle.bib_inheritance.specs.Sources.{Source, fields_of, no_entry, source_of}
@@ -60,15 +60,28 @@ abbrev pub KeepsChunks : Entry → Entry → Type 0
 KeepsChunks own entry = (name : List ℕ) (chunks : List (Spanned Chunk)) → by_name.get own.fields name ≡ Some chunks
     → (by_name.get entry.fields name ≡ Some chunks) ⊎ (by_name.get entry.fields name ≡ None)
 
+-- the date of the entry at an index can't be read here: at the place that the fields give of what the entry becomes, which
+-- keeps the chunks that are its own. A year, a month or a day of its own stands where the file has it; one that it takes
+-- over, as a container alone does, may stand anywhere
+pub record IsPlaceAt (own : List Entry) (values : List Source) (index : ℕ) (place : Range ℕ) : Type 0 where
+  pub written : Entry
+  pub there : slice_get own index ≡ Some written
+  pub entry : Entry
+  pub becomes : source_of_entry entry ≡ at_index values index
+  pub keeps : KeepsChunks written entry
+  pub lies : IsPlaceOfDate (by_name.get entry.fields) place
+
 -- the error of a date that can't be read, which the entry at this index looks for: that of the first such entry that it
--- refers to, with a kind that its year, month and day may be refused with, which is one that dates have
-pub record IsDateError (graph : Graph) (values : List Source) (index : ℕ) (e : ParseError) : Type 0 where
+-- refers to, at the place of that date, with a kind that its year, month and day may be refused with, which is one that
+-- dates have
+pub record IsDateError (own : List Entry) (graph : Graph) (values : List Source) (index : ℕ) (e : ParseError) : Type 0 where
   pub reference : ℕ
   pub first : find (is_bad_date values) (refs_of graph index) ≡ Some reference
   pub kind : TypeErrorKind
   pub is : e.kind ≡ ResolutionError kind
   pub may : DateMayFail (at_index values reference).fields kind
   pub of_dates : IsDateKind kind
+  pub place : IsPlaceAt own values reference e.span
 
 -- entries keep the chunks of others, index for index
 abbrev pub AllKeepChunks : List Entry → List Entry → Type 0
@@ -97,4 +110,4 @@ pub data IsResolvingError (spans : List (Range ℕ)) (own : List Entry) (graph :
   date : {values : List Source} {index : ℕ} → HasNoCycle graph → Inherits (sources_of own) graph values
       → looks_for_date (at_index (sources_of own) index) ≡ true
       → ((earlier : ℕ) → earlier < index → has_bad_date (sources_of own) graph values earlier ≡ false)
-      → IsDateError graph values index e → IsResolvingError spans own graph e
+      → IsDateError own graph values index e → IsResolvingError spans own graph e

@@ -58,9 +58,9 @@ pub(crate) fn read_date(
 ) -> Result<(), AllocError>
     requires index { index < length entries.now }
     requires as_long { length dates.old ≡ length entries.now }
-    requires dates { AreDates (sources_of entries.now) dates.old }
+    requires dates { AreDates entries.now dates.old }
     ensures as_long { length dates.new ≡ length entries.now }
-    ensures dates { AreDates (sources_of entries.now) dates.new }
+    ensures dates { AreDates entries.now dates.new }
     ensures read { OnOk result (IsSome (date_at dates.new index)) }
     ensures added { (other : ℕ) → IsSome (date_at dates.new other) →
         IsSome (date_at dates.old other) ⊎ (other ≡ index) }
@@ -83,11 +83,11 @@ pub(crate) fn last_date(
 ) -> Result<Option<Chunks>, AllocError>
     requires indices { All (λ r. r < length entries.now) indices.now }
     requires as_long { length dates.old ≡ length entries.now }
-    requires dates { AreDates (sources_of entries.now) dates.old }
+    requires dates { AreDates entries.now dates.old }
     ensures last { IfOk result (λ date. option_map styled date ≡
         last_date (map (at_index (sources_of entries.now)) indices.now)) }
     ensures as_long { length dates.new ≡ length entries.now }
-    ensures dates { AreDates (sources_of entries.now) dates.new }
+    ensures dates { AreDates entries.now dates.new }
     ensures added { AddsAmong indices.now dates.old dates.new }
 {
     let count = indices.len();

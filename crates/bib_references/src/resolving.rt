@@ -75,7 +75,8 @@ fn unread(error: TypeError) -> ParseError
 /// span of a file.
 ///
 /// Refused for the first entry that leads to itself (`ReferenceCycle`, at the entry), else for the first that looks for a
-/// date and refers to an entry whose date can't be read (`ResolutionError`). A refusal may leave some entries resolved.
+/// date and refers to an entry whose date can't be read (`ResolutionError`, at the first of its year, month and day that
+/// isn't read). A refusal may leave some entries resolved.
 pub fn resolve(
     alloc: Global,
     spans: &[Span],

@@ -100,12 +100,12 @@ fn date_at(
     requires references { All (λ r. r < length entries.now) indices.now }
     requires index { index < length entries.now }
     requires as_long { length dates.old ≡ length entries.now }
-    requires dates { AreDates (sources_of entries.now) dates.old }
+    requires dates { AreDates entries.now dates.old }
     ensures date { IfOk result (λ date. option_map styled date ≡
         date_for (at_index (sources_of entries.now) index)
         (map (at_index (sources_of entries.now)) indices.now)) }
     ensures as_long { length dates.new ≡ length entries.now }
-    ensures dates { AreDates (sources_of entries.now) dates.new }
+    ensures dates { AreDates entries.now dates.new }
     ensures added { AddsAmong indices.now dates.old dates.new }
 {
     let entry = &entries[index];
@@ -145,14 +145,14 @@ fn take_turn(
     requires references { All (λ r. r < length entries.old) indices.now }
     requires index { index < length entries.old }
     requires as_long { length dates.old ≡ length entries.old }
-    requires dates { AreDates (sources_of entries.old) dates.old }
+    requires dates { AreDates entries.old dates.old }
     ensures length { length entries.new ≡ length entries.old }
     ensures turns { OnOk result (turns.new.items ≡ turns.old.items ++ index ∷ []) }
     ensures turned { OnOk result ((entry : AnEntry) × (entries.new ≡ slice_set entries.old index entry) ×
         IsTurned (slice_index_or entries.old index entry)
         (map (at_index (sources_of entries.old)) indices.now) entry) }
     ensures as_long { length dates.new ≡ length entries.old }
-    ensures dates { AreDates (sources_of entries.old) dates.new }
+    ensures dates { AreDates entries.old dates.new }
     ensures added { AddsAmong indices.now dates.old dates.new }
 {
     turns.push(index)?;
@@ -184,7 +184,7 @@ pub(crate) fn take_turns(
     ensures keys { OnOk result (map (λ e. e.key) entries.new ≡ map (λ e. e.key) entries.old) }
     ensures inherits { OnOk result (Inherits (sources_of entries.old) (rows refs.now) (sources_of entries.new)) }
     ensures chunks { OnOk result (AllKeepChunks entries.old entries.new) }
-    ensures dates { OnOk result (AreDates (sources_of entries.new) dates.new) }
+    ensures dates { OnOk result (AreDates entries.new dates.new) }
     ensures as_many { OnOk result (length dates.new ≡ length entries.new) }
 {
     let mut turns = Vec::with_capacity(alloc, order.len())?;

@@ -22,12 +22,12 @@ fn first_unread(
 ) -> Result<Option<TypeError>, AllocError>
     requires indices { All (λ r. r < length entries.now) indices.now }
     requires as_many { length dates.old ≡ length entries.now }
-    requires dates { AreDates (sources_of entries.now) dates.old }
+    requires dates { AreDates entries.now dates.old }
     ensures unread { IfOk result (λ error. MatchOption error
         (list_any (is_bad_date (sources_of entries.now)) indices.now ≡ false)
-        (IsUnreadDate (sources_of entries.now) indices.now)) }
+        (IsUnreadDate entries.now indices.now)) }
     ensures as_many { length dates.new ≡ length entries.now }
-    ensures dates { AreDates (sources_of entries.now) dates.new }
+    ensures dates { AreDates entries.now dates.new }
 {
     'indices: for r in indices {
         read_date(alloc, entries, dates, *r)?;
@@ -50,10 +50,10 @@ pub(crate) fn unread_date(
     requires as_long { length entries.now ≡ length refs.now }
     requires marks { length looks.now ≡ length refs.now }
     requires as_many { length dates.old ≡ length entries.now }
-    requires dates { AreDates (sources_of entries.now) dates.old }
+    requires dates { AreDates entries.now dates.old }
     ensures { IfOk result (λ error. MatchOption error
         ((index : ℕ) → is_unread_at looks.now (rows refs.now) (sources_of entries.now) index ≡ false)
-        (IsFirstUnread looks.now (rows refs.now) (sources_of entries.now))) }
+        (IsFirstUnread looks.now (rows refs.now) entries.now)) }
 {
     'entries: for index in 0..refs.len() {
         if !looks[index] {

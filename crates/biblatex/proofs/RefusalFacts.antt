@@ -1,5 +1,5 @@
 -- Why a file is refused.
-use Rattle.std.proofs.Common.{◌≡◌, ℕ, zero, suc, ◌<◌, List, [], ◌∷◌, ◌++◌, false, length, drop, take, map, refl, sym, ap, ◌∙◌, subst, inl, inr, ◌⊎◌, Some, Result, Ok, Err}
+use Rattle.std.proofs.Common.{◌≡◌, ℕ, zero, suc, ◌<◌, List, [], ◌∷◌, false, length, map, refl, sym, ap, ◌∙◌, subst, inl, inr, ◌⊎◌, Some, Result, Ok, Err}
 use Rattle.std.specs.Prelude.{IfErr, IfOk, OnOk, slice_get}
 use Rattle.std.specs.declared.ops.Range.{Range}
 use Rattle.bib_entry.specs.declared.entry.Entry.{Entry}
@@ -64,7 +64,7 @@ resolving_reported {says} raw own names e says_raw are named (IsResolvingError.c
 resolving_reported {says} raw own names e says_raw are named (IsResolvingError.date {values = values} {index = index} none solves looks earlier is) =
     IsFirstErrorOf.date are (subst (λ n. HasNoCycle (graph_by n own)) (sym named) none) (subst (λ n. Inherits (sources_of own) (graph_by n own) values) (sym named) solves) looks
     (subst (λ n. (other : ℕ) → other < index → has_bad_date (sources_of own) (graph_by n own) values other ≡ false) (sym named) earlier)
-    (subst (λ n. IsDateError (graph_by n own) values index e) (sym named) is)
+    (subst (λ n. IsDateError own (graph_by n own) values index e) (sym named) is)
 
 pub refused : {says : FileReading} {T : Type 0} (r : Result T ParseError) (e : ParseError) → r ≡ Err e → (e ≡ out_of_memory) ⊎ IsFirstErrorOf says e → IfErr r (λ e. (e ≡ out_of_memory) ⊎ (IsFirstErrorOf says e × (IsAccepted says → ⊥)))
 refused {says} r e is (inl memory) = subst (λ r. IfErr r (λ e. (e ≡ out_of_memory) ⊎ (IsFirstErrorOf says e × (IsAccepted says → ⊥)))) (sym is) (inl memory)
@@ -85,15 +85,6 @@ pub refused_syntax : {text : List ℕ} {e : ParseError} → Refuses text e (IsFi
 refused_syntax (inl memory) reported = inl memory
 refused_syntax (inr error) (inl memory) = inl memory
 refused_syntax (inr error) (inr reported) = inr (IsErrorOf.syntax reported error.1, λ accepted. error.1 (accepted.says, file_any accepted.reading))
-
--- ---- a slice of all that a vector has
-
-taken_prefix : {A : Type 0} (new rest : List A) → take (length new) (new ++ rest) ≡ new
-taken_prefix [] rest = refl
-taken_prefix (x ∷ new) rest = ap (λ l. x ∷ l) (taken_prefix new rest)
-
-pub all_taken : {A : Type 0} (n : ℕ) (new old : List A) → length new ≡ n → take n (new ++ drop (length new) old) ≡ new
-all_taken n new old e = subst (λ k. take k (new ++ drop (length new) old) ≡ new) e (taken_prefix new (drop (length new) old))
 
 -- ---- what is loaded
 

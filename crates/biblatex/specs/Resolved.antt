@@ -60,7 +60,7 @@ pub data IsFirstErrorOf (says : FileReading) (e : ParseError) : Type 0 where
   date : {own : List Entry} {values : List Source} {index : ℕ} → AreOwn says own → HasNoCycle (graph_of own)
       → Inherits (sources_of own) (graph_of own) values → looks_for_date (at_index (sources_of own) index) ≡ true
       → ((earlier : ℕ) → earlier < index → has_bad_date (sources_of own) (graph_of own) values earlier ≡ false)
-      → IsDateError (graph_of own) values index e → IsFirstErrorOf says e
+      → IsDateError own (graph_of own) values index e → IsFirstErrorOf says e
 
 -- an error of a date, of a kind that dates have
 pub record IsOfDate (e : ParseError) : Type 0 where

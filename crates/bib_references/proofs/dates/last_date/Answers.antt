@@ -28,7 +28,7 @@ returns-in-Some-clause-last c =
     let chunks = c.in-Some.date.now in
     let below : index < length dates = omega (arith, c.requires.indices (length indices - 1 - c.indices.done) 0 (omega (arith, c.indices-test.true)), c.in_ok-read_date.ensures.as_long) in
     let copy : c.in_ok-clone.field-0 ≡ chunks = same_from_all_zip _ chunks c.in_ok-clone.field-0 c.in_ok-clone.ensures.cases (λ s t r. search rules) in
-    let here = dated_here values dates index c.in_ok-read_date.ensures.dates chunks (read_at dated_in dates index c.index-dates-index.result below ∙ sym c.dated.ensures ∙ ap option_copied c.in-Some.is) in
+    let here = dated_here c.args.entries.now dates index c.in_ok-read_date.ensures.dates chunks (read_at dated_in dates index c.index-dates-index.result below ∙ sym c.dated.ensures ∙ ap option_copied c.in-Some.is) in
     ap (λ chunks. Some (styled chunks)) copy ∙ sym (date_found (at_index values) indices c.indices.done (styled chunks) c.indices-test.true here c.indices.invariant.none)
 
 pub indices-preserved : goal.indices-preserved
@@ -38,7 +38,7 @@ indices-preserved c =
     let dates = c.read_date.new.dates in
     let index : ℕ = get_or indices (length indices - 1 - c.indices.done) 0 in
     let below : index < length dates = omega (arith, c.requires.indices (length indices - 1 - c.indices.done) 0 (omega (arith, c.indices-test.true)), c.in_ok-read_date.ensures.as_long) in
-    let none = undated_here values dates index c.in_ok-read_date.ensures.dates c.in_ok-read_date.ensures.read (read_at dated_in dates index c.index-dates-index.result below ∙ sym c.dated.ensures ∙ ap option_copied c.in_default.is) in
+    let none = undated_here c.args.entries.now dates index c.in_ok-read_date.ensures.dates c.in_ok-read_date.ensures.read (read_at dated_in dates index c.index-dates-index.result below ∙ sym c.dated.ensures ∙ ap option_copied c.in_default.is) in
     record {
       none = date_none (at_index values) indices c.indices.done c.indices-test.true none c.indices.invariant.none;
       as_many = c.in_ok-read_date.ensures.as_long;

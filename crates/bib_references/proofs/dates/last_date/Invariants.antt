@@ -9,6 +9,6 @@ abbrev pub invariant-indices : goal.invariant-indices
 invariant-indices l = record {
   none : last_date (map (at_index (sources_of l.entries)) (drop (length l.indices - l.done) l.indices)) ≡ None;
   as_many : length l.dates ≡ length l.entries;
-  dates : AreDates (sources_of l.entries) l.dates;
+  dates : AreDates l.entries l.dates;
   added : AddsAmong l.indices l.initial.dates l.dates;
 }

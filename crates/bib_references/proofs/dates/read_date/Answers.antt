@@ -1,7 +1,7 @@
-use Rattle.std.proofs.Common.{◌<◌, length, arith, sym, subst}
+use Rattle.std.proofs.Common.{◌<◌, length, arith, refl, sym, subst}
+use Rattle.std.proofs.lemmas.Option.{slice_get_read}
 use Rattle.bib_inheritance.specs.InheritableDate.{IsInheritableDate}
 use Rattle.bib_inheritance.specs.Sources.{Source}
-use Rattle.bib_references.specs.Resolving.{sources_of}
 use Rattle.bib_references.proofs.DateFacts.{dates_more, reads_more}
 use Rattle.bib_references.proofs.TurnFacts.{at_source}
 use Rattle.bib_references.proofs.dates.read_date.Goals as goal
@@ -9,8 +9,16 @@ use Rattle.bib_references.proofs.dates.read_date.Goals as goal
 pub returns-clause-dates : goal.returns-clause-dates
 returns-clause-dates c =
     let within : c.args.index < length c.args.dates.now = omega (arith, c.requires.index, c.requires.as_long) in
-    dates_more (sources_of c.args.entries.now) c.args.dates.now c.args.index c.in_ok-date.date within
-    (subst (λ (s : Source). IsInheritableDate s.fields c.in_ok-date.date) (sym (at_source c.args.entries.now c.args.index c.index-entries-index.result c.requires.index c.index-entries-index.is)) c.in_ok-date.ensures)
+    let entries = c.args.entries.now in
+    let entry = c.index-entries-index.result in
+    let at = at_source entries c.args.index entry c.requires.index c.index-entries-index.is in
+    dates_more entries c.args.dates.now c.args.index c.in_ok-date.date within
+    (record {
+      is = subst (λ (s : Source). IsInheritableDate s.fields c.in_ok-date.date) (sym at) c.in_ok-date.ensures.read;
+      entry = entry;
+      there = slice_get_read entries (length entries) c.args.index entry refl c.requires.index c.index-entries-index.is;
+      lies = c.in_ok-date.ensures.placed;
+    })
     c.requires.dates
 
 pub returns-clause-added : goal.returns-clause-added

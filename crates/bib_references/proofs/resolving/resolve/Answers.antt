@@ -1,11 +1,11 @@
-use Rattle.std.proofs.Common.{◌≡◌, ◌∙◌, ℕ, false, ap, sym, subst, inl, inr}
+use Rattle.std.proofs.Common.{◌≡◌, ◌∙◌, ℕ, false, ap, sym, subst, inl, inr, arith}
 use Rattle.std.specs.Prelude.{MatchOption}
 use Rattle.std.proofs.lemmas.Result.{err_from_is_err_and}
 use Rattle.bib_graph.specs.Graph.{HasNoCycle, IsFirstOnCycle, IsInRange}
 use Rattle.bib_graph.specs.Rows.{rows}
 use Rattle.bib_references.specs.Resolving.{Inherits, IsResolvingError, graph_by, sources_of}
-use Rattle.bib_references.specs.Turning.{IsFirstUnread, is_unread_at}
-use Rattle.bib_references.proofs.DatesRead.{date_unread, dates_read}
+use Rattle.bib_references.specs.Turning.{AreDates, IsFirstUnread, is_unread_at}
+use Rattle.bib_references.proofs.DatesRead.{all_taken, date_unread, dates_read}
 use Rattle.bib_references.proofs.RangeFacts.{graph_in_range}
 use Rattle.bib_references.proofs.resolving.resolve.Goals as goal
 
@@ -20,6 +20,12 @@ take_turns-requires-clause-in_range c =
 pub unread_date-requires-clause-in_range : goal.unread_date-requires-clause-in_range
 unread_date-requires-clause-in_range c =
     subst (λ l. IsInRange (rows l)) (sym c.deref-4.ensures.value) (subst IsInRange (sym c.in_ok-refs.ensures) (graph_in_range c.args.names.now c.args.entries.now c.requires.below))
+
+pub unread_date-requires-clause-dates : goal.unread_date-requires-clause-dates
+unread_date-requires-clause-dates c =
+    let new = c.take_turns.new.dates in
+    let same : c.deref_mut-2.result.now ≡ new = c.deref_mut-2.ensures.value ∙ all_taken c.in_ok-dates.dates.len new c.in_ok-dates.dates.items (omega arith) in
+    subst (AreDates c.take_turns.new.entries) (sym same) c.in_ok-turns.ensures.dates
 
 pub returns-in_err-order-clause-refused : goal.returns-in_err-order-clause-refused
 returns-in_err-order-clause-refused c =
@@ -38,10 +44,11 @@ returns-in-Some-clause-refused c =
     let one : rows c.deref.result.now ≡ graph_by names own = ap rows c.deref.ensures.value ∙ c.in_ok-refs.ensures in
     let three : rows c.deref-3.result.now ≡ graph_by names own = ap rows c.deref-3.ensures.value ∙ c.in_ok-refs.ensures in
     let four : rows c.deref-4.result.now ≡ graph_by names own = ap rows c.deref-4.ensures.value ∙ c.in_ok-refs.ensures in
-    let first = subst (λ o. MatchOption o ((index : ℕ) → is_unread_at c.deref-5.result.now (rows c.deref-4.result.now) values index ≡ false) (IsFirstUnread c.deref-5.result.now (rows c.deref-4.result.now) values)) c.in-Some.is c.in_ok-error.ensures in
-    inr (date_unread c.args.spans.now own c.deref-5.result.now (graph_by names own) values c.in-Some.error c.unread.result (c.deref-5.ensures.value ∙ c.in_ok-looks.ensures)
+    let entries = c.take_turns.new.entries in
+    let first = subst (λ o. MatchOption o ((index : ℕ) → is_unread_at c.deref-5.result.now (rows c.deref-4.result.now) values index ≡ false) (IsFirstUnread c.deref-5.result.now (rows c.deref-4.result.now) entries)) c.in-Some.is c.in_ok-error.ensures in
+    inr (date_unread c.args.spans.now own c.deref-5.result.now (graph_by names own) entries c.in-Some.error c.unread.result (c.deref-5.ensures.value ∙ c.in_ok-looks.ensures)
     (subst HasNoCycle one c.in_ok-order.ensures.no_cycle) (subst (λ g. Inherits (sources_of own) g values) three c.in_ok-turns.ensures.inherits)
-    (subst (λ g. IsFirstUnread c.deref-5.result.now g values c.in-Some.error) four first) c.unread.ensures)
+    c.in_ok-turns.ensures.keys c.in_ok-turns.ensures.chunks (subst (λ g. IsFirstUnread c.deref-5.result.now g entries c.in-Some.error) four first) c.unread.ensures)
 
 pub returns-clause-resolved : goal.returns-clause-resolved
 returns-clause-resolved c =
@@ -51,7 +58,7 @@ returns-clause-resolved c =
     let one : rows c.deref.result.now ≡ graph_by names own = ap rows c.deref.ensures.value ∙ c.in_ok-refs.ensures in
     let three : rows c.deref-3.result.now ≡ graph_by names own = ap rows c.deref-3.ensures.value ∙ c.in_ok-refs.ensures in
     let four : rows c.deref-4.result.now ≡ graph_by names own = ap rows c.deref-4.ensures.value ∙ c.in_ok-refs.ensures in
-    let read = subst (λ o. MatchOption o ((index : ℕ) → is_unread_at c.deref-5.result.now (rows c.deref-4.result.now) values index ≡ false) (IsFirstUnread c.deref-5.result.now (rows c.deref-4.result.now) values)) c.in-None.is c.in_ok-error.ensures in
+    let read = subst (λ o. MatchOption o ((index : ℕ) → is_unread_at c.deref-5.result.now (rows c.deref-4.result.now) values index ≡ false) (IsFirstUnread c.deref-5.result.now (rows c.deref-4.result.now) c.take_turns.new.entries)) c.in-None.is c.in_ok-error.ensures in
     record {
       no_cycle = subst HasNoCycle one c.in_ok-order.ensures.no_cycle;
       keys = c.in_ok-turns.ensures.keys;

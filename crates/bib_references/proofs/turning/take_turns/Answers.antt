@@ -17,7 +17,7 @@ pub order-init : goal.order-init
 order-init c = record {
   turns = c.in_ok-turns.ensures.items;
   turned = turned_none (rows c.args.refs.now) c.args.order.now c.args.entries.now;
-  dates = none_read (sources_of c.args.entries.now) c.args.dates.now c.requires.unread;
+  dates = none_read c.args.entries.now c.args.dates.now c.requires.unread;
   following = λ index there. absurd (false≢true (sym (c.requires.unread index) ∙ there));
   as_many = c.requires.as_many;
 }
@@ -60,7 +60,7 @@ order-preserved c =
       turns = c.in_ok-take_turn.ensures.turns ∙ ap (λ l. l ++ index ∷ []) c.order.invariant.turns ∙ sym (take_more c.args.order.now i 0 c.order-test.true);
       turned = turned_more (rows refs) c.args.order.now c.args.entries.now c.order.entries c.take_turn.new.entries i turn.0 c.deref.result.now c.requires.order c.order-test.true
           (c.requires.as_long ∙ sym (length-rows refs)) row turn.1 turn.2 c.order.invariant.turned;
-      dates = subst (λ l. AreDates (sources_of l) c.take_turn.new.dates) (sym turn.1)
+      dates = subst (λ l. AreDates l c.take_turn.new.dates) (sym turn.1)
           (dates_kept c.order.entries index turn.0 c.take_turn.new.dates
           (turn_unread (rows refs) c.args.order.now c.deref.result.now i c.requires.order c.order-test.true row c.order.dates c.take_turn.new.dates c.in_ok-take_turn.ensures.added c.order.invariant.following)
           c.in_ok-take_turn.ensures.dates);

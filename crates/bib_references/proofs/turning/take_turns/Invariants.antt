@@ -1,6 +1,5 @@
 use Rattle.std.proofs.Common.{◌≡◌, length, take}
 use Rattle.bib_graph.specs.Rows.{rows}
-use Rattle.bib_references.specs.Resolving.{sources_of}
 use Rattle.bib_references.specs.Turning.{AreDates}
 use Rattle.bib_references.proofs.DateFacts.{AreAfter}
 use Rattle.bib_references.proofs.TurnFacts.{HaveTurned}
@@ -11,7 +10,7 @@ abbrev pub invariant-order : goal.invariant-order
 invariant-order l = record {
   turns : l.turns.items ≡ take l.index-index l.order;
   turned : HaveTurned (rows l.refs) l.order l.initial.entries l.entries l.index-index;
-  dates : AreDates (sources_of l.entries) l.dates;
+  dates : AreDates l.entries l.dates;
   following : AreAfter (take l.index-index l.order) l.dates;
   as_many : length l.dates ≡ length l.entries;
 }

@@ -9,5 +9,5 @@ abbrev pub invariant-indices : goal.invariant-indices
 invariant-indices l = record {
   read : list_any (is_bad_date (sources_of l.entries)) (take l.r-index l.indices) ≡ false;
   as_many : length l.dates ≡ length l.entries;
-  dates : AreDates (sources_of l.entries) l.dates;
+  dates : AreDates l.entries l.dates;
 }

@@ -9,5 +9,5 @@ abbrev pub invariant-entries : goal.invariant-entries
 invariant-entries l = record {
   read : (other : ℕ) → other < l.index → is_unread_at l.looks (rows l.refs) (sources_of l.entries) other ≡ false;
   as_many : length l.dates ≡ length l.entries;
-  dates : AreDates (sources_of l.entries) l.dates;
+  dates : AreDates l.entries l.dates;
 }

@@ -5,7 +5,8 @@ use Rattle.bib_maps.specs.Names.{AreIndicesBelow}
 use Rattle.bib_syntax.specs.Views.{entry_reading_of, file_of}
 use Rattle.bib_references.specs.Resolving.{AreResolved, IsResolvingError, graph_by}
 use Rattle.biblatex.specs.Resolved.{IsFirstErrorOf, IsLoaded}
-use Rattle.biblatex.proofs.RefusalFacts.{all_taken, entries_count, loaded, resolving_reported}
+use Rattle.bib_references.proofs.DatesRead.{all_taken}
+use Rattle.biblatex.proofs.RefusalFacts.{entries_count, loaded, resolving_reported}
 use Rattle.biblatex.proofs.ResolvedFacts.{accepted_faultless, with_names}
 use Rattle.biblatex.proofs.bibliography.Bibliography.from_raw_counted.Goals as goal
 
