@@ -5,6 +5,7 @@ pub mod HandingFacts
 pub mod InsideFacts
 pub mod KeptFacts
 pub mod IndexLaws
+pub mod RecoveredLaws
 pub mod RecoveryFacts
 pub mod RefusalFacts
 pub mod RereadFacts

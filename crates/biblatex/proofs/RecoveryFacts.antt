@@ -112,6 +112,11 @@ without_alike one other same =
     (removed_alike (by_name.remove one.fields (codes "crossref")) (by_name.remove other.fields (codes "crossref")) (codes "xdata")
     (removed_alike one.fields other.fields (codes "crossref") (λ name. ap (λ (s : Source). s.fields name) same)))
 
+element_at : (xs : List Entry) (index : ℕ) → index < length xs → (x : Entry) × (slice_get xs index ≡ Some x)
+element_at [] index within = absurd (omega arith)
+element_at (x ∷ xs) zero within = (x, refl)
+element_at (x ∷ xs) (suc index) within = element_at xs index (omega arith)
+
 -- two ways to cut what is the same for inheritance
 pub cut_alike : (graph : Graph) (own others cut left : List Entry) → sources_of own ≡ sources_of others → ((index : ℕ) → index < length own → Leads graph index index ⊎ (Leads graph index index → ⊥))
     → AreCut graph own cut → AreCut graph others left → sources_of cut ≡ sources_of left
@@ -125,14 +130,9 @@ cut_alike graph own others cut left same decide one two =
       let here : option_map source_of_entry (slice_get own index) ≡ option_map source_of_entry (slice_get others index) =
       sym (slice_get-map source_of_entry own index) ∙ ap (λ l. slice_get l index) same ∙ slice_get-map source_of_entry others index in
       slice_get-map source_of_entry cut index
-      ∙ at_index (slice_get own index) (slice_get others index) index (there own index within) (there others index also) refl refl here (decide index within)
+      ∙ at_index (slice_get own index) (slice_get others index) index (element_at own index within) (element_at others index also) refl refl here (decide index within)
       ∙ sym (slice_get-map source_of_entry left index))
   where
-    there : (xs : List Entry) (index : ℕ) → index < length xs → (x : Entry) × (slice_get xs index ≡ Some x)
-    there [] index within = absurd (omega arith)
-    there (x ∷ xs) zero within = (x, refl)
-    there (x ∷ xs) (suc index) within = there xs index (omega arith)
-
     at_index : (a b : Option Entry) (index : ℕ) → ((x : Entry) × (slice_get own index ≡ Some x)) → ((x : Entry) × (slice_get others index ≡ Some x)) → a ≡ slice_get own index → b ≡ slice_get others index
         → option_map source_of_entry a ≡ option_map source_of_entry b → Leads graph index index ⊎ (Leads graph index index → ⊥)
         → option_map source_of_entry (slice_get cut index) ≡ option_map source_of_entry (slice_get left index)
@@ -151,3 +151,12 @@ cut_alike graph own others cut left same decide one two =
 
     some_same : {B : Type 0} {a b : B} → Some a ≡ Some b → a ≡ b
     some_same e = cc
+
+-- nothing is cut where nothing leads to itself
+pub nothing_cut : (graph : Graph) (own cut : List Entry) → ((index : ℕ) → index < length own → Leads graph index index → ⊥) → AreCut graph own cut → cut ≡ own
+nothing_cut graph own cut none is =
+    same_by_index cut own is.same_length
+    (λ index less.
+      let within : index < length own = omega (arith, less, is.same_length) in
+      let here = element_at own index within in
+      is.off_cycle index here.0 here.1 (none index within) ∙ sym here.1)

@@ -75,6 +75,16 @@ names_go l m (x ∷ a) (y ∷ b) n e c =
     (ap (λ names. claimed names (claims_for (claims x) (length l.entries))) e ∙ ap (λ cs. claimed m.names (claims_for cs (length l.entries))) head ∙ ap (λ k. claimed m.names (claims_for (claims y) k)) n)
     (ap (drop 1) c)
 
+by_sources : (names : ByText ℕ) (own : List Entry) → graph_by names own ≡ map (λ (s : Source). references names s.fields) (sources_of own)
+by_sources names [] = refl
+by_sources names (e ∷ own) = ap (λ rows. references names (fields_of e.fields) ∷ rows) (by_sources names own)
+
+-- what entries refer to is what inheritance knows of them, by names
+pub graphs_by : (names others : ByText ℕ) (one two : List Entry) → names ≡ others → sources_of one ≡ sources_of two → graph_by names one ≡ graph_by others two
+graphs_by names others one two same sources =
+    by_sources names one ∙ ap (λ n. map (λ (s : Source). references n s.fields) (sources_of one)) same
+    ∙ ap (map (λ (s : Source). references others s.fields)) sources ∙ sym (by_sources others two)
+
 -- the entries that a file says are one list, but for the borders of chunks and their indices
 module _ (says : FileReading) {one two : List Entry} (first : AreOwn says one) (second : AreOwn says two) where
   pub sources_same : sources_of one ≡ sources_of two
@@ -87,11 +97,7 @@ module _ (says : FileReading) {one two : List Entry} (first : AreOwn says one) (
   names_same = names_go empty_bibliography empty_bibliography one two refl refl (claims_go [] first second)
 
   pub graph_same : graph_of one ≡ graph_of two
-  graph_same = by_sources (names_of one) one ∙ ap (λ names. map (λ (s : Source). references names s.fields) (sources_of one)) names_same
-      ∙ ap (map (λ (s : Source). references (names_of two) s.fields)) sources_same ∙ sym (by_sources (names_of two) two) where
-        by_sources : (names : ByText ℕ) (own : List Entry) → graph_by names own ≡ map (λ (s : Source). references names s.fields) (sources_of own)
-        by_sources names [] = refl
-        by_sources names (e ∷ own) = ap (λ rows. references names (fields_of e.fields) ∷ rows) (by_sources names own)
+  graph_same = graphs_by (names_of one) (names_of two) one two names_same sources_same
 
 -- ---- each name is of an entry
 
@@ -113,11 +119,15 @@ names_below own =
 
 -- ---- one solution
 
-pub solved_once : (own : List Entry) → HasNoCycle (graph_of own) → HasOneSolution no_entry (rule_by (sources_of own)) (graph_of own)
-solved_once own none = walks.one_solution (graph_of own) (graph_in_range (names_of own) own (names_below own)) none no_entry (rule_by (sources_of own))
+-- two solutions of one graph
+pub solutions_by : (names : ByText ℕ) (own : List Entry) (a b : List Source) → AreIndicesBelow (length own) names → HasNoCycle (graph_by names own)
+    → Inherits (sources_of own) (graph_by names own) a → Inherits (sources_of own) (graph_by names own) b → a ≡ b
+solutions_by names own a b below none first second =
+    let one = walks.one_solution (graph_by names own) (graph_in_range names own below) none no_entry (rule_by (sources_of own)) in
+    one.2 a first ∙ sym (one.2 b second)
 
 pub solutions_same : (own : List Entry) (a b : List Source) → HasNoCycle (graph_of own) → Inherits (sources_of own) (graph_of own) a → Inherits (sources_of own) (graph_of own) b → a ≡ b
-solutions_same own a b none first second = let one = solved_once own none in one.2 a first ∙ sym (one.2 b second)
+solutions_same own a b none first second = solutions_by (names_of own) own a b (names_below own) none first second
 
 -- one solution whose dates are read speaks for all
 pub dates_of_each : (own : List Entry) (one : List Source) → HasNoCycle (graph_of own) → Inherits (sources_of own) (graph_of own) one

@@ -1,6 +1,7 @@
 //! Laws of what is loaded from a file. These functions do nothing: what they ensure is proved of the definitions alone.
 
-ghost use Rattle.std.specs.Prelude.{◌≡◌, List, map};
+ghost use Rattle.std.specs.Prelude.{◌≡◌, List, [], map};
+ghost use Rattle.std.specs.List.{AllZip};
 ghost use Rattle.std.specs.Str.{IsUtf8};
 ghost use Rattle.bib_entry.specs.declared.entry.Entry.{Entry};
 ghost use Rattle.bib_graph.specs.Graph.{Graph, HasNoCycle, HasOneSolution, IsInRange};
@@ -8,7 +9,9 @@ ghost use Rattle.bib_inheritance.specs.Sources.{Source, no_entry};
 ghost use Rattle.bib_syntax.specs.Reading.{FileReading};
 ghost use Rattle.bib_syntax.specs.declared.raw.ParseError.{ParseError};
 ghost use Rattle.bib_file_entries.specs.Bibliography.{Bibliography};
-ghost use Rattle.biblatex.specs.Headline.{IsReadAgain, IsSettledBibliography, written};
+ghost use Rattle.bib_syntax.specs.declared.raw.recovery.SkippedBlock.{SkippedBlock};
+ghost use Rattle.biblatex.specs.BibliographyRecovery.{IsRecoveredBibliography, IsSameRecovery};
+ghost use Rattle.biblatex.specs.Headline.{IsAcceptedText, IsBibliographyOf, IsReadAgain, IsSettledBibliography, written};
 ghost use Rattle.biblatex.specs.Places.{HasFreshKeys, PointsToLastClaims};
 ghost use Rattle.bib_references.specs.Resolving.{rule_by, sources_of};
 ghost use Rattle.biblatex.specs.Resolved.{AreOneErrorOf, AreOwn, IsAccepted, IsFirstErrorOf, IsLoaded, graph_of};
@@ -59,4 +62,24 @@ pub fn one_error()
     ensures none { (says : FileReading) (e : ParseError) → IsAccepted says → IsFirstErrorOf says e → ⊥ }
     ensures one { (says : FileReading) (first second : ParseError) → IsFirstErrorOf says first →
         IsFirstErrorOf says second → AreOneErrorOf first second }
+{}
+
+/// What is recovered of a text has no errors exactly where the text is accepted, and then is its bibliography.
+pub fn recovered_is_loaded()
+    ensures accepted { (text : List ℕ) (bibliography : Bibliography) →
+        IsRecoveredBibliography text bibliography [] [] → IsAcceptedText text }
+    ensures loaded { (text : List ℕ) (bibliography : Bibliography) →
+        IsRecoveredBibliography text bibliography [] [] → IsBibliographyOf text bibliography }
+    ensures none { (text : List ℕ) (bibliography : Bibliography) (skipped : List SkippedBlock)
+        (errors : List ParseError) → IsAcceptedText text →
+        IsRecoveredBibliography text bibliography skipped errors → (skipped ≡ []) × (errors ≡ []) }
+{}
+
+/// Of each text one bibliography is recovered: of two the keys and the names are the same and, but for the borders of chunks
+/// and their places, the fields. So are the stretches that are passed over and, as far as `one_error` says, each error.
+pub fn one_recovered_bibliography()
+    ensures { (text : List ℕ) (one other : Bibliography) (skipped passed : List SkippedBlock)
+        (errors others : List ParseError) → IsRecoveredBibliography text one skipped errors →
+        IsRecoveredBibliography text other passed others →
+        IsSameRecovery one other skipped passed errors others }
 {}
