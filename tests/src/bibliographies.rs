@@ -7,6 +7,7 @@ mod entries;
 mod errors;
 mod inherited;
 mod raw;
+mod recovered;
 mod reports;
 mod reread;
 mod steps;
@@ -38,6 +39,8 @@ fn answer_of_text(alloc: Global, call: &str, text: &str) -> Result<Option<String
         "inherits" => inherited::inherited(alloc, text),
         "raw field" => raw::field(alloc, text),
         "raw settled" => raw::settled(alloc, text),
+        "recover" => Ok(recovered::recover(alloc, text)?),
+        "recovered fronts" => Ok(recovered::recovered_prefixes(alloc, text)?),
         "raw twice" => raw::twice(alloc, text),
         _ => return Ok(None),
     };

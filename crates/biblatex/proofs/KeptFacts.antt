@@ -27,11 +27,12 @@ kept_are_entries (EntriesKept.next fresh fields is rest) = AreEntries.next fresh
 no_cons : {A B : Type 0} {x : A} {xs : List A} → x ∷ xs ≡ [] → B
 no_cons e = cc
 
-none_before : {A : Type 0} (xs ys : List A) → xs ++ ys ≡ [] → xs ≡ []
+-- neither of two lists has anything
+pub none_before : {A : Type 0} (xs ys : List A) → xs ++ ys ≡ [] → xs ≡ []
 none_before [] ys e = refl
 none_before (x ∷ xs) ys e = no_cons e
 
-none_after : {A : Type 0} (xs ys : List A) → xs ++ ys ≡ [] → ys ≡ []
+pub none_after : {A : Type 0} (xs ys : List A) → xs ++ ys ≡ [] → ys ≡ []
 none_after [] ys e = e
 none_after (x ∷ xs) ys e = no_cons e
 

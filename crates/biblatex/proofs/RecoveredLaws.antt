@@ -1,5 +1,5 @@
 -- Laws of what is recovered of a text: it is the bibliography of a text that is accepted, and one.
-use Rattle.std.proofs.Common.{◌≡◌, ℕ, ◌+◌, ◌<◌, ◌≤◌, Bool, true, false, List, [], ◌∷◌, ◌++◌, length, map, get_or, refl, sym, ap, ◌∙◌, subst, arith, inl, inr, ◌⊎◌, Option, Some, None}
+use Rattle.std.proofs.Common.{◌≡◌, ℕ, zero, suc, ◌+◌, ◌<◌, ◌≤◌, Bool, true, false, List, [], ◌∷◌, ◌++◌, length, map, drop, get_or, refl, sym, ap, ◌∙◌, subst, arith, inl, inr, ◌⊎◌, Option, Some, None}
 use Rattle.std.specs.Prelude.{slice_get, slice_index_or, ◌&&◌}
 use Rattle.std.specs.List.{AllZip, list_any}
 use Rattle.std.specs.declared.ops.Range.{Range}
@@ -34,8 +34,8 @@ use Rattle.biblatex.proofs.ResolvedFacts.{dates_of_each, graph_same, graphs_by, 
 
 -- an index at which nothing is said to fail
 not_true : (b : Bool) → (b ≡ true → ⊥) → b ≡ false
-not_true true no = absurd (no refl)
-not_true false no = refl
+not_true true never = absurd (never refl)
+not_true false never = refl
 
 past_is_fine : (b : Bool) → (b && false) ≡ false
 past_is_fine true = refl
@@ -88,7 +88,7 @@ module _ {places : List (Range ℕ)} {own entries : List Entry} {errors : List P
   stays_all none = all_stay (no_cycle_told none)
 
 -- what is recovered without an error can be a bibliography
-accepted_of : {says : FileReading} {own entries : List Entry} {places : List (Range ℕ)} {errors : List ParseError} → AreOwn says own → AreRecovered places (names_of own) own entries errors → errors ≡ [] → IsAccepted says
+abbrev accepted_of : {says : FileReading} {own entries : List Entry} {places : List (Range ℕ)} {errors : List ParseError} → AreOwn says own → AreRecovered places (names_of own) own entries errors → errors ≡ [] → IsAccepted says
 accepted_of {own = own} {entries = entries} are found none = record {
   own = own;
   entries = are;
@@ -161,7 +161,7 @@ key_at [] [] index a b keys here there = cc
 key_at [] (y ∷ others) index a b keys here there = cc
 key_at (x ∷ own) [] index a b keys here there = cc
 key_at (x ∷ own) (y ∷ others) zero a b keys here there = let p : x ≡ a = cc in let q : y ≡ b = cc in ap (λ (e : Entry). e.key) (sym p) ∙ ap (λ l. get_or l 0 []) keys ∙ ap (λ (e : Entry). e.key) q
-key_at (x ∷ own) (y ∷ others) (suc index) a b keys here there = key_at own others index a b cc here there
+key_at (x ∷ own) (y ∷ others) (suc index) a b keys here there = key_at own others index a b (ap (drop 1) keys) here there
 
 cycle_once : (places : List (Range ℕ)) (own others : List Entry) (index : ℕ) (e f : ParseError) → map (λ e. e.key) own ≡ map (λ e. e.key) others → IsCycleAt places own index e → IsCycleAt places others index f → e ≡ f
 cycle_once places own others index e f keys one other =
@@ -212,11 +212,11 @@ module _ {places : List (Range ℕ)} {own others entries found : List Entry} {er
       subst (λ es. AllZip AreOneErrorOf es faults) (sym one.are)
       (subst (λ fs. AllZip AreOneErrorOf (one.cycles ++ one.dates) fs) (sym other.are) (AllZip-append AreOneErrorOf one.cycles one.dates other.cycles other.dates cycles dates))
 
-once_of : {says : FileReading} {kept left : List EntryReading} {own others : List Entry} (one other : Bibliography) {skipped passed : List SkippedBlock} {of_entries of_others of_references of_fields : List ParseError} → skipped ≡ passed
+once_of : (says : FileReading) {kept left : List EntryReading} {own others : List Entry} (one other : Bibliography) {skipped passed : List SkippedBlock} {of_entries of_others of_references of_fields : List ParseError} → skipped ≡ passed
     → EntriesKept (definition_in says.abbreviations) [] says.entries kept own of_entries → EntriesKept (definition_in says.abbreviations) [] says.entries left others of_others
     → AreRecovered (map place_of kept) (names_of own) own one.entries of_references → AreRecovered (map place_of left) (names_of others) others other.entries of_fields
     → one.names ≡ names_of own → other.names ≡ names_of others → IsSameRecovery one other skipped passed (of_entries ++ of_references) (of_others ++ of_fields)
-once_of {says} {kept} {left} {own} {others} one other {skipped} {passed} {of_entries} {of_others} {of_references} {of_fields} skips is is' found found' names names' =
+once_of says {kept} {left} {own} {others} one other {skipped} {passed} {of_entries} {of_others} {of_references} {of_fields} skips is is' found found' names names' =
     let same = entries_once is is' in
     let file : FileReading = record { preamble = []; entries = kept; abbreviations = says.abbreviations } in
     let first : AreOwn file own = kept_are_entries is in
@@ -238,4 +238,4 @@ recovered_once {text} one other {skipped} {passed} {errors} {faults} r s =
     let moved : EntriesKept (definition_in r.says.abbreviations) [] r.says.entries s.kept s.own s.of_entries = subst (λ t. EntriesKept (definition_in t.abbreviations) [] t.entries s.kept s.own s.of_entries) (sym same.0) s.entries in
     subst (λ es. IsSameRecovery one other skipped passed es faults) (sym r.all)
     (subst (λ fs. IsSameRecovery one other skipped passed (r.of_entries ++ r.of_references) fs) (sym s.all)
-    (once_of one other same.1 r.entries moved r.resolved s.resolved r.names s.names))
+    (once_of r.says one other same.1 r.entries moved r.resolved s.resolved r.names s.names))

@@ -53,7 +53,7 @@ none_fails (EachReported.reported {errors = before} {e = error} rest fault repor
 
 pub fine_is_silent : {fails : ℕ → Type 0} {reports : ℕ → ParseError → Type 0} {n : ℕ} {errors : List ParseError} → EachReported fails reports n errors → ((index : ℕ) → index < n → fails index → ⊥) → errors ≡ []
 fine_is_silent EachReported.none fine = refl
-fine_is_silent (EachReported.passed rest no) fine = fine_is_silent rest (λ index less. fine index (omega arith))
+fine_is_silent (EachReported.passed rest never) fine = fine_is_silent rest (λ index less. fine index (omega arith))
 fine_is_silent (EachReported.reported {index = last} rest fault report) fine = absurd (fine last (omega arith) fault)
 
 -- errors of the same indices are alike
@@ -80,17 +80,20 @@ reported_once {tells = tells} R (EachReported.reported {index = i} {errors = es}
 
 -- ---- entries that are cut
 
+some_same : {A : Type 0} {a b : A} → Some a ≡ Some b → a ≡ b
+some_same e = cc
+
 -- lists with the same elements at all indices
 pub same_by_index : {A : Type 0} (xs ys : List A) → length xs ≡ length ys → ((index : ℕ) → index < length xs → slice_get xs index ≡ slice_get ys index) → xs ≡ ys
 same_by_index [] [] long same = refl
 same_by_index [] (y ∷ ys) long same = cc
 same_by_index (x ∷ xs) [] long same = cc
 same_by_index (x ∷ xs) (y ∷ ys) long same =
-    let head : x ≡ y = some_same (same zero (omega arith)) in
-    ap (λ z. z ∷ xs) head ∙ ap (λ zs. y ∷ zs) (same_by_index xs ys cc (λ index less. same (suc index) (omega arith)))
-  where
-    some_same : {B : Type 0} {a b : B} → Some a ≡ Some b → a ≡ b
-    some_same e = cc
+    let first : zero < length (x ∷ xs) = omega arith in
+    let head : x ≡ y = some_same (same zero first) in
+    let longer : length xs ≡ length ys = omega (arith, long) in
+    let rest : (index : ℕ) → index < length xs → slice_get xs index ≡ slice_get ys index = λ index less. same (suc index) (omega (arith, less)) in
+    ap (λ z. z ∷ xs) head ∙ ap (λ zs. y ∷ zs) (same_by_index xs ys longer rest)
 
 abbrev Fields : Type 0
 Fields = ByText (List (Spanned Chunk))
@@ -98,12 +101,12 @@ Fields = ByText (List (Spanned Chunk))
 removed_alike : (one other : Fields) (key : List ℕ) → ((name : List ℕ) → fields_of one name ≡ fields_of other name) → (name : List ℕ) → fields_of (by_name.remove one key) name ≡ fields_of (by_name.remove other key) name
 removed_alike one other key same name =
     ap (option_map styled) (get-remove nat_list_cmp_total one key name)
-    ∙ chosen (eq_by_cmp by_bytes name key) (same name)
+    ∙ chosen (eq_by_cmp by_bytes name key) (by_name.get one name) (by_name.get other name) (same name)
     ∙ sym (ap (option_map styled) (get-remove nat_list_cmp_total other key name))
   where
-    chosen : (b : Bool) {a c : Option (List (Spanned Chunk))} → option_map styled a ≡ option_map styled c → option_map styled (cond b None a) ≡ option_map styled (cond b None c)
-    chosen true e = refl
-    chosen false e = e
+    chosen : (b : Bool) (x y : Option (List (Spanned Chunk))) → option_map styled x ≡ option_map styled y → option_map styled (cond b None x) ≡ option_map styled (cond b None y)
+    chosen true x y e = refl
+    chosen false x y e = e
 
 -- what inheritance knows of an entry without references rests on what it knows of the entry
 without_alike : (one other : Entry) → source_of_entry one ≡ source_of_entry other → source_of_entry (without_references one) ≡ source_of_entry (without_references other)
@@ -133,6 +136,10 @@ cut_alike graph own others cut left same decide one two =
       ∙ at_index (slice_get own index) (slice_get others index) index (element_at own index within) (element_at others index also) refl refl here (decide index within)
       ∙ sym (slice_get-map source_of_entry left index))
   where
+    source_there : (a b : Option Entry) (x y : Entry) → a ≡ Some x → b ≡ Some y → option_map source_of_entry a ≡ option_map source_of_entry b → source_of_entry x ≡ source_of_entry y
+    source_there a b x y first second alike =
+        some_same (sym (ap (option_map source_of_entry) first) ∙ alike ∙ ap (option_map source_of_entry) second)
+
     at_index : (a b : Option Entry) (index : ℕ) → ((x : Entry) × (slice_get own index ≡ Some x)) → ((x : Entry) × (slice_get others index ≡ Some x)) → a ≡ slice_get own index → b ≡ slice_get others index
         → option_map source_of_entry a ≡ option_map source_of_entry b → Leads graph index index ⊎ (Leads graph index index → ⊥)
         → option_map source_of_entry (slice_get cut index) ≡ option_map source_of_entry (slice_get left index)
@@ -144,13 +151,6 @@ cut_alike graph own others cut left same decide one two =
         ap (option_map source_of_entry) (one.off_cycle index x.0 x.1 off)
         ∙ ap Some (source_there a b x.0 y.0 (first ∙ x.1) (second ∙ y.1) alike)
         ∙ sym (ap (option_map source_of_entry) (two.off_cycle index y.0 y.1 off))
-
-    source_there : (a b : Option Entry) (x y : Entry) → a ≡ Some x → b ≡ Some y → option_map source_of_entry a ≡ option_map source_of_entry b → source_of_entry x ≡ source_of_entry y
-    source_there a b x y first second alike =
-        some_same (sym (ap (option_map source_of_entry) first) ∙ alike ∙ ap (option_map source_of_entry) second)
-
-    some_same : {B : Type 0} {a b : B} → Some a ≡ Some b → a ≡ b
-    some_same e = cc
 
 -- nothing is cut where nothing leads to itself
 pub nothing_cut : (graph : Graph) (own cut : List Entry) → ((index : ℕ) → index < length own → Leads graph index index → ⊥) → AreCut graph own cut → cut ≡ own

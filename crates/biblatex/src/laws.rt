@@ -1,7 +1,6 @@
 //! Laws of what is loaded from a file. These functions do nothing: what they ensure is proved of the definitions alone.
 
-ghost use Rattle.std.specs.Prelude.{◌≡◌, List, [], map};
-ghost use Rattle.std.specs.List.{AllZip};
+ghost use Rattle.std.specs.Prelude.{◌≡◌, ℕ, List, [], map};
 ghost use Rattle.std.specs.Str.{IsUtf8};
 ghost use Rattle.bib_entry.specs.declared.entry.Entry.{Entry};
 ghost use Rattle.bib_graph.specs.Graph.{Graph, HasNoCycle, HasOneSolution, IsInRange};

@@ -1,8 +1,7 @@
 //! Reading: files, errors, people, dates, pages.
 
 use biblatex::{
-    Bibliography, ChunksExt, DateValue, Entry, ParseError, PermissiveType, RawBibliography,
-    RawRecovery,
+    Bibliography, BibliographyRecovery, ChunksExt, DateValue, Entry, ParseError, PermissiveType,
 };
 use std::alloc::{AllocError, Global};
 use std::test::Fail;
@@ -67,24 +66,39 @@ fn report_an_error(rt: HostRuntime) -> Result<(), Fail> {
 }
 
 // What can be read of a file. (It has no contract, as `parsed` has none.)
-fn recovered(alloc: Global, src: &str) -> Result<RawRecovery<'_>, AllocError> {
-    RawBibliography::recover(alloc, src)
+fn recovered(alloc: Global, src: &str) -> Result<BibliographyRecovery, AllocError> {
+    Bibliography::recover(alloc, src)
+}
+
+// Adds an error with its line and column.
+fn report(
+    out: &mut String,
+    alloc: Global,
+    src: &str,
+    error: &ParseError,
+) -> Result<(), AllocError> {
+    let (line, column) = line_and_column(src, error.span.start);
+    let text = format!(in alloc; "{line}:{column}: {error}; ")?;
+    out.push_str(text.as_str())?;
+    Ok(())
 }
 
 #[test]
 fn read_the_rest(rt: HostRuntime) -> Result<(), Fail> {
     let alloc = rt.alloc();
-    let src = "@misc{a, title={A}\n@misc{b, title={B}}\n@misc{c title={C}}";
-    let RawRecovery { raw, skipped } = recovered(alloc, src)?;
+    let src = "@misc{a, title={A}\n@misc{b, title=foo, note={N}}\n@misc{b, title={B}}";
+    let found = recovered(alloc, src)?;
     let mut errors = String::new(alloc);
-    for block in &skipped {
-        let (line, column) = line_and_column(src, block.error.span.start);
-        let text = format!(in alloc; "{line}:{column}: {}; ", block.error)?;
-        errors.push_str(text.as_str())?;
+    for block in &found.skipped {
+        report(&mut errors, alloc, src, &block.error)?;
     }
-    assert!(rt; errors.as_str() == "2:1: expected comma: 19-19; 3:9: expected comma: 47-47; ");
-    let rest = Bibliography::from_raw(alloc, raw)?;
-    assert!(rt; rest.get("b").is_some());
+    assert!(rt; errors.as_str() == "2:1: expected comma: 19-19; ");
+    errors.clear();
+    for error in &found.errors {
+        report(&mut errors, alloc, src, error)?;
+    }
+    assert!(rt; errors.as_str() == "2:16: unknown abbreviation \"foo\": 34-37; 3:1: duplicate key \"b\": 49-67; ");
+    assert!(rt; found.bibliography.get("b").is_some());
     Ok(())
 }
 
