@@ -1,7 +1,7 @@
 -- Meaning: words of public contracts.
 -- References between entries: for each index the indices that its entry refers to, in order. An index may stand there
 -- more than once.
-use Rattle.std.specs.Prelude.{◌≡◌, ℕ, ◌<◌, ◌==◌, List, [], length, map, take, slice_index_or, count_by, nat_lt, if◌then◌else◌}
+use Rattle.std.specs.Prelude.{◌≡◌, ◌↔◌, ℕ, ◌<◌, ◌==◌, Bool, false, IsTrue, List, [], length, map, take, slice_index_or, count_by, nat_lt, if◌then◌else◌}
 use Rattle.std.specs.List.{All, Contains}
 
 -- for each index of an entry the indices that it refers to, in order
@@ -30,6 +30,11 @@ pub record IsFirstOnCycle (graph : Graph) (index : ℕ) : Type 0 where
   pub within : index < length graph
   pub cycle : Leads graph index index
   pub first : (earlier : ℕ) → earlier < index → Leads graph earlier earlier → ⊥
+
+-- marks on the indices that lead to themselves, and on no others
+pub record AreOnCycles (graph : Graph) (marks : List Bool) : Type 0 where
+  pub same_length : length marks ≡ length graph
+  pub each : (index : ℕ) → index < length graph → IsTrue (slice_index_or marks index false) ↔ Leads graph index index
 
 -- each index comes after all that its entry refers to
 abbrev pub AreInOrder : Graph → List ℕ → Type 0

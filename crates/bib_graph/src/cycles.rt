@@ -1,37 +1,40 @@
-//! The first index on a cycle.
+//! The indices on cycles.
 
-ghost use Rattle.std.specs.Prelude.{◌≡◌, ◌<◌, ◌↔◌, false, length, OnOk, IfOk, IfSome, IsTrue, slice_index_or};
-ghost use Rattle.std.specs.List.{All};
-ghost use Rattle.bib_graph.specs.Graph.{IsInRange, HasNoCycle, IsFirstOnCycle, Leads};
+ghost use Rattle.std.specs.Prelude.{◌≡◌, ◌<◌, ◌⊎◌, ◌↔◌, ℕ, false, length, OnOk, IfOk, IfSome, IsTrue, slice_index_or};
+ghost use Rattle.std.specs.List.{All, Contains};
+ghost use Rattle.bib_graph.specs.Graph.{IsInRange, HasNoCycle, IsFirstOnCycle, AreOnCycles, Leads};
 ghost use Rattle.bib_graph.specs.Rows.{rows};
-ghost use Rattle.bib_graph.specs.Search.{is_marked, IsClosed, IsSpread, AreSuspects};
+ghost use Rattle.bib_graph.specs.Search.{is_marked, root_at, IsClosed, IsSpread, AreReached, AreSuspects, AreRoots, AreBackInside, AllLeadToThemselves};
 
 use std::alloc::{AllocError, Global};
 
-// Marks all that an index leads to.
+// Marks all that an index leads to, and answers what had no mark.
 fn spread(
     alloc: Global,
     refs: &[Vec<usize>],
     marks: &mut [bool],
     start: usize,
-) -> Result<(), AllocError>
+) -> Result<Vec<usize>, AllocError>
     requires in_range { IsInRange (rows refs.now) }
     requires start { start < length refs.now }
     requires marks { length marks.old ≡ length refs.now }
     requires closed { IsClosed (rows refs.now) marks.old }
     ensures length { length marks.new ≡ length marks.old }
     ensures spread { OnOk result (IsSpread (rows refs.now) start marks.old marks.new) }
+    ensures reached { IfOk result (λ reached. AreReached (rows refs.now) start reached.items) }
 {
     let mut pending = vec![in alloc; start]?;
+    let mut reached = Vec::new(alloc);
     while let Some(index) = pending.pop() {
         for r in &refs[index] {
             if !marks[*r] {
                 marks[*r] = true;
                 pending.push(*r)?;
+                reached.push(*r)?;
             }
         }
     }
-    Ok(())
+    Ok(reached)
 }
 
 // Whether a chain of references leads from an index back to it.
@@ -89,9 +92,102 @@ fn left_in_order(alloc: Global, refs: &[Vec<usize>]) -> Result<Vec<usize>, Alloc
     Ok(order)
 }
 
-// The indices that may lead to themselves. By the order in which a search against the references leaves the indices,
-// none but those that do is among them.
-fn suspects(
+// What searches in such an order tell of the indices. Which may lead to themselves: by that order, none but those that
+// do. And for each index one that leads to it, its root: by that order, one that it leads to as well.
+struct Searches {
+    suspects: Vec<bool>,
+    roots: Vec<Option<usize>>,
+}
+
+// Writes down the root of some indices.
+fn set_root(roots: &mut [Option<usize>], indices: &[usize], root: usize)
+    requires indices { All (λ r. r < length roots.old) indices.now }
+    ensures length { length roots.new ≡ length roots.old }
+    ensures set { (index : ℕ) → (root_at roots.new index ≡ root_at roots.old index) ⊎ ((root_at roots.new index ≡ Some root) × Contains indices.now index) }
+{
+    for r in indices {
+        roots[*r] = Some(root);
+    }
+}
+
+// Searches from each index that no search before has marked.
+fn search(
+    alloc: Global,
+    refs: &[Vec<usize>],
+    waiting: &[Vec<usize>],
+) -> Result<Searches, AllocError>
+    requires in_range { IsInRange (rows refs.now) }
+    requires waiting { IsInRange (rows waiting.now) }
+    requires as_long { length waiting.now ≡ length refs.now }
+    ensures length { IfOk result (λ found. length found.suspects.items ≡ length refs.now) }
+    ensures suspects { IfOk result (λ found. AreSuspects (rows refs.now) found.suspects.items) }
+    ensures as_many { IfOk result (λ found. length found.roots.items ≡ length refs.now) }
+    ensures roots { IfOk result (λ found. AreRoots (rows refs.now) found.roots.items) }
+{
+    let mut order = left_in_order(alloc, waiting)?;
+    let mut marks = vec![in alloc; false; refs.len()]?;
+    let mut suspects = vec![in alloc; true; refs.len()]?;
+    let mut roots = vec![in alloc; None; refs.len()]?;
+    while let Some(root) = order.pop() {
+        if marks[root] {
+            continue;
+        }
+        let reached = spread(alloc, refs, &mut marks, root)?;
+        set_root(&mut roots, &reached, root);
+        suspects[root] = marks[root];
+        marks[root] = true;
+    }
+    Ok(Searches { suspects, roots })
+}
+
+// For each index, the entries of the same root that refer to it.
+fn waiting_inside(
+    alloc: Global,
+    refs: &[Vec<usize>],
+    roots: &[Option<usize>],
+) -> Result<Vec<Vec<usize>>, AllocError>
+    requires in_range { IsInRange (rows refs.now) }
+    requires roots { length roots.now ≡ length refs.now }
+    ensures { IfOk result (λ inside. AreBackInside (rows refs.now) roots.now (rows inside.items)) }
+{
+    let mut inside = Vec::new(alloc);
+    for _index in 0..refs.len() {
+        inside.push(Vec::new(alloc))?;
+    }
+    for entry in 0..refs.len() {
+        for r in &refs[entry] {
+            if roots[*r] == roots[entry] {
+                inside[*r].push(entry)?;
+            }
+        }
+    }
+    Ok(inside)
+}
+
+// Marks indices that lead to their root, which leads to them.
+fn returning(
+    alloc: Global,
+    refs: &[Vec<usize>],
+    roots: &[Option<usize>],
+) -> Result<Vec<bool>, AllocError>
+    requires in_range { IsInRange (rows refs.now) }
+    requires length { length roots.now ≡ length refs.now }
+    requires roots { AreRoots (rows refs.now) roots.now }
+    ensures length { IfOk result (λ marks. length marks.items ≡ length refs.now) }
+    ensures returning { IfOk result (λ marks. AllLeadToThemselves (rows refs.now) marks.items) }
+{
+    let inside = waiting_inside(alloc, refs, roots)?;
+    let mut marks = vec![in alloc; false; refs.len()]?;
+    for index in 0..refs.len() {
+        if roots[index] == Some(index) {
+            spread(alloc, &inside, &mut marks, index)?;
+        }
+    }
+    Ok(marks)
+}
+
+// Marks each index that leads to itself. What the searches leave open is looked at alone.
+pub(crate) fn marks_on_cycles(
     alloc: Global,
     refs: &[Vec<usize>],
     waiting: &[Vec<usize>],
@@ -99,21 +195,16 @@ fn suspects(
     requires in_range { IsInRange (rows refs.now) }
     requires waiting { IsInRange (rows waiting.now) }
     requires as_long { length waiting.now ≡ length refs.now }
-    ensures length { IfOk result (λ suspects. length suspects.items ≡ length refs.now) }
-    ensures suspects { IfOk result (λ suspects. AreSuspects (rows refs.now) suspects.items) }
+    ensures { IfOk result (λ marks. AreOnCycles (rows refs.now) marks.items) }
 {
-    let mut order = left_in_order(alloc, waiting)?;
-    let mut marks = vec![in alloc; false; refs.len()]?;
-    let mut suspects = vec![in alloc; true; refs.len()]?;
-    while let Some(root) = order.pop() {
-        if marks[root] {
-            continue;
+    let Searches { suspects, roots } = search(alloc, refs, waiting)?;
+    let mut marks = returning(alloc, refs, &roots)?;
+    for index in 0..refs.len() {
+        if suspects[index] && !marks[index] {
+            marks[index] = leads_to_itself(alloc, refs, index)?;
         }
-        spread(alloc, refs, &mut marks, root)?;
-        suspects[root] = marks[root];
-        marks[root] = true;
     }
-    Ok(suspects)
+    Ok(marks)
 }
 
 // The first index that leads to itself.
@@ -128,12 +219,10 @@ pub(crate) fn first_on_cycle(
     requires cycle { HasNoCycle (rows refs.now) → ⊥ }
     ensures { IfOk result (IsFirstOnCycle (rows refs.now)) }
 {
-    let suspects = suspects(alloc, refs, waiting)?;
+    let marks = marks_on_cycles(alloc, refs, waiting)?;
     for index in 0..refs.len() {
-        if suspects[index] {
-            if leads_to_itself(alloc, refs, index)? {
-                return Ok(index);
-            }
+        if marks[index] {
+            return Ok(index);
         }
     }
     unreachable!()

@@ -2,12 +2,12 @@
 
 ghost use Rattle.std.specs.Prelude.{◌≡◌, ◌+◌, ◌<◌, ◌≤◌, ◌==◌, ℕ, length, sum, OnOk, OnErr, IfOk, IfErr, map, vec_len, if◌then◌else◌};
 ghost use Rattle.std.specs.List.{All};
-ghost use Rattle.bib_graph.specs.Graph.{IsInRange, HasNoCycle, IsTopologicalOrder};
+ghost use Rattle.bib_graph.specs.Graph.{IsInRange, HasNoCycle, IsTopologicalOrder, AreOnCycles};
 ghost use Rattle.bib_graph.specs.Rows.{rows, IsOrderError};
 ghost use Rattle.bib_graph.specs.Work.{times, missing_at, AreWaiting};
 ghost use Rattle.bib_graph.specs.declared.worklist.OrderError.TheVariants.{Cycle, OutOfMemory};
 
-use crate::cycles::first_on_cycle;
+use crate::cycles::{first_on_cycle, marks_on_cycles};
 use std::alloc::{AllocError, AllocFailed, Global};
 
 /// Why there are no turns.
@@ -73,6 +73,15 @@ pub fn topological_order(alloc: Global, refs: &[Vec<usize>]) -> Result<Vec<usize
         }
     }
     Ok(order)
+}
+
+/// Marks each index that leads to itself.
+pub fn on_cycles(alloc: Global, refs: &[Vec<usize>]) -> Result<Vec<bool>, AllocError>
+    requires in_range { IsInRange (rows refs.now) }
+    ensures { IfOk result (λ marks. AreOnCycles (rows refs.now) marks.items) }
+{
+    let waiting = waiting_lists(alloc, refs)?;
+    marks_on_cycles(alloc, refs, &waiting)
 }
 
 // For each index, the entries that refer to it.

@@ -28,14 +28,14 @@ looks_at [] index = refl
 looks_at (e ∷ own) zero = refl
 looks_at (e ∷ own) (suc index) = looks_at own index
 
-bad_at : (own : List Entry) (looks : List Bool) (graph : Graph) (values : List Source) (index : ℕ) → looks ≡ map (λ e. looks_for_date (source_of_entry e)) own → is_unread_at looks graph values index ≡ has_bad_date (sources_of own) graph values index
+pub bad_at : (own : List Entry) (looks : List Bool) (graph : Graph) (values : List Source) (index : ℕ) → looks ≡ map (λ e. looks_for_date (source_of_entry e)) own → is_unread_at looks graph values index ≡ has_bad_date (sources_of own) graph values index
 bad_at own looks graph values index are = ap (λ b. b && list_any (is_bad_date values) (refs_of graph index)) (ap (λ l. get_or l index false) are ∙ looks_at own index)
 
 pub dates_read : (own : List Entry) (looks : List Bool) (graph : Graph) (values : List Source) → looks ≡ map (λ e. looks_for_date (source_of_entry e)) own → ((index : ℕ) → is_unread_at looks graph values index ≡ false) → AreDatesRead (sources_of own) graph values
 dates_read own looks graph values are read index = sym (bad_at own looks graph values index are) ∙ read index
 
 -- what a date in three fields may be refused with is a kind that dates have
-of_dates : (fields : FieldTexts) (kind : TypeErrorKind) → DateMayFail fields kind → IsDateKind kind
+pub of_dates : (fields : FieldTexts) (kind : TypeErrorKind) → DateMayFail fields kind → IsDateKind kind
 of_dates fields kind = go (fields (codes "year")) where
   go : (year : Option (List Atom)) → IsSomeAnd year (λ y. MayRefuse (three_fields fields (plain y)) kind) → IsDateKind kind
   go None may = absurd may

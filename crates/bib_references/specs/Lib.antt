@@ -1,2 +1,4 @@
+pub mod Cutting
+pub mod Recovered
 pub mod Resolving
 pub mod Turning

@@ -9,6 +9,7 @@
 #![tactic(auto)]
 
 mod dates;
+pub mod recovering;
 mod references;
 pub mod resolving;
 mod turning;

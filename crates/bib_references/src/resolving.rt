@@ -21,7 +21,7 @@ use bib_syntax::raw::{ParseError, ParseErrorKind};
 use std::alloc::{AllocError, Global};
 
 // The error of the entry at an index, which leads to itself.
-fn cycle(
+pub(crate) fn cycle(
     alloc: Global,
     spans: &[Span],
     entries: &[Entry],
@@ -62,7 +62,7 @@ fn order(
 }
 
 // The error of a date that can't be read.
-fn unread(error: TypeError) -> ParseError
+pub(crate) fn unread(error: TypeError) -> ParseError
     ensures { result ≡ record { span = error.span; kind = ADate error.kind } }
 {
     ParseError {

@@ -14,7 +14,7 @@ use bib_inheritance::inheritable_date::InheritableDate;
 use std::alloc::{AllocError, Global};
 
 // The error of the first of some entries whose date can't be read.
-fn first_unread(
+pub(crate) fn first_unread(
     alloc: Global,
     indices: &[usize],
     entries: &[Entry],

@@ -1,13 +1,14 @@
 use Rattle.std.proofs.Common.{◌≡◌, ◌<◌, ℕ, true, length, get_or, sym, ap, ◌∙◌, subst, arith, rules, Some}
 use Rattle.std.specs.List.{All}
-use Rattle.std.proofs.lemmas.List.Elements.{All-pop, All-from_get_or}
+use Rattle.std.proofs.lemmas.List.Elements.{All-pop, All-push, All-from_get_or}
+use Rattle.bib_graph.specs.Graph.{Leads}
 use Rattle.bib_graph.specs.Rows.{rows}
 use Rattle.bib_graph.specs.Search.{is_marked}
 use Rattle.bib_graph.proofs.Rows.{length-rows, row_at, edge_at}
-use Rattle.bib_graph.proofs.Search.{IsAhead, ahead_found, found_below, search_popped, search_next, looking_more, looking_on}
+use Rattle.bib_graph.proofs.Search.{IsAhead, ahead_found, ahead_further, found_below, search_popped, search_next, looking_more, looking_on}
 use Rattle.bib_graph.proofs.Walks.{below_from_edge}
 use Rattle.bib_graph.proofs.cycles.spread.Goals as goal
-use Rattle.bib_graph.proofs.cycles.spread.Goals.{In-Some, then-not-marks-r+in_ok-push, else-not-marks-r}
+use Rattle.bib_graph.proofs.cycles.spread.Goals.{In-Some, then-not-marks-r+in_ok-push+in_ok-push-2, else-not-marks-r}
 
 ahead_pop : (c : In-Some) → All (IsAhead (rows c.args.refs.now) c.args.start c.args.marks.now c.loop-index.marks) c.pop.new.self.items × IsAhead (rows c.args.refs.now) c.args.start c.args.marks.now c.loop-index.marks c.in-Some.index
 ahead_pop c = All-pop (IsAhead (rows c.args.refs.now) c.args.start c.args.marks.now c.loop-index.marks) c.loop-index.pending.items c.pop.new.self.items (Some c.in-Some.index) c.in-Some.ensures.items c.loop-index.invariant.found
@@ -28,11 +29,14 @@ pub loop-r-init : goal.loop-r-init
 loop-r-init c =
     let at = (goal.at.loop-r-init c).In-Some in
     record {
-      search = search_popped (rows c.args.refs.now) c.args.start c.args.marks.now c.loop-index.marks c.loop-index.pending.items c.pop.new.self.items c.in-Some.index c.in-Some.ensures.items c.loop-index.invariant.search;
-      found = (ahead_pop at).0;
-      here = (ahead_pop at).1;
-      looked = λ k h. absurd (omega arith);
-      less = omega arith;
+      looking = record {
+        search = search_popped (rows c.args.refs.now) c.args.start c.args.marks.now c.loop-index.marks c.loop-index.pending.items c.pop.new.self.items c.in-Some.index c.in-Some.ensures.items c.loop-index.invariant.search;
+        found = (ahead_pop at).0;
+        here = (ahead_pop at).1;
+        looked = λ k h. absurd (omega arith);
+        less = omega arith;
+      };
+      reached = c.loop-index.invariant.reached;
     }
 
 pub loop-index-preserved : goal.loop-index-preserved
@@ -43,9 +47,10 @@ loop-index-preserved c =
     record {
       search = search_next (rows refs) c.args.start c.args.marks.now c.loop-r.marks c.loop-r.pending.items c.in-Some.index
           (subst (λ l. All IsSeen l) (c.deref-r-items.ensures.value ∙ sym (row_at refs c.in-Some.index c.index-refs-index.result below c.index-refs-index.is))
-          (All-from_get_or IsSeen c.deref-r-items.result.now 0 (λ i h. c.loop-r.invariant.looked i (omega arith))))
-          c.loop-r.invariant.search;
-      found = c.loop-r.invariant.found;
+          (All-from_get_or IsSeen c.deref-r-items.result.now 0 (λ i h. c.loop-r.invariant.looking.looked i (omega arith))))
+          c.loop-r.invariant.looking.search;
+      found = c.loop-r.invariant.looking.found;
+      reached = c.loop-r.invariant.reached;
     }
 
 pub bounds-marks-r : goal.bounds-marks-r
@@ -53,14 +58,14 @@ bounds-marks-r c =
     let refs = c.args.refs.now in
     let below = index_below (goal.at.bounds-marks-r c).In-Some in
     let edge = edge_at refs c.in-Some.index c.index-refs-index.result c.deref-r-items.result.now c.loop-r.r-index below c.index-refs-index.is c.deref-r-items.ensures.value (omega arith) in
-    omega (arith, below_from_edge (rows refs) c.in-Some.index _ c.requires.in_range (omega (arith, below, length-rows refs)) edge, c.loop-r.invariant.search.same_length)
+    omega (arith, below_from_edge (rows refs) c.in-Some.index _ c.requires.in_range (omega (arith, below, length-rows refs)) edge, c.loop-r.invariant.looking.search.same_length)
 
 pub bounds-marks-r-then-not-marks-r : goal.bounds-marks-r-then-not-marks-r
 bounds-marks-r-then-not-marks-r c =
     let refs = c.args.refs.now in
     let below = index_below (goal.at.bounds-marks-r-then-not-marks-r c).In-Some in
     let edge = edge_at refs c.in-Some.index c.index-refs-index.result c.deref-r-items.result.now c.loop-r.r-index below c.index-refs-index.is c.deref-r-items.ensures.value (omega arith) in
-    omega (arith, below_from_edge (rows refs) c.in-Some.index _ c.requires.in_range (omega (arith, below, length-rows refs)) edge, c.loop-r.invariant.search.same_length)
+    omega (arith, below_from_edge (rows refs) c.in-Some.index _ c.requires.in_range (omega (arith, below, length-rows refs)) edge, c.loop-r.invariant.looking.search.same_length)
 
 pub loop-r-preserved : goal.loop-r-preserved
 loop-r-preserved c =
@@ -69,9 +74,16 @@ loop-r-preserved c =
     let below = index_below (goal.at.loop-r-preserved c).In-Some in
     let edge = edge_at refs c.in-Some.index c.index-refs-index.result c.deref-r-items.result.now c.loop-r.r-index below c.index-refs-index.is c.deref-r-items.ensures.value (omega arith) in
     let within = below_from_edge (rows refs) c.in-Some.index r c.requires.in_range (omega (arith, below, length-rows refs)) edge in
+    let looking = c.loop-r.invariant.looking in
     elim c.if-not-marks-r.branch [
-      | then-not-marks-r+in_ok-push w ↦
-          looking_more (rows refs) c.args.start c.args.marks.now c.in-Some.index c.deref-r-items.result.now c.loop-r.r-index _ c.loop-r.marks c.if-not-marks-r.marks c.loop-r.pending.items c.if-not-marks-r.pending.items within edge w.if-not-marks-r.true w.marks-is (ap (λ v. v.items) w.pending-is ∙ w.in_ok-push.ensures.items) c.loop-r.invariant
-      | else-not-marks-r w ↦
-          looking_on (rows refs) c.args.start c.args.marks.now c.in-Some.index c.deref-r-items.result.now c.loop-r.r-index _ c.loop-r.marks c.if-not-marks-r.marks c.loop-r.pending.items c.if-not-marks-r.pending.items w.if-not-marks-r.false w.marks-is (ap (λ v. v.items) w.pending-is) c.loop-r.invariant
+      | then-not-marks-r+in_ok-push+in_ok-push-2 w ↦ record {
+        looking = looking_more (rows refs) c.args.start c.args.marks.now c.in-Some.index c.deref-r-items.result.now c.loop-r.r-index _ c.loop-r.marks c.if-not-marks-r.marks c.loop-r.pending.items c.if-not-marks-r.pending.items within edge w.if-not-marks-r.true w.marks-is (ap (λ v. v.items) w.pending-is ∙ w.in_ok-push.ensures.items) looking;
+        reached = rw (ap (λ v. v.items) w.reached-is ∙ w.in_ok-push-2.ensures.items)
+            (All-push (λ x. (x < length (rows refs)) × Leads (rows refs) c.args.start x) c.loop-r.reached.items r c.loop-r.invariant.reached
+            (within, ahead_further (rows refs) c.args.start c.args.marks.now c.loop-r.marks c.in-Some.index r looking.here edge));
+      }
+      | else-not-marks-r w ↦ record {
+        looking = looking_on (rows refs) c.args.start c.args.marks.now c.in-Some.index c.deref-r-items.result.now c.loop-r.r-index _ c.loop-r.marks c.if-not-marks-r.marks c.loop-r.pending.items c.if-not-marks-r.pending.items w.if-not-marks-r.false w.marks-is (ap (λ v. v.items) w.pending-is) looking;
+        reached = rw (ap (λ v. v.items) w.reached-is) c.loop-r.invariant.reached;
+      }
     ]

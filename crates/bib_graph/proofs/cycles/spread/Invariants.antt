@@ -1,6 +1,7 @@
 use Rattle.std.proofs.Common.{◌+◌, ◌*◌, length}
 use Rattle.std.specs.List.{All}
 use Rattle.bib_graph.specs.Rows.{rows}
+use Rattle.bib_graph.specs.Search.{AreReached}
 use Rattle.bib_graph.proofs.Search.{unmarked, IsSearch, IsAhead, IsLooking}
 use Rattle.bib_graph.proofs.cycles.spread.Given as goal
 
@@ -11,7 +12,11 @@ abbrev pub invariant-loop-index : goal.invariant-loop-index
 invariant-loop-index l = record {
   search : IsSearch (rows l.refs) l.start l.fn.marks l.marks l.pending.items;
   found : All (IsAhead (rows l.refs) l.start l.fn.marks l.marks) l.pending.items;
+  reached : AreReached (rows l.refs) l.start l.reached.items;
 }
 
 abbrev pub invariant-loop-r : goal.invariant-loop-r
-invariant-loop-r l = IsLooking (rows l.refs) l.start l.fn.marks l.index l.r-items l.r-index (2 * unmarked l.initial.marks + length l.initial.pending.items) l.marks l.pending.items
+invariant-loop-r l = record {
+  looking : IsLooking (rows l.refs) l.start l.fn.marks l.index l.r-items l.r-index (2 * unmarked l.initial.marks + length l.initial.pending.items) l.marks l.pending.items;
+  reached : AreReached (rows l.refs) l.start l.reached.items;
+}

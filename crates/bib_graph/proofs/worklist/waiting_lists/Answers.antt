@@ -1,20 +1,12 @@
-use Rattle.std.proofs.Common.{ℕ, List, replicate, inl, inr, ◌≡◌, ◌<◌, [], get_or, length, arith, ap, sym, ◌∙◌}
-use Rattle.std.proofs.lemmas.List.{map-set, map_push, replicate_more, length-replicate, get_or-replicate, get_or_past}
+use Rattle.std.proofs.Common.{ℕ, List, ◌≡◌, ◌<◌, [], get_or, length, arith, ap, sym, ◌∙◌}
+use Rattle.std.proofs.lemmas.List.{map-set, map_push, replicate_more, length-replicate}
 use Rattle.std.specs.declared.alloc.Global.{Global}
 use Rattle.std.specs.declared.vec.Vec.{Vec}
-use Rattle.std.proofs.lemmas.Bool.{cases_lt}
-use Rattle.bib_graph.specs.Graph.{refs_of}
 use Rattle.bib_graph.specs.Rows.{rows}
 use Rattle.bib_graph.proofs.Rows.{length-rows, row_at, edge_at}
-use Rattle.bib_graph.proofs.Fill.{filled_none, filled_next, filled_all, filled_more}
+use Rattle.bib_graph.proofs.Fill.{empty_rows, filled_none, filled_next, filled_all, filled_more}
 use Rattle.bib_graph.proofs.Walks.{below_from_edge}
 use Rattle.bib_graph.proofs.worklist.waiting_lists.Goals as goal
-
-empty_rows : (n p : ℕ) → refs_of (replicate n []) p ≡ []
-empty_rows n p = elim (cases_lt p n) [
-  | inl t ↦ get_or-replicate n p [] [] t
-  | inr t ↦ get_or_past (replicate n []) p [] (omega (arith, t, length-replicate {A = List ℕ} n []))
-]
 
 pub loop-index-init : goal.loop-index-init
 loop-index-init c = ap rows c.new-waiting.ensures.items
