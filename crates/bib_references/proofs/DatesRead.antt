@@ -48,7 +48,7 @@ written_at own entries index entry keys there =
     (get_or own index entry, slice_get-get_or own index entry (omega (arith, slice_get_within entries index entry there, as_long)))
 
 -- the place of a date that can't be read
-place_unread : (own entries : List Entry) (index : ℕ) (entry : Entry) (place : Range ℕ) → map (λ e. e.key) entries ≡ map (λ e. e.key) own → AllKeepChunks own entries → slice_get entries index ≡ Some entry → IsPlaceOfDate (by_name.get entry.fields) place
+pub place_unread : (own entries : List Entry) (index : ℕ) (entry : Entry) (place : Range ℕ) → map (λ e. e.key) entries ≡ map (λ e. e.key) own → AllKeepChunks own entries → slice_get entries index ≡ Some entry → IsPlaceOfDate (by_name.get entry.fields) place
     → IsPlaceAt own (sources_of entries) index place
 place_unread own entries index entry place keys kept there lies =
     let written = written_at own entries index entry keys there in

@@ -16,7 +16,7 @@ pub recovered : (spans : List (Range ℕ)) (names : ByText ℕ) (own cut entries
     → graph ≡ graph_by names own → IsCut spans own graph cut left cycles
     → map (λ e. e.key) entries ≡ map (λ e. e.key) cut → Inherits (sources_of cut) left (sources_of entries) → AllKeepChunks cut entries
     → looks ≡ map (λ e. looks_for_date (source_of_entry e)) cut → n ≡ length own
-    → EachReported (λ index. is_unread_at looks left (sources_of entries) index ≡ true) (IsUnreadError left (sources_of entries)) n dates
+    → EachReported (λ index. is_unread_at looks left (sources_of entries) index ≡ true) (IsUnreadError left entries) n dates
     → errors ≡ cycles ++ dates → AreRecovered spans names own entries errors
 recovered spans names own cut entries graph left looks n cycles dates errors graph_is h keys inherits chunks are long each is =
     let left_is : left ≡ graph_by names cut = h.follows names graph_is in
@@ -31,8 +31,8 @@ recovered spans names own cut entries graph left looks n cycles dates errors gra
       cycles = cycles;
       each_cycle = subst (λ (g : Graph). EachReported (λ index. Leads g index index) (IsCycleAt spans own) (length own) cycles) graph_is h.reported;
       dates = dates;
-      each_date = subst (λ m. EachReported (λ index. has_bad_date (sources_of cut) (graph_by names cut) (sources_of entries) index ≡ true) (IsDateError (graph_by names cut) (sources_of entries)) m dates) long
-          (subst (λ g. EachReported (λ index. has_bad_date (sources_of cut) g (sources_of entries) index ≡ true) (IsDateError g (sources_of entries)) n dates) left_is
-          (dates_reported cut looks left (sources_of entries) n dates are each));
+      each_date = subst (λ m. EachReported (λ index. has_bad_date (sources_of cut) (graph_by names cut) (sources_of entries) index ≡ true) (IsDateError cut (graph_by names cut) (sources_of entries)) m dates) long
+          (subst (λ g. EachReported (λ index. has_bad_date (sources_of cut) g (sources_of entries) index ≡ true) (IsDateError cut g (sources_of entries)) n dates) left_is
+          (dates_reported cut looks left entries n dates are keys chunks each));
       are = is;
     }

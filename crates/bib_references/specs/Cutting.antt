@@ -5,7 +5,6 @@ use Rattle.std.specs.declared.ops.Range.{Range}
 use Rattle.bib_entry.specs.declared.entry.Entry.{Entry}
 use Rattle.bib_enums.specs.declared.type_error.TypeError.{TypeError}
 use Rattle.bib_graph.specs.Graph.{Graph, HasNoCycle, IsInRange, Leads, refs_of}
-use Rattle.bib_inheritance.specs.Sources.{Source}
 use Rattle.bib_maps.specs.Sorted.{ByText}
 use Rattle.bib_syntax.specs.declared.raw.ParseError.{ParseError}
 use Rattle.bib_syntax.specs.declared.raw.ParseErrorKind.TheVariants.{ResolutionError}
@@ -23,7 +22,7 @@ pub record IsCut (spans : List (Range ℕ)) (own : List Entry) (graph : Graph) (
   pub reported : EachReported (λ index. Leads graph index index) (IsCycleAt spans own) (length own) errors
 
 -- the error of an entry that refers to one whose date can't be read
-pub record IsUnreadError (graph : Graph) (values : List Source) (index : ℕ) (e : ParseError) : Type 0 where
+pub record IsUnreadError (graph : Graph) (entries : List Entry) (index : ℕ) (e : ParseError) : Type 0 where
   pub error : TypeError
-  pub unread : IsUnreadDate values (refs_of graph index) error
+  pub unread : IsUnreadDate entries (refs_of graph index) error
   pub is : e ≡ record { span = error.span; kind = ResolutionError error.kind }

@@ -38,5 +38,5 @@ pub record AreRecovered (spans : List (Range ℕ)) (names : ByText ℕ) (own ent
   pub cycles : List ParseError
   pub each_cycle : EachReported (λ index. Leads (graph_by names own) index index) (IsCycleAt spans own) (length own) cycles
   pub dates : List ParseError
-  pub each_date : EachReported (λ index. has_bad_date (sources_of cut) (graph_by names cut) (sources_of entries) index ≡ true) (IsDateError (graph_by names cut) (sources_of entries)) (length own) dates
+  pub each_date : EachReported (λ index. has_bad_date (sources_of cut) (graph_by names cut) (sources_of entries) index ≡ true) (IsDateError cut (graph_by names cut) (sources_of entries)) (length own) dates
   pub are : errors ≡ cycles ++ dates

@@ -109,10 +109,10 @@ fn date_errors(
     requires as_long { length entries.now ≡ length refs.now }
     requires marks { length looks.now ≡ length refs.now }
     requires as_many { length dates.old ≡ length entries.now }
-    requires dates { AreDates (sources_of entries.now) dates.old }
+    requires dates { AreDates entries.now dates.old }
     ensures { IfOk result (λ errors. EachReported
         (λ index. is_unread_at looks.now (rows refs.now) (sources_of entries.now) index ≡ true)
-        (IsUnreadError (rows refs.now) (sources_of entries.now)) (length refs.now) errors.items) }
+        (IsUnreadError (rows refs.now) entries.now) (length refs.now) errors.items) }
 {
     let mut errors = Vec::new(alloc);
     'entries: for index in 0..refs.len() {

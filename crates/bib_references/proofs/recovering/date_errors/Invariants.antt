@@ -9,7 +9,7 @@ use Rattle.bib_references.proofs.recovering.date_errors.Given as goal
 -- the entries so far are reported where they refer to one whose date can't be read
 abbrev pub invariant-entries : goal.invariant-entries
 invariant-entries l = record {
-  reported : EachReported (λ index. is_unread_at l.looks (rows l.refs) (sources_of l.entries) index ≡ true) (IsUnreadError (rows l.refs) (sources_of l.entries)) l.index l.errors.items;
+  reported : EachReported (λ index. is_unread_at l.looks (rows l.refs) (sources_of l.entries) index ≡ true) (IsUnreadError (rows l.refs) l.entries) l.index l.errors.items;
   as_many : length l.dates ≡ length l.entries;
-  dates : AreDates (sources_of l.entries) l.dates;
+  dates : AreDates l.entries l.dates;
 }

@@ -9,7 +9,8 @@ use Rattle.bib_inheritance.specs.Sources.{fields_of}
 use Rattle.bib_references.specs.Cutting.{IsUnreadError}
 use Rattle.bib_references.specs.Recovered.{EachReported}
 use Rattle.bib_references.specs.Resolving.{Inherits, graph_by, sources_of}
-use Rattle.bib_references.specs.Turning.{is_unread_at}
+use Rattle.bib_references.specs.Turning.{AreDates, is_unread_at}
+use Rattle.bib_references.proofs.DatesRead.{all_taken}
 use Rattle.bib_references.proofs.RangeFacts.{graph_in_range}
 use Rattle.bib_references.proofs.RecoveredFacts.{recovered}
 use Rattle.bib_references.proofs.recovering.resolve_readable.Goals as goal
@@ -34,6 +35,12 @@ date_errors-requires-clause-in_range c =
     let first = subst (λ l. IsInRange (rows l)) (sym c.deref_mut.ensures.value) (subst IsInRange (sym c.in_ok-refs.ensures) (graph_in_range c.args.names.now c.args.entries.now c.requires.below)) in
     subst (λ l. IsInRange (rows l)) (sym is) (c.in_ok-order.ensures.cut.in_range first)
 
+pub date_errors-requires-clause-dates : goal.date_errors-requires-clause-dates
+date_errors-requires-clause-dates c =
+    let new = c.take_turns.new.dates in
+    let same : c.deref_mut-3.result.now ≡ new = c.deref_mut-3.ensures.value ∙ all_taken c.in_ok-dates.dates.len new c.in_ok-dates.dates.items (omega arith) in
+    subst (AreDates c.take_turns.new.entries) (sym same) c.in_ok-take_turns.ensures.dates
+
 pub returns-clause-recovered : goal.returns-clause-recovered
 returns-clause-recovered c =
     let own = c.args.entries.now in
@@ -51,5 +58,5 @@ returns-clause-recovered c =
     (subst (λ l. Inherits (sources_of cut) (rows l) values) (c.deref-2.ensures.value ∙ items) c.in_ok-take_turns.ensures.inherits)
     c.in_ok-take_turns.ensures.chunks
     (c.deref-4.ensures.value ∙ c.in_ok-looks.ensures) n
-    (subst (λ l. EachReported (λ index. is_unread_at c.deref-4.result.now (rows l) values index ≡ true) (IsUnreadError (rows l) values) (length c.deref-3.result.now) c.in_ok-unread.unread.items) (c.deref-3.ensures.value ∙ items) c.in_ok-unread.ensures)
+    (subst (λ l. EachReported (λ index. is_unread_at c.deref-4.result.now (rows l) values index ≡ true) (IsUnreadError (rows l) c.take_turns.new.entries) (length c.deref-3.result.now) c.in_ok-unread.unread.items) (c.deref-3.ensures.value ∙ items) c.in_ok-unread.ensures)
     c.in_ok-append.ensures.items
