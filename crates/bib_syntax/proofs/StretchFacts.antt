@@ -1,4 +1,4 @@
--- How a stretch without a sign goes on from each place in it.
+-- Bytes of characters, and how a stretch without a sign goes on from each place in it.
 use Rattle.std.proofs.Common.{◌≡◌, ◌⊎◌, ⊎_elim, ℕ, zero, suc, ◌+◌, ◌-◌, ◌<◌, ◌≤◌, arith, length, length-drop, drop, get_or, true, List, [], ◌∷◌, inl, inr, sym, ap, ◌∙◌, subst}
 use Rattle.std.specs.Prelude.{not, ◌==◌, encode_utf8, encode_utf8_all}
 use Rattle.std.specs.Char.{len_utf8}
@@ -12,18 +12,18 @@ use Rattle.bib_text.proofs.PlaceFacts.{same_place, char_here, char_left}
 use Rattle.bib_syntax.specs.Stretches.{IsStretch, IsStretchFrom}
 use Rattle.bib_syntax.specs.declared.raw.stretches.Stretch.{Stretch}
 
-order : (m n : ℕ) → (m < n) ⊎ (n ≤ m)
+pub order : (m n : ℕ) → (m < n) ⊎ (n ≤ m)
 order zero zero = inr (omega arith)
 order zero (suc n) = inl (omega arith)
 order (suc m) zero = inr (omega arith)
 order (suc m) (suc n) = ⊎_elim (λ below. inl (omega (arith, below))) (λ above. inr (omega (arith, above))) (order m n)
 
 -- the byte at a place is the first of what is left
-first_byte : (text : List ℕ) (at : ℕ) → get_or (drop at text) 0 0 ≡ get_or text at 0
+pub first_byte : (text : List ℕ) (at : ℕ) → get_or (drop at text) 0 0 ≡ get_or text at 0
 first_byte text at = let sum : at + 0 ≡ at = omega arith in get_or-drop at text 0 0 ∙ ap (λ n. get_or text n 0) sum
 
 -- a byte of ASCII in a character is that character
-byte_in : {u v : Place} {c : ℕ} (k : ℕ) → CharAt u c v → u.at ≤ k → k < v.at → get_or u.text k 0 < 128 → c ≡ get_or u.text k 0
+pub byte_in : {u v : Place} {c : ℕ} (k : ℕ) → CharAt u c v → u.at ≤ k → k < v.at → get_or u.text k 0 < 128 → c ≡ get_or u.text k 0
 byte_in {u} {v} {c} k char before inside ascii =
     let left : u.at + (k - u.at) ≡ k = omega (arith, before) in
     let byte : get_or (drop u.at u.text) (k - u.at) 0 ≡ get_or u.text k 0 = get_or-drop u.at u.text (k - u.at) 0 ∙ ap (λ n. get_or u.text n 0) left in

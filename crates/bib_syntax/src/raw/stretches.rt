@@ -1,6 +1,6 @@
 //! Stretches of a text in which a sign doesn't stand, noted once for a text that is read more than once.
 
-ghost use Rattle.std.specs.Prelude.{◌≡◌, ◌≤◌, ◌<◌, IfOk, IsTrue, ◌↔◌};
+ghost use Rattle.std.specs.Prelude.{◌≤◌, IfOk, IsTrue, ◌↔◌};
 ghost use Rattle.bib_syntax.specs.Stretches.{AreLines, IsTail};
 
 use bib_text::scanner::Scanner;
