@@ -2,11 +2,13 @@
 """Measures what reading costs where not each block can be read.
 
     bench/recover.py [--program PROGRAM] [--rounds N]
+    bench/recover.py --build PROGRAM
 
 PROGRAM reads standard input by `RawBibliography::parse` or `recover`, and prints how many entries it read and how many blocks it
 passed over; without one it is proved and built from bench/recover/, which takes some minutes. Prints, on one core: for a file
 without errors the time of `recover` over that of `parse`, the least of the rounds; and for files with errors how long it takes and
-how that grows with the file, as a power.
+how that grows with the file, as a power. With --build the program is only proved and built; `bench/robust.py PROGRAM` then runs it on
+hard inputs.
 """
 import argparse
 import importlib.util
@@ -67,7 +69,8 @@ ROWS = [
     ("each block in error", lambda n: b"@misc{k title={x}}\n" * n, 50_000),
     ("at signs alone", lambda n: b"@\n" * n, 100_000),
     ("heads whose braces never close", lambda n: b"@misc{k, t={\n" * n, 100_000),
-    ("comments that never close", lambda n: b"@comment{x\n" * n, 2_000),
+    ("comments that never close", lambda n: b"@comment{x\n" * n, 100_000),
+    ("comments of one line, which ends once", lambda n: b"@misc{k,%\r" * n, 100_000),
     ("quotes and braces in turn", lambda n: b"@misc{k, t=\"{\n@misc{k, t={\"\n" * n, 50_000),
     ("braces that close before an error", lambda n: b"@misc{k, t={\n" * n + b"} x\n" * n, 100_000),
 ]
@@ -76,8 +79,13 @@ ROWS = [
 def main():
     parser = argparse.ArgumentParser(description=__doc__, formatter_class=argparse.RawDescriptionHelpFormatter)
     parser.add_argument("--program")
+    parser.add_argument("--build", metavar="PROGRAM")
     parser.add_argument("--rounds", type=int, default=9)
     given = parser.parse_args()
+    if given.build:
+        with tempfile.TemporaryDirectory() as folder:
+            shutil.move(built(folder), given.build)
+        return
     os.sched_setaffinity(0, {min(os.sched_getaffinity(0))})
     with tempfile.TemporaryDirectory() as folder:
         program = given.program or built(folder)

@@ -1,5 +1,6 @@
 #!/usr/bin/env python3
-"""Runs a built `bib` on hard inputs, with a stack of 256 kB, and looks at status, answer, time and memory.
+"""Runs a built `bib`, or the program of bench/recover.py, on hard inputs, with a stack of 256 kB, and looks at status, answer, time and
+memory.
 
     bench/robust.py PROGRAM [WORD ..] [--rounds N]
 
@@ -8,8 +9,8 @@ commands; a command that PROGRAM only says its usage for is left out. A line of 
 bytes of the largest input with its answer, the processor time (user and system, the least of N runs, and of more where that
 is too slow, since other work slows runs down), the peak memory, and by which power of input and answer both grow from the
 smallest size to the largest. An input passes where each run ends with the wanted status and answer, in time and memory
-below a limit that is linear in input and answer, and neither power is above 1.05, or 1.25 where names in no order have to be
-sorted; `-` stands where a run is too short or too small to tell. The status of this script is 1 where an input failed.
+below a limit that is linear in input and answer, and neither power is above 1.05, or 1.25 where names in no order, or braces, have
+to be sorted; `-` stands where a run is too short or too small to tell. The status of this script is 1 where an input failed.
 """
 import argparse
 import math
@@ -112,15 +113,29 @@ def has_length(length):
     return lambda size, answer: length(size) <= len(answer) <= length(size) + 1000
 
 
+def repeated(part, after=""):
+    """A part so many times, and a text after it as often."""
+    return lambda size: [part * size, after * size]
+
+
+def counts(read, skipped):
+    """The answer is how many entries are read, and how many blocks are passed over."""
+    return lambda size, answer: answer == f"{read(size)} {skipped(size)}\n".encode()
+
+
 MANY = (25_000, 50_000, 100_000)
 TWICE = (50_000, 100_000, 200_000)
 MILLION = (250_000, 500_000, 1_000_000)
+ERRORS = (100_000, 200_000, 400_000)
 ERROR = "error: unexpected end of file"
 STRING, STRINGS, USE = "@string{{a0 = {{x}}}}", "@string{{a{1} = a{0}}}", "@misc{{k, title = a{}}}"
 CROSSREF, XDATA = "@misc{{x{1}, crossref={{x{0}}}}}", "@xdata{{x{1}, xdata={{x{0}}}}}"
 SIGNS = "@@@{{}},,==##\"\"%\\ \nabcdefé1"
 ALL = "".join(map(chr, range(1, 0x3000)))
 BOTH = ("keys", "biblatex")
+RECOVER = ("recover",)
+HEAD = "@misc{k, t={\n"
+NONE, ALL_OF, TWO_OF = (lambda size: 0), (lambda size: size), (lambda size: 2 * size)
 INPUTS = [
     Input("nothing", lambda size: [], (0, 0, 0), (0,), lambda size, answer: answer == b""),
     Input("braces that stay open", title("{"), MILLION, (1,), begins(ERROR)),
@@ -173,6 +188,16 @@ INPUTS = [
           begins("error: input is not UTF-8"), BOTH),
     Input("a file that is cut", listed("", "@article{{k{}, author={{Ann Bell and Carl Dee}}, year=2020}}", "\n",
                                        "\n@article{last, title = {On"), MANY, (1,), begins(ERROR), BOTH),
+    Input("heads that stay open", repeated(HEAD), ERRORS, (0,), counts(NONE, ALL_OF), RECOVER),
+    Input("heads closed before an error", repeated(HEAD, "} x\n"), ERRORS, (0,), counts(NONE, ALL_OF), RECOVER),
+    Input("heads closed before remarks", repeated(HEAD, "},%"), ERRORS, (0,), counts(NONE, ALL_OF), RECOVER),
+    Input("blocks in error", repeated("@misc{k t={x}}\n"), ERRORS, (0,), counts(NONE, ALL_OF), RECOVER),
+    Input("each other block in error", repeated("@misc{k t={x}}\n@misc{k,}\n"), ERRORS, (0,), counts(ALL_OF, ALL_OF), RECOVER),
+    Input("quotes and braces in turn", repeated('@misc{k, t="{\n@misc{k, t={"\n'), ERRORS, (0,), counts(NONE, TWO_OF), RECOVER,
+          SORTED),
+    Input("comments that stay open", repeated("@comment{x\n"), ERRORS, (0,), counts(NONE, ALL_OF), RECOVER),
+    Input("remarks of one line", repeated("@misc{k,%\r"), ERRORS, (0,), counts(NONE, ALL_OF), RECOVER),
+    Input("at signs that begin lines", repeated("@\n"), (125_000, 250_000, 500_000), (0,), counts(NONE, ALL_OF), RECOVER),
 ]
 
 
@@ -263,7 +288,7 @@ def main():
     options.add_argument("--rounds", type=int, default=3)
     chosen = options.parse_intermixed_args()
     program = os.path.abspath(chosen.program)
-    absent = {word for word in ("keys", "biblatex", "bibtex", "check", "settled")
+    absent = {word for word in ("keys", "biblatex", "bibtex", "check", "settled", "recover")
               if subprocess.run([program, word], input=b"", stdout=subprocess.DEVNULL).returncode == USAGE}
     print(f"{'input':<31} {'command':<9} {'bytes':>10} {'seconds':>7} {'MB':>6} {'time':>5} {'memory':>6}")
     failed = 0
@@ -271,7 +296,7 @@ def main():
         for it in INPUTS:
             if not chosen.words or any(word in it.name for word in chosen.words):
                 failed += sum(not examine(program, word, it, chosen.rounds, folder) for word in it.words if word not in absent)
-    if not chosen.words:
+    if not chosen.words and "keys" not in absent:
         failed += refuses_output(program)
     if absent:
         print("left out: " + ", ".join(sorted(absent)))

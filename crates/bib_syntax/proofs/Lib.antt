@@ -12,4 +12,5 @@ pub mod QuoteFacts
 pub mod ReadingFacts
 pub mod RecoveryFacts
 pub mod SliceFacts
+pub mod StretchFacts
 pub mod WordFacts

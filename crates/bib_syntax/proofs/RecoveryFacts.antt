@@ -1,10 +1,9 @@
 -- How what can be read of a file is read block after block, and that it is read in one way.
-use Rattle.std.proofs.Common.{◌≡◌, ◌≢◌, ◌⊎◌, ⊎_elim, ℕ, zero, suc, ◌+◌, ◌-◌, ◌<◌, ◌≤◌, arith, lit<, length, drop, get_or, Bool, true, false, List, [], ◌∷◌, ◌++◌, inl, inr, Option, Some, None, MatchOption, Result, Ok, Err, OnOk, refl, sym, ap, ◌∙◌, subst, append_assoc, append-nil}
-use Rattle.std.specs.Prelude.{not, ◌==◌, take, encode_utf8}
+use Rattle.std.proofs.Common.{◌≡◌, ◌≢◌, ◌⊎◌, ⊎_elim, ℕ, zero, suc, ◌-◌, ◌<◌, ◌≤◌, arith, lit<, length, drop, get_or, Bool, true, false, List, [], ◌∷◌, ◌++◌, inl, inr, Option, Some, None, MatchOption, Result, Ok, Err, OnOk, refl, sym, ap, ◌∙◌, subst, append_assoc, append-nil}
+use Rattle.std.specs.Prelude.{not, ◌==◌, take}
 use Rattle.std.specs.List.{AllByRecursion, Contains}
-use Rattle.std.proofs.lemmas.List.{get_or-drop}
 use Rattle.std.proofs.lemmas.List.Elements.{Contains-append_left, Contains-append_right}
-use Rattle.std.proofs.lemmas.Str.{byte_from_char, inside_one, length-encode, len_utf8_bounds}
+use Rattle.std.proofs.lemmas.Str.{byte_from_char, len_utf8_bounds}
 use Rattle.std.proofs.lemmas.Bool.{eqb-true}
 use Rattle.bib_text.specs.Places.{Place, place, CharAt, Run, Longest, AtEnd, EndsOr}
 use Rattle.bib_text.specs.Places.Run.{stop, step}
@@ -24,6 +23,7 @@ use Rattle.bib_syntax.specs.declared.raw.recovery.SkippedBlock.{SkippedBlock}
 use Rattle.bib_syntax.proofs.LawFacts.{line_comment_same}
 use Rattle.bib_syntax.proofs.FileFailureFacts.{block_unread, block_error}
 use Rattle.bib_syntax.proofs.SliceFacts.{all_append}
+use Rattle.bib_syntax.proofs.StretchFacts.{order, first_byte, byte_in}
 use Rattle.bib_syntax.proofs.FileFacts.{ahead_block, ahead_line_comment, block_same, is_skipped, then-then, then-empty_reading}
 
 -- ---- where reading goes on
@@ -247,24 +247,11 @@ entries_stand text same (recovered.unread sign none on x) = entries_stand text (
 
 -- ---- what could be read is read, or lies in what was passed
 
-sum-zero : (n : ℕ) → n ≡ n + 0
-sum-zero n = omega arith
-
-order : (m n : ℕ) → (m < n) ⊎ (n ≤ m)
-order zero zero = inr (omega arith)
-order zero (suc n) = inl (omega arith)
-order (suc m) zero = inr (omega arith)
-order (suc m) (suc n) = ⊎_elim (λ below. inl (omega (arith, below))) (λ above. inr (omega (arith, above))) (order m n)
-
 -- an at sign doesn't stand in another character
 in_character : {w v u x : Place} {c : ℕ} → CharAt w c v → CharAt u 64 x → u.text ≡ w.text → w.at ≤ u.at → u.at < v.at → c ≡ 64
 in_character {w} {v} {u} {x} {c} char sign same before inside =
-    let left : w.at + (u.at - w.at) ≡ u.at = omega (arith, before) in
-    let here : get_or (drop u.at w.text) 0 0 ≡ 64 = ap (λ t. get_or (drop u.at t) 0 0) (sym same) ∙ byte_from_char (drop u.at u.text) (drop x.at u.text) 64 sign.here (lit< tt) in
-    let byte : get_or (drop w.at w.text) (u.at - w.at) 0 ≡ 64 =
-    get_or-drop w.at w.text (u.at - w.at) 0 ∙ ap (λ n. get_or w.text n 0) (left ∙ sum-zero u.at) ∙ sym (get_or-drop u.at w.text 0 0) ∙ here in
-    let width : u.at - w.at < length (encode_utf8 c) = omega (arith, char.next, length-encode c, before, inside) in
-    inside_one c (drop v.at w.text) (drop w.at w.text) (u.at - w.at) char.here width (omega (arith, byte)) ∙ byte
+    let byte : get_or w.text u.at 0 ≡ 64 = ap (λ t. get_or t u.at 0) (sym same) ∙ sym (first_byte u.text u.at) ∙ byte_from_char (drop u.at u.text) (drop x.at u.text) 64 sign.here (lit< tt) in
+    byte_in u.at char before inside (subst (λ b. b < 128) (sym byte) (lit< tt)) ∙ byte
 
 -- where an at sign stands that isn't passed yet, and what is read next ends
 data Next (w v u : Place) : Type 0 where

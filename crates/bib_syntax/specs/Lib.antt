@@ -9,4 +9,5 @@ pub mod Reading
 pub mod Recovering
 pub mod Recovery
 pub mod Slices
+pub mod Stretches
 pub mod SyntaxErrors

@@ -12,8 +12,10 @@ ghost use Rattle.bib_syntax.specs.declared.raw.ParseErrorKind.TheVariants.{OutOf
 mod closings;
 mod fields;
 mod file;
+mod notes;
 mod reader;
 mod recovery;
+mod stretches;
 mod words;
 
 use bib_enums::type_error::TypeErrorKind;

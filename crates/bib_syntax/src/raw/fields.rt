@@ -22,7 +22,7 @@ pub(crate) fn line_comment(s: &mut Reader<'_, '_>)
     ensures { LineComment s.old s.new }
 {
     s.eat_if('%');
-    s.eat_until(|c| c == '\n');
+    s.eat_line();
 }
 
 // White space, in which one comment may stand.

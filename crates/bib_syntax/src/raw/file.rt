@@ -78,7 +78,7 @@ fn comment(s: &mut Reader<'_, '_>) -> Result<(), ParseError>
     ensures fails { IfErr result (Reports (BodyFails ABlock.comment s.old)) }
     ensures error { IfErr result (IsSyntaxError s.old.text) }
 {
-    s.eat_until(|c| c == '}');
+    s.eat_to_brace();
     expect(s, '}', Token::ClosingBrace)?;
     Ok(())
 }

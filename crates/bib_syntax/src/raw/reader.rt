@@ -1,58 +1,55 @@
-//! A scanner that may know where braces close.
+//! A scanner that may know what is noted of its text.
 
-ghost use Rattle.std.specs.Prelude.{◌≡◌, ℕ, ◌≤◌, ◌<◌, ◌^◌, Bool, true, false, not, length, take, MatchOption, MatchBool, IsTrue, IfSome, ◌↔◌};
+ghost use Rattle.std.specs.Prelude.{◌≡◌, ◌==◌, ℕ, ◌≤◌, ◌<◌, ◌^◌, Bool, true, false, not, length, take, MatchOption, MatchBool, IsTrue, IfSome, ◌↔◌};
 ghost use Rattle.std.specs.Char.{is_whitespace};
 ghost use Rattle.std.specs.Str.{IsCharBoundary};
 ghost use Rattle.bib_text.specs.Places.{Place, place, CharAt, Longest, AllBetween, AtEnd, EndsOr, Answers, between};
-ghost use Rattle.bib_syntax.specs.Closings.{AreClosings, IsNoted};
+ghost use Rattle.bib_syntax.specs.Closings.{IsNoted};
+ghost use Rattle.bib_syntax.specs.Stretches.{AreNotes, IsStretchFrom};
 ghost use Rattle.bib_syntax.specs.SyntaxErrors.{text_end};
 
-use crate::raw::closings::Closing;
+use crate::raw::notes::Notes;
 use bib_text::scanner::Scanner;
 use std::marker::Model;
 
-// A text and a place in it, and what is noted of its braces and its end.
+// A text and a place in it, and what is noted of the text.
 #[derive(Drop)]
-pub(crate) struct Reader<'s, 'c> {
+pub(crate) struct Reader<'s, 'n> {
     scanner: Scanner<'s>,
-    closings: &'c [Closing],
-    end: Option<usize>,
+    notes: Option<&'n Notes>,
 }
 
-impl<'s, 'c> Model for Reader<'s, 'c> {
-    ghost use Rattle.std.specs.Prelude.{◌≡◌, length, IfSome};
+impl<'s, 'n> Model for Reader<'s, 'n> {
+    ghost use Rattle.std.specs.Prelude.{IfSome};
     ghost use Rattle.bib_text.specs.Places.{Place};
-    ghost use Rattle.bib_syntax.specs.Closings.{AreClosings};
+    ghost use Rattle.bib_syntax.specs.Stretches.{AreNotes};
 
     ghost Value = { Place };
 
     ghost view = { λ r. r.scanner };
 
-    ghost invariant = { λ r. AreClosings r.scanner.text r.closings.now × IfSome r.end (λ end. end ≡ length r.scanner.text) };
+    ghost invariant = { λ r. IfSome r.notes (λ notes. AreNotes r.scanner.text notes.now) };
 }
 
-impl<'s, 'c> Reader<'s, 'c> {
-    // A reader at the place of a scanner, to which nothing is known of braces.
+impl<'s, 'n> Reader<'s, 'n> {
+    // A reader at the place of a scanner, of whose text nothing is noted.
     pub(crate) fn new(scanner: Scanner<'s>) -> Self
         ensures { result ≡ scanner.entry }
     {
         Reader {
             scanner,
-            closings: &[],
-            end: None,
+            notes: None,
         }
     }
 
-    // A reader at this place of a text that ends at this place, and of whose braces this is noted.
-    pub(crate) fn with_closings<'n>(&self, closings: &'n [Closing], end: usize) -> Reader<'s, 'n>
-        requires closings { AreClosings self.now.text closings.now }
-        requires end { end ≡ length self.now.text }
+    // A reader at this place of a text of which this is noted.
+    pub(crate) fn with_notes<'m>(&self, notes: &'m Notes) -> Reader<'s, 'm>
+        requires { AreNotes self.now.text notes.now }
         ensures { result ≡ self.now }
     {
         Reader {
             scanner: self.scanner.copied(),
-            closings,
-            end: Some(end),
+            notes: Some(notes),
         }
     }
 
@@ -62,8 +59,7 @@ impl<'s, 'c> Reader<'s, 'c> {
     {
         Reader {
             scanner: self.scanner.copied(),
-            closings: self.closings,
-            end: self.end,
+            notes: self.notes,
         }
     }
 
@@ -123,17 +119,29 @@ impl<'s, 'c> Reader<'s, 'c> {
         self.scanner.eat_while(test)
     }
 
-    pub(crate) fn eat_until<F: Fn(char) -> bool>(&mut self, test: F) -> &'s str
-        requires { F.IsAlwaysCallable test }
-        ensures longest { (p : ℕ → Bool) → Answers (F.post test) p →
-            Longest (λ c. not (p c)) self.old self.new }
-        ensures passed { AllBetween (λ c. F.post test c false) self.old self.new }
-        ensures stopped { EndsOr (λ c. F.post test c true) self.new }
-        ensures same { self.new.text ≡ self.old.text }
-        ensures forward { self.old.at ≤ self.new.at }
-        ensures eaten { result.now ≡ between self.old self.new }
+    // Goes on to the next closing brace, or to the end of the text.
+    pub(crate) fn eat_to_brace(&mut self)
+        ensures longest { Longest (λ c. not (c == 125)) self.old self.new }
+        ensures stopped { EndsOr (λ c. c == 125 ≡ true) self.new }
     {
-        self.scanner.eat_until(test)
+        match self.noted_tail() {
+            Some(end) => self.jump(end),
+            None => {
+                self.scanner.eat_until(|c| c == '}');
+            }
+        }
+    }
+
+    // Goes on to the end of the line.
+    pub(crate) fn eat_line(&mut self)
+        ensures { Longest (λ c. not (c == 10)) self.old self.new }
+    {
+        match self.noted_line() {
+            Some(end) => self.jump(end),
+            None => {
+                self.scanner.eat_until(|c| c == '\n');
+            }
+        }
     }
 
     pub(crate) fn eat_whitespace(&mut self) -> &'s str
@@ -169,8 +177,8 @@ impl<'s, 'c> Reader<'s, 'c> {
     pub(crate) fn jump_to_end(&mut self)
         ensures { self.new ≡ text_end self.old }
     {
-        match self.end {
-            Some(end) => self.scanner.jump(end),
+        match self.notes {
+            Some(notes) => self.scanner.jump(notes.tail.end),
             None => {
                 self.scanner.eat_while(|_| true);
             }
@@ -181,12 +189,42 @@ impl<'s, 'c> Reader<'s, 'c> {
     pub(crate) fn noted_close(&self) -> Option<Option<usize>>
         ensures { IfSome result (IsNoted self.now) }
     {
+        let notes = self.notes?;
         let at = self.scanner.cursor();
-        let index = self.closings.binary_search_by_key(&at, |it| it.start).ok()?;
-        let noted = self.closings[index];
+        let index = notes
+            .closings
+            .binary_search_by_key(&at, |it| it.start)
+            .ok()?;
+        let noted = notes.closings[index];
         if noted.start != at {
             return None;
         }
         Some(noted.close)
+    }
+
+    // Where the text ends, if it is noted that no closing brace stands before.
+    fn noted_tail(&self) -> Option<usize>
+        ensures { IfSome result (IsStretchFrom 125 self.now) }
+    {
+        let notes = self.notes?;
+        if !notes.tail.holds(self.scanner.cursor()) {
+            return None;
+        }
+        Some(notes.tail.end)
+    }
+
+    // Where the line ends, if that is noted.
+    fn noted_line(&self) -> Option<usize>
+        ensures { IfSome result (IsStretchFrom 10 self.now) }
+    {
+        let notes = self.notes?;
+        let at = self.scanner.cursor();
+        let following = notes.lines.partition_point(|it| it.start <= at);
+        let index = following.checked_sub(1)?;
+        let line = notes.lines[index];
+        if !line.holds(at) {
+            return None;
+        }
+        Some(line.end)
     }
 }

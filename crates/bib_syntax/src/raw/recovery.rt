@@ -7,9 +7,9 @@ ghost use Rattle.bib_syntax.specs.Recovering.{RecoveredTo};
 ghost use Rattle.bib_syntax.specs.Recovery.{Recovered, GoesOnAt, skipped_block};
 ghost use Rattle.bib_syntax.specs.Views.{file_of};
 
-use crate::raw::closings::closings;
 use crate::raw::fields::line_comment;
 use crate::raw::file::{add, block, is_skipped};
+use crate::raw::notes::Notes;
 use crate::raw::reader::Reader;
 use crate::raw::{ParseError, RawBibliography};
 use bib_text::scanner::Scanner;
@@ -146,8 +146,8 @@ impl<'s> RawRecovery<'s> {
     }
 }
 
-// The blocks of a file, up to its end, and what is passed over among them. Where braces close is noted once a block was passed
-// over, since what stands in it is read again.
+// The blocks of a file, up to its end, and what is passed over among them. Once a block was passed over what stands in it is read
+// again, so then the text is noted.
 pub(crate) fn recovered(alloc: Global, src: &str) -> Result<RawRecovery<'_>, AllocError>
     ensures { IfOk result (λ found. Recovered (place src.now 0) (file_of found.raw) found.skipped.items) }
 {
@@ -164,8 +164,7 @@ pub(crate) fn recovered(alloc: Global, src: &str) -> Result<RawRecovery<'_>, All
     if s.done() {
         return Ok(found);
     }
-    let closings = closings(alloc, src)?;
-    let mut noted = s.with_closings(closings.as_slice(), src.len());
-    found.add_blocks(&mut noted, alloc, true)?;
+    let notes = Notes::new(alloc, src)?;
+    found.add_blocks(&mut s.with_notes(&notes), alloc, true)?;
     Ok(found)
 }

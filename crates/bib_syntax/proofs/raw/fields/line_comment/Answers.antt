@@ -1,11 +1,5 @@
-use Rattle.std.proofs.Common.{rules}
-use Rattle.std.specs.Prelude.{◌==◌}
 use Rattle.bib_syntax.proofs.ReadingFacts.{taken_if}
 use Rattle.bib_syntax.proofs.raw.fields.line_comment.Goals as goal
 
 pub returns : goal.returns
-returns c = record {
-  inside = _;
-  sign = taken_if 37 _ c.eat_if.ensures c.requires;
-  line = c.eat_until.ensures.longest (λ d. d == 10) (λ x r post. search rules);
-}
+returns c = record { inside = _; sign = taken_if 37 _ c.eat_if.ensures c.requires; line = c.eat_line.ensures }

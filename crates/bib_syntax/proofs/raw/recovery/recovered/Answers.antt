@@ -16,4 +16,4 @@ returns-then-done c = all_recovered _ _ (first (goal.at.returns-then-done c).In_
 pub returns : goal.returns
 returns c =
     let here = (goal.at.returns c).In_ok-add_blocks in
-    all_recovered _ _ (c.in_ok-add_blocks-2.ensures.found (place c.args.src.now 0) (rw c.with_closings-noted.ensures (first here))) (c.in_ok-add_blocks-2.ensures.end refl)
+    all_recovered _ _ (c.in_ok-add_blocks-2.ensures.found (place c.args.src.now 0) (rw c.with_notes.ensures (first here))) (c.in_ok-add_blocks-2.ensures.end refl)

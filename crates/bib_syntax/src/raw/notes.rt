@@ -1,0 +1,29 @@
+//! What is noted once of a text that is read more than once.
+
+ghost use Rattle.std.specs.Prelude.{IfOk};
+ghost use Rattle.bib_syntax.specs.Stretches.{AreNotes};
+
+use crate::raw::closings::{Closing, closings};
+use crate::raw::stretches::{Stretch, lines, tail};
+use std::alloc::{AllocError, Global};
+
+// Where the braces of a text close, its lines, and what stands after its last closing brace.
+#[derive(Drop)]
+pub(crate) struct Notes {
+    pub(crate) closings: Vec<Closing>,
+    pub(crate) lines: Vec<Stretch>,
+    pub(crate) tail: Stretch,
+}
+
+impl Notes {
+    // What is noted of a text.
+    pub(crate) fn new(alloc: Global, text: &str) -> Result<Self, AllocError>
+        ensures { IfOk result (AreNotes text.now) }
+    {
+        Ok(Notes {
+            closings: closings(alloc, text)?,
+            lines: lines(alloc, text)?,
+            tail: tail(text),
+        })
+    }
+}
