@@ -4,10 +4,10 @@
     bench/recover.py [--program PROGRAM] [--rounds N]
     bench/recover.py --build PROGRAM
 
-PROGRAM reads standard input by `RawBibliography::parse` or `recover`, and prints how many entries it read and how many blocks it
-passed over; without one it is proved and built from bench/recover/, which takes some minutes. Prints, on one core: for a file
-without errors the time of `recover` over that of `parse`, the least of the rounds; and for files with errors how long it takes and
-how that grows with the file, as a power. With --build the program is only proved and built; `bench/robust.py PROGRAM` then runs it on
+PROGRAM reads standard input by `RawBibliography::parse` or `recover`, or by those of `Bibliography` (`load` and `keep`), and prints how
+many entries it read and how many errors it found; without one it is proved and built from bench/recover/, which takes as long as
+`prove.py`. Prints, on one core: for a file without errors the time of `recover` over that of `parse`, the least of the rounds, of both
+kinds; and for files with errors how long it takes and how that grows with the file, as a power. With --build the program is only proved and built; `bench/robust.py PROGRAM` then runs it on
 hard inputs.
 """
 import argparse
@@ -42,7 +42,7 @@ def built(folder):
         work = pathlib.Path(crate)
         (work / "src").mkdir()
         shutil.copy(TOP / "bench" / "recover" / "main.rt.txt", work / "src" / "main.rt")
-        (work / "BUILD.bazel").write_text('rattle_crate(name = "recover", deps = ["//crates/bib_syntax"])\n')
+        (work / "BUILD.bazel").write_text('rattle_crate(name = "recover", deps = ["//crates/biblatex"])\n')
         done = subprocess.run(["rt", "run", "--", "parse"], cwd=work, stdin=subprocess.DEVNULL, stdout=subprocess.PIPE,
                               stderr=subprocess.STDOUT, text=True)
         if done.returncode:
@@ -75,6 +75,17 @@ ROWS = [
     ("braces that close before an error", lambda n: b"@misc{k, t={\n" * n + b"} x\n" * n, 100_000),
 ]
 
+BIBLIOGRAPHIES = [
+    ("one key", lambda n: b"@misc{k, title={x}}\n" * n, 100_000),
+    ("names that stand for nothing", lambda n: b"".join(b"@misc{k%d, title = a%d # b%d}\n" % (i, i, i) for i in range(n)), 50_000),
+    ("one field of such names", lambda n: b"@misc{k, title = a" + b"".join(b" # a%d" % i for i in range(n)) + b"}\n", 100_000),
+    ("fields that can't be read", lambda n: b"".join(b"@misc{k%d, title = \"x}y\", note = \"}\"}\n" % i for i in range(n)), 50_000),
+    ("one cycle", lambda n: b"".join(b"@misc{k%d, crossref={k%d}}\n" % (i, (i + 1) % n) for i in range(n)), 100_000),
+    ("cycles of two", lambda n: b"".join(b"@misc{k%d, crossref={k%d}}\n" % (i, i ^ 1) for i in range(n)), 100_000),
+    ("a chain into a cycle", lambda n: b"".join(b"@misc{k%d, crossref={k%d}}\n" % (i, min(i + 1, n - 1)) for i in range(n)), 100_000),
+    ("dates that can't be inherited", lambda n: b"@book{p, year={x}}\n" + b"".join(b"@inbook{k%d, crossref={p}}\n" % i for i in range(n)), 50_000),
+]
+
 
 def main():
     parser = argparse.ArgumentParser(description=__doc__, formatter_class=argparse.RawDescriptionHelpFormatter)
@@ -92,9 +103,11 @@ def main():
         text = generated(10_000)
         parse, recover = (least(program, word, text, given.rounds) for word in ("parse", "recover"))
         print(f"10,000 entries without errors: recover {recover / parse:.2f} of parse ({recover:.3f} s)")
-        for name, made, count in ROWS:
-            once, said = seconds(program, "recover", made(count))
-            twice, _ = seconds(program, "recover", made(2 * count))
+        load, keep = (least(program, word, text, given.rounds) for word in ("load", "keep"))
+        print(f"the same as bibliographies: recover {keep / load:.2f} of parse ({keep:.3f} s)")
+        for name, made, count, word in [*((*row, "recover") for row in ROWS), *((*row, "keep") for row in BIBLIOGRAPHIES)]:
+            once, said = seconds(program, word, made(count))
+            twice, _ = seconds(program, word, made(2 * count))
             power = math.log2(max(twice, 1e-3) / max(once, 1e-3))
             print(f"{name}, {count:,}: {once:.3f} s, twice as many {twice:.3f} s, power {power:.2f}; read and passed over: {said}")
 
