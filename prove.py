@@ -2,7 +2,7 @@
 """Proves the program and builds it: prove.py [CRATE ..]
 
 Runs `rt ci` over the crates that are named, or over `bib`, and those below them, side by side, on a copy without the wrong bodies, which
-the gate tries. What is proved is kept beside the kit: a run that was stopped goes on where it was, and the gate takes it from there.
+the gate tries. Where the kit keeps what it proved, a run that was stopped goes on where it was, and the gate takes it from there.
 The program then stands in crates/bib/out/bib. RT_JOBS=N uses N processors.
 """
 import os

@@ -239,3 +239,20 @@ recovered_once {text} one other {skipped} {passed} {errors} {faults} r s =
     subst (λ es. IsSameRecovery one other skipped passed es faults) (sym r.all)
     (subst (λ fs. IsSameRecovery one other skipped passed (r.of_entries ++ r.of_references) fs) (sym s.all)
     (once_of r.says one other same.1 r.entries moved r.resolved s.resolved r.names s.names))
+
+-- what is read, kept and resolved of a text is what is recovered of it
+pub recovered_of : {text : List ℕ} (says : FileReading) (kept : List EntryReading) (own entries : List Entry) (names : ByText ℕ) (places : List (Range ℕ)) {skipped : List SkippedBlock} (of_entries of_references : List ParseError) {errors : List ParseError}
+    → IsRecovery text says skipped → EntriesKept (definition_in says.abbreviations) [] says.entries kept own of_entries → places ≡ map place_of kept → names_of own ≡ names
+    → AreRecovered places names own entries of_references → errors ≡ of_entries ++ of_references → IsRecoveredBibliography text (record { entries = entries; names = names }) skipped errors
+recovered_of says kept own entries names places of_entries of_references recovery is stand named resolved all = record {
+  says = says;
+  recovery = recovery;
+  kept = kept;
+  own = own;
+  of_entries = of_entries;
+  entries = is;
+  of_references = of_references;
+  resolved = subst (λ p. AreRecovered p (names_of own) own entries of_references) stand (subst (λ n. AreRecovered places n own entries of_references) (sym named) resolved);
+  names = sym named;
+  all = all;
+}
