@@ -128,13 +128,13 @@ cut_alike graph own others cut left same decide one two =
     same_by_index (sources_of cut) (sources_of left)
     (length-map cut source_of_entry ∙ one.same_length ∙ long ∙ sym two.same_length ∙ sym (length-map left source_of_entry))
     (λ index less.
-      let within : index < length own = omega (arith, less, length-map cut source_of_entry, one.same_length) in
-      let also : index < length others = omega (arith, within, long) in
-      let here : option_map source_of_entry (slice_get own index) ≡ option_map source_of_entry (slice_get others index) =
-      sym (slice_get-map source_of_entry own index) ∙ ap (λ l. slice_get l index) same ∙ slice_get-map source_of_entry others index in
-      slice_get-map source_of_entry cut index
-      ∙ at_index (slice_get own index) (slice_get others index) index (element_at own index within) (element_at others index also) refl refl here (decide index within)
-      ∙ sym (slice_get-map source_of_entry left index))
+    let within : index < length own = omega (arith, less, length-map cut source_of_entry, one.same_length) in
+    let also : index < length others = omega (arith, within, long) in
+    let here : option_map source_of_entry (slice_get own index) ≡ option_map source_of_entry (slice_get others index) =
+    sym (slice_get-map source_of_entry own index) ∙ ap (λ l. slice_get l index) same ∙ slice_get-map source_of_entry others index in
+    slice_get-map source_of_entry cut index
+    ∙ at_index (slice_get own index) (slice_get others index) index (element_at own index within) (element_at others index also) refl refl here (decide index within)
+    ∙ sym (slice_get-map source_of_entry left index))
   where
     source_there : (a b : Option Entry) (x y : Entry) → a ≡ Some x → b ≡ Some y → option_map source_of_entry a ≡ option_map source_of_entry b → source_of_entry x ≡ source_of_entry y
     source_there a b x y first second alike =
@@ -157,6 +157,6 @@ pub nothing_cut : (graph : Graph) (own cut : List Entry) → ((index : ℕ) → 
 nothing_cut graph own cut none is =
     same_by_index cut own is.same_length
     (λ index less.
-      let within : index < length own = omega (arith, less, is.same_length) in
-      let here = element_at own index within in
-      is.off_cycle index here.0 here.1 (none index within) ∙ sym here.1)
+    let within : index < length own = omega (arith, less, is.same_length) in
+    let here = element_at own index within in
+    is.off_cycle index here.0 here.1 (none index within) ∙ sym here.1)

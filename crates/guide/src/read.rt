@@ -97,7 +97,10 @@ fn read_the_rest(rt: HostRuntime) -> Result<(), Fail> {
     for error in &found.errors {
         report(&mut errors, alloc, src, error)?;
     }
-    assert!(rt; errors.as_str() == "2:16: unknown abbreviation \"foo\": 34-37; 3:1: duplicate key \"b\": 49-67; ");
+    assert!(rt;
+        errors.as_str()
+            == "2:16: unknown abbreviation \"foo\": 34-37; 3:1: duplicate key \"b\": 49-67; "
+    );
     assert!(rt; found.bibliography.get("b").is_some());
     Ok(())
 }
