@@ -1,0 +1,4 @@
+//! Lines and columns of places in a text.
+#![tactic(auto)]
+
+pub mod positions;
