@@ -72,6 +72,7 @@ ROWS = [
     ("comments that never close", lambda n: b"@comment{x\n" * n, 100_000),
     ("comments of one line, which ends once", lambda n: b"@misc{k,%\r" * n, 100_000),
     ("quotes and braces in turn", lambda n: b"@misc{k, t=\"{\n@misc{k, t={\"\n" * n, 50_000),
+    ("fields behind remarks", lambda n: b"@misc{k, % \", % \"\n x = \"\n" * n, 50_000),
     ("braces that close before an error", lambda n: b"@misc{k, t={\n" * n + b"} x\n" * n, 100_000),
 ]
 

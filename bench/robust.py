@@ -197,6 +197,8 @@ INPUTS = [
           SORTED),
     Input("comments that stay open", repeated("@comment{x\n"), ERRORS, (0,), counts(NONE, ALL_OF), RECOVER),
     Input("remarks of one line", repeated("@misc{k,%\r"), ERRORS, (0,), counts(NONE, ALL_OF), RECOVER),
+    Input("fields behind remarks", repeated('@misc{k, % ", % "\n x = "\n'), ERRORS, (0,), counts(NONE, ALL_OF), RECOVER),
+    Input("strings behind remarks", repeated('@string{a=1, % ", % "\n x = "\n'), ERRORS, (0,), counts(NONE, ALL_OF), RECOVER),
     Input("at signs that begin lines", repeated("@\n"), (125_000, 250_000, 500_000), (0,), counts(NONE, ALL_OF), RECOVER),
 ]
 

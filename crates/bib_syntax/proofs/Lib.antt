@@ -2,6 +2,7 @@ pub mod BraceFacts
 pub mod ClosingFacts
 pub mod ErrorFacts
 pub mod ErrorPlaceFacts
+pub mod FailingFacts
 pub mod FailureFacts
 pub mod FieldFacts
 pub mod FileFacts

@@ -140,6 +140,10 @@ search_smaller w taken run (going, blank) is = let char = taken_here taken is go
 
 -- ---- one block more, or one that is passed over
 
+-- where another reader followed
+pub follows : {u v w : Place} (at : ℕ) → Ahead u v → at ≡ v.at → w ≡ place u.text at → w ≡ v
+follows {u} {v} at ahead is jump = jump ∙ same_place {u = place u.text at} {v = v} (sym ahead.text) is
+
 pub on_ok : {E P Q : Type 0} (r : Result (Unit {0}) E) → OnOk r P → (P → Q) → OnOk r Q
 on_ok (Ok done) h f = f h
 on_ok (Err e) h f = h

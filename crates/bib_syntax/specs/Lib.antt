@@ -2,6 +2,7 @@ pub mod Blocks
 pub mod Characters
 pub mod Closings
 pub mod Errors
+pub mod Failures
 pub mod Grammar
 pub mod Views
 pub mod OpenBraces

@@ -6,6 +6,7 @@ use Rattle.std.specs.Str.{IsUtf8, IsCharBoundary}
 use Rattle.bib_text.specs.Places.{Place, place, Longest, EndsOr}
 use Rattle.bib_text.specs.Characters as char
 use Rattle.bib_syntax.specs.Closings.{AreClosings}
+use Rattle.bib_syntax.specs.Failures.{AreFailures}
 use Rattle.bib_syntax.specs.declared.raw.notes.Notes.{Notes}
 use Rattle.bib_syntax.specs.declared.raw.stretches.Stretch.{Stretch}
 
@@ -35,3 +36,4 @@ pub record AreNotes (text : List ℕ) (notes : Notes) : Type 0 where
   pub closings : AreClosings text notes.closings.items
   pub lines : AreLines text notes.lines.items
   pub tail : IsTail text notes.tail
+  pub failures : AreFailures text notes.failures

@@ -12,7 +12,8 @@
 //! `recovery` reads a file of which not each block can be read: where a block fails, its error is kept, and reading goes on at
 //! the next at sign that begins a line. What a block that fails has passed is read again, so `notes` then notes once where the
 //! braces of the text close, where its lines end, and where no closing brace follows; `reader`, the scanner of all these
-//! functions, jumps there.
+//! functions, jumps there. Of each field that such a block began to read the error is noted too: how reading fails from a field
+//! on is a matter of its place alone, so a later block that meets the field fails so without reading it.
 //!
 //! The grammar is written once and taken in two modes: with runs of characters that may end anywhere (the file grammar,
 //! by which a text is accepted or not), and with the longest runs (the raw reading, by which each part has one place).

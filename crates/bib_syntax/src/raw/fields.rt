@@ -1,10 +1,11 @@
 //! Fields: names with values, separated by commas.
 
-ghost use Rattle.std.specs.Prelude.{◌≡◌, ℕ, true, List, map, IfOk, IfErr, OnOk, OnErr};
+ghost use Rattle.std.specs.Prelude.{◌≡◌, ◌≢◌, ℕ, true, List, map, IfOk, IfErr, OnOk, OnErr};
 ghost use Rattle.std.specs.Char.{is_whitespace};
 ghost use Rattle.bib_text.specs.Places.{Place, CharAt, Stops, Longest};
 ghost use Rattle.bib_syntax.specs.Characters.{is_id_start};
-ghost use Rattle.bib_syntax.specs.Errors.{IsSyntaxError, Refuses};
+ghost use Rattle.bib_syntax.specs.Errors.{IsSyntaxError, Refuses, out_of_memory};
+ghost use Rattle.bib_syntax.specs.Failures.{AllFail};
 ghost use Rattle.bib_syntax.specs.Grammar.{Elements, Field, Fields, Gap, LineComment, longest};
 ghost use Rattle.bib_syntax.specs.Reading.{Piece, FieldReading};
 ghost use Rattle.bib_syntax.specs.SyntaxErrors.{ElementsFails, FieldFails, FieldsFails, Reports};
@@ -87,14 +88,24 @@ fn closed(s: &mut Reader<'_, '_>) -> Result<(), ParseError>
     Err(error(s, ParseErrorKind::Expected(Token::Identifier)))
 }
 
-// Fields up to the brace that closes their block.
-pub(crate) fn fields<'s>(s: &mut Reader<'s, '_>, alloc: Global) -> Result<Vec<Pair<'s>>, ParseError>
+// Fields up to the brace that closes their block. Keeps the place at which it begins to read each.
+pub(crate) fn fields<'s>(
+    s: &mut Reader<'s, '_>,
+    alloc: Global,
+    starts: &mut Vec<usize>,
+) -> Result<Vec<Pair<'s>>, ParseError>
     ensures found { IfOk result (λ pairs. Fields longest s.old (map field_of pairs.items) s.new) }
     ensures closed { OnOk result ((v : Place) × CharAt s.new 125 v) }
     ensures fails { IfErr result (λ e. Refuses s.old.text e (Reports (FieldsFails s.old) e)) }
+    ensures from_each { IfErr result (λ e. e ≢ out_of_memory →
+        AllFail s.old.text e starts.old.items → AllFail s.old.text e starts.new.items) }
 {
     let mut pairs = Vec::new(alloc);
     'fields: while begins_identifier(s) {
+        if let Some(error) = s.noted_error()? {
+            return Err(error);
+        }
+        starts.push(s.cursor())?;
         let pair = field(s, alloc)?;
         pairs.push(pair)?;
         gap(s);

@@ -1,6 +1,6 @@
 //! Blocks, and the file that they make.
 
-ghost use Rattle.std.specs.Prelude.{◌≡◌, ℕ, List, [], ◌∷◌, ◌==◌, ◌&&◌, ◌||◌, not, true, IfOk, IfErr, OnOk, OnErr};
+ghost use Rattle.std.specs.Prelude.{◌≡◌, ◌≢◌, ℕ, List, [], ◌∷◌, ◌==◌, ◌&&◌, ◌||◌, not, true, IfOk, IfErr, OnOk, OnErr};
 ghost use Rattle.bib_text.specs.Places.{Place, CharAt, place};
 ghost use Rattle.bib_syntax.specs.Blocks.{item_of, block_kind_of};
 ghost use Rattle.bib_syntax.specs.Grammar as grammar;
@@ -8,6 +8,7 @@ ghost use Rattle.bib_syntax.specs.Grammar.{BlockKind as ABlock};
 ghost use Rattle.bib_syntax.specs.Grammar.{Head, Body, Block, LineComment, File, Quoted, longest};
 ghost use Rattle.bib_syntax.specs.Reading.{Part, FileReading, empty_reading, then};
 ghost use Rattle.bib_syntax.specs.Errors.{IsSyntaxError, Refuses, out_of_memory};
+ghost use Rattle.bib_syntax.specs.Failures.{AllFail};
 ghost use Rattle.bib_syntax.specs.SyntaxErrors.{HeadFails, BodyFails, BlockFails, FileFails, Reports};
 ghost use Rattle.bib_syntax.specs.Views.{part_of, file_of};
 
@@ -98,46 +99,62 @@ fn preamble<'s>(s: &mut Reader<'s, '_>) -> Result<&'s str, ParseError>
     Ok(text)
 }
 
-// Definitions of abbreviations.
-fn strings<'s>(s: &mut Reader<'s, '_>, alloc: Global) -> Result<Vec<Pair<'s>>, ParseError>
+// Definitions of abbreviations. Keeps where they begin.
+fn strings<'s>(
+    s: &mut Reader<'s, '_>,
+    alloc: Global,
+    starts: &mut Vec<usize>,
+) -> Result<Vec<Pair<'s>>, ParseError>
     ensures found { IfOk result (λ pairs. (u : Place) (p : Part) →
         Body longest u p ABlock.strings s.old (item_of (Item.Strings pairs)) s.new) }
     ensures fails { IfErr result (λ e. Refuses s.old.text e
         (Reports (BodyFails ABlock.strings s.old) e)) }
+    ensures from_each { IfErr result (λ e. e ≢ out_of_memory →
+        AllFail s.old.text e starts.old.items → AllFail s.old.text e starts.new.items) }
 {
-    let pairs = fields(s, alloc)?;
+    let pairs = fields(s, alloc, starts)?;
     s.eat_if('}');
     Ok(pairs)
 }
 
-// The key of an entry and the comma after it, and its fields. The entry began at `start`.
+// The key of an entry and the comma after it, and its fields. The entry began at `start`. Keeps where its fields begin.
 fn entry<'s>(
     s: &mut Reader<'s, '_>,
     alloc: Global,
     kind: Spanned<&'s str>,
     start: usize,
+    starts: &mut Vec<usize>,
 ) -> Result<Spanned<RawEntry<'s>>, ParseError>
     ensures found { IfOk result (λ e. (u : Place) → u.at ≡ start →
         Body longest u (part_of kind.entry) ABlock.entry s.old (item_of (Item.Entry e)) s.new) }
     ensures fails { IfErr result (λ e. Refuses s.old.text e
         (Reports (BodyFails ABlock.entry s.old) e)) }
+    ensures from_each { IfErr result (λ e. e ≢ out_of_memory →
+        AllFail s.old.text e starts.old.items → AllFail s.old.text e starts.new.items) }
 {
     let key = key(s);
     s.eat_whitespace();
     expect(s, ',', Token::Comma)?;
     gap(s);
-    let fields = fields(s, alloc)?;
+    let fields = fields(s, alloc, starts)?;
     let span = start..s.cursor();
     s.eat_if('}');
     Ok(Spanned::new(RawEntry { key, kind, fields }, span))
 }
 
-// A block: a comment, a preamble, a list of abbreviations or an entry.
-pub(crate) fn block<'s>(s: &mut Reader<'s, '_>, alloc: Global) -> Result<Item<'s>, ParseError>
+// A block: a comment, a preamble, a list of abbreviations or an entry. Keeps where its fields begin in place of those of the
+// block before.
+pub(crate) fn block<'s>(
+    s: &mut Reader<'s, '_>,
+    alloc: Global,
+    starts: &mut Vec<usize>,
+) -> Result<Item<'s>, ParseError>
     requires { (v : Place) × CharAt s.old 64 v }
     ensures found { IfOk result (λ item. Block longest s.old (item_of item) s.new) }
     ensures fails { IfErr result (λ e. Refuses s.old.text e (Reports (BlockFails s.old) e)) }
+    ensures from_each { IfErr result (λ e. e ≢ out_of_memory → AllFail s.old.text e starts.new.items) }
 {
+    starts.clear();
     let start = s.cursor();
     let kind = head(s)?;
     match block_kind(kind.v) {
@@ -146,8 +163,8 @@ pub(crate) fn block<'s>(s: &mut Reader<'s, '_>, alloc: Global) -> Result<Item<'s
             Ok(Item::Nothing)
         }
         BlockKind::Preamble => Ok(Item::Preamble(preamble(s)?)),
-        BlockKind::Strings => Ok(Item::Strings(strings(s, alloc)?)),
-        BlockKind::Entry => Ok(Item::Entry(entry(s, alloc, kind, start)?)),
+        BlockKind::Strings => Ok(Item::Strings(strings(s, alloc, starts)?)),
+        BlockKind::Entry => Ok(Item::Entry(entry(s, alloc, kind, start, starts)?)),
     }
 }
 
@@ -189,9 +206,10 @@ pub(crate) fn blocks<'s>(
         entries: Vec::new(alloc),
         abbreviations: Vec::new(alloc),
     };
+    let mut starts = Vec::new(alloc);
     'file: while let Some(c) = s.peek() {
         if c == '@' {
-            let item = block(s, alloc)?;
+            let item = block(s, alloc, &mut starts)?;
             add(&mut raw, item)?;
         } else if c == '%' {
             line_comment(s);

@@ -4,19 +4,21 @@ ghost use Rattle.std.specs.Prelude.{IfOk};
 ghost use Rattle.bib_syntax.specs.Stretches.{AreNotes};
 
 use crate::raw::closings::{Closing, closings};
+use crate::raw::failures::Failures;
 use crate::raw::stretches::{Stretch, lines, tail};
 use std::alloc::{AllocError, Global};
 
-// Where the braces of a text close, its lines, and what stands after its last closing brace.
+// Where the braces of a text close, its lines, what stands after its last closing brace, and fields that can't be read.
 #[derive(Drop)]
 pub(crate) struct Notes {
     pub(crate) closings: Vec<Closing>,
     pub(crate) lines: Vec<Stretch>,
     pub(crate) tail: Stretch,
+    pub(crate) failures: Failures,
 }
 
 impl Notes {
-    // What is noted of a text.
+    // What is noted of a text before any field was read.
     pub(crate) fn new(alloc: Global, text: &str) -> Result<Self, AllocError>
         ensures { IfOk result (AreNotes text.now) }
     {
@@ -24,6 +26,7 @@ impl Notes {
             closings: closings(alloc, text)?,
             lines: lines(alloc, text)?,
             tail: tail(text),
+            failures: Failures::new(alloc),
         })
     }
 }

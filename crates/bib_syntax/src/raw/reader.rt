@@ -1,15 +1,18 @@
 //! A scanner that may know what is noted of its text.
 
-ghost use Rattle.std.specs.Prelude.{◌≡◌, ◌==◌, ℕ, ◌≤◌, ◌<◌, ◌^◌, Bool, true, false, not, length, take, MatchOption, MatchBool, IsTrue, IfSome, ◌↔◌};
+ghost use Rattle.std.specs.Prelude.{◌≡◌, ◌==◌, ℕ, ◌≤◌, ◌<◌, ◌^◌, Bool, true, false, not, length, take, MatchOption, MatchBool, IsTrue, IfOk, IfSome, ◌↔◌};
 ghost use Rattle.std.specs.Char.{is_whitespace};
 ghost use Rattle.std.specs.Str.{IsCharBoundary};
 ghost use Rattle.bib_text.specs.Places.{Place, place, CharAt, Longest, AllBetween, AtEnd, EndsOr, Answers, between};
 ghost use Rattle.bib_syntax.specs.Closings.{IsNoted};
+ghost use Rattle.bib_syntax.specs.Failures.{FailsAt};
 ghost use Rattle.bib_syntax.specs.Stretches.{AreNotes, IsStretchFrom};
 ghost use Rattle.bib_syntax.specs.SyntaxErrors.{text_end};
 
+use crate::raw::ParseError;
 use crate::raw::notes::Notes;
 use bib_text::scanner::Scanner;
+use std::alloc::AllocError;
 use std::marker::Model;
 
 // A text and a place in it, and what is noted of the text.
@@ -42,24 +45,14 @@ impl<'s, 'n> Reader<'s, 'n> {
         }
     }
 
-    // A reader at this place of a text of which this is noted.
-    pub(crate) fn with_notes<'m>(&self, notes: &'m Notes) -> Reader<'s, 'm>
-        requires { AreNotes self.now.text notes.now }
+    // A reader at this place of a text of which this is noted, if anything is.
+    pub(crate) fn with_notes<'m>(&self, notes: Option<&'m Notes>) -> Reader<'s, 'm>
+        requires { IfSome notes (λ notes. AreNotes self.now.text notes.now) }
         ensures { result ≡ self.now }
     {
         Reader {
             scanner: self.scanner.copied(),
-            notes: Some(notes),
-        }
-    }
-
-    // Another reader at this place.
-    pub(crate) fn copied(&self) -> Self
-        ensures { result ≡ self.now }
-    {
-        Reader {
-            scanner: self.scanner.copied(),
-            notes: self.notes,
+            notes,
         }
     }
 
@@ -200,6 +193,19 @@ impl<'s, 'n> Reader<'s, 'n> {
             return None;
         }
         Some(noted.close)
+    }
+
+    // The error with which reading fields fails from here, if one is noted.
+    pub(crate) fn noted_error(&self) -> Result<Option<ParseError>, AllocError>
+        ensures { IfOk result (λ found. IfSome found (λ e. FailsAt self.now.text e self.now.at)) }
+    {
+        let Some(notes) = self.notes else {
+            return Ok(None);
+        };
+        match notes.failures.get(self.scanner.cursor()) {
+            Some(error) => Ok(Some(error.clone()?)),
+            None => Ok(None),
+        }
     }
 
     // Where the text ends, if it is noted that no closing brace stands before.

@@ -1,14 +1,20 @@
 //! What is read of a file of which not each block can be read.
 
-ghost use Rattle.std.specs.Prelude.{◌≡◌, ◌⊎◌, ◌<◌, ◌-◌, ◌==◌, ◌++◌, [], ◌∷◌, not, true, false, length, take, MatchBool, IfOk, OnOk};
+ghost use Rattle.std.specs.Prelude.{◌≡◌, ◌≢◌, ◌⊎◌, ◌<◌, ◌-◌, ◌==◌, ◌++◌, [], ◌∷◌, ℕ, List, not, true, false, length, take, MatchBool, IfSome, IfOk, IfErr, OnOk, OnErr};
 ghost use Rattle.bib_text.specs.Places.{Place, CharAt, AtEnd, place};
+ghost use Rattle.bib_syntax.specs.Blocks.{item_of};
+ghost use Rattle.bib_syntax.specs.Errors.{Refuses, out_of_memory};
+ghost use Rattle.bib_syntax.specs.Failures.{AllFail};
+ghost use Rattle.bib_syntax.specs.Grammar.{Block, longest};
 ghost use Rattle.bib_syntax.specs.Recovery as Spec;
 ghost use Rattle.bib_syntax.specs.Recovering.{RecoveredTo};
 ghost use Rattle.bib_syntax.specs.Recovery.{Recovered, GoesOnAt, skipped_block};
+ghost use Rattle.bib_syntax.specs.Stretches.{AreNotes};
+ghost use Rattle.bib_syntax.specs.SyntaxErrors.{BlockFails, Reports};
 ghost use Rattle.bib_syntax.specs.Views.{file_of};
 
 use crate::raw::fields::line_comment;
-use crate::raw::file::{add, block, is_skipped};
+use crate::raw::file::{Item, add, block, is_skipped};
 use crate::raw::notes::Notes;
 use crate::raw::reader::Reader;
 use crate::raw::{ParseError, RawBibliography};
@@ -76,6 +82,41 @@ fn go_on(s: &mut Reader<'_, '_>)
     }
 }
 
+// Reads the block at this at sign with what is noted of the text, if anything is. Stays here where there is none.
+fn read_block<'s>(
+    s: &mut Reader<'s, '_>,
+    alloc: Global,
+    notes: Option<&Notes>,
+    starts: &mut Vec<usize>,
+) -> Result<Item<'s>, ParseError>
+    requires sign { (v : Place) × CharAt s.old 64 v }
+    requires noted { IfSome notes (λ notes. AreNotes s.old.text notes.now) }
+    ensures found { IfOk result (λ item. Block longest s.old (item_of item) s.new) }
+    ensures fails { IfErr result (λ e. Refuses s.old.text e (Reports (BlockFails s.old) e)) }
+    ensures from_each { IfErr result (λ e. e ≢ out_of_memory → AllFail s.old.text e starts.new.items) }
+    ensures stays { OnErr result (s.new ≡ s.old) }
+{
+    let mut reader = s.with_notes(notes);
+    let item = block(&mut reader, alloc, starts)?;
+    s.jump(reader.cursor());
+    Ok(item)
+}
+
+// Notes, where a text is noted, from which places reading fields fails with this error.
+fn note_failures(
+    notes: &mut Option<Notes>,
+    starts: &[usize],
+    error: &ParseError,
+) -> Result<(), AllocError>
+    ensures { OnOk result ((text : List ℕ) → AllFail text error.now starts.now →
+        IfSome notes.old (AreNotes text) → IfSome notes.new (AreNotes text)) }
+{
+    match notes {
+        Some(notes) => notes.failures.note(starts, error),
+        None => Ok(()),
+    }
+}
+
 impl<'s> RawRecovery<'s> {
     // Passes over the block at this at sign, and keeps its error.
     fn skip(&mut self, s: &mut Reader<'s, '_>, error: ParseError) -> Result<(), AllocError>
@@ -93,23 +134,28 @@ impl<'s> RawRecovery<'s> {
         Ok(())
     }
 
-    // Reads the block at this at sign, or passes over it.
-    fn add_block(&mut self, s: &mut Reader<'s, '_>, alloc: Global) -> Result<(), AllocError>
-        requires { (v : Place) × CharAt s.old 64 v }
+    // Reads the block at this at sign, or passes over it and notes, where the text is noted, from where its fields can't be read.
+    fn add_block(
+        &mut self,
+        s: &mut Reader<'s, '_>,
+        alloc: Global,
+        notes: &mut Option<Notes>,
+        starts: &mut Vec<usize>,
+    ) -> Result<(), AllocError>
+        requires sign { (v : Place) × CharAt s.old 64 v }
+        requires noted { IfSome notes.old (AreNotes s.old.text) }
         ensures found { OnOk result ((start : Place) →
             RecoveredTo start (file_of self.old.raw) self.old.skipped.items s.old →
             RecoveredTo start (file_of self.new.raw) self.new.skipped.items s.new) }
         ensures same { OnOk result (s.new.text ≡ s.old.text) }
         ensures smaller { OnOk result (length s.new.text - s.new.at < length s.old.text - s.old.at) }
+        ensures noted { OnOk result (IfSome notes.new (AreNotes s.old.text)) }
     {
-        let mut reader = s.copied();
-        match block(&mut reader, alloc) {
-            Ok(item) => {
-                *s = reader;
-                add(&mut self.raw, item)
-            }
+        match read_block(s, alloc, notes.as_ref(), starts) {
+            Ok(item) => add(&mut self.raw, item),
             Err(error) => {
                 error.unless_out_of_memory()?;
+                note_failures(notes, starts, &error)?;
                 self.skip(s, error)
             }
         }
@@ -117,25 +163,28 @@ impl<'s> RawRecovery<'s> {
 }
 
 impl<'s> RawRecovery<'s> {
-    // Reads the blocks of a file: up to its end, or to what stands after the first one that is passed over.
+    // Reads the blocks of a file, up to its end. Once a block was passed over what stands in it is read again, so then the text is
+    // noted.
     fn add_blocks(
         &mut self,
         s: &mut Reader<'s, '_>,
         alloc: Global,
-        to_the_end: bool,
+        text: &str,
     ) -> Result<(), AllocError>
+        requires { text.now ≡ s.old.text }
         ensures found { OnOk result ((start : Place) →
             RecoveredTo start (file_of self.old.raw) self.old.skipped.items s.old →
             RecoveredTo start (file_of self.new.raw) self.new.skipped.items s.new) }
-        ensures same { OnOk result (s.new.text ≡ s.old.text) }
-        ensures end { OnOk result (to_the_end ≡ true → AtEnd s.new) }
+        ensures end { OnOk result (AtEnd s.new) }
     {
+        let mut notes = None;
+        let mut starts = Vec::new(alloc);
         'file: while let Some(c) = s.peek() {
             if c == '@' {
-                self.add_block(s, alloc)?;
-                if !to_the_end && !self.skipped.is_empty() {
-                    return Ok(());
+                if notes.is_none() && !self.skipped.is_empty() {
+                    notes = Some(Notes::new(alloc, text)?);
                 }
+                self.add_block(s, alloc, &mut notes, &mut starts)?;
             } else if c == '%' {
                 line_comment(s);
             } else {
@@ -146,8 +195,7 @@ impl<'s> RawRecovery<'s> {
     }
 }
 
-// The blocks of a file, up to its end, and what is passed over among them. Once a block was passed over what stands in it is read
-// again, so then the text is noted.
+// The blocks of a file, up to its end, and what is passed over among them.
 pub(crate) fn recovered(alloc: Global, src: &str) -> Result<RawRecovery<'_>, AllocError>
     ensures { IfOk result (λ found. Recovered (place src.now 0) (file_of found.raw) found.skipped.items) }
 {
@@ -159,12 +207,6 @@ pub(crate) fn recovered(alloc: Global, src: &str) -> Result<RawRecovery<'_>, All
         },
         skipped: Vec::new(alloc),
     };
-    let mut s = Reader::new(Scanner::new(src));
-    found.add_blocks(&mut s, alloc, false)?;
-    if s.done() {
-        return Ok(found);
-    }
-    let notes = Notes::new(alloc, src)?;
-    found.add_blocks(&mut s.with_notes(&notes), alloc, true)?;
+    found.add_blocks(&mut Reader::new(Scanner::new(src)), alloc, src)?;
     Ok(found)
 }

@@ -10,7 +10,7 @@ file-smaller-then-c-eq37 c = line_comment_smaller c.line_comment.ensures
 
 pub file-preserved-then-c-eq37 : goal.file-preserved-then-c-eq37
 file-preserved-then-c-eq37 c =
-    ((λ start read. comment_recovered _ _ (c.file.invariant.0 start read) c.line_comment.ensures), (ahead_line_comment c.line_comment.ensures).text ∙ c.file.invariant.1)
+    ((λ start read. comment_recovered _ _ (c.file.invariant.0 start read) c.line_comment.ensures), (ahead_line_comment c.line_comment.ensures).text ∙ c.file.invariant.1, c.file.invariant.2)
 
 pub file-smaller : goal.file-smaller
 file-smaller c =
@@ -20,4 +20,4 @@ file-smaller c =
 pub file-preserved : goal.file-preserved
 file-preserved c =
     let run : Longest is_skipped c.file.s c.eat_while.new.self = c.eat_while.ensures.longest is_skipped (λ x r post. post) in
-    ((λ start read. skip_recovered _ _ (c.file.invariant.0 start read) run), (ahead_run run.run).text ∙ c.file.invariant.1)
+    ((λ start read. skip_recovered _ _ (c.file.invariant.0 start read) run), (ahead_run run.run).text ∙ c.file.invariant.1, c.file.invariant.2)
