@@ -3,11 +3,12 @@
 use Rattle.std.specs.Prelude.{ℕ, ◌+◌, ◌==◌, Bool, not, List, take}
 use Rattle.std.specs.Int.{is_in_range}
 use Rattle.std.specs.List.{after_last, count_by}
+use Rattle.bib_text.specs.Characters as char
 use Rattle.bib_lines.specs.declared.positions.Position.{Position}
 
 -- whether a byte is a line feed
 abbrev pub is_line_feed : ℕ → Bool
-is_line_feed byte = byte == 10
+is_line_feed byte = byte == char.line_feed
 
 -- whether a character begins with this byte in UTF-8: the others of a character are from 80 to BF
 abbrev pub begins_character : ℕ → Bool
