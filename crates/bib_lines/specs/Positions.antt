@@ -1,0 +1,24 @@
+-- Meaning: words of public contracts.
+-- Lines and columns of places in a text, as compilers and editors count them: from 1 on, columns in characters.
+use Rattle.std.specs.Prelude.{ℕ, ◌+◌, ◌==◌, Bool, not, List, take}
+use Rattle.std.specs.Int.{is_in_range}
+use Rattle.std.specs.List.{after_last, count_by}
+use Rattle.bib_text.specs.Characters as char
+use Rattle.bib_lines.specs.declared.positions.Position.{Position}
+
+-- whether a byte is a line feed
+abbrev pub is_line_feed : ℕ → Bool
+is_line_feed byte = byte == char.line_feed
+
+-- whether a character begins with this byte in UTF-8: the others of a character are from 80 to BF
+abbrev pub begins_character : ℕ → Bool
+begins_character byte = not (is_in_range 0x80 0xBF byte)
+
+-- the position after a text: its line is one more than the line feeds, its column one more than the characters after the last
+-- of them
+abbrev pub position_after : List ℕ → Position
+position_after text = record { line = count_by is_line_feed text + 1; column = count_by begins_character (after_last is_line_feed text) + 1 }
+
+-- the position of a place in a text: that after what stands before it
+abbrev pub position_at : List ℕ → ℕ → Position
+position_at text at = position_after (take at text)
