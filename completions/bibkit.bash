@@ -1,0 +1,43 @@
+# Completions of bibkit for bash: source this file, or put it into the folder of bash-completion.
+_bibkit() {
+    local current=${COMP_WORDS[COMP_CWORD]} previous=${COMP_WORDS[COMP_CWORD - 1]} command=${COMP_WORDS[1]-}
+    local codes='unread-bytes syntax unread-field unknown-abbreviation circular-abbreviation duplicate-key circular-reference
+        unread-date missing-field superfluous-field malformed-field unknown-field unknown-reference likely-duplicate missing-entry
+        unused-entry'
+    if [ "$COMP_CWORD" = 1 ]; then
+        mapfile -t COMPREPLY < <(compgen -W 'lint keys get grep cited stats help --help --version' -- "$current")
+        return
+    fi
+    case $previous in
+        --only | --ignore)
+            local before=''
+            [[ $current == *,* ]] && before=${current%,*},
+            mapfile -t COMPREPLY < <(compgen -P "$before" -W "$codes" -- "${current##*,}")
+            return
+            ;;
+        --explain)
+            mapfile -t COMPREPLY < <(compgen -W "$codes" -- "$current")
+            return
+            ;;
+        --format)
+            mapfile -t COMPREPLY < <(compgen -W 'text json' -- "$current")
+            return
+            ;;
+        --color)
+            mapfile -t COMPREPLY < <(compgen -W 'auto always never' -- "$current")
+            return
+            ;;
+        --cited)
+            mapfile -t COMPREPLY < <(compgen -f -- "$current")
+            return
+            ;;
+    esac
+    if [[ $current == -* ]]; then
+        local options='--help'
+        [ "$command" = lint ] && options='--only --ignore --explain --format --cited --unused --color --help'
+        mapfile -t COMPREPLY < <(compgen -W "$options" -- "$current")
+        return
+    fi
+    mapfile -t COMPREPLY < <(compgen -f -- "$current")
+}
+complete -o filenames -F _bibkit bibkit

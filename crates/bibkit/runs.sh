@@ -1,0 +1,309 @@
+#!/usr/bin/env bash
+# Runs a built program, and compares what it prints and its status with what is wanted: runs.sh PROGRAM [GUIDE..]
+# With guides: runs each line `$ COMMAND` of their blocks too, and compares what it prints with the lines after it.
+set -u
+export LC_ALL=C
+program=$(realpath "$1")
+shift
+guides=()
+for guide in "$@"; do guides+=("$(realpath "$guide")"); done
+files=$(mktemp -d)
+chmod 755 "$files"
+trap 'rm -rf "$files"' EXIT
+cd "$files" || exit 1
+passed=0
+failed=0
+left_out=0
+
+# counts a run that wrote the file `output`: its name, its status, and the status and the output that are wanted
+count() {
+    if [ "$2" = "$3" ] && printf %s "$4" | cmp -s - output; then
+        passed=$((passed + 1))
+    else
+        failed=$((failed + 1))
+        echo "failed: $1 (status $2)"
+        diff <(printf %s "$4") output | head -5
+    fi
+}
+
+# counts a test that is a condition: its name, and a command
+holds() {
+    if "${@:2}"; then
+        passed=$((passed + 1))
+    else
+        failed=$((failed + 1))
+        echo "failed: $1"
+    fi
+}
+
+# runs the program on the file `input`: a name, the status and the output that are wanted, and the words
+run() {
+    local name=$1 status=$2 want=$3
+    shift 3
+    "$program" "$@" <input >output 2>messages
+    count "$name" $? "$status" "$want"
+}
+
+# the same, for what is written to standard error
+run_messages() {
+    local name=$1 status=$2 want=$3
+    shift 3
+    "$program" "$@" <input >results 2>output
+    count "$name" $? "$status" "$want"
+}
+
+# whether what the program printed last has this text
+prints() { grep -qF -- "$1" output; }
+messages_have() { grep -qF -- "$1" messages; }
+
+: >input
+printf '@article{test, author={A}}\n' >one.bib
+printf '@misc{a, title={A}, author={B}}\n\n@misc{b, title={x y}, author={Knuth, D.}, year={1984}}\n' >two.bib
+printf '@misc{a, title={A}}\n@misc{c, title={C}\n' >broken.bib
+lines_of_one='one.bib:1:10: warning: test: missing title [missing-field]
+one.bib:1:10: warning: test: missing journaltitle [missing-field]
+one.bib:1:10: warning: test: missing year [missing-field]
+'
+
+# help, versions, usage
+run 'the version' 0 $'bibkit 0.1.0\n' --version
+run 'help' 0 "$("$program" help)"$'\n' --help
+holds 'help names the commands' prints lint
+for command in lint keys get grep cited stats; do
+    "$program" $command --help >output
+    holds "help of $command has an example" prints "  bibkit $command"
+    holds "help of $command has a usage" prints "Usage: bibkit $command"
+done
+run 'no command' 2 ''
+holds 'no command: usage is a message' messages_have 'Usage: bibkit'
+run 'another command' 2 '' nothing
+run 'a wrong option' 2 '' lint --nothing
+holds 'a wrong option is named' messages_have --nothing
+run 'a wrong code' 2 '' lint --only no-code
+run 'a wrong format' 2 '' lint --format xml
+run 'unused entries of no document' 2 '' lint --unused
+run 'no keys' 2 '' get
+run 'no text' 2 '' grep author
+run 'no document' 2 '' cited
+run 'words that are not UTF-8' 2 '' keys $'\xff'
+
+# lint
+run 'findings' 1 "$lines_of_one"$'errors: 0, warnings: 3\n' lint one.bib
+run 'nothing found in an empty input' 0 $'errors: 0, warnings: 0\n' lint
+run 'one code' 1 $'one.bib:1:10: warning: test: missing title [missing-field]\none.bib:1:10: warning: test: missing journaltitle [missing-field]\none.bib:1:10: warning: test: missing year [missing-field]\nerrors: 0, warnings: 3\n' lint --only missing-field one.bib
+run 'no other code' 0 $'errors: 0, warnings: 0\n' lint --only syntax,duplicate-key one.bib
+run 'a code that is left out' 0 $'errors: 0, warnings: 0\n' lint --ignore missing-field one.bib
+run 'two options that leave codes out' 0 $'errors: 0, warnings: 0\n' lint --ignore syntax --ignore missing-field one.bib
+run 'a code that is asked for and left out' 0 $'errors: 0, warnings: 0\n' lint --only missing-field --ignore missing-field one.bib
+run 'two files' 1 $'broken.bib:1:7: warning: a: missing author [missing-field]\nbroken.bib:3:1: error: expected comma [syntax]\n'"$lines_of_one"$'errors: 1, warnings: 4\n' lint broken.bib one.bib
+cp one.bib input
+run 'standard input' 1 "${lines_of_one//one.bib/-}"$'errors: 0, warnings: 3\n' lint
+run 'standard input by its name, after a file' 1 "$lines_of_one${lines_of_one//one.bib/-}"$'errors: 0, warnings: 6\n' lint one.bib -
+: >input
+run 'a list in JSON' 1 '[
+{"file":"one.bib","line":1,"column":10,"severity":"warning","code":"missing-field","message":"test: missing title"},
+{"file":"one.bib","line":1,"column":10,"severity":"warning","code":"missing-field","message":"test: missing journaltitle"},
+{"file":"one.bib","line":1,"column":10,"severity":"warning","code":"missing-field","message":"test: missing year"}
+]
+' lint --format json one.bib
+"$program" lint --format json one.bib broken.bib one.bib >output
+holds 'a list of three files in JSON' python3 -c 'import json, sys; found = json.load(open("output")); sys.exit(len(found) != 8 or found[4] != {"file": "broken.bib", "line": 3, "column": 1, "severity": "error", "code": "syntax", "message": "expected comma"})'
+run 'an empty list in JSON' 0 $'[\n]\n' lint --format json
+printf '@misc{a, title={A}}\n' >'a "b" \ c.bib'
+printf '@misc{q"\\, author={B}}\n' >'a "b" \ c.bib'
+"$program" lint --format json 'a "b" \ c.bib' >output
+holds 'quotes and backslashes in JSON' python3 -c 'import json, sys; found = json.load(open("output")); sys.exit(found[0]["file"] != "a \"b\" \\ c.bib")'
+run 'what a code means' 0 "$("$program" lint --explain syntax)"$'\n' lint --explain syntax no-file.bib
+holds 'what a code means begins with its name' prints 'syntax (error): '
+for code in unread-bytes syntax unread-field unknown-abbreviation circular-abbreviation duplicate-key circular-reference unread-date missing-field superfluous-field malformed-field unknown-field unknown-reference likely-duplicate missing-entry unused-entry; do
+    "$program" lint --explain $code >output
+    holds "the meaning of $code" prints "$code ("
+done
+
+# bytes that are not UTF-8
+printf '@misc{a, title={\xe9t\xe9}}\n' >latin.bib
+run 'bytes that are not UTF-8' 1 $'latin.bib:1:17: error: not UTF-8 from here on, so the file is read as Windows-1252 [unread-bytes]\nerrors: 1, warnings: 0\n' lint --ignore missing-field latin.bib
+run 'they are the first finding' 1 $'latin.bib:1:17: error: not UTF-8 from here on, so the file is read as Windows-1252 [unread-bytes]\nlatin.bib:1:7: warning: a: missing author [missing-field]\nerrors: 1, warnings: 1\n' lint latin.bib
+run 'entries of them' 0 $'@misc{a, title={\xc3\xa9t\xc3\xa9}}\n' get a latin.bib
+printf '@misc{a,\n title={\xc3\xa9}, author={\xc3\xa9 \xc3\xa9}, nofield={}, year={2000}}\n' >columns.bib
+run 'columns are characters' 1 $'columns.bib:2:27: warning: a: unknown field nofield [unknown-field]\nerrors: 0, warnings: 1\n' lint columns.bib
+
+# entries
+run 'keys' 0 $'a\nb\n' keys two.bib
+run 'keys of two files' 0 $'a\nb\ntest\n' keys two.bib one.bib
+run 'keys of an empty input' 0 '' keys
+run 'keys of a broken file' 0 $'a\n' keys broken.bib
+run 'two entries' 0 $'@misc{a, title={A}, author={B}}\n@misc{b, title={x y}, author={Knuth, D.}, year={1984}}\n' get b,a two.bib
+run 'no entry of this key' 1 '' get z two.bib
+run 'an entry by a text' 0 $'@misc{b, title={x y}, author={Knuth, D.}, year={1984}}\n' grep AUTHOR Knuth two.bib
+run 'no entry of this text' 1 '' grep title Knuth two.bib
+printf '\\relax\n\\citation{b}\n\\citation{z}\n' >paper.aux
+run 'the entries that a document cites' 0 $'@misc{b, title={x y}, author={Knuth, D.}, year={1984}}\n' cited paper.aux two.bib
+run 'cited entries of a document that is not there' 2 '' cited no.aux two.bib
+
+# what a document cites
+run 'a key that no file has' 1 $'paper.aux:3:11: error: no file has an entry "z" [missing-entry]\nerrors: 1, warnings: 0\n' lint --ignore missing-field --cited paper.aux two.bib
+run 'an entry that is never cited' 1 $'two.bib:1:7: warning: a: never cited [unused-entry]\npaper.aux:3:11: error: no file has an entry "z" [missing-entry]\nerrors: 1, warnings: 1\n' lint --ignore missing-field --cited paper.aux --unused two.bib
+run 'a document that is not there' 2 '' lint --cited no.aux two.bib
+
+# statistics
+run 'counts' 0 "$("$program" stats two.bib)"$'\n' stats two.bib
+holds 'counts of types' prints misc
+
+# files that can't be read
+run_messages 'a file that is not there' 2 $'bibkit: no.bib: there is no such file\n' keys no.bib
+run 'the other files are read' 2 $'a\nb\ntest\n' keys two.bib no.bib one.bib
+run 'findings beside a file that is not there' 2 "$lines_of_one"$'errors: 0, warnings: 3\n' lint no.bib one.bib
+mkdir -p folder
+run_messages 'a folder' 2 $'bibkit: folder: it is a folder\n' keys folder
+printf '@misc{x,}' >secret.bib
+chmod 000 secret.bib
+if [ "$(id -u)" != 0 ]; then
+    run_messages 'a file without rights' 2 $'bibkit: secret.bib: it may not be read\n' keys secret.bib
+elif command -v setpriv >/dev/null && [ -x /usr/bin/setpriv ]; then
+    cp "$program" program && chmod 755 program
+    setpriv --reuid 65534 --clear-groups ./program keys secret.bib >results 2>output
+    count 'a file without rights' $? 2 $'bibkit: secret.bib: it may not be read\n'
+else
+    left_out=$((left_out + 1))
+fi
+"$program" keys <&- >output 2>messages
+holds 'a closed input' [ $? = 2 ]
+
+# outputs that refuse
+: >output
+"$program" keys two.bib >&- 2>messages
+holds 'a closed output' [ $? = 2 ]
+"$program" keys two.bib >/dev/full 2>messages
+holds 'a full disk' [ $? = 2 ]
+holds 'a full disk is reported' messages_have "bibkit: the output can't be written"
+"$program" lint two.bib >/dev/full 2>messages
+holds 'findings on a full disk' [ $? = 2 ]
+"$program" lint --explain syntax >/dev/full 2>messages
+holds 'a meaning on a full disk' [ $? = 2 ]
+"$program" --help >/dev/full 2>messages
+holds 'help on a full disk' [ $? = 2 ]
+for i in $(seq 1 5000); do printf '@misc{key%d, title={T}}\n' "$i"; done >many.bib
+("$program" lint many.bib 2>messages; echo $? >status) | head -0
+holds 'a closed pipe' [ "$(cat status)" -ne 0 ]
+"$program" keys many.bib | sed -n 5000p >output
+count 'a pipe' 0 0 $'key5000\n'
+
+# many files
+names=()
+want=''
+for i in $(seq 1 100); do
+    printf '@misc{k%d, title={T}}' "$i" >"many$i.bib"
+    names+=("many$i.bib")
+    want+="k$i"$'\n'
+done
+run 'a hundred files' 0 "$want" keys "${names[@]}"
+run_messages 'no progress on a file' 0 '' keys "${names[@]}"
+
+# settings of a project
+mkdir -p project/deep/er
+cp one.bib project/deep/er/one.bib
+cp one.bib project/one.bib
+printf 'ignore = ["missing-field"]\n' >project/bibkit.toml
+run 'settings beside a file' 0 $'errors: 0, warnings: 0\n' lint project/one.bib
+run 'settings above a file' 0 $'errors: 0, warnings: 0\n' lint project/deep/er/one.bib
+run 'the command line wins' 1 "$lines_of_one"$'errors: 0, warnings: 3\n' lint --ignore syntax one.bib
+(cd project && "$program" lint <one.bib >../output)
+count 'settings of the current folder' $? 0 $'errors: 0, warnings: 0\n'
+"$program" lint --ignore syntax project/one.bib >output
+holds 'the command line wins over settings' prints 'missing title'
+printf 'format = "json"\nonly = ["syntax"]\ncolor = "always"\n' >project/deep/bibkit.toml
+run 'nearer settings' 0 $'[\n]\n' lint project/deep/er/one.bib
+run 'a format of the command line' 0 $'errors: 0, warnings: 0\n' lint --format text project/deep/er/one.bib
+printf 'only = ["no-code"]\n' >project/bibkit.toml
+run 'a wrong code in settings' 2 '' lint project/one.bib
+holds 'its file is named' messages_have "project/bibkit.toml: only has to be a list of codes"
+printf 'colour = "always"\n' >project/bibkit.toml
+run 'an unknown setting' 2 '' lint project/one.bib
+holds 'an unknown setting is named' messages_have 'there is no setting colour'
+printf 'only = [\n' >project/bibkit.toml
+run 'settings that are no TOML' 2 '' lint project/one.bib
+printf '\xff' >project/bibkit.toml
+run 'settings that are not UTF-8' 2 '' lint project/one.bib
+run 'other commands read no settings' 0 $'test\n' keys project/one.bib
+run 'meanings read no settings' 0 "$("$program" lint --explain syntax)"$'\n' lint --explain syntax project/one.bib
+
+# colours, on no terminal
+bold=$'\e[1m' plain=$'\e[0m' yellow=$'\e[1;33m' red=$'\e[1;31m' green=$'\e[1;32m'
+want="${bold}broken.bib:3:1:$plain ${red}error:$plain expected comma [syntax]
+  
+  $green^$plain
+errors: 1, warnings: 0
+"
+run 'colours' 1 "$want" lint --only syntax --color always broken.bib
+run 'no colours' 1 $'broken.bib:3:1: error: expected comma [syntax]\nerrors: 1, warnings: 0\n' lint --only syntax --color never broken.bib
+printf '@misc{a,\n\tt\x1b[31m\xc3\xa9itle={x}, nofield={1}, author={B}}\n' >frame.bib
+"$program" lint --color always --only unknown-field frame.bib >output
+holds 'a control character is not printed' bash -c '! grep -q "$(printf "\033\[31m")" output'
+
+# a terminal
+cat >terminal.py <<'PY'
+import os, pty, sys
+output = b""
+def read(fd):
+    global output
+    data = os.read(fd, 65536)
+    output += data
+    return data
+status = pty.spawn(sys.argv[1:], read)
+open("output", "wb").write(output.replace(b"\r\n", b"\n"))
+sys.exit(os.waitstatus_to_exitcode(status))
+PY
+if command -v python3 >/dev/null; then
+    python3 terminal.py "$program" lint --only syntax broken.bib </dev/null >/dev/null
+    count 'colours on a terminal' $? 1 "$want"
+    NO_COLOR=1 python3 terminal.py "$program" lint --only syntax broken.bib </dev/null >/dev/null
+    count 'NO_COLOR' $? 1 $'broken.bib:3:1: error: expected comma [syntax]\nerrors: 1, warnings: 0\n'
+    NO_COLOR=1 python3 terminal.py "$program" lint --color always --only syntax broken.bib </dev/null >/dev/null
+    count 'colours although NO_COLOR is set' $? 1 "$want"
+    clear=$'\r\e[K'
+    python3 terminal.py "$program" keys two.bib one.bib </dev/null >/dev/null
+    count 'progress' $? 0 "$clear[1/2] two.bib$clear"$'a\nb\n'"$clear[2/2] one.bib$clear"$'test\n'"$clear"
+    python3 terminal.py "$program" keys two.bib </dev/null >/dev/null
+    count 'no progress on one file' $? 0 $'a\nb\n'
+else
+    left_out=$((left_out + 5))
+fi
+
+# no memory
+head -c 67108864 /dev/zero >zeros.bib
+(ulimit -v 32768 && exec "$program" keys zeros.bib) >output 2>messages
+holds 'no memory for a file' [ $? = 3 ]
+holds 'no memory is reported' messages_have 'bibkit: out of memory'
+rm zeros.bib
+
+# the sessions of guides: a block is one session in a folder of its own; `$ COMMAND` and the lines that it prints
+cat >sessions.py <<'PY'
+import os, re, shutil, subprocess, sys, tempfile
+program, guide = sys.argv[1:]
+folder = tempfile.mkdtemp()
+os.symlink(program, os.path.join(folder, "bibkit"))
+failed = ran = 0
+for kind, block in re.findall(r"^```(\S*)\n(.*?)^```$", open(guide, encoding="utf-8").read(), re.S | re.M):
+    name = re.match(r"(?:bib|tex|toml):(\S+)$", kind)
+    if name:
+        open(os.path.join(folder, name.group(1)), "w", encoding="utf-8").write(block)
+    if kind != "console":
+        continue
+    for command, want in re.findall(r"^\$ (.*)\n((?:(?!\$ ).*\n)*)", block, re.M):
+        ran += 1
+        path = folder + ":" + os.environ["PATH"]
+        made = subprocess.run(["bash", "-c", command], cwd=folder, env={**os.environ, "PATH": path}, capture_output=True, text=True)
+        if made.stdout + made.stderr != want:
+            failed += 1
+            print("failed: $ " + command + "\n" + made.stdout + made.stderr)
+shutil.rmtree(folder)
+print(f"sessions: {ran} commands, {failed} failed")
+sys.exit(failed > 0 or ran == 0)
+PY
+for guide in "${guides[@]+"${guides[@]}"}"; do
+    holds "the sessions of $guide" python3 sessions.py "$program" "$guide"
+done
+
+echo "runs: $passed passed, $failed failed, $left_out left out"
+[ "$failed" = 0 ]

@@ -1,0 +1,16 @@
+//! The program `bibkit`: what is wrong in bibliography files, and parts of them.
+#![tactic(auto)]
+
+mod arguments;
+mod configuration;
+mod files;
+mod settings;
+mod start;
+mod streams;
+
+use crate::start::start;
+use std::process::ExitCode;
+
+fn main(rt: HostRuntime) -> ExitCode {
+    ExitCode::from(start(&rt))
+}

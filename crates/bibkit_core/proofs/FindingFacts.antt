@@ -1,0 +1,118 @@
+-- How findings are printed one after another.
+use Rattle.std.proofs.Common.{◌≡◌, ◌+◌, ◌<◌, ◌==◌, ◌&&◌, ℕ, suc, zero, Bool, true, false, cond, List, [], ◌∷◌, ◌++◌, min, refl, sym, ap, ap₂, subst, ◌∙◌, arith, append_assoc, append-nil}
+use Rattle.std.proofs.lemmas.Bool.Decides.{nat_tests}
+use Rattle.std.specs.Prelude.{fold, filter, string_bytes}
+use Rattle.std.proofs.lemmas.List.Elements.{filter-append}
+use Rattle.std.proofs.lemmas.List.Sums.{fold-append}
+use Rattle.bib_lines.specs.Positions.{position_at}
+use Rattle.bib_lines.specs.declared.positions.Position.{Position}
+use Rattle.bib_findings.specs.Codes.{severity_of}
+use Rattle.bib_findings.specs.declared.codes.Severity.{Severity}
+use Rattle.bib_findings.specs.declared.codes.Severity.TheVariants.{Error, Warning}
+use Rattle.bib_findings.specs.declared.finding.Finding.{Finding}
+use Rattle.bibkit_core.specs.declared.lint.Printed.{Printed}
+use Rattle.bibkit_core.specs.declared.request.Style.{Style}
+use Rattle.bibkit_core.specs.declared.selection.Selection.{Selection}
+use Rattle.bibkit_core.specs.declared.tally.Tally.{Tally}
+use Rattle.bibkit_core.specs.Asked.{asked, is_asked}
+use Rattle.bibkit_core.specs.Adding.{Adds, IsPrinted}
+use Rattle.bib_encoding.specs.declared.decoding.Decoded.{Decoded}
+use Rattle.bib_findings.specs.Findings.{AreFindings}
+use Rattle.bibkit_core.specs.declared.request.Lint.{Lint}
+use Rattle.bibkit_core.specs.Linted.{AreShown, ArePrinted, IsPrintedFile, counted, unread_findings}
+use Rattle.bibkit_core.specs.Linted.AreShown.{none, next}
+use Rattle.bibkit_core.specs.Printed.{IsShown, is_none, one_more}
+
+-- whether what comes after these is the first
+pub is_first_after : {X : Type 0} → Bool → List X → Bool
+is_first_after b [] = b
+is_first_after b (x ∷ xs) = false
+
+-- after what isn't first nothing is
+never_first : {X : Type 0} (xs : List X) → is_first_after false xs ≡ false
+unfolding is_first_after
+never_first [] = refl
+never_first (x ∷ xs) = refl
+
+not_zero : (n : ℕ) → 0 < n → (n == 0) ≡ false
+not_zero n above = grind (arith, nat_tests)
+
+and_false : (b : Bool) → (b && false) ≡ false
+and_false true = refl
+and_false false = refl
+
+-- after a finding there is one
+not_none : (t : Tally) (s : Severity) → is_none (one_more t s) ≡ false
+not_none t Error =
+    let above : 0 < min (t.errors + 1) 18446744073709551615 = omega arith in
+    ap (λ b. b && (t.warnings == 0)) (not_zero (min (t.errors + 1) 18446744073709551615) above)
+not_none t Warning =
+    let above : 0 < min (t.warnings + 1) 18446744073709551615 = omega arith in
+    ap (λ b. (t.errors == 0) && b) (not_zero (min (t.warnings + 1) 18446744073709551615) above) ∙ and_false (t.errors == 0)
+
+-- whether there are none after these
+none_counted : (t : Tally) (xs : List Finding) → is_none (counted t xs) ≡ is_first_after (is_none t) xs
+unfolding is_first_after
+none_counted t [] = refl
+none_counted t (f ∷ rest) =
+    none_counted (one_more t (severity_of f.code)) rest
+    ∙ ap (λ b. is_first_after b rest) (not_none t (severity_of f.code)) ∙ never_first rest
+
+-- one more is printed
+shown_more : {style : Style} {name bytes : List ℕ} {is_first : Bool} {xs : List Finding} {t : List ℕ} (f : Finding) (u : List ℕ) → AreShown style name bytes is_first xs t
+    → IsShown style (is_first_after is_first xs) name (position_at bytes f.span.start) f u → AreShown style name bytes is_first (xs ++ f ∷ []) (t ++ u)
+unfolding is_first_after
+shown_more {style} {name} {bytes} {is_first} f u none shown = subst (λ t. AreShown style name bytes is_first (f ∷ []) t) (append-nil u) (next u shown none)
+shown_more {style} {name} {bytes} {is_first} f u (next {f = g} {rest = rest} text {texts} s more) shown =
+    let later : IsShown style (is_first_after false rest) name (position_at bytes f.span.start) f u
+        = subst (λ b. IsShown style b name (position_at bytes f.span.start) f u) (sym (never_first rest)) shown in
+    subst (λ t. AreShown style name bytes is_first (g ∷ (rest ++ f ∷ [])) t) (sym (append_assoc text texts u)) (next text s (shown_more f u more later))
+
+-- one more is printed and counted
+pub one_added : {style : Style} {name bytes : List ℕ} {xs : List Finding} {a b c : Printed} (f : Finding) → Adds (ArePrinted style name bytes xs) a b
+    → Adds (IsPrinted style name (position_at bytes f.span.start) f) b c → Adds (ArePrinted style name bytes (xs ++ f ∷ [])) a c
+one_added {style} {name} {bytes} {xs} {a} {b} {c} f before one = record {
+  text = before.text ++ one.text;
+  are = record {
+    shown = shown_more f one.text before.are.shown (subst (λ d. IsShown style d name (position_at bytes f.span.start) f one.text) (ap is_none before.are.tally ∙ none_counted a.tally xs) one.are.shown);
+    tally = one.are.tally ∙ ap (λ t. one_more t (severity_of f.code)) before.are.tally ∙ sym (fold-append (λ t g. one_more t (severity_of g.code)) a.tally xs (f ∷ []));
+  };
+  printed = one.printed ∙ ap (λ t. t ++ one.text) before.printed ∙ append_assoc (string_bytes a.text) before.text one.text;
+}
+
+-- none are printed
+pub none_added : {style : Style} {name bytes : List ℕ} (a : Printed) → Adds (ArePrinted style name bytes []) a a
+none_added a = record { text = []; are = record { shown = none; tally = refl }; printed = sym (append-nil (string_bytes a.text)) }
+
+-- one more that is asked for
+pub asked_more : (s : Selection) (xs : List Finding) (f : Finding) → is_asked s f.code ≡ true → asked s (xs ++ f ∷ []) ≡ asked s xs ++ f ∷ []
+asked_more s xs f is = filter-append (λ g. is_asked s g.code) xs (f ∷ []) ∙ ap (λ b. asked s xs ++ cond b (f ∷ []) []) is
+
+-- one more that isn't
+pub asked_same : (s : Selection) (xs : List Finding) (f : Finding) → is_asked s f.code ≡ false → asked s (xs ++ f ∷ []) ≡ asked s xs
+asked_same s xs f isnt = filter-append (λ g. is_asked s g.code) xs (f ∷ []) ∙ ap (λ b. asked s xs ++ cond b (f ∷ []) []) isnt ∙ append-nil (asked s xs)
+
+-- a step at which the finding is printed
+pub step_printed : {style : Style} {name bytes : List ℕ} (s : Selection) (xs more : List Finding) (f : Finding) (place : Position) {a b c d : Printed} → more ≡ xs ++ f ∷ [] → is_asked s f.code ≡ true
+    → place ≡ position_at bytes f.span.start → Adds (ArePrinted style name bytes (asked s xs)) a b → Adds (IsPrinted style name place f) b c → d ≡ c → Adds (ArePrinted style name bytes (asked s more)) a d
+step_printed {style} {name} {bytes} s xs more f place {a} {b} {c} {d} grows is at before one same =
+    subst (λ p. Adds (ArePrinted style name bytes (asked s more)) a p) (sym same)
+    (subst (λ ys. Adds (ArePrinted style name bytes ys) a c) (sym (ap (asked s) grows ∙ asked_more s xs f is))
+    (one_added f before (subst (λ p. Adds (IsPrinted style name p f) b c) at one)))
+
+-- a step at which it isn't
+pub step_passed : {style : Style} {name bytes : List ℕ} (s : Selection) (xs more : List Finding) (f : Finding) {a b d : Printed} → more ≡ xs ++ f ∷ [] → is_asked s f.code ≡ false
+    → Adds (ArePrinted style name bytes (asked s xs)) a b → d ≡ b → Adds (ArePrinted style name bytes (asked s more)) a d
+step_passed {style} {name} {bytes} s xs more f {a} {b} {d} grows isnt before same =
+    subst (λ p. Adds (ArePrinted style name bytes (asked s more)) a p) (sym same)
+    (subst (λ ys. Adds (ArePrinted style name bytes ys) a b) (sym (ap (asked s) grows ∙ asked_same s xs f isnt)) before)
+
+-- the findings of a file, after the byte that isn't UTF-8
+pub file_added : {lint : Lint} {name bytes : List ℕ} {decoded : Decoded} {found : List Finding} {a b c : Printed} → AreFindings (string_bytes decoded.text) found
+    → Adds (ArePrinted lint.style name bytes (asked lint.selection (unread_findings decoded.invalid))) a b
+    → Adds (ArePrinted lint.style name (string_bytes decoded.text) (asked lint.selection found)) b c → Adds (IsPrintedFile lint name bytes decoded) a c
+file_added {found = found} {a} {b} {c} are first second = record {
+  text = first.text ++ second.text;
+  are = record { found = found; are = are; between = b.tally; first = first.text; second = second.text; unread = first.are; of_text = second.are; is = refl };
+  printed = second.printed ∙ ap (λ t. t ++ second.text) first.printed ∙ append_assoc (string_bytes a.text) first.text second.text;
+}

@@ -1,0 +1,2 @@
+pub mod FindingFacts
+pub mod RunFacts

@@ -1,0 +1,24 @@
+use Rattle.std.proofs.Common.{◌≡◌, ◌+◌, ◌++◌, ◌∷◌, [], take, length, sym, ap, ◌∙◌, true, false}
+use Rattle.std.proofs.lemmas.List.{take_more}
+use Rattle.bib_lines.specs.Positions.{position_at}
+use Rattle.bibkit_core.proofs.FindingFacts.{none_added, step_printed, step_passed}
+use Rattle.bibkit_core.proofs.lint.print_findings.Goals as goal
+use Rattle.bibkit_core.proofs.lint.print_findings.Goals.{then-asks_for+in_ok-print_finding, else-asks_for}
+
+pub findings-init : goal.findings-init
+findings-init c = record { same = c.of_bytes-positions.ensures; added = none_added c.args.printed.now }
+
+pub findings-preserved : goal.findings-preserved
+findings-preserved c =
+    let i = c.findings.finding-index in
+    let f = c.finding-item.result in
+    let grows : take (i + 1) c.args.found.now ≡ take i c.args.found.now ++ f ∷ [] = take_more c.args.found.now i f c.findings-test.true ∙ ap (λ g. take i c.args.found.now ++ g ∷ []) (sym c.finding-item.is) in
+    record {
+      same = c.position-place.ensures.same ∙ c.findings.invariant.same;
+      added = elim c.if-asks_for.branch [
+        | then-asks_for+in_ok-print_finding w ↦ step_printed c.args.lint.now.selection (take i c.args.found.now) (take (i + 1) c.args.found.now) f c.position-place.result grows
+            (sym c.asks_for.ensures ∙ w.if-asks_for.true) (c.position-place.ensures.found ∙ ap (λ p. position_at p f.span.start) c.findings.invariant.same) c.findings.invariant.added w.in_ok-print_finding.ensures w.printed-is
+        | else-asks_for w ↦ step_passed c.args.lint.now.selection (take i c.args.found.now) (take (i + 1) c.args.found.now) f grows
+            (sym c.asks_for.ensures ∙ w.if-asks_for.false) c.findings.invariant.added w.printed-is
+      ];
+    }

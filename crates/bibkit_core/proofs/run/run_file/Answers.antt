@@ -1,0 +1,23 @@
+use Rattle.std.proofs.Common.{[], sym, subst}
+use Rattle.std.specs.Prelude.{option_map}
+use Rattle.std.specs.Io.KnownBytes.{Appends}
+use Rattle.std.specs.String.{string_bytes}
+use Rattle.biblatex.proofs.WritingFacts.{appends_nothing}
+use Rattle.bibkit_core.specs.Running.IsStep.{read, unread}
+use Rattle.bibkit_core.proofs.run.run_file.Goals as goal
+
+pub returns-in_default : goal.returns-in_default
+returns-in_default g c = record {
+  text = [];
+  step = unread (subst (λ o. g.F.Files.reads c.args.files.now c.args.name.now (option_map (λ b. b.items) o) c.bytes_of.new.files) c.in_default.is c.in_ok-bytes.ensures);
+  printed = appends_nothing (g.K.Sink.taken c.args.output.now);
+}
+
+pub returns : goal.returns
+returns g c = record {
+  text = string_bytes c.in_ok-text.text;
+  step = read c.in-Some.bytes.items
+    (subst (λ o. g.F.Files.reads c.args.files.now c.args.name.now (option_map (λ b. b.items) o) c.bytes_of.new.files) c.in-Some.is c.in_ok-bytes.ensures)
+    (subst (λ b. g.T.Task.prints c.args.task.now c.args.name.now b (string_bytes c.in_ok-text.text) c.file.new.self) c.deref.ensures.value c.in_ok-text.ensures);
+  printed = subst (λ t. Appends (g.K.Sink.taken c.args.output.now) (g.K.Sink.taken c.print.new.output) t) c.deref-2.ensures c.in_ok-print.ensures;
+}

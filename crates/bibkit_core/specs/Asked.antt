@@ -1,0 +1,25 @@
+-- Meaning: words of public contracts.
+-- Which findings are asked for.
+use Rattle.std.specs.Prelude.{Bool, true, false, ◌||◌, ◌&&◌, not, List, [], ◌∷◌, bytes_eq, filter}
+use Rattle.std.specs.List.{list_any}
+use Rattle.bib_findings.specs.Codes.{code_name}
+use Rattle.bib_findings.specs.declared.codes.Code.{Code}
+use Rattle.bib_findings.specs.declared.finding.Finding.{Finding}
+use Rattle.bibkit_core.specs.declared.selection.Selection.{Selection}
+
+-- whether a code is one of these
+abbrev pub is_among : List Code → Code → Bool
+is_among codes code = list_any (λ one. bytes_eq (code_name one) (code_name code)) codes
+
+-- whether there are none
+abbrev pub is_empty : List Code → Bool
+is_empty [] = true
+is_empty (c ∷ rest) = false
+
+-- whether findings with this code are asked for
+abbrev pub is_asked : Selection → Code → Bool
+is_asked selection code = (is_empty selection.only.items || is_among selection.only.items code) && not (is_among selection.ignored.items code)
+
+-- the findings that are asked for
+abbrev pub asked : Selection → List Finding → List Finding
+asked selection found = filter (λ f. is_asked selection f.code) found

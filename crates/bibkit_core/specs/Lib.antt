@@ -1,0 +1,7 @@
+pub mod Adding
+pub mod Asked
+pub mod Linted
+pub mod Printed
+pub mod Running
+pub mod Steps
+pub mod Tasks

@@ -1,0 +1,52 @@
+-- Meaning: words of public contracts.
+-- What is printed of the findings of a file.
+use Rattle.std.specs.Prelude.{◌≡◌, ℕ, Bool, true, false, List, [], ◌∷◌, ◌++◌, Option, Some, None, codes, fold, string_bytes}
+use Rattle.bib_lines.specs.Positions.{position_at}
+use Rattle.bib_lines.specs.declared.positions.Position.{Position}
+use Rattle.bib_findings.specs.Codes.{severity_of}
+use Rattle.bib_encoding.specs.declared.decoding.Decoded.{Decoded}
+use Rattle.bib_findings.specs.Findings.{AreFindings}
+use Rattle.bib_findings.specs.declared.codes.Code.TheVariants.{UnreadBytes}
+use Rattle.bib_findings.specs.declared.finding.Finding.{Finding}
+use Rattle.bibkit_core.specs.Asked.{asked}
+use Rattle.bibkit_core.specs.declared.lint.Printed.{Printed}
+use Rattle.bibkit_core.specs.declared.request.Lint.{Lint}
+use Rattle.bibkit_core.specs.declared.request.Style.{Style}
+use Rattle.bibkit_core.specs.declared.tally.Tally.{Tally}
+use Rattle.bibkit_core.specs.Printed.{IsShown, is_none, one_more}
+
+-- what is printed of findings of the file with this name and these bytes, one after another, each at its place
+pub data AreShown (style : Style) (name bytes : List ℕ) : Bool → List Finding → List ℕ → Type 0 where
+  none : {is_first : Bool} → AreShown style name bytes is_first [] []
+  next : {is_first : Bool} {f : Finding} {rest : List Finding} (text : List ℕ) {texts : List ℕ} → IsShown style is_first name (position_at bytes f.span.start) f text
+      → AreShown style name bytes false rest texts → AreShown style name bytes is_first (f ∷ rest) (text ++ texts)
+
+-- how many findings there are after these
+abbrev pub counted : Tally → List Finding → Tally
+counted tally found = fold (λ t f. one_more t (severity_of f.code)) tally found
+
+-- this is printed of findings of a file, and so many there are before and after
+pub record ArePrinted (style : Style) (name bytes : List ℕ) (found : List Finding) (before : Tally) (text : List ℕ) (after : Tally) : Type 0 where
+  pub shown : AreShown style name bytes (is_none before) found text
+  pub tally : after ≡ counted before found
+
+-- the finding of a byte with which no character of UTF-8 begins
+abbrev pub unread_finding : ℕ → Finding
+unread_finding at = record { code = UnreadBytes; span = record { start = at; end = at }; message = codes "not UTF-8 from here on, so the file is read as Windows-1252" }
+
+-- that finding, where there is such a byte
+abbrev pub unread_findings : Option ℕ → List Finding
+unread_findings None = []
+unread_findings (Some at) = unread_finding at ∷ []
+
+-- this is printed of the findings of a file that are asked for, and so many there are before and after: first the byte from
+-- which on it isn't UTF-8, at its place among the bytes, and then the findings of its text, each at its place there
+pub record IsPrintedFile (lint : Lint) (name bytes : List ℕ) (decoded : Decoded) (before : Tally) (text : List ℕ) (after : Tally) : Type 0 where
+  pub found : List Finding
+  pub are : AreFindings (string_bytes decoded.text) found
+  pub between : Tally
+  pub first : List ℕ
+  pub second : List ℕ
+  pub unread : ArePrinted lint.style name bytes (asked lint.selection (unread_findings decoded.invalid)) before first between
+  pub of_text : ArePrinted lint.style name (string_bytes decoded.text) (asked lint.selection found) between second after
+  pub is : text ≡ first ++ second

@@ -1,0 +1,33 @@
+-- Meaning: words of public contracts.
+-- What is printed of files, one after another.
+use Rattle.std.specs.Prelude.{◌≡◌, ℕ, Bool, true, false, ◌&&◌, if◌then◌else◌, List, [], ◌∷◌, ◌++◌, Option, Some, None}
+
+-- what is printed of a file, and whether it could be read: what the task prints of its bytes, and nothing where it has none
+pub data IsStep {F T : Type 0} (reads : F → List ℕ → Option (List ℕ) → F → Type 0) (prints : T → List ℕ → List ℕ → List ℕ → T → Type 0)
+    (files : F) (task : T) (name : List ℕ) : List ℕ → Bool → F → T → Type 0 where
+  read : (bytes : List ℕ) {text : List ℕ} {files' : F} {task' : T} → reads files name (Some bytes) files' → prints task name bytes text task'
+      → IsStep reads prints files task name text true files' task'
+  unread : {files' : F} → reads files name None files' → IsStep reads prints files task name [] false files' task
+
+-- what is printed of files, one after another, and whether all of them could be read
+pub data AreRun {F T : Type 0} (reads : F → List ℕ → Option (List ℕ) → F → Type 0) (prints : T → List ℕ → List ℕ → List ℕ → T → Type 0)
+    : F → T → List (List ℕ) → List ℕ → Bool → F → T → Type 0 where
+  none : {files : F} {task : T} → AreRun reads prints files task [] [] true files task
+  next : {files files'' : F} {task task'' : T} {name : List ℕ} {names : List (List ℕ)} (files' : F) (task' : T) (text texts : List ℕ) (is_read are_read : Bool)
+      → IsStep reads prints files task name text is_read files' task' → AreRun reads prints files' task' names texts are_read files'' task''
+      → AreRun reads prints files task (name ∷ names) (text ++ texts) (is_read && are_read) files'' task''
+
+-- what is printed for a command, and its status: what the task prints before the files, of each of them, and after them; 2 where
+-- one can't be read
+pub record IsTaskAnswer {F T : Type 0} (reads : F → List ℕ → Option (List ℕ) → F → Type 0) (begins : T → List ℕ) (prints : T → List ℕ → List ℕ → List ℕ → T → Type 0)
+    (ends : T → List ℕ → ℕ → Type 0) (files : F) (task : T) (names : List (List ℕ)) (text : List ℕ) (status : ℕ) : Type 0 where
+  pub texts : List ℕ
+  pub last : List ℕ
+  pub are_read : Bool
+  pub files' : F
+  pub task' : T
+  pub end_status : ℕ
+  pub run : AreRun reads prints files task names texts are_read files' task'
+  pub ended : ends task' last end_status
+  pub text_is : text ≡ begins task ++ (texts ++ last)
+  pub status_is : status ≡ (if are_read then end_status else 2)

@@ -1,0 +1,83 @@
+-- Meaning: words of public contracts.
+-- What is printed of files for a command, and the status.
+use Rattle.std.specs.Prelude.{◌≡◌, ◌==◌, ◌&&◌, ℕ, Bool, true, false, not, if◌then◌else◌, List, [], ◌++◌, codes, MatchOption, string_bytes}
+use Rattle.std.specs.Str.{IsUtf8}
+use Rattle.bib_encoding.specs.Encoding.{without_byte_order_mark, windows_1252_text, IsFirstInvalid}
+use Rattle.bib_encoding.specs.declared.decoding.Decoded.{Decoded}
+use Rattle.bib_excerpts.specs.Answers.{IsTextAnswer}
+use Rattle.bib_excerpts.specs.declared.request.Request.{Request}
+use Rattle.bib_excerpts.specs.declared.request.Request.TheVariants.{Keys}
+use Rattle.bib_findings.specs.declared.finding.Finding.{Finding}
+use Rattle.bibkit_core.specs.Asked.{asked}
+use Rattle.bibkit_core.specs.Linted.{ArePrinted, IsPrintedFile}
+use Rattle.bibkit_core.specs.Printed.{counts_line, is_none}
+use Rattle.bibkit_core.specs.declared.request.Lint.{Lint}
+use Rattle.bibkit_core.specs.declared.request.Style.{Style}
+use Rattle.bibkit_core.specs.declared.request.Style.TheVariants.{Plain, Colored, Json}
+use Rattle.bibkit_core.specs.declared.tally.Tally.{Tally}
+
+-- how bytes are read as a text: as UTF-8 where they are, and else as Windows-1252
+pub record AreDecoded (bytes : List ℕ) (decoded : Decoded) : Type 0 where
+  pub utf8 : IsUtf8 (without_byte_order_mark bytes) → string_bytes decoded.text ≡ without_byte_order_mark bytes
+  pub windows : ¬ (IsUtf8 (without_byte_order_mark bytes)) → string_bytes decoded.text ≡ windows_1252_text bytes
+  pub invalid : MatchOption decoded.invalid (IsUtf8 (without_byte_order_mark bytes)) (IsFirstInvalid bytes)
+
+-- what is printed before findings: in JSON the bracket that opens the list
+abbrev pub opening : Style → List ℕ
+opening Plain = []
+opening Colored = []
+opening Json = codes "["
+
+-- what is printed after findings: how many there are, or in JSON the bracket that closes the list
+abbrev pub closing : Style → Tally → List ℕ
+closing Plain tally = counts_line tally
+closing Colored tally = counts_line tally
+closing Json tally = codes "\n]\n"
+
+-- the status: 1 where there is a finding
+abbrev pub lint_status : Tally → ℕ
+lint_status tally = if is_none tally then 0 else 1
+
+-- what is printed of a file's findings, with how many there are before and after
+pub record PrintsFindings (lint : Lint) (name bytes : List ℕ) (before : Tally) (text : List ℕ) (after : Tally) : Type 0 where
+  pub decoded : Decoded
+  pub of_bytes : AreDecoded bytes decoded
+  pub printed : IsPrintedFile lint name bytes decoded before text after
+
+-- the same, with further findings of the file's text: entries that a document doesn't cite
+pub record PrintsCompared (lint : Lint) (name bytes : List ℕ) (before : Tally) (text : List ℕ) (after : Tally) : Type 0 where
+  pub first : List ℕ
+  pub second : List ℕ
+  pub between : Tally
+  pub decoded : Decoded
+  pub unused : List Finding
+  pub found : PrintsFindings lint name bytes before first between
+  pub of_bytes : AreDecoded bytes decoded
+  pub more : ArePrinted lint.style name (string_bytes decoded.text) (asked lint.selection unused) between second after
+  pub is : text ≡ first ++ second
+
+-- what is printed after all files: findings of a document, and then what stands after findings
+pub record EndsCompared (lint : Lint) (before : Tally) (text : List ℕ) (status : ℕ) : Type 0 where
+  pub first : List ℕ
+  pub name : List ℕ
+  pub bytes : List ℕ
+  pub missing : List Finding
+  pub after : Tally
+  pub more : ArePrinted lint.style name bytes (asked lint.selection missing) before first after
+  pub is : text ≡ first ++ closing lint.style after
+  pub status_is : status ≡ lint_status after
+
+-- what is printed of a file's entries
+pub record PrintsEntries (request : Request) (bytes text : List ℕ) : Type 0 where
+  pub decoded : Decoded
+  pub of_bytes : AreDecoded bytes decoded
+  pub answer : IsTextAnswer request (string_bytes decoded.text) text
+
+-- whether entries are looked for, so that it matters whether there are any
+abbrev pub is_search : Request → Bool
+is_search Keys = false
+is_search _ = true
+
+-- the status: 1 where entries are looked for and none is found
+abbrev pub entries_status : Request → Bool → ℕ
+entries_status request is_found = if is_search request && not is_found then 1 else 0

@@ -1,0 +1,66 @@
+//! What is wrong in files, and what a document cites, as a task.
+
+ghost use Rattle.std.specs.Prelude.{◌≡◌};
+ghost use Rattle.bibkit_core.specs.Tasks.{PrintsCompared, EndsCompared, opening};
+
+use crate::cited::Document;
+use crate::decoding::decoded;
+use crate::linting::Linting;
+use crate::lint::Origin;
+use crate::request::Lint;
+use crate::task::{End, Task};
+use std::alloc::{AllocError, Global};
+
+/// The findings that are asked for, with those of what a document cites.
+#[derive(Drop)]
+pub struct Comparing<'r, 'a> {
+    linting: Linting<'r, 'a>,
+    document: Document<'r>,
+}
+
+impl<'r, 'a> Comparing<'r, 'a> {
+    /// These findings, of which none is printed yet.
+    pub fn new(lint: &'r Lint<'a>, document: Document<'r>) -> Self {
+        Comparing {
+            linting: Linting::new(lint),
+            document,
+        }
+    }
+}
+
+impl<'r, 'a> Task for Comparing<'r, 'a> {
+    ghost begins = { λ task. opening task.linting.lint.now.style };
+
+    ghost prints = { λ old name bytes text new. (new.linting.lint.now ≡ old.linting.lint.now) ×
+        PrintsCompared old.linting.lint.now name bytes old.linting.tally text new.linting.tally };
+
+    ghost ends = { λ task text status. EndsCompared task.linting.lint.now task.linting.tally text status };
+
+    fn begin(&self) -> &'static str {
+        self.linting.begin()
+    }
+
+    fn file(&mut self, alloc: Global, name: &str, bytes: &[u8]) -> Result<String, AllocError> {
+        let mut text = self.linting.file(alloc, name, bytes)?;
+        let decoded = decoded(alloc, bytes)?;
+        let unused = self.document.compare(alloc, decoded.text.as_str())?;
+        let origin = Origin {
+            name,
+            bytes: decoded.text.as_bytes(),
+        };
+        let more = self.linting.print(alloc, &origin, &unused)?;
+        text.push_str(&more)?;
+        Ok(text)
+    }
+
+    fn end(&mut self, alloc: Global) -> Result<End, AllocError> {
+        let missing = self.document.missing(alloc)?;
+        let mut text = self.linting.print(alloc, &self.document.origin(), &missing)?;
+        let end = self.linting.end(alloc)?;
+        text.push_str(&end.text)?;
+        Ok(End {
+            text,
+            status: end.status,
+        })
+    }
+}

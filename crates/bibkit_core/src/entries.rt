@@ -1,0 +1,75 @@
+//! Entries of files, or their keys, as a task.
+
+ghost use Rattle.std.specs.Prelude.{◌≡◌, ◌||◌, ◌==◌, [], false, length, not};
+ghost use Rattle.bibkit_core.specs.Tasks.{PrintsEntries, entries_status};
+ghost use Rattle.bibkit_core.specs.Tasks as spec;
+
+use crate::decoding::decoded;
+use crate::task::{End, Task};
+use bib_excerpts::excerpts::answer;
+use bib_excerpts::request::Request as Excerpts;
+use std::alloc::{AllocError, Global};
+
+/// The entries that are asked for.
+#[derive(Drop)]
+pub struct Entries<'r, 'a> {
+    request: &'r Excerpts<'a>,
+    is_found: bool,
+}
+
+impl<'r, 'a> Entries<'r, 'a> {
+    /// These entries, of which none is found yet.
+    pub fn new(request: &'r Excerpts<'a>) -> Self
+        ensures request { result.request.now ≡ request.now }
+        ensures found { result.is_found ≡ false }
+    {
+        Entries {
+            request,
+            is_found: false,
+        }
+    }
+}
+
+// Whether entries are looked for, so that it matters whether there are any.
+fn is_search(request: &Excerpts<'_>) -> bool
+    ensures { result ≡ spec.is_search request.now }
+{
+    match request {
+        Excerpts::Keys => false,
+        _ => true,
+    }
+}
+
+// The status: 1 where entries are looked for and none is found.
+fn entries_status(request: &Excerpts<'_>, is_found: bool) -> u8
+    ensures { result ≡ spec.entries_status request.now is_found }
+{
+    if is_search(request) && !is_found { 1 } else { 0 }
+}
+
+impl<'r, 'a> Task for Entries<'r, 'a> {
+    ghost begins = { λ task. [] };
+
+    ghost prints = { λ old name bytes text new. (new.request.now ≡ old.request.now) ×
+        PrintsEntries old.request.now bytes text × (new.is_found ≡ (old.is_found || not (length text == 0))) };
+
+    ghost ends = { λ task text status. (text ≡ []) × (status ≡ entries_status task.request.now task.is_found) };
+
+    fn begin(&self) -> &'static str {
+        ""
+    }
+
+    fn file(&mut self, alloc: Global, _name: &str, bytes: &[u8]) -> Result<String, AllocError> {
+        let decoded = decoded(alloc, bytes)?;
+        let text = answer(alloc, self.request, decoded.text.as_str())?;
+        self.is_found = self.is_found || !text.is_empty();
+        Ok(text)
+    }
+
+    fn end(&mut self, alloc: Global) -> Result<End, AllocError> {
+        Ok(End {
+            text: String::new(alloc),
+            status: entries_status(self.request, self.is_found),
+        })
+    }
+}

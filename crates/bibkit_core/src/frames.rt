@@ -1,0 +1,144 @@
+//! Findings for a terminal: with colours, and with the line of the file.
+
+ghost use Rattle.std.specs.Prelude.{◌≡◌, ◌≤◌, length, IfOk};
+ghost use Rattle.std.specs.String.{string_bytes};
+ghost use Rattle.bib_findings.specs.Codes.{severity_of};
+ghost use Rattle.bibkit_core.specs.Printed as spec;
+ghost use Rattle.bibkit_core.specs.Printed.{IsFramed};
+
+use bib_findings::codes::Severity;
+use bib_findings::finding::Finding;
+use bib_lines::positions::Position;
+use std::alloc::{AllocError, Global};
+use std::str::from_utf8;
+
+// How many bytes of a line are shown, at most, on each side of the place that is marked.
+const MOST_SHOWN: usize = 200;
+
+// What turns the colour of a severity on.
+fn color(severity: Severity) -> &'static str
+    ensures { result.now ≡ spec.color severity }
+{
+    match severity {
+        Severity::Error => "\x1b[1;31m",
+        Severity::Warning => "\x1b[1;33m",
+    }
+}
+
+// What stands before a place in its line, as far as it is shown.
+fn before(bytes: &[u8], at: usize) -> &[u8]
+    requires { at ≤ length bytes.now }
+{
+    let shown = &bytes[at.saturating_sub(MOST_SHOWN)..at];
+    match shown.iter().rposition(|byte| *byte == b'\n') {
+        Some(index) => shown.get(index + 1..).unwrap_or(&[]),
+        None => shown,
+    }
+}
+
+// What stands after a place in its line, as far as it is shown.
+fn after(bytes: &[u8], at: usize) -> &[u8]
+    requires { at ≤ length bytes.now }
+{
+    let rest = &bytes[at..];
+    let shown = &rest[..rest.len().min(MOST_SHOWN)];
+    match shown.iter().position(|byte| *byte == b'\n') {
+        Some(index) => shown.get(..index).unwrap_or(&[]),
+        None => shown,
+    }
+}
+
+// The text that bytes begin with.
+fn text_of(bytes: &[u8]) -> &str {
+    match from_utf8(bytes) {
+        Ok(text) => text,
+        Err(error) => from_utf8(bytes.get(..error.valid_up_to()).unwrap_or(&[])).unwrap_or(""),
+    }
+}
+
+// The text that bytes end with, where a character may be cut in two at their start.
+fn end_of(bytes: &[u8]) -> &str {
+    let begins = |byte: &u8| *byte < 0x80 || *byte >= 0xC0;
+    let cut = bytes.iter().position(begins).unwrap_or(0);
+    text_of(bytes.get(cut..).unwrap_or(&[]))
+}
+
+// A character as it is shown: one that would move the cursor or change colours is replaced.
+fn shown(character: char) -> char {
+    if character == '\t' || !character.is_control() {
+        character
+    } else {
+        '\u{FFFD}'
+    }
+}
+
+// White space as wide as a character.
+fn blank(character: char) -> char {
+    if character == '\t' { '\t' } else { ' ' }
+}
+
+// The line of the file in which a place stands, and one that marks the place.
+fn frame(alloc: Global, bytes: &[u8], at: usize) -> Result<String, AllocError> {
+    let at = at.min(bytes.len());
+    let before = end_of(before(bytes, at));
+    let after = text_of(after(bytes, at));
+    let mut text = String::from_str(alloc, "  ")?;
+    text.extend(before.chars().map(shown))?;
+    text.extend(after.chars().map(shown))?;
+    text.push_str("\n  ")?;
+    text.extend(before.chars().map(blank))?;
+    text.push_str("\x1b[1;32m^\x1b[0m\n")?;
+    Ok(text)
+}
+
+// Where a finding is, in bold type.
+fn colored_place(alloc: Global, name: &str, place: Position) -> Result<String, AllocError>
+    ensures { IfOk result (λ text. string_bytes text ≡ spec.colored_place name.now place) }
+{
+    format!(in alloc; "\x1b[1m{name}:{}:{}:\x1b[0m ", place.line, place.column)
+}
+
+// What a finding is, in the colour of its severity.
+fn colored_text(alloc: Global, finding: &Finding) -> Result<String, AllocError>
+    ensures { IfOk result (λ text. string_bytes text ≡ spec.colored_text finding.now) }
+{
+    let severity = finding.code.severity();
+    format!(in alloc;
+        "{}{}:\x1b[0m {} [{}]\n",
+        color(severity),
+        severity.name(),
+        finding.message.as_str(),
+        finding.code.name()
+    )
+}
+
+// The line of a finding at this position of the file of this name, in colours.
+fn colored_line(
+    alloc: Global,
+    name: &str,
+    place: Position,
+    finding: &Finding,
+) -> Result<String, AllocError>
+    ensures { IfOk result (λ text. string_bytes text ≡ spec.colored_line name.now place finding.now) }
+{
+    let mut line = colored_place(alloc, name, place)?;
+    let text = colored_text(alloc, finding)?;
+    line.push_str(&text)?;
+    Ok(line)
+}
+
+/// A finding at this position of the file of this name, in colours, and under it the line of the file with a mark.
+pub fn framed_finding(
+    alloc: Global,
+    name: &str,
+    bytes: &[u8],
+    place: Position,
+    finding: &Finding,
+) -> Result<String, AllocError>
+    ensures { IfOk result (λ text. IsFramed name.now place finding.now (string_bytes text)) }
+{
+    let mut text = colored_line(alloc, name, place, finding)?;
+    let frame = frame(alloc, bytes, finding.span.start)?;
+    text.push_str(&frame)?;
+    Ok(text)
+}

@@ -1,0 +1,147 @@
+//! What is printed of findings.
+
+ghost use Rattle.std.specs.Prelude.{◌≡◌, OnOk, IfOk};
+ghost use Rattle.std.specs.String.{string_bytes};
+ghost use Rattle.bibkit_core.specs.Printed.{IsShown};
+ghost use Rattle.bibkit_core.specs.Asked.{asked};
+ghost use Rattle.bibkit_core.specs.Adding.{Adds, IsPrinted};
+ghost use Rattle.bibkit_core.specs.Linted.{ArePrinted, IsPrintedFile, unread_finding, unread_findings};
+ghost use Rattle.bibkit_core.specs.Printed as spec;
+
+use crate::frames::framed_finding;
+use crate::lines::finding_line;
+use crate::objects::finding_object;
+use crate::request::{Lint, Style};
+use crate::tally::Tally;
+use bib_findings::codes::Code;
+use bib_findings::finding::Finding;
+use bib_findings::findings::findings;
+use bib_lines::positions::{Position, Positions};
+use bib_text::text::Text;
+use biblatex::Decoded;
+use std::alloc::{AllocError, Global};
+
+/// A file from which findings are.
+#[derive(Clone, Copy)]
+pub struct Origin<'a> {
+    /// Its name.
+    pub name: &'a str,
+    /// Its bytes, or its text.
+    pub bytes: &'a [u8],
+}
+
+/// Findings that are printed.
+#[derive(Drop)]
+pub struct Printed {
+    /// What is printed of them.
+    pub text: String,
+    /// How many there are, with those before them.
+    pub tally: Tally,
+}
+
+// What is printed of a finding. The count is that of those before it.
+fn shown(
+    alloc: Global,
+    style: Style,
+    tally: Tally,
+    origin: &Origin<'_>,
+    place: Position,
+    finding: &Finding,
+) -> Result<String, AllocError>
+    ensures { IfOk result (λ text. IsShown style (spec.is_none tally) origin.now.name.now place finding.now
+        (string_bytes text)) }
+{
+    match style {
+        Style::Plain => finding_line(alloc, origin.name, place, finding),
+        Style::Colored => framed_finding(alloc, origin.name, origin.bytes, place, finding),
+        Style::Json => finding_object(alloc, tally.is_none(), origin.name, place, finding),
+    }
+}
+
+// Prints a finding.
+fn print_finding(
+    alloc: Global,
+    printed: &mut Printed,
+    style: Style,
+    origin: &Origin<'_>,
+    place: Position,
+    finding: &Finding,
+) -> Result<(), AllocError>
+    ensures { OnOk result (Adds (IsPrinted style origin.now.name.now place finding.now) printed.old printed.new) }
+{
+    let text = shown(alloc, style, printed.tally, origin, place, finding)?;
+    printed.text.push_str(&text)?;
+    printed.tally = printed.tally.with(finding.code.severity());
+    Ok(())
+}
+
+/// Prints those findings of a file that are asked for.
+pub fn print_findings(
+    alloc: Global,
+    printed: &mut Printed,
+    lint: &Lint<'_>,
+    origin: &Origin<'_>,
+    found: &[Finding],
+) -> Result<(), AllocError>
+    ensures { OnOk result (Adds (ArePrinted lint.now.style origin.now.name.now origin.now.bytes.now
+        (asked lint.now.selection found.now)) printed.old printed.new) }
+{
+    let mut positions = Positions::of_bytes(origin.bytes);
+    'findings: for finding in found {
+        let place = positions.position(finding.span.start);
+        if lint.selection.asks_for(finding.code) {
+            print_finding(alloc, printed, lint.style, origin, place, finding)?;
+        }
+    }
+    Ok(())
+}
+
+// The finding of a byte with which no character of UTF-8 begins.
+fn unread_bytes(alloc: Global, at: usize) -> Result<Finding, AllocError>
+    ensures { IfOk result (λ finding. finding ≡ unread_finding at) }
+{
+    Ok(Finding {
+        code: Code::UnreadBytes,
+        span: at..at,
+        message: Text::from_str(alloc, "not UTF-8 from here on, so the file is read as Windows-1252")?,
+    })
+}
+
+// Prints that a file isn't UTF-8, where that is asked for.
+fn print_unread(
+    alloc: Global,
+    printed: &mut Printed,
+    lint: &Lint<'_>,
+    origin: &Origin<'_>,
+    invalid: Option<usize>,
+) -> Result<(), AllocError>
+    ensures { OnOk result (Adds (ArePrinted lint.now.style origin.now.name.now origin.now.bytes.now
+        (asked lint.now.selection (unread_findings invalid))) printed.old printed.new) }
+{
+    let Some(at) = invalid else {
+        return print_findings(alloc, printed, lint, origin, &[]);
+    };
+    let unread = unread_bytes(alloc, at)?;
+    print_findings(alloc, printed, lint, origin, &[unread])
+}
+
+/// Prints what is wrong with a file that is asked for: first the byte from which on it isn't UTF-8, and then the findings of its
+/// text.
+pub fn print_file(
+    alloc: Global,
+    printed: &mut Printed,
+    lint: &Lint<'_>,
+    origin: &Origin<'_>,
+    decoded: &Decoded,
+) -> Result<(), AllocError>
+    ensures { OnOk result (Adds (IsPrintedFile lint.now origin.now.name.now origin.now.bytes.now decoded.now) printed.old printed.new) }
+{
+    print_unread(alloc, printed, lint, origin, decoded.invalid)?;
+    let text = Origin {
+        name: origin.name,
+        bytes: decoded.text.as_bytes(),
+    };
+    let found = findings(alloc, decoded.text.as_str())?;
+    print_findings(alloc, printed, lint, &text, &found)?;
+    Ok(())
+}

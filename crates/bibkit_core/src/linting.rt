@@ -1,0 +1,130 @@
+//! What is wrong in files, as a task.
+
+ghost use Rattle.std.specs.Prelude.{◌≡◌, [], IfOk};
+ghost use Rattle.std.specs.String.{string_bytes};
+ghost use Rattle.bibkit_core.specs.Asked.{asked};
+ghost use Rattle.bibkit_core.specs.Linted.{ArePrinted};
+ghost use Rattle.bibkit_core.specs.Tasks.{PrintsFindings, closing, lint_status, opening};
+ghost use Rattle.bibkit_core.specs.Tasks as spec;
+
+use crate::decoding::decoded;
+use crate::lint::{Origin, Printed, print_file, print_findings};
+use crate::request::{Lint, Style};
+use crate::tally::Tally;
+use crate::task::{End, Task};
+use bib_findings::finding::Finding;
+use std::alloc::{AllocError, Global};
+
+/// The findings that are asked for.
+#[derive(Drop)]
+pub struct Linting<'r, 'a> {
+    lint: &'r Lint<'a>,
+    tally: Tally,
+}
+
+impl<'r, 'a> Linting<'r, 'a> {
+    /// These findings, of which none is printed yet.
+    pub fn new(lint: &'r Lint<'a>) -> Self
+        ensures lint { result.lint.now ≡ lint.now }
+        ensures errors { result.tally.errors ≡ 0 }
+        ensures warnings { result.tally.warnings ≡ 0 }
+    {
+        Linting {
+            lint,
+            tally: Tally::none(),
+        }
+    }
+
+    // Nothing printed yet, after the findings so far.
+    fn nothing(&self, alloc: Global) -> Printed
+        ensures text { string_bytes result.text ≡ [] }
+        ensures tally { result.tally ≡ self.now.tally }
+    {
+        Printed {
+            text: String::new(alloc),
+            tally: self.tally,
+        }
+    }
+
+    // Keeps how many findings there are, and answers what is printed of them.
+    fn kept(&mut self, printed: Printed) -> String
+        ensures text { string_bytes result ≡ string_bytes printed.text }
+        ensures tally { self.new.tally ≡ printed.tally }
+        ensures lint { self.new.lint.now ≡ self.old.lint.now }
+    {
+        let Printed { text, tally } = printed;
+        self.tally = tally;
+        text
+    }
+
+    /// What is printed of further findings that are asked for.
+    pub fn print(
+        &mut self,
+        alloc: Global,
+        origin: &Origin<'_>,
+        found: &[Finding],
+    ) -> Result<String, AllocError>
+        ensures printed { IfOk result (λ text. ArePrinted self.old.lint.now.style origin.now.name.now origin.now.bytes.now
+            (asked self.old.lint.now.selection found.now) self.old.tally (string_bytes text) self.new.tally) }
+        ensures lint { self.new.lint.now ≡ self.old.lint.now }
+    {
+        let mut printed = self.nothing(alloc);
+        print_findings(alloc, &mut printed, self.lint, origin, found)?;
+        Ok(self.kept(printed))
+    }
+}
+
+// What stands before findings.
+fn opening(style: Style) -> &'static str
+    ensures { result.now ≡ spec.opening style }
+{
+    match style {
+        Style::Json => "[",
+        Style::Plain | Style::Colored => "",
+    }
+}
+
+// What stands after findings.
+fn closing(alloc: Global, style: Style, tally: Tally) -> Result<String, AllocError>
+    ensures { IfOk result (λ text. string_bytes text ≡ spec.closing style tally) }
+{
+    match style {
+        Style::Json => String::from_str(alloc, "\n]\n"),
+        Style::Plain | Style::Colored => tally.line(alloc),
+    }
+}
+
+// The status: 1 where there is a finding.
+fn lint_status(tally: Tally) -> u8
+    ensures { result ≡ spec.lint_status tally }
+{
+    if tally.is_none() { 0 } else { 1 }
+}
+
+impl<'r, 'a> Task for Linting<'r, 'a> {
+    ghost begins = { λ task. opening task.lint.now.style };
+
+    ghost prints = { λ old name bytes text new.
+        (new.lint.now ≡ old.lint.now) × PrintsFindings old.lint.now name bytes old.tally text new.tally };
+
+    ghost ends = { λ task text status.
+        (text ≡ closing task.lint.now.style task.tally) × (status ≡ lint_status task.tally) };
+
+    fn begin(&self) -> &'static str {
+        opening(self.lint.style)
+    }
+
+    fn file(&mut self, alloc: Global, name: &str, bytes: &[u8]) -> Result<String, AllocError> {
+        let decoded = decoded(alloc, bytes)?;
+        let mut printed = self.nothing(alloc);
+        print_file(alloc, &mut printed, self.lint, &Origin { name, bytes }, &decoded)?;
+        Ok(self.kept(printed))
+    }
+
+    fn end(&mut self, alloc: Global) -> Result<End, AllocError> {
+        Ok(End {
+            text: closing(alloc, self.lint.style, self.tally)?,
+            status: lint_status(self.tally),
+        })
+    }
+}

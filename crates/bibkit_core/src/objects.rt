@@ -1,0 +1,59 @@
+//! Findings as objects of JSON.
+
+ghost use Rattle.std.specs.Prelude.{◌≡◌, IfOk};
+ghost use Rattle.std.specs.String.{string_bytes};
+ghost use Rattle.bibkit_core.specs.Printed as spec;
+
+use bib_findings::finding::Finding;
+use bib_lines::positions::Position;
+use serde_json::Value;
+use std::alloc::{AllocError, Global};
+
+// A text in JSON, with its quotes.
+fn json_text(alloc: Global, text: &str) -> Result<String, AllocError>
+    ensures { IfOk result (λ json. string_bytes json ≡ spec.json_text text.now) }
+{
+    Value::String(String::from_str(alloc, text)?).to_string(alloc)
+}
+
+// What stands before an object: a comma where it isn't the first.
+fn separator(is_first: bool) -> &'static str
+    ensures { result.now ≡ spec.separator is_first }
+{
+    if is_first { "\n" } else { ",\n" }
+}
+
+// The members of an object that say where a finding is, and what.
+fn place_members(alloc: Global, place: Position, finding: &Finding) -> Result<String, AllocError>
+    ensures { IfOk result (λ text. string_bytes text ≡ spec.place_members place finding.now) }
+{
+    format!(in alloc;
+        "\"line\":{},\"column\":{},\"severity\":\"{}\",\"code\":\"{}\"",
+        place.line,
+        place.column,
+        finding.code.severity().name(),
+        finding.code.name()
+    )
+}
+
+/// The object of a finding at this position of the file of this name, after what separates it from those before it.
+pub fn finding_object(
+    alloc: Global,
+    is_first: bool,
+    name: &str,
+    place: Position,
+    finding: &Finding,
+) -> Result<String, AllocError>
+    ensures { IfOk result (λ text. string_bytes text ≡ spec.finding_object is_first name.now place finding.now) }
+{
+    let file = json_text(alloc, name)?;
+    let members = place_members(alloc, place, finding)?;
+    let message = json_text(alloc, finding.message.as_str())?;
+    format!(in alloc;
+        "{}{{\"file\":{},{},\"message\":{}}}",
+        separator(is_first),
+        file.as_str(),
+        members.as_str(),
+        message.as_str()
+    )
+}

@@ -1,0 +1,252 @@
+//! The engine of the program.
+
+ghost use Rattle.std.specs.Prelude.{◌≡◌, ◌&&◌, map, IfOk, OnOk, option_map, if◌then◌else◌};
+ghost use Rattle.std.specs.Io.KnownBytes.{Appends};
+ghost use Rattle.bibkit_core.specs.Steps.{HasStep, HasRun, HasAnswer};
+
+use crate::cited::Document;
+use crate::comparing::Comparing;
+use crate::counting::Counting;
+use crate::entries::Entries;
+use crate::files::{FileError, Files};
+use crate::linting::Linting;
+use crate::messages::Messages;
+use crate::request::{Call, Lint, Request};
+use crate::task::Task;
+use bib_excerpts::citations::{Citation, citations};
+use bib_excerpts::request::Request as Excerpts;
+use bib_findings::codes::Code;
+use biblatex::{Sink, decode};
+use std::alloc::{AllocError, Global};
+
+// Why a run ends before its answer is whole.
+#[derive(Debug, Clone, Copy, PartialEq, Eq)]
+enum Stop {
+    // The output refused a text.
+    Refused,
+    // The file of a document can't be read, which is reported.
+    NoDocument,
+    // There was no memory.
+    OutOfMemory,
+}
+
+impl From<AllocError> for Stop {
+    fn from(_error: AllocError) -> Self {
+        Stop::OutOfMemory
+    }
+}
+
+// Prints a text.
+fn print<K: Sink>(output: &mut K, text: &str) -> Result<(), Stop>
+    ensures { OnOk result (Appends (K.taken output.old) (K.taken output.new) text.now) }
+{
+    if output.write_str(text) { Ok(()) } else { Err(Stop::Refused) }
+}
+
+// The bytes of a file, or none where it can't be read, which is reported.
+fn bytes_of<F: Files, M: Sink>(
+    alloc: Global,
+    name: &str,
+    files: &mut F,
+    messages: &mut Messages<M>,
+) -> Result<Option<Vec<u8>>, AllocError>
+    ensures { IfOk result (λ found. F.reads files.old name.now (option_map (λ bytes. bytes.items) found) files.new) }
+{
+    match files.read(alloc, name) {
+        Ok(bytes) => Ok(Some(bytes)),
+        Err(FileError::OutOfMemory) => Err(AllocError),
+        Err(error) => {
+            messages.unread(alloc, name, error)?;
+            Ok(None)
+        }
+    }
+}
+
+// Prints what a task prints of a file, and says whether the file could be read.
+fn run_file<T: Task, F: Files, K: Sink, M: Sink>(
+    alloc: Global,
+    name: &str,
+    task: &mut T,
+    files: &mut F,
+    output: &mut K,
+    messages: &mut Messages<M>,
+) -> Result<bool, Stop>
+    ensures { IfOk result (λ is_read. HasStep F.reads T.prints files.old task.old (K.taken output.old) name.now is_read
+        files.new task.new (K.taken output.new)) }
+{
+    messages.begin(alloc, name)?;
+    let Some(bytes) = bytes_of(alloc, name, files, messages)? else {
+        return Ok(false);
+    };
+    let text = task.file(alloc, name, &bytes)?;
+    messages.clear();
+    print(output, &text)?;
+    Ok(true)
+}
+
+// Whether both hold.
+fn both(first: bool, second: bool) -> bool
+    ensures { result ≡ (first && second) }
+{
+    first && second
+}
+
+// Prints what a task prints of files, one after another, and says whether all of them could be read.
+fn run_files<T: Task, F: Files, K: Sink, M: Sink>(
+    alloc: Global,
+    names: &[&str],
+    task: &mut T,
+    files: &mut F,
+    output: &mut K,
+    messages: &mut Messages<M>,
+) -> Result<bool, Stop>
+    ensures { IfOk result (λ are_read. HasRun F.reads T.prints files.old task.old (K.taken output.old)
+        (map (λ name. name.now) names.now) are_read files.new task.new (K.taken output.new)) }
+{
+    let mut are_read = true;
+    'names: for name in names {
+        let is_read = run_file(alloc, *name, task, files, output, messages)?;
+        are_read = both(are_read, is_read);
+    }
+    Ok(are_read)
+}
+
+// The status: 2 where a file can't be read.
+fn status_of(are_read: bool, status: u8) -> u8
+    ensures { result ≡ (if are_read then status else 2) }
+{
+    if are_read { status } else { 2 }
+}
+
+// Runs a task over files, and answers the status: 2 where one of them can't be read.
+fn run_task<T: Task, F: Files, K: Sink, M: Sink>(
+    alloc: Global,
+    names: &[&str],
+    task: &mut T,
+    files: &mut F,
+    output: &mut K,
+    messages: &mut Messages<M>,
+) -> Result<u8, Stop>
+    ensures { IfOk result (λ status. HasAnswer F.reads T.begins T.prints T.ends files.old task.old
+        (map (λ name. name.now) names.now) (K.taken output.old) (K.taken output.new) status) }
+{
+    print(output, task.begin())?;
+    let are_read = run_files(alloc, names, task, files, output, messages)?;
+    let end = task.end(alloc)?;
+    print(output, &end.text)?;
+    Ok(status_of(are_read, end.status))
+}
+
+// The text of the file of a document.
+fn document_text<F: Files, M: Sink>(
+    alloc: Global,
+    name: &str,
+    files: &mut F,
+    messages: &mut Messages<M>,
+) -> Result<String, Stop> {
+    let Some(bytes) = bytes_of(alloc, name, files, messages)? else {
+        return Err(Stop::NoDocument);
+    };
+    Ok(decode(alloc, &bytes)?.text)
+}
+
+// Prints the findings that are asked for.
+fn run_lint<F: Files, K: Sink, M: Sink>(
+    alloc: Global,
+    lint: &Lint<'_>,
+    names: &[&str],
+    files: &mut F,
+    output: &mut K,
+    messages: &mut Messages<M>,
+) -> Result<u8, Stop> {
+    let Some(cited) = lint.cited else {
+        return run_task(alloc, names, &mut Linting::new(lint), files, output, messages);
+    };
+    let text = document_text(alloc, cited.name, files, messages)?;
+    let document = Document::new(alloc, cited.name, text.as_str(), cited.has_unused)?;
+    let mut task = Comparing::new(lint, document);
+    run_task(alloc, names, &mut task, files, output, messages)
+}
+
+// Prints the entries that are asked for.
+fn run_entries<F: Files, K: Sink, M: Sink>(
+    alloc: Global,
+    request: &Excerpts<'_>,
+    names: &[&str],
+    files: &mut F,
+    output: &mut K,
+    messages: &mut Messages<M>,
+) -> Result<u8, Stop> {
+    run_task(alloc, names, &mut Entries::new(request), files, output, messages)
+}
+
+// The keys of citations.
+fn keys<'t>(alloc: Global, citations: &[Citation<'t>]) -> Result<Vec<&'t str>, AllocError> {
+    citations.iter().map(|citation| citation.key).collect(alloc)
+}
+
+// Prints the entries that a document cites.
+fn run_cited<F: Files, K: Sink, M: Sink>(
+    alloc: Global,
+    document: &str,
+    names: &[&str],
+    files: &mut F,
+    output: &mut K,
+    messages: &mut Messages<M>,
+) -> Result<u8, Stop> {
+    let text = document_text(alloc, document, files, messages)?;
+    let keys = keys(alloc, &citations(alloc, text.as_str())?)?;
+    run_entries(alloc, &Excerpts::Get(keys), names, files, output, messages)
+}
+
+// Prints what a code means.
+fn explain<K: Sink>(alloc: Global, code: Code, output: &mut K) -> Result<u8, Stop> {
+    let text = format!(in alloc; "{} ({}): {}\n", code.name(), code.severity().name(), code.explanation())?;
+    print(output, &text)?;
+    Ok(0)
+}
+
+// Prints what is asked for, and answers the status.
+fn answer<F: Files, K: Sink, M: Sink>(
+    alloc: Global,
+    call: &Call<'_>,
+    files: &mut F,
+    output: &mut K,
+    messages: &mut Messages<M>,
+) -> Result<u8, Stop> {
+    let names = call.names.as_slice();
+    match &call.request {
+        Request::Lint(lint) => run_lint(alloc, lint, names, files, output, messages),
+        Request::Explain(code) => explain(alloc, *code, output),
+        Request::Entries(request) => run_entries(alloc, request, names, files, output, messages),
+        Request::Cited(document) => run_cited(alloc, *document, names, files, output, messages),
+        Request::Stats => run_task(alloc, names, &mut Counting::new(alloc), files, output, messages),
+    }
+}
+
+/// Runs a command, and answers the status: 0 where it is done, 1 where `lint` found something or a search found nothing, 2 where
+/// a file can't be read or the output refused a text, 3 when out of memory.
+pub fn run<F: Files, K: Sink, M: Sink + Drop>(
+    alloc: Global,
+    call: &Call<'_>,
+    files: &mut F,
+    output: &mut K,
+    messages: M,
+) -> u8 {
+    let mut messages = Messages::new(messages, call.has_progress, call.names.len());
+    match answer(alloc, call, files, output, &mut messages) {
+        Ok(status) => {
+            messages.clear();
+            status
+        }
+        Err(Stop::Refused) => {
+            messages.end("bibkit: the output can't be written\n");
+            2
+        }
+        Err(Stop::NoDocument) => 2,
+        Err(Stop::OutOfMemory) => {
+            messages.end("bibkit: out of memory\n");
+            3
+        }
+    }
+}
