@@ -108,11 +108,15 @@ step_passed {style} {name} {bytes} s xs more f {a} {b} {d} grows isnt before sam
     (subst (λ ys. Adds (ArePrinted style name bytes ys) a b) (sym (ap (asked s) grows ∙ asked_same s xs f isnt)) before)
 
 -- the findings of a file, after the byte that isn't UTF-8
-pub file_added : {lint : Lint} {name bytes : List ℕ} {decoded : Decoded} {found : List Finding} {a b c : Printed} → AreFindings (string_bytes decoded.text) found
+pub file_added : {lint : Lint} {name bytes : List ℕ} {decoded : Decoded} (found : List Finding) {a b c : Printed} → AreFindings (string_bytes decoded.text) found
     → Adds (ArePrinted lint.style name bytes (asked lint.selection (unread_findings decoded.invalid))) a b
     → Adds (ArePrinted lint.style name (string_bytes decoded.text) (asked lint.selection found)) b c → Adds (IsPrintedFile lint name bytes decoded) a c
-file_added {found = found} {a} {b} {c} are first second = record {
+file_added found {a} {b} {c} are first second = record {
   text = first.text ++ second.text;
   are = record { found = found; are = are; between = b.tally; first = first.text; second = second.text; unread = first.are; of_text = second.are; is = refl };
   printed = second.printed ∙ ap (λ t. t ++ second.text) first.printed ∙ append_assoc (string_bytes a.text) first.text second.text;
 }
+
+-- what is printed after nothing
+pub added_alone : {Are : Tally → List ℕ → Tally → Type 0} {a b : Printed} → string_bytes a.text ≡ [] → Adds Are a b → Are a.tally (string_bytes b.text) b.tally
+added_alone {Are} {a} {b} empty added = subst (λ t. Are a.tally t b.tally) (sym (added.printed ∙ ap (λ s. s ++ added.text) empty)) added.are

@@ -1,13 +1,13 @@
 //! What a document cites, compared with the entries of files.
 
 use crate::lint::Origin;
-use bib_excerpts::citations::{Citation, citations};
+use bib_excerpts::citations::{Citation, Citations, in_aux, in_bcf};
+use bib_excerpts::known::{known, uncited};
 use bib_findings::codes::Code;
 use bib_findings::finding::Finding;
+use bib_text::spanned::Spanned;
 use bib_text::text::Text;
-use biblatex::{Bibliography, RawBibliography};
 use std::alloc::{AllocError, Global};
-use std::collections::BTreeSet;
 
 /// A document, and which of its citations have entries in the files so far.
 #[derive(Drop)]
@@ -15,19 +15,82 @@ pub struct Document<'t> {
     name: &'t str,
     text: &'t str,
     has_unused: bool,
-    citations: Vec<Citation<'t>>,
-    found: BTreeSet<String>,
+    citations: Citations,
+    known: Vec<bool>,
+}
+
+/// What a document cites, by the file of this name: a control file of Biber, or else an .aux file.
+pub fn citations(alloc: Global, name: &str, text: &str) -> Result<Citations, AllocError> {
+    if name.ends_with(".bcf") {
+        in_bcf(alloc, text)
+    } else {
+        in_aux(alloc, text)
+    }
+}
+
+/// The keys of citations.
+pub fn keys(alloc: Global, citations: &Citations) -> Result<Vec<&str>, AllocError> {
+    let mut keys = Vec::new(alloc);
+    'citations: for citation in &citations.keys {
+        keys.push(citation.key.as_str())?;
+    }
+    Ok(keys)
+}
+
+// What holds at either.
+fn either(alloc: Global, first: &[bool], second: &[bool]) -> Result<Vec<bool>, AllocError> {
+    let mut marks = Vec::new(alloc);
+    'marks: for (one, other) in first.iter().zip(second) {
+        marks.push(*one || *other)?;
+    }
+    Ok(marks)
+}
+
+// The finding of a citation that no file has an entry for.
+fn missing_entry(alloc: Global, citation: &Citation) -> Result<Finding, AllocError> {
+    let message = format!(in alloc; "no file has an entry \"{}\"", citation.key.as_str())?;
+    Ok(Finding {
+        code: Code::MissingEntry,
+        span: citation.at..citation.at,
+        message: Text::from_string(message),
+    })
+}
+
+// The finding of an entry that the document doesn't cite.
+fn unused_entry(alloc: Global, key: &Spanned<&str>) -> Result<Finding, AllocError> {
+    let message = format!(in alloc; "{}: never cited", key.v)?;
+    Ok(Finding {
+        code: Code::UnusedEntry,
+        span: key.span.start..key.span.end,
+        message: Text::from_string(message),
+    })
+}
+
+// The findings of entries that the document doesn't cite.
+fn unused_entries(alloc: Global, keys: &[Spanned<&str>]) -> Result<Vec<Finding>, AllocError> {
+    let mut found = Vec::new(alloc);
+    'keys: for key in keys {
+        found.push(unused_entry(alloc, key)?)?;
+    }
+    Ok(found)
 }
 
 impl<'t> Document<'t> {
-    /// The document of a file with this name and text.
-    pub fn new(alloc: Global, name: &'t str, text: &'t str, has_unused: bool) -> Result<Self, AllocError> {
+    /// The document of the file with this name and text.
+    pub fn new(
+        alloc: Global,
+        name: &'t str,
+        text: &'t str,
+        has_unused: bool,
+    ) -> Result<Self, AllocError> {
+        let citations = citations(alloc, name, text)?;
+        let known = vec![in alloc; false; citations.keys.len()]?;
         Ok(Document {
             name,
             text,
             has_unused,
-            citations: citations(alloc, text)?,
-            found: BTreeSet::new(alloc),
+            citations,
+            known,
         })
     }
 
@@ -39,83 +102,25 @@ impl<'t> Document<'t> {
         }
     }
 
-    /// Notes which citations have entries in a file, and answers which of its entries no citation is of, where these are asked for.
+    /// Notes which citations have entries in a file, and answers which of its entries the document doesn't cite, where these are
+    /// asked for.
     pub fn compare(&mut self, alloc: Global, text: &str) -> Result<Vec<Finding>, AllocError> {
-        let bibliography = Bibliography::recover(alloc, text)?.bibliography;
-        self.note(alloc, &bibliography)?;
-        if self.has_unused {
-            unused(alloc, text, &used(alloc, &self.citations, &bibliography)?)
-        } else {
-            Ok(Vec::new(alloc))
+        let keys = keys(alloc, &self.citations)?;
+        self.known = either(alloc, &self.known, &known(alloc, text, &keys)?)?;
+        if !self.has_unused || self.citations.all {
+            return Ok(Vec::new(alloc));
         }
-    }
-
-    // Notes which citations have entries in a bibliography.
-    fn note(&mut self, alloc: Global, bibliography: &Bibliography) -> Result<(), AllocError> {
-        'citations: for citation in &self.citations {
-            if bibliography.get(citation.key).is_some() {
-                self.found.insert(String::from_str(alloc, citation.key)?)?;
-            }
-        }
-        Ok(())
+        unused_entries(alloc, &uncited(alloc, text, &keys)?)
     }
 
     /// The citations that no file has an entry for.
     pub fn missing(&self, alloc: Global) -> Result<Vec<Finding>, AllocError> {
         let mut found = Vec::new(alloc);
-        'citations: for citation in &self.citations {
-            if !self.found.contains(citation.key) {
+        'citations: for (citation, is_known) in self.citations.keys.iter().zip(&self.known) {
+            if !*is_known {
                 found.push(missing_entry(alloc, citation)?)?;
             }
         }
         Ok(found)
     }
-}
-
-// The finding of a citation that no file has an entry for.
-fn missing_entry(alloc: Global, citation: &Citation<'_>) -> Result<Finding, AllocError> {
-    let message = format!(in alloc; "no file has an entry \"{}\"", citation.key)?;
-    Ok(Finding {
-        code: Code::MissingEntry,
-        span: citation.span.start..citation.span.end,
-        message: Text::from_string(message),
-    })
-}
-
-// The keys of the entries that are cited.
-fn used(
-    alloc: Global,
-    citations: &[Citation<'_>],
-    bibliography: &Bibliography,
-) -> Result<BTreeSet<String>, AllocError> {
-    let mut keys = BTreeSet::new(alloc);
-    'citations: for citation in citations {
-        if let Some(entry) = bibliography.get(citation.key) {
-            keys.insert(String::from_str(alloc, entry.key.as_str())?)?;
-        }
-    }
-    Ok(keys)
-}
-
-// The finding of an entry that is never cited.
-fn unused_entry(alloc: Global, key: &str, start: usize, end: usize) -> Result<Finding, AllocError> {
-    let message = format!(in alloc; "{key}: never cited")?;
-    Ok(Finding {
-        code: Code::UnusedEntry,
-        span: start..end,
-        message: Text::from_string(message),
-    })
-}
-
-// The entries of a text whose keys aren't among these.
-fn unused(alloc: Global, text: &str, used: &BTreeSet<String>) -> Result<Vec<Finding>, AllocError> {
-    let said = RawBibliography::recover(alloc, text)?;
-    let mut found = Vec::new(alloc);
-    'entries: for entry in &said.raw.entries {
-        let key = &entry.v.key;
-        if !used.contains(key.v) {
-            found.push(unused_entry(alloc, key.v, key.span.start, key.span.end)?)?;
-        }
-    }
-    Ok(found)
 }

@@ -40,6 +40,13 @@ fn is_search(request: &Excerpts<'_>) -> bool
     }
 }
 
+// Whether something is found, with what is printed of one file more.
+fn is_found_with(is_found: bool, text: &str) -> bool
+    ensures { result ≡ (is_found || not (length text.now == 0)) }
+{
+    is_found || !text.is_empty()
+}
+
 // The status: 1 where entries are looked for and none is found.
 fn entries_status(request: &Excerpts<'_>, is_found: bool) -> u8
     ensures { result ≡ spec.entries_status request.now is_found }
@@ -62,7 +69,7 @@ impl<'r, 'a> Task for Entries<'r, 'a> {
     fn file(&mut self, alloc: Global, _name: &str, bytes: &[u8]) -> Result<String, AllocError> {
         let decoded = decoded(alloc, bytes)?;
         let text = answer(alloc, self.request, decoded.text.as_str())?;
-        self.is_found = self.is_found || !text.is_empty();
+        self.is_found = is_found_with(self.is_found, text.as_str());
         Ok(text)
     }
 

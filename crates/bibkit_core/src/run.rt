@@ -4,7 +4,7 @@ ghost use Rattle.std.specs.Prelude.{◌≡◌, ◌&&◌, map, IfOk, OnOk, option
 ghost use Rattle.std.specs.Io.KnownBytes.{Appends};
 ghost use Rattle.bibkit_core.specs.Steps.{HasStep, HasRun, HasAnswer};
 
-use crate::cited::Document;
+use crate::cited::{Document, citations, keys};
 use crate::comparing::Comparing;
 use crate::counting::Counting;
 use crate::entries::Entries;
@@ -13,8 +13,7 @@ use crate::linting::Linting;
 use crate::messages::Messages;
 use crate::request::{Call, Lint, Request};
 use crate::task::Task;
-use bib_excerpts::citations::{Citation, citations};
-use bib_excerpts::request::Request as Excerpts;
+use bib_excerpts::request::{CitedKeys, Request as Excerpts};
 use bib_findings::codes::Code;
 use biblatex::{Sink, decode};
 use std::alloc::{AllocError, Global};
@@ -180,11 +179,6 @@ fn run_entries<F: Files, K: Sink, M: Sink>(
     run_task(alloc, names, &mut Entries::new(request), files, output, messages)
 }
 
-// The keys of citations.
-fn keys<'t>(alloc: Global, citations: &[Citation<'t>]) -> Result<Vec<&'t str>, AllocError> {
-    citations.iter().map(|citation| citation.key).collect(alloc)
-}
-
 // Prints the entries that a document cites.
 fn run_cited<F: Files, K: Sink, M: Sink>(
     alloc: Global,
@@ -195,8 +189,12 @@ fn run_cited<F: Files, K: Sink, M: Sink>(
     messages: &mut Messages<M>,
 ) -> Result<u8, Stop> {
     let text = document_text(alloc, document, files, messages)?;
-    let keys = keys(alloc, &citations(alloc, text.as_str())?)?;
-    run_entries(alloc, &Excerpts::Get(keys), names, files, output, messages)
+    let citations = citations(alloc, document, text.as_str())?;
+    let request = Excerpts::Cited(CitedKeys {
+        keys: keys(alloc, &citations)?,
+        all: citations.all,
+    });
+    run_entries(alloc, &request, names, files, output, messages)
 }
 
 // Prints what a code means.
