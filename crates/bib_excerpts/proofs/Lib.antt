@@ -1,0 +1,2 @@
+pub mod ExcerptFacts
+pub mod PartFacts

@@ -1,0 +1,9 @@
+//! Parts of a bibliography file as they stand in it.
+#![tactic(auto)]
+
+mod cited;
+pub mod excerpts;
+mod names;
+mod needed;
+pub mod request;
+mod sets;
