@@ -1,2 +1,4 @@
 pub mod ExcerptFacts
+pub mod MarkFacts
 pub mod PartFacts
+pub mod SearchFacts

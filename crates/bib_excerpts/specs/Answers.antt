@@ -7,7 +7,7 @@ use Rattle.bib_syntax.specs.Reading.{EntryReading, FieldReading, FileReading, Pi
 use Rattle.bib_syntax.specs.Reading.Piece.{abbreviation, literal}
 use Rattle.bib_syntax.specs.Recovery.{IsRecovery}
 use Rattle.bib_syntax.specs.declared.raw.recovery.SkippedBlock.{SkippedBlock}
-use Rattle.bib_excerpts.specs.Cited.{IsExcerpt, excerpt, line}
+use Rattle.bib_excerpts.specs.Cited.{IsExcerpt, entry_line, line}
 use Rattle.bib_excerpts.specs.Needed.{is_among}
 use Rattle.bib_excerpts.specs.declared.request.Request.{Request}
 use Rattle.bib_excerpts.specs.declared.request.Request.TheVariants.{Keys, Get, Grep, Cited}
@@ -32,7 +32,7 @@ key_lines entries = flat_map (λ e. line e.key.text) entries
 
 -- the entries that pass a test, as they stand, each with a line feed after it
 abbrev pub passing_lines : (EntryReading → Bool) → List ℕ → List EntryReading → List ℕ
-passing_lines test text entries = flat_map (λ e. if test e then line (excerpt text e) else []) entries
+passing_lines test text entries = flat_map (λ e. if test e then entry_line text e else []) entries
 
 -- whether an entry has one of these keys
 abbrev pub has_key : List (List ℕ) → EntryReading → Bool

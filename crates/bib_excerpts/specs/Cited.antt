@@ -25,9 +25,17 @@ definition_text text f = trim_end (slice_range text f.name.start f.value.end)
 abbrev pub definition_line : List ℕ → FieldReading → List ℕ
 definition_line text f = codes "@string{" ++ (definition_text text f ++ line (codes "}"))
 
+-- an entry as it stands in a text, and a line feed
+abbrev pub entry_line : List ℕ → EntryReading → List ℕ
+entry_line text e = line (excerpt text e)
+
+-- the abbreviations that an entry uses
+abbrev pub used_in_entry : EntryReading → List (List ℕ)
+used_in_entry e = used_in_fields e.fields
+
 -- the abbreviations that entries use
 abbrev pub used_in_entries : List EntryReading → List (List ℕ)
-used_in_entries entries = flat_map (λ e. used_in_fields e.fields) entries
+used_in_entries entries = flat_map used_in_entry entries
 
 -- the entry at an index is cited, or needed by one that is
 pub data IsCited (names : List (List ℕ)) (all : Bool) (nodes : List Node) : ℕ → Type 0 where
@@ -40,5 +48,5 @@ pub record IsExcerpt (names : List (List ℕ)) (all : Bool) (text : List ℕ) (s
   pub definition_marks : List Bool
   pub entries : AreMarks (IsCited names all (map entry_node says.entries)) (length says.entries) entry_marks
   pub definitions : AreMarks (IsNeeded (used_in_entries (marked entry_marks says.entries)) (map definition_node says.abbreviations)) (length says.abbreviations) definition_marks
-  pub text : printed ≡ flat_map (definition_line text) (marked definition_marks says.abbreviations)
-      ++ flat_map (λ e. line (excerpt text e)) (marked entry_marks says.entries)
+  pub is : printed ≡ flat_map (definition_line text) (marked definition_marks says.abbreviations)
+      ++ flat_map (entry_line text) (marked entry_marks says.entries)

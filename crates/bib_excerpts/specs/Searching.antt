@@ -31,12 +31,12 @@ abbrev pub unmarked : List Bool → ℕ
 unmarked marks = count_by not marks
 
 -- no mark is lost, new marks are on such indices alone, and what gets a mark waits
-pub record Marks (is_new : ℕ → Type 0) (old : List Bool) (waited : List ℕ) (new : List Bool) (waits : List ℕ) : Type 0 where
+pub record Marks (is_new : ℕ → Type 0) (old : List Bool) (before : List ℕ) (new : List Bool) (after : List ℕ) : Type 0 where
   pub kept : (index : ℕ) → IsMarked old index → IsMarked new index
-  pub only : (index : ℕ) → IsMarked new index → IsMarked old index ⊎ (is_new index × Contains waits index)
-  pub waiting : (index : ℕ) → Contains waited index → Contains waits index
-  pub waits : (index : ℕ) → Contains waits index → Contains waited index ⊎ IsMarked new index
-  pub as_many : unmarked new + length waits ≡ unmarked old + length waited
+  pub only : (index : ℕ) → IsMarked new index → IsMarked old index ⊎ (is_new index × Contains after index)
+  pub waiting : (index : ℕ) → Contains before index → Contains after index
+  pub waits : (index : ℕ) → Contains after index → Contains before index ⊎ IsMarked new index
+  pub as_many : unmarked new + length after ≡ unmarked old + length before
 
 -- these names were looked up: what has one has a mark, and a name is left as it was or what has it has a mark
 pub record Expands (old : BTreeMap (Bor (List ℕ)) (Vec ℕ)) (names : List (List ℕ)) (marks : List Bool) (new : BTreeMap (Bor (List ℕ)) (Vec ℕ)) : Type 0 where

@@ -7,7 +7,7 @@ ghost use Rattle.bib_syntax.specs.Recovery.{IsBlockOf};
 ghost use Rattle.bib_syntax.specs.Views.{entry_reading_of, field_of, file_of, piece_of};
 ghost use Rattle.bib_excerpts.specs.Answers as answers;
 ghost use Rattle.bib_excerpts.specs.Answers.{IsPrinted, IsTextAnswer, has_key, is_found_in, key_lines, passing_lines, piece_text};
-ghost use Rattle.bib_excerpts.specs.Cited.{line};
+ghost use Rattle.bib_excerpts.specs.Cited.{entry_line};
 ghost use Rattle.bib_excerpts.specs.Cited as cited_spec;
 ghost use Rattle.bib_excerpts.specs.Standing.{IsFieldIn};
 
@@ -65,21 +65,22 @@ fn excerpt<'s>(text: &'s str, entry: &Spanned<RawEntry<'_>>) -> &'s str
 }
 
 // Prints an entry as it stands, and a line feed.
-pub(crate) fn print_entry(
+fn print_entry(
     printed: &mut String,
     text: &str,
     entry: &Spanned<RawEntry<'_>>,
 ) -> Result<(), AllocError>
     requires { IsBlockOf text.now (entry_reading_of entry.now) }
     ensures { OnOk result (string_bytes printed.new ≡
-        string_bytes printed.old ++ line (cited_spec.excerpt text.now (entry_reading_of entry.now))) }
+        string_bytes printed.old ++ entry_line text.now (entry_reading_of entry.now)) }
 {
     printed.push_str(excerpt(text, entry))?;
-    printed.push('\n')
+    printed.push('\n')?;
+    Ok(())
 }
 
 // Prints an entry as it stands, and a line feed, if it is asked for.
-fn print_if(
+pub(crate) fn print_if(
     printed: &mut String,
     text: &str,
     entry: &Spanned<RawEntry<'_>>,
@@ -87,7 +88,7 @@ fn print_if(
 ) -> Result<(), AllocError>
     requires { IsBlockOf text.now (entry_reading_of entry.now) }
     ensures { OnOk result (string_bytes printed.new ≡
-        string_bytes printed.old ++ (if is_asked then line (cited_spec.excerpt text.now (entry_reading_of entry.now)) else [])) }
+        string_bytes printed.old ++ (if is_asked then entry_line text.now (entry_reading_of entry.now) else [])) }
 {
     if is_asked {
         return print_entry(printed, text, entry);
@@ -151,8 +152,8 @@ fn printed(
     text: &str,
     raw: &RawBibliography<'_>,
 ) -> Result<String, AllocError>
-    requires entries { AllByRecursion (IsBlockOf text.now) (map entry_reading_of raw.now.entries.items) }
-    requires definitions { AllByRecursion (IsFieldIn text.now) (map field_of raw.now.abbreviations.items) }
+    requires entries { AllByRecursion (IsBlockOf text.now) (file_of raw.now).entries }
+    requires definitions { AllByRecursion (IsFieldIn text.now) (file_of raw.now).abbreviations }
     ensures { IfOk result (λ printed. IsPrinted request.now text.now (file_of raw.now) (string_bytes printed)) }
 {
     match request {

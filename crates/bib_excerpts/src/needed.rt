@@ -10,6 +10,22 @@ use crate::names::Links;
 use std::alloc::{AllocError, Global};
 use std::collections::BTreeMap;
 
+// Takes the indices of a name out of a map.
+fn taken(
+    alloc: Global,
+    holders: &mut BTreeMap<&str, Vec<usize>>,
+    name: &str,
+) -> Vec<usize>
+    ensures items { result.items ≡ holders_in holders.old name.now }
+    ensures left { (other : List ℕ) → holders_in holders.new other ≡
+        (if bytes_eq name.now other then [] else holders_in holders.old other) }
+{
+    match holders.remove(name) {
+        Some(indices) => indices,
+        None => Vec::new(alloc),
+    }
+}
+
 // Adds an index to those of a name.
 fn add_holder<'s>(
     alloc: Global,
@@ -20,10 +36,7 @@ fn add_holder<'s>(
     ensures { OnOk result ((other : List ℕ) → holders_in holders.new other ≡
         (if bytes_eq name.now other then holders_in holders.old other ++ index ∷ [] else holders_in holders.old other)) }
 {
-    let mut indices = match holders.remove(name) {
-        Some(indices) => indices,
-        None => Vec::new(alloc),
-    };
+    let mut indices = taken(alloc, holders, name);
     indices.push(index)?;
     holders.insert(name, indices)?;
     Ok(())
@@ -81,6 +94,7 @@ fn mark_all(
 
 // Marks what has a name, and keeps for later what had no mark. A name that was looked up once isn't looked up again.
 fn mark_name(
+    alloc: Global,
     holders: &mut BTreeMap<&str, Vec<usize>>,
     name: &str,
     marks: &mut [bool],
@@ -92,14 +106,13 @@ fn mark_name(
     ensures all { OnOk result (All (IsMarked marks.new) (holders_in holders.old name.now)) }
     ensures left { (other : List ℕ) → holders_in holders.new other ≡ (if bytes_eq name.now other then [] else holders_in holders.old other) }
 {
-    match holders.remove(name) {
-        Some(indices) => mark_all(&indices, marks, pending),
-        None => Ok(()),
-    }
+    let indices = taken(alloc, holders, name);
+    mark_all(&indices, marks, pending)
 }
 
 // Marks what has one of these names, and keeps for later what had no mark.
 fn mark_names(
+    alloc: Global,
     holders: &mut BTreeMap<&str, Vec<usize>>,
     names: &[&str],
     marks: &mut [bool],
@@ -111,7 +124,7 @@ fn mark_names(
     ensures expands { OnOk result (Expands holders.old (map (λ n. n.now) names.now) marks.new holders.new) }
 {
     'names: for name in names {
-        mark_name(holders, name, marks, pending)?;
+        mark_name(alloc, holders, name, marks, pending)?;
     }
     Ok(())
 }
@@ -127,9 +140,9 @@ pub(crate) fn needed(
     let mut holders = holders(alloc, links)?;
     let mut marks = vec![in alloc; false; links.len()]?;
     let mut pending = Vec::new(alloc);
-    mark_names(&mut holders, names, &mut marks, &mut pending)?;
+    mark_names(alloc, &mut holders, names, &mut marks, &mut pending)?;
     'search: while let Some(index) = pending.pop() {
-        mark_names(&mut holders, &links[index].references, &mut marks, &mut pending)?;
+        mark_names(alloc, &mut holders, &links[index].references, &mut marks, &mut pending)?;
     }
     Ok(marks)
 }
