@@ -14,19 +14,28 @@ abbrev pub made_if : {Y A : Type 0} → (Y → List A) → Bool → Y → List A
 made_if f true y = f y
 made_if f false y = []
 
--- what is made of marked things grows by what is made of one more
-pub marked_made : {X Y A : Type 0} (v : X → Y) (f : Y → List A) (marks : List Bool) (xs : List X) (n : ℕ) (m : Bool) (x : X) → n < length marks → n < length xs → get_or marks n m ≡ m → get_or xs n x ≡ x
-    → flat_map f (marked (take (n + 1) marks) (map v (take (n + 1) xs))) ≡ flat_map f (marked (take n marks) (map v (take n xs))) ++ cond m (f (v x)) []
-marked_made v f [] xs n m x short within mark is = absurd (omega (arith, short))
-marked_made v f (b ∷ marks) [] n m x within short mark is = absurd (omega (arith, short))
-marked_made v f (true ∷ marks) (y ∷ xs) zero true x short within mark is = ap (λ z. f (v z) ++ []) is ∙ append-nil (f (v x))
-marked_made v f (true ∷ marks) (y ∷ xs) zero false x short within mark is = absurd (false≢true (sym mark))
-marked_made v f (false ∷ marks) (y ∷ xs) zero true x short within mark is = absurd (false≢true mark)
-marked_made v f (false ∷ marks) (y ∷ xs) zero false x short within mark is = refl
-marked_made v f (true ∷ marks) (y ∷ xs) (suc n) m x short within mark is =
-    ap (λ l. f (v y) ++ l) (marked_made v f marks xs n m x (omega (arith, short)) (omega (arith, within)) mark is)
+made_more : {X Y A : Type 0} (v : X → Y) (f : Y → List A) (marks : List Bool) (xs : List X) (n : ℕ) (m : Bool) (x : X) → n < length marks → n < length xs → get_or marks n m ≡ m → get_or xs n x ≡ x
+    → flat_map f (marked (take (suc n) marks) (map v (take (suc n) xs))) ≡ flat_map f (marked (take n marks) (map v (take n xs))) ++ cond m (f (v x)) []
+made_more v f [] xs n m x short within mark is = absurd (omega (arith, short))
+made_more v f (b ∷ marks) [] n m x within short mark is = absurd (omega (arith, short))
+made_more v f (true ∷ marks) (y ∷ xs) zero true x short within mark is = ap (λ z. f (v z) ++ []) is ∙ append-nil (f (v x))
+made_more v f (true ∷ marks) (y ∷ xs) zero false x short within mark is = absurd (false≢true (sym mark))
+made_more v f (false ∷ marks) (y ∷ xs) zero true x short within mark is = absurd (false≢true mark)
+made_more v f (false ∷ marks) (y ∷ xs) zero false x short within mark is = refl
+made_more v f (true ∷ marks) (y ∷ xs) (suc n) m x short within mark is =
+    ap (λ l. f (v y) ++ l) (made_more v f marks xs n m x (omega (arith, short)) (omega (arith, within)) mark is)
     ∙ sym (append_assoc (f (v y)) (flat_map f (marked (take n marks) (map v (take n xs)))) (cond m (f (v x)) []))
-marked_made v f (false ∷ marks) (y ∷ xs) (suc n) m x short within mark is = marked_made v f marks xs n m x (omega (arith, short)) (omega (arith, within)) mark is
+made_more v f (false ∷ marks) (y ∷ xs) (suc n) m x short within mark is = made_more v f marks xs n m x (omega (arith, short)) (omega (arith, within)) mark is
+
+-- what is made of marked things grows by what is made of one more
+pub marked_made : {X Y A : Type 0} (v : X → Y) (f : Y → List A) (marks : List Bool) (xs : List X) (n : ℕ) (m : Bool) (x : X) (start old new : List A) → n < length marks → n < length xs → get_or marks n m ≡ m → get_or xs n x ≡ x
+    → old ≡ start ++ flat_map f (marked (take n marks) (map v (take n xs))) → new ≡ old ++ cond m (f (v x)) []
+    → new ≡ start ++ flat_map f (marked (take (n + 1) marks) (map v (take (n + 1) xs)))
+marked_made v f marks xs n m x start old new short within mark is before after =
+    let more = made_more v f marks xs n m x short within mark is in
+    let one : n + 1 ≡ suc n = omega arith in
+    after ∙ ap (λ l. l ++ cond m (f (v x)) []) before ∙ append_assoc start (flat_map f (marked (take n marks) (map v (take n xs)))) (cond m (f (v x)) [])
+    ∙ ap (λ l. start ++ l) (sym more ∙ ap (λ k. flat_map f (marked (take k marks) (map v (take k xs)))) (sym one))
 
 -- where the shorter list ends, all that are marked were made
 pub marked_all : {X Y : Type 0} (v : X → Y) (marks : List Bool) (xs : List X) (n : ℕ) → n ≡ min (length xs) (length marks) → marked (take n marks) (map v (take n xs)) ≡ marked marks (map v xs)

@@ -1,14 +1,19 @@
 -- A search for what is needed: how far it has come.
-use Rattle.std.proofs.Common.{◌≡◌, ◌≢◌, ◌≤◌, ◌<◌, ◌+◌, ◌↔◌, ℕ, zero, suc, Bool, true, false, not, cond, List, [], ◌∷◌, ◌++◌, take, map, length, get_or, set, refl, sym, ap, subst, ◌∙◌, arith, ◌⊎◌, inl, inr, ⊎_elim}
+use Rattle.std.proofs.Common.{◌≡◌, ◌≢◌, ◌≤◌, ◌<◌, ◌+◌, ◌↔◌, ℕ, zero, suc, Bool, true, false, not, cond, ◌||◌, List, [], ◌∷◌, ◌++◌, take, map, length, get_or, set, replicate, refl, sym, ap, subst, ◌∙◌, arith, ◌⊎◌, inl, inr, ⊎_elim, Option, Some, None}
 use Rattle.std.specs.Prelude.{bytes_eq, if◌then◌else◌}
 use Rattle.std.specs.List.{All, Contains, list_any}
 use Rattle.std.specs.Borrow.{Bor}
 use Rattle.std.specs.Global.{Vec}
-use Rattle.std.specs.BTreeMap.{BTreeMap}
-use Rattle.std.proofs.lemmas.List.{take_more, map-append, length_push, get_or_past}
-use Rattle.std.proofs.lemmas.List.Elements.{All-contains, All-weaker, All-push, All-from_get_or, Contains-push, Contains-append_left, Contains-push_cases}
+use Rattle.std.specs.BTreeMap.{BTreeMap, get_by}
+use Rattle.std.specs.Cmp.Lexicographic.{slice_cmp}
+use Rattle.std.specs.Ordering.{nat_cmp}
+use Rattle.std.specs.Option.{option_map_or}
+use Rattle.std.proofs.lemmas.List.{take_more, map-append, length-map, length-take, length_push, get_or_past, length-replicate}
+use Rattle.std.proofs.lemmas.List.Elements.{All-contains, All-weaker, All-more, All-from_get_or, Contains-get_or, Contains-push, Contains-append_left, Contains-push_cases}
 use Rattle.std.proofs.lemmas.Bool.{false≢true, cases_lt}
 use Rattle.std.proofs.lemmas.Slice.Eq.{bytes_eq-Decides}
+use Rattle.bib_excerpts.specs.declared.names.Links.{Links}
+use Rattle.bib_excerpts.specs.Texts.{node_of}
 use Rattle.bib_excerpts.specs.Needed.{Node, node_at, HasName, RefersTo, IsNeeded, AreMarks, is_among}
 use Rattle.bib_excerpts.specs.Needed.IsNeeded.{asked, reached}
 use Rattle.bib_excerpts.specs.Searching.{AreHolders, AreHoldersIn, IsMarked, Marks, Expands, holders_in, unmarked}
@@ -16,6 +21,10 @@ use Rattle.bib_excerpts.proofs.MarkFacts.{any_push, unmarked_less, set_decides, 
 
 abbrev pub Map : Type 0
 Map = BTreeMap (Bor (List ℕ)) (Vec ℕ)
+
+pub empty : (l : List ℕ) → length l ≡ 0 → l ≡ []
+empty [] is = refl
+empty (x ∷ l) is = absurd (omega (arith, is))
 
 -- ---- one more name, one more thing
 
@@ -35,7 +44,46 @@ holder_more false old now after index one among among' is is' so = (
   λ h. subst (λ l. Contains l one) (sym is) (so.1 (⊎_elim (λ o. inl o) (λ x. inr (x.0, sym is' ∙ x.1)) h))
 )
 
-nobody : Node
+or_true : (b : Bool) → b || true ≡ true
+or_true true = refl
+or_true false = refl
+
+pub among_more : (names : List (Bor (List ℕ))) (i : ℕ) (d : Bor (List ℕ)) (name : List ℕ) → i < length names → is_among (map (λ n. n.now) (take (i + 1) names)) name ≡ cond (bytes_eq (get_or names i d).now name) true (is_among (map (λ n. n.now) (take i names)) name)
+among_more names i d name within =
+    ap (λ l. is_among (map (λ n. n.now) l) name) (take_more names i d within) ∙ ap (λ l. is_among l name) (map-append (λ n. n.now) (take i names) (get_or names i d ∷ []))
+    ∙ among_push (map (λ n. n.now) (take i names)) (get_or names i d).now name
+
+pub among_at : (names : List (Bor (List ℕ))) (i : ℕ) (d : Bor (List ℕ)) → i < length names → is_among (map (λ n. n.now) names) (get_or names i d).now ≡ true
+among_at [] i d within = absurd (omega (arith, within))
+among_at (n ∷ names) zero d within = ap (λ b. b || is_among (map (λ n. n.now) names) n.now) ((bytes_eq-Decides n.now n.now).1 refl)
+among_at (n ∷ names) (suc i) d within = ap (λ b. bytes_eq n.now (get_or names i d).now || b) (among_at names i d (omega (arith, within))) ∙ or_true (bytes_eq n.now (get_or names i d).now)
+
+-- ---- the map, where a name's indices are taken out, and where one is added
+
+items_of : Option (Vec ℕ) → List ℕ
+items_of o = option_map_or (λ indices. indices.items) o []
+
+pub taken_left : (m new : Map) (name other : List ℕ) → get_by (λ k. slice_cmp nat_cmp other k.now) new ≡ cond (bytes_eq name other) None (get_by (λ k. slice_cmp nat_cmp other k.now) m)
+    → holders_in new other ≡ cond (bytes_eq name other) [] (holders_in m other)
+unfolding items_of
+taken_left m new name other is = ap items_of is ∙ of (bytes_eq name other) (get_by (λ k. slice_cmp nat_cmp other k.now) m) where
+  of : (b : Bool) (o : Option (Vec ℕ)) → items_of (cond b None o) ≡ cond b [] (items_of o)
+  of true o = refl
+  of false o = refl
+
+pub holder_added : (m mid new : Map) (name : List ℕ) (index : ℕ) (v : Vec ℕ) → v.items ≡ holders_in m name ++ index ∷ [] → ((other : List ℕ) → holders_in mid other ≡ cond (bytes_eq name other) [] (holders_in m other)) → (other : List ℕ)
+    → get_by (λ k. slice_cmp nat_cmp other k.now) new ≡ cond (bytes_eq name other) (Some v) (get_by (λ k. slice_cmp nat_cmp other k.now) mid) → holders_in new other ≡ cond (bytes_eq name other) (holders_in m other ++ index ∷ []) (holders_in m other)
+unfolding items_of
+holder_added m mid new name index v items left other is = of (bytes_eq name other) refl where
+  of : (b : Bool) → bytes_eq name other ≡ b → holders_in new other ≡ cond (bytes_eq name other) (holders_in m other ++ index ∷ []) (holders_in m other)
+  of true same =
+      ap items_of (is ∙ ap (λ b. cond b (Some v) (get_by (λ k. slice_cmp nat_cmp other k.now) mid)) same) ∙ items ∙ ap (λ n. holders_in m n ++ index ∷ []) ((bytes_eq-Decides name other).0 same)
+      ∙ sym (ap (λ b. cond b (holders_in m other ++ index ∷ []) (holders_in m other)) same)
+  of false other_name =
+      ap items_of (is ∙ ap (λ b. cond b (Some v) (get_by (λ k. slice_cmp nat_cmp other k.now) mid)) other_name) ∙ left other ∙ ap (λ b. cond b [] (holders_in m other)) other_name
+      ∙ sym (ap (λ b. cond b (holders_in m other ++ index ∷ []) (holders_in m other)) other_name)
+
+abbrev nobody : Node
 nobody = record { names = []; references = [] }
 
 -- the thing at an index, where there is one more
@@ -56,6 +104,17 @@ holders_push nodes node m m' so more name index =
     let now = more name index in
     let both = node_push nodes node index name in
     (λ h. both.1 (⊎_elim (λ x. inl (was.0 x)) (λ x. inr x) (now.0 h)), λ h. now.1 (⊎_elim (λ x. inl (was.1 x)) (λ x. inr x) (both.0 h)))
+
+pub holders_next : (links : List Links) (i : ℕ) (link : Links) (names : List (Bor (List ℕ))) (m m' : Map) → i < length links → link ≡ get_or links i link → names ≡ link.names.items → AreHolders (map node_of (take i links)) m
+    → ((name : List ℕ) (one : ℕ) → Contains (holders_in m' name) one ↔ (Contains (holders_in m name) one ⊎ ((one ≡ i) × (is_among (map (λ n. n.now) names) name ≡ true))))
+    → AreHolders (map node_of (take (i + 1) links)) m'
+holders_next links i link names m m' within is named so more =
+    let before = map node_of (take i links) in
+    let long : i ≡ length before = omega (arith, length-map (take i links) node_of, length-take i links, within) in
+    let here : map node_of (take (i + 1) links) ≡ before ++ node_of link ∷ [] = ap (map node_of) (take_more links i link within ∙ ap (λ l. take i links ++ l ∷ []) (sym is)) ∙ map-append node_of (take i links) (link ∷ []) in
+    subst (λ nodes. AreHolders nodes m') (sym here) (holders_push before (node_of link) m m' so
+        (λ name one. subst (λ k. Contains (holders_in m' name) one ↔ (Contains (holders_in m name) one ⊎ ((one ≡ k) × (is_among (map (λ n. n.now) link.names.items) name ≡ true)))) long
+        (subst (λ l. Contains (holders_in m' name) one ↔ (Contains (holders_in m name) one ⊎ ((one ≡ i) × (is_among (map (λ n. n.now) l) name ≡ true)))) named (more name one))))
 
 -- what has a name stands in the list
 pub named_below : (nodes : List Node) (index : ℕ) (name : List ℕ) → HasName nodes index name → index < length nodes
@@ -103,6 +162,18 @@ marks_then P old before mid between new after first second = record {
   as_many = omega (arith, first.as_many, second.as_many);
 }
 
+-- the next of some indices gets a mark, where it has none
+pub mark_next : (indices : List ℕ) (k : ℕ) (old : List Bool) (before : List ℕ) (marks marks' : List Bool) (pending pending' : List ℕ) → k < length indices → get_or indices k 0 < length marks → get_or marks (get_or indices k 0) false ≡ false
+    → marks' ≡ set marks (get_or indices k 0) true → pending' ≡ pending ++ get_or indices k 0 ∷ [] → Marks (Contains indices) old before marks pending → Marks (Contains indices) old before marks' pending'
+mark_next indices k old before marks marks' pending pending' below within none s p h =
+    let r = get_or indices k 0 in
+    let one = marks_weaker (λ i. i ≡ r) (Contains indices) (λ i e. subst (Contains indices) (sym e) (Contains-get_or indices k 0 below)) marks pending (set marks r true) (pending ++ r ∷ []) (one_marked marks pending r within none) in
+    rw (s, p) (marks_then (Contains indices) old before marks pending (set marks r true) (pending ++ r ∷ []) h one)
+
+-- marks on the first of some indices, and one more
+pub all_next : (indices : List ℕ) (k : ℕ) (marks marks' : List Bool) → k < length indices → ((i : ℕ) → IsMarked marks i → IsMarked marks' i) → IsMarked marks' (get_or indices k 0) → All (IsMarked marks) (take k indices) → All (IsMarked marks') (take (k + 1) indices)
+all_next indices k marks marks' below kept here all = All-more (IsMarked marks') indices k 0 below (All-weaker (IsMarked marks) (IsMarked marks') kept (take k indices) all) here
+
 -- ---- names that are looked up, one after another
 
 -- nothing is looked up yet
@@ -137,6 +208,10 @@ one_looked_up m mid new names one marks marks' h kept all left =
 pub holder_before : (m mid : Map) (names : List (List ℕ)) (marks : List Bool) (name : List ℕ) (i : ℕ) → Expands m names marks mid → Contains (holders_in mid name) i → Contains (holders_in m name) i
 holder_before m mid names marks name i h c = ⊎_elim (λ e. subst (λ l. Contains l i) e c) (λ x. absurd (contains_none i (subst (λ l. Contains l i) x.0 c))) (h.left name)
 
+-- what is left by some lookups lies below
+pub left_below : (m mid : Map) (names : List (List ℕ)) (marks : List Bool) (n : ℕ) → Expands m names marks mid → ((other : List ℕ) → All (λ i. i < n) (holders_in m other)) → (other : List ℕ) → All (λ i. i < n) (holders_in mid other)
+left_below m mid names marks n h below other = ⊎_elim (λ e. subst (λ l. All (λ i. i < n) l) (sym e) (below other)) (λ x. subst (λ l. All (λ i. i < n) l) (sym x.0) (λ k d no. absurd (omega (arith, no)))) (h.left other)
+
 -- ---- the search
 
 -- what has a name has a mark
@@ -167,10 +242,7 @@ module _ (names : List (List ℕ)) (nodes : List Node) where
   }
 
   pub bounded : (m : Map) (marks : List Bool) → IsBegun m marks → (name : List ℕ) → All (λ i. i < length marks) (holders_in m name)
-  bounded m marks h name = All-from_get_or (λ i. i < length marks) (holders_in m name) 0 (λ k below. omega (arith, h.same_length, named_below nodes (get_or (holders_in m name) k 0) name (h.held name _ (contains_at (holders_in m name) k below))))
-    where
-    contains_at : (l : List ℕ) (k : ℕ) → k < length l → Contains l (get_or l k 0)
-    contains_at l k below = ?
+  bounded m marks h name = All-from_get_or (λ i. i < length marks) (holders_in m name) 0 (λ k below. omega (arith, h.same_length, named_below nodes (get_or (holders_in m name) k 0) name (h.held name _ (Contains-get_or (holders_in m name) k 0 below))))
 
   -- more names were looked up
   module _ (m m' : Map) (marks marks' : List Bool) (pending pending' : List ℕ) (asked_for : List (List ℕ)) (len : length marks' ≡ length marks) (marked : Marks (AreHoldersIn m asked_for) marks pending marks' pending')
@@ -234,5 +306,38 @@ module _ (names : List (List ℕ)) (nodes : List Node) where
   pub search_all : (m : Map) (marks : List Bool) → IsSearch m marks [] → AreMarks (IsNeeded names nodes) (length nodes) marks
   search_all m marks h = record {
     same_length = h.begun.same_length;
-    each = λ i below. (λ now. h.begun.sound i ?, λ needed. ?);
+    each = λ i below. (λ now. h.begun.sound i now, λ needed. complete m marks i h needed);
   }
+
+  -- the search begins with no marks
+  pub search_start : (m m' : Map) (old marks' : List Bool) (before pending' : List ℕ) → old ≡ replicate (length nodes) false → before ≡ [] → length marks' ≡ length old → Marks (AreHoldersIn m names) old before marks' pending' → Expands m names marks' m'
+      → AreHolders nodes m → IsSearch m' marks' pending'
+  search_start m m' old marks' before pending' none empty len marked expands holders =
+      let unmarked_yet : (i : ℕ) → IsMarked old i → ⊥ = λ i h. none_marked (length nodes) i (subst (λ l. IsMarked l i) none h) in
+      search_first m m' old marks' pending' len unmarked_yet (subst (λ l. Marks (AreHoldersIn m names) old l marks' pending') empty marked) expands
+          (at_first m old (ap length none ∙ length-replicate (length nodes) false) unmarked_yet holders)
+
+  -- before it begins, what has a name lies below
+  pub start_bounded : (m : Map) (old : List Bool) → old ≡ replicate (length nodes) false → AreHolders nodes m → (name : List ℕ) → All (λ i. i < length old) (holders_in m name)
+  start_bounded m old none holders = bounded m old (at_first m old (ap length none ∙ length-replicate (length nodes) false) (λ i h. none_marked (length nodes) i (subst (λ l. IsMarked l i) none h)) holders)
+
+  -- what waits lies below
+  pub waiting_below : (m : Map) (marks : List Bool) (before pending : List ℕ) (index : ℕ) → before ≡ pending ++ index ∷ [] → IsSearch m marks before → index < length nodes
+  waiting_below m marks before pending index popped h =
+      let below = marked_below marks index (h.waits index (subst (λ l. Contains l index) (sym popped) (Contains-push pending index))) in
+      omega (arith, below, h.begun.same_length)
+
+node_of_at : (links : List Links) (index : ℕ) (link : Links) → index < length links → link ≡ get_or links index link → node_at (map node_of links) index ≡ node_of link
+node_of_at [] index link within is = absurd (omega (arith, within))
+node_of_at (l ∷ links) zero link within is = ap node_of (sym is)
+node_of_at (l ∷ links) (suc index) link within is = node_of_at links index link (omega (arith, within)) is
+
+-- a step of the search
+pub search_step : (names : List (List ℕ)) (links : List Links) (m m' : Map) (marks old marks' : List Bool) (before pending pending' : List ℕ) (index : ℕ) (link : Links) (refs : List (Bor (List ℕ))) → old ≡ marks → before ≡ pending ++ index ∷ []
+    → index < length links → link ≡ get_or links index link → refs ≡ link.references.items → length marks' ≡ length old → Marks (AreHoldersIn m (map (λ n. n.now) refs)) old pending marks' pending' → Expands m (map (λ n. n.now) refs) marks' m'
+    → IsSearch names (map node_of links) m marks before → IsSearch names (map node_of links) m' marks' pending'
+search_step names links m m' marks old marks' before pending pending' index link refs same popped within is refers len marked expands h =
+    let here : map (λ n. n.now) refs ≡ (node_at (map node_of links) index).references = ap (map (λ n. n.now)) refers ∙ ap (λ node. node.references) (sym (node_of_at links index link within is)) in
+    search_more names (map node_of links) m m' marks marks' before pending pending' index popped (len ∙ ap length same)
+        (subst (λ l. Marks (AreHoldersIn m l) marks pending marks' pending') here (subst (λ l. Marks (AreHoldersIn m (map (λ n. n.now) refs)) l pending marks' pending') same marked))
+        (subst (λ l. Expands m l marks' m') here expands) h

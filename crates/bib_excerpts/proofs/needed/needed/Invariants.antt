@@ -5,7 +5,7 @@ use Rattle.bib_excerpts.proofs.SearchFacts.{IsSearch}
 use Rattle.bib_excerpts.proofs.needed.needed.Given as goal
 
 abbrev pub decreases-search : goal.decreases-search
-decreases-search l = unmarked l.marks + length l.pending.items
+decreases-search l = unmarked l.marks.items + length l.pending.items
 
 abbrev pub invariant-search : goal.invariant-search
-invariant-search l = IsSearch (map (λ n. n.now) l.names) (map node_of l.links) l.holders l.marks l.pending.items
+invariant-search l = IsSearch (map (λ n. n.now) l.names) (map node_of l.links) l.holders l.marks.items l.pending.items
