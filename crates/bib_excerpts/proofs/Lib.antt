@@ -1,3 +1,5 @@
+pub mod CitedFacts
+pub mod DefinitionFacts
 pub mod ExcerptFacts
 pub mod MarkFacts
 pub mod PartFacts

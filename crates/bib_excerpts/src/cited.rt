@@ -29,10 +29,12 @@ fn cited_entries(
         (map entry_node (map entry_reading_of entries.now))) (length entries.now) marks.items) }
 {
     if cited.all {
-        return vec![in alloc; true; entries.len()];
+        let marks = vec![in alloc; true; entries.len()]?;
+        return Ok(marks);
     }
     let links = links_of_entries(alloc, entries)?;
-    needed(alloc, &cited.keys, &links)
+    let marks = needed(alloc, &cited.keys, &links)?;
+    Ok(marks)
 }
 
 // Adds the abbreviations in an entry, if it has a mark.
@@ -76,7 +78,8 @@ fn used_definitions(
 {
     let names = used(alloc, &raw.entries, marks)?;
     let links = links_of_definitions(alloc, &raw.abbreviations)?;
-    needed(alloc, &names, &links)
+    let marks = needed(alloc, &names, &links)?;
+    Ok(marks)
 }
 
 // The definition of an abbreviation, from its name to the end of its value.
