@@ -1,5 +1,5 @@
 -- Where entries stand in a text, and what is printed of them one after another.
-use Rattle.std.proofs.Common.{◌≡◌, ◌≤◌, ◌<◌, ◌+◌, ◌-◌, ◌||◌, ℕ, Bool, true, false,  List, [], ◌∷◌, ◌++◌, map, drop, length, get_or, refl, sym, ap, ap₂, subst, ◌∙◌, arith}
+use Rattle.std.proofs.Common.{◌≡◌, ◌≤◌, ◌<◌, ◌+◌, ◌-◌, ◌||◌, ℕ, Bool, true, false, List, [], ◌∷◌, ◌++◌, map, drop, length, get_or, refl, sym, ap, ap₂, subst, ◌∙◌, arith}
 use Rattle.std.specs.List.{list_any, flat_map}
 use Rattle.std.specs.Char.{len_utf8}
 use Rattle.std.specs.Str.{IsUtf8, IsCharBoundary}
@@ -47,9 +47,10 @@ closes (entry v key white comma gap fields sign) is = record {
 -- the byte at which a character of ASCII stands
 byte_here : {u v : Place} (c : ℕ) → c < 128 → CharAt u c v → (u.at < length u.text) × (get_or u.text u.at 0 ≡ c)
 byte_here {u} {v} c small char =
-    let width : 1 ≤ len_utf8 c = (len_utf8_bounds c).0 in
-    (omega (arith, char_left char, width),
-    sym (ap (λ n. get_or u.text n 0) (omega arith)) ∙ sym (get_or-drop u.at u.text 0 0) ∙ ap (λ t. get_or t 0 0) (char.here ∙ ap (λ t. t ++ drop v.at u.text) (encode_ascii c small)))
+    let width : 1 ≤ len_utf8 c = (len_utf8_bounds c).0 in (
+      omega (arith, char_left char, width),
+      sym (ap (λ n. get_or u.text n 0) (omega arith)) ∙ sym (get_or-drop u.at u.text 0 0) ∙ ap (λ t. get_or t 0 0) (char.here ∙ ap (λ t. t ++ drop v.at u.text) (encode_ascii c small)),
+    )
 
 -- where an entry may be cut out of its text
 pub record CanBeCut (text : List ℕ) (e : EntryReading) : Type 0 where

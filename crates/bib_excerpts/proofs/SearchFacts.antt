@@ -37,11 +37,11 @@ pub holder_more : (b : Bool) (old now after : List ℕ) (index one : ℕ) (among
     → Contains now one ↔ (Contains old one ⊎ ((one ≡ index) × (among ≡ true))) → Contains after one ↔ (Contains old one ⊎ ((one ≡ index) × (among' ≡ true)))
 holder_more true old now after index one among among' is is' so = (
   λ h. ⊎_elim (λ was. ⊎_elim (λ o. inl o) (λ x. inr (x.0, is')) (so.0 was)) (λ e. inr (sym e, is')) (Contains-push_cases now index one (subst (λ l. Contains l one) is h)),
-  λ h. subst (λ l. Contains l one) (sym is) (⊎_elim (λ o. Contains-append_left now (index ∷ []) one (so.1 (inl o))) (λ x. subst (λ p. Contains (now ++ index ∷ []) p) (sym x.0) (Contains-push now index)) h)
+  λ h. subst (λ l. Contains l one) (sym is) (⊎_elim (λ o. Contains-append_left now (index ∷ []) one (so.1 (inl o))) (λ x. subst (λ p. Contains (now ++ index ∷ []) p) (sym x.0) (Contains-push now index)) h),
 )
 holder_more false old now after index one among among' is is' so = (
   λ h. ⊎_elim (λ o. inl o) (λ x. inr (x.0, is' ∙ x.1)) (so.0 (subst (λ l. Contains l one) is h)),
-  λ h. subst (λ l. Contains l one) (sym is) (so.1 (⊎_elim (λ o. inl o) (λ x. inr (x.0, sym is' ∙ x.1)) h))
+  λ h. subst (λ l. Contains l one) (sym is) (so.1 (⊎_elim (λ o. inl o) (λ x. inr (x.0, sym is' ∙ x.1)) h)),
 )
 
 or_true : (b : Bool) → b || true ≡ true
@@ -113,8 +113,8 @@ holders_next links i link names m m' within is named so more =
     let long : i ≡ length before = omega (arith, length-map (take i links) node_of, length-take i links, within) in
     let here : map node_of (take (i + 1) links) ≡ before ++ node_of link ∷ [] = ap (map node_of) (take_more links i link within ∙ ap (λ l. take i links ++ l ∷ []) (sym is)) ∙ map-append node_of (take i links) (link ∷ []) in
     subst (λ nodes. AreHolders nodes m') (sym here) (holders_push before (node_of link) m m' so
-        (λ name one. subst (λ k. Contains (holders_in m' name) one ↔ (Contains (holders_in m name) one ⊎ ((one ≡ k) × (is_among (map (λ n. n.now) link.names.items) name ≡ true)))) long
-        (subst (λ l. Contains (holders_in m' name) one ↔ (Contains (holders_in m name) one ⊎ ((one ≡ i) × (is_among (map (λ n. n.now) l) name ≡ true)))) named (more name one))))
+    (λ name one. subst (λ k. Contains (holders_in m' name) one ↔ (Contains (holders_in m name) one ⊎ ((one ≡ k) × (is_among (map (λ n. n.now) link.names.items) name ≡ true)))) long
+    (subst (λ l. Contains (holders_in m' name) one ↔ (Contains (holders_in m name) one ⊎ ((one ≡ i) × (is_among (map (λ n. n.now) l) name ≡ true)))) named (more name one))))
 
 -- what has a name stands in the list
 pub named_below : (nodes : List Node) (index : ℕ) (name : List ℕ) → HasName nodes index name → index < length nodes
@@ -191,18 +191,21 @@ one_looked_up m mid new names one marks marks' h kept all left =
       looked_up = λ name among. looked name (bytes_eq one name) refl (sym (among_push names one name) ∙ among);
       left = λ name. lefts name (bytes_eq one name) refl;
     } where
-  kept_all : (name : List ℕ) → All (IsMarked marks) (holders_in m name) → All (IsMarked marks') (holders_in m name)
-  kept_all name a = All-weaker (IsMarked marks) (IsMarked marks') kept (holders_in m name) a
-  marked_here : (name : List ℕ) → one ≡ name → All (IsMarked marks') (holders_in m name)
-  marked_here name same = subst (λ n. All (IsMarked marks') (holders_in m n)) same (⊎_elim (λ e. subst (λ l. All (IsMarked marks') l) e all) (λ x. kept_all one x.1) (h.left one))
-  looked : (name : List ℕ) (b : Bool) → bytes_eq one name ≡ b → cond b true (is_among names name) ≡ true → All (IsMarked marks') (holders_in m name)
-  looked name true is among = marked_here name ((bytes_eq-Decides one name).0 is)
-  looked name false is among = kept_all name (h.looked_up name among)
-  lefts : (name : List ℕ) (b : Bool) → bytes_eq one name ≡ b → (holders_in new name ≡ holders_in m name) ⊎ ((holders_in new name ≡ []) × All (IsMarked marks') (holders_in m name))
-  lefts name true is = inr (left name ∙ ap (λ b. cond b [] (holders_in mid name)) is, marked_here name ((bytes_eq-Decides one name).0 is))
-  lefts name false is =
-      let same : holders_in new name ≡ holders_in mid name = left name ∙ ap (λ b. cond b [] (holders_in mid name)) is in
-      ⊎_elim (λ e. inl (same ∙ e)) (λ x. inr (same ∙ x.0, kept_all name x.1)) (h.left name)
+      kept_all : (name : List ℕ) → All (IsMarked marks) (holders_in m name) → All (IsMarked marks') (holders_in m name)
+      kept_all name a = All-weaker (IsMarked marks) (IsMarked marks') kept (holders_in m name) a
+
+      marked_here : (name : List ℕ) → one ≡ name → All (IsMarked marks') (holders_in m name)
+      marked_here name same = subst (λ n. All (IsMarked marks') (holders_in m n)) same (⊎_elim (λ e. subst (λ l. All (IsMarked marks') l) e all) (λ x. kept_all one x.1) (h.left one))
+
+      looked : (name : List ℕ) (b : Bool) → bytes_eq one name ≡ b → cond b true (is_among names name) ≡ true → All (IsMarked marks') (holders_in m name)
+      looked name true is among = marked_here name ((bytes_eq-Decides one name).0 is)
+      looked name false is among = kept_all name (h.looked_up name among)
+
+      lefts : (name : List ℕ) (b : Bool) → bytes_eq one name ≡ b → (holders_in new name ≡ holders_in m name) ⊎ ((holders_in new name ≡ []) × All (IsMarked marks') (holders_in m name))
+      lefts name true is = inr (left name ∙ ap (λ b. cond b [] (holders_in mid name)) is, marked_here name ((bytes_eq-Decides one name).0 is))
+      lefts name false is =
+          let same : holders_in new name ≡ holders_in mid name = left name ∙ ap (λ b. cond b [] (holders_in mid name)) is in
+          ⊎_elim (λ e. inl (same ∙ e)) (λ x. inr (same ∙ x.0, kept_all name x.1)) (h.left name)
 
 -- a holder that is left by some lookups was one before
 pub holder_before : (m mid : Map) (names : List (List ℕ)) (marks : List Bool) (name : List ℕ) (i : ℕ) → Expands m names marks mid → Contains (holders_in mid name) i → Contains (holders_in m name) i
@@ -292,8 +295,8 @@ module _ (names : List (List ℕ)) (nodes : List Node) where
         found = λ name among. kept name (h.found name among);
         closed = λ i now. ⊎_elim
             (λ was. ⊎_elim
-                (λ waited. ⊎_elim (λ c. inl (marked.waiting i c)) (λ e. inr (λ name refers. all name (subst (λ p. RefersTo nodes p name) (sym e) refers))) (Contains-push_cases pending index i (subst (λ l. Contains l i) popped waited)))
-                (λ done. inr (λ name refers. kept name (done name refers))) (h.closed i was))
+            (λ waited. ⊎_elim (λ c. inl (marked.waiting i c)) (λ e. inr (λ name refers. all name (subst (λ p. RefersTo nodes p name) (sym e) refers))) (Contains-push_cases pending index i (subst (λ l. Contains l i) popped waited)))
+            (λ done. inr (λ name refers. kept name (done name refers))) (h.closed i was))
             (λ x. inl x.1) (marked.only i now);
       }
 
@@ -315,7 +318,7 @@ module _ (names : List (List ℕ)) (nodes : List Node) where
   search_start m m' old marks' before pending' none empty len marked expands holders =
       let unmarked_yet : (i : ℕ) → IsMarked old i → ⊥ = λ i h. none_marked (length nodes) i (subst (λ l. IsMarked l i) none h) in
       search_first m m' old marks' pending' len unmarked_yet (subst (λ l. Marks (AreHoldersIn m names) old l marks' pending') empty marked) expands
-          (at_first m old (ap length none ∙ length-replicate (length nodes) false) unmarked_yet holders)
+      (at_first m old (ap length none ∙ length-replicate (length nodes) false) unmarked_yet holders)
 
   -- before it begins, what has a name lies below
   pub start_bounded : (m : Map) (old : List Bool) → old ≡ replicate (length nodes) false → AreHolders nodes m → (name : List ℕ) → All (λ i. i < length old) (holders_in m name)
@@ -339,5 +342,5 @@ pub search_step : (names : List (List ℕ)) (links : List Links) (m m' : Map) (m
 search_step names links m m' marks old marks' before pending pending' index link refs same popped within is refers len marked expands h =
     let here : map (λ n. n.now) refs ≡ (node_at (map node_of links) index).references = ap (map (λ n. n.now)) refers ∙ ap (λ node. node.references) (sym (node_of_at links index link within is)) in
     search_more names (map node_of links) m m' marks marks' before pending pending' index popped (len ∙ ap length same)
-        (subst (λ l. Marks (AreHoldersIn m l) marks pending marks' pending') here (subst (λ l. Marks (AreHoldersIn m (map (λ n. n.now) refs)) l pending marks' pending') same marked))
-        (subst (λ l. Expands m l marks' m') here expands) h
+    (subst (λ l. Marks (AreHoldersIn m l) marks pending marks' pending') here (subst (λ l. Marks (AreHoldersIn m (map (λ n. n.now) refs)) l pending marks' pending') same marked))
+    (subst (λ l. Expands m l marks' m') here expands) h

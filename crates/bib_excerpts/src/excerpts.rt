@@ -37,7 +37,7 @@ fn has_part(text: &str, part: &str) -> bool
 
 // Whether a text stands in an element of a value.
 fn is_in_value(value: &[Spanned<RawChunk<'_>>], part: &str) -> bool
-    ensures { result ≡ list_any (λ piece. answers.has_part part.now (piece_text piece)) (map piece_of value.now) }
+    ensures { result ≡ list_any (λ piece. answers.has_part part.now (piece_text (piece_of piece))) value.now }
 {
     value.iter().any(|piece| has_part(text_of(piece), part))
 }
@@ -51,9 +51,16 @@ fn is_found(field: &Pair<'_>, search: &Search<'_>) -> bool
 
 // Whether a text stands in one of the fields with the name that is looked for.
 fn is_in_fields(fields: &[Pair<'_>], search: &Search<'_>) -> bool
-    ensures { result ≡ list_any (answers.is_found search.now.field.now search.now.part.now) (map field_of fields.now) }
+    ensures { result ≡ list_any (λ f. answers.is_found search.now.field.now search.now.part.now (field_of f)) fields.now }
 {
     fields.iter().any(|field| is_found(field, search))
+}
+
+// Whether a text stands in one of the fields of an entry with the name that is looked for.
+fn is_found_in(entry: &Spanned<RawEntry<'_>>, search: &Search<'_>) -> bool
+    ensures { result ≡ answers.is_found_in search.now.field.now search.now.part.now (entry_reading_of entry.now) }
+{
+    is_in_fields(&entry.v.fields, search)
 }
 
 // An entry as it stands in the text.
@@ -140,7 +147,7 @@ fn grep(
 {
     let mut printed = String::new(alloc);
     'entries: for entry in entries {
-        print_if(&mut printed, text, entry, is_in_fields(&entry.v.fields, search))?;
+        print_if(&mut printed, text, entry, is_found_in(entry, search))?;
     }
     Ok(printed)
 }

@@ -74,10 +74,7 @@ fn push_listed<'s>(
 }
 
 // Adds the parts of the comma list that a literal element is.
-fn push_piece<'s>(
-    names: &mut Vec<&'s str>,
-    piece: &Spanned<RawChunk<'s>>,
-) -> Result<(), AllocError>
+fn push_piece<'s>(names: &mut Vec<&'s str>, piece: &Spanned<RawChunk<'s>>) -> Result<(), AllocError>
     ensures { OnOk result (texts names.new ≡ texts names.old ++ spec.piece_parts (piece_of piece.now)) }
 {
     match piece.v {

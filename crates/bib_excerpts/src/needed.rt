@@ -11,11 +11,7 @@ use std::alloc::{AllocError, Global};
 use std::collections::BTreeMap;
 
 // Takes the indices of a name out of a map.
-fn taken(
-    alloc: Global,
-    holders: &mut BTreeMap<&str, Vec<usize>>,
-    name: &str,
-) -> Vec<usize>
+fn taken(alloc: Global, holders: &mut BTreeMap<&str, Vec<usize>>, name: &str) -> Vec<usize>
     ensures items { result.items ≡ holders_in holders.old name.now }
     ensures left { (other : List ℕ) → holders_in holders.new other ≡
         (if bytes_eq name.now other then [] else holders_in holders.old other) }
@@ -142,7 +138,13 @@ pub(crate) fn needed(
     let mut pending = Vec::new(alloc);
     mark_names(alloc, &mut holders, names, &mut marks, &mut pending)?;
     'search: while let Some(index) = pending.pop() {
-        mark_names(alloc, &mut holders, &links[index].references, &mut marks, &mut pending)?;
+        mark_names(
+            alloc,
+            &mut holders,
+            &links[index].references,
+            &mut marks,
+            &mut pending,
+        )?;
     }
     Ok(marks)
 }

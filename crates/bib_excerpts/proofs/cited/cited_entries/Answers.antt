@@ -19,5 +19,5 @@ returns c =
     let things : map node_of c.deref-2.result.now ≡ nodes = ap (map node_of) c.deref-2.ensures.value ∙ c.in_ok-links.ensures in
     let long : length c.deref-2.result.now ≡ length entries = sym (length-map c.deref-2.result.now node_of) ∙ ap length things ∙ length-map (map entry_reading_of entries) entry_node ∙ length-map entries entry_reading_of in
     needed_marks (texts c.args.cited.now.keys) c.args.cited.now.all nodes (length entries) c.in_ok-marks-2.marks.items c.if-cited.false
-        (same_marks (map (λ n. n.now) c.deref.result.now) (texts c.args.cited.now.keys) (map node_of c.deref-2.result.now) nodes (length c.deref-2.result.now) (length entries) c.in_ok-marks-2.marks.items
-        (ap (map (λ n. n.now)) c.deref.ensures.value) things long c.in_ok-marks-2.ensures)
+    (same_marks (map (λ n. n.now) c.deref.result.now) (texts c.args.cited.now.keys) (map node_of c.deref-2.result.now) nodes (length c.deref-2.result.now) (length entries) c.in_ok-marks-2.marks.items
+    (ap (map (λ n. n.now)) c.deref.ensures.value) things long c.in_ok-marks-2.ensures)

@@ -9,7 +9,7 @@ use Rattle.bib_excerpts.proofs.needed.mark_names.Goals as goal
 pub mark_name-requires : goal.mark_name-requires
 mark_name-requires c = λ other.
     subst (λ n. All (λ i. i < n) (holders_in c.names.holders other)) (sym c.names.invariant.length)
-        (left_below c.args.holders.now c.names.holders _ c.names.marks (length c.args.marks.now) c.names.invariant.expands c.requires other)
+    (left_below c.args.holders.now c.names.holders _ c.names.marks (length c.args.marks.now) c.names.invariant.expands c.requires other)
 
 pub names-preserved : goal.names-preserved
 names-preserved c =
