@@ -7,11 +7,11 @@ use Rattle.std.proofs.lemmas.Slice.Eq.{starts_is}
 use Rattle.bib_excerpts.specs.Answers.{has_part}
 
 -- where a text begins with a part
-begins : (part text rest : List ℕ) → text ≡ part ++ rest → starts_with eqb text part ≡ true
+pub begins : (part text rest : List ℕ) → text ≡ part ++ rest → starts_with eqb text part ≡ true
 begins part text rest is = (starts_is Decides-eqb text part (starts_with eqb text part) refl).1 rest is
 
 -- where it doesn't
-begins_not : (part text : List ℕ) → ((rest : List ℕ) → text ≢ part ++ rest) → starts_with eqb text part ≡ false
+pub begins_not : (part text : List ℕ) → ((rest : List ℕ) → text ≢ part ++ rest) → starts_with eqb text part ≡ false
 begins_not part text never = of (starts_with eqb text part) refl where
   of : (b : Bool) → starts_with eqb text part ≡ b → starts_with eqb text part ≡ false
   of true is = absurd (never _ ((starts_is Decides-eqb text part (starts_with eqb text part) refl).0 is))

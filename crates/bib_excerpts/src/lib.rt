@@ -1,6 +1,7 @@
 //! Parts of a bibliography file as they stand in it.
 #![tactic(auto)]
 
+pub mod citations;
 mod cited;
 pub mod excerpts;
 mod names;

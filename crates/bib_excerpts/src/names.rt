@@ -40,7 +40,7 @@ fn is_reference_field(name: &str) -> bool
 }
 
 // Adds the parts of a comma list, without the white space around them; what is empty is no part.
-fn push_parts<'s>(names: &mut Vec<&'s str>, list: &'s str) -> Result<(), AllocError>
+pub(crate) fn push_parts<'s>(names: &mut Vec<&'s str>, list: &'s str) -> Result<(), AllocError>
     ensures { OnOk result (texts names.new ≡ texts names.old ++ comma_parts list.now) }
 {
     'parts: for part in list.split(',') {
