@@ -1,8 +1,9 @@
 -- Meaning: words of public contracts.
 -- What a document cites, by the files that LaTeX writes for BibTeX and BibLaTeX for biber.
 use Rattle.std.specs.Prelude.{◌≡◌, ℕ, ◌+◌, ◌<◌, ◌==◌, ◌||◌, Bool, if◌then◌else◌, List, [], ◌∷◌, ◌++◌, Option, Some, None, bytes_eq, codes, drop, eqb, fold, length, map, nat_lt}
-use Rattle.std.specs.List.{after_first, before_first, list_any, position_or_len, slice_split, starts_with}
+use Rattle.std.specs.List.{after_first, before_first, flat_map, list_any, position_or_len, slice_split, starts_with}
 use Rattle.std.specs.Option.{option_and_then, option_map_or, option_or}
+use Rattle.std.specs.Str.{trim}
 use Rattle.bib_text.specs.Characters as char
 use Rattle.bib_excerpts.specs.Names.{comma_parts, filled}
 use Rattle.bib_excerpts.specs.declared.citations.Citation.{Citation}
@@ -42,6 +43,44 @@ aux_list line = option_and_then last_argument (after_command line)
 -- the keys that a line of an .aux file cites
 abbrev pub aux_cited : List ℕ → List (List ℕ)
 aux_cited line = option_map_or comma_parts (aux_list line) []
+
+-- what stands after the tag that ends first
+abbrev pub after_tag : List ℕ → Option (List ℕ)
+after_tag text = if nat_lt (position_or_len (λ b. b == 62) text) (length text) then Some (after_first (λ b. b == 62) text) else None
+
+-- what stands after the tag of an element `bcf:citekey` that has attributes, where such a tag is what stands after a `<`
+abbrev pub attributed_text : List ℕ → Option (List ℕ)
+attributed_text piece = option_and_then after_tag (after_prefix (codes "bcf:citekey ") piece)
+
+-- the same, whether it has attributes or not
+abbrev pub citekey_text : List ℕ → Option (List ℕ)
+citekey_text piece = option_or (after_prefix (codes "bcf:citekey>") piece) (attributed_text piece)
+
+-- a text in which a name in XML, after its ampersand, is what it begins with, if it is this name, stands for this; else another
+abbrev pub named : List ℕ → List ℕ → List ℕ → List ℕ → List ℕ
+named name character other text = option_map_or (λ rest. character ++ rest) (after_prefix name text) other
+
+-- what a text after an ampersand stands for in XML: one of five names is a character
+abbrev pub unescaped_piece : List ℕ → List ℕ
+unescaped_piece text =
+    named (codes "amp;") (codes "&")
+    (named (codes "lt;") (codes "<")
+    (named (codes "gt;") (codes ">")
+    (named (codes "quot;") (codes "\"")
+    (named (codes "apos;") (codes "'") (codes "&" ++ text) text) text) text) text) text
+
+-- what a text stands for in XML, of which an ampersand stands before it
+abbrev pub unescaped_rest : List ℕ → List ℕ
+unescaped_rest text = flat_map unescaped_piece (slice_split (λ b. b == 38) text)
+
+-- what a text stands for in XML
+abbrev pub unescaped : List ℕ → List ℕ
+unescaped text =
+    if nat_lt (position_or_len (λ b. b == 38) text) (length text) then before_first (λ b. b == 38) text ++ unescaped_rest (after_first (λ b. b == 38) text) else text
+
+-- the key that an element of a control file cites, given what stands after its `<`
+abbrev pub bcf_cited : List ℕ → List (List ℕ)
+bcf_cited piece = option_map_or (λ text. filled (trim (unescaped text))) (citekey_text piece) []
 
 -- the citations of these keys at a place
 abbrev pub cites_at : ℕ → List (List ℕ) → List Citation
