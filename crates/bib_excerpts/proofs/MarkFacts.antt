@@ -2,7 +2,8 @@
 use Rattle.std.proofs.Common.{◌≡◌, ◌≢◌, ◌≤◌, ◌<◌, ◌+◌, ◌||◌, ℕ, zero, suc, Bool, true, false, not, cond, List, [], ◌∷◌, ◌++◌, take, map, length, get_or, set, replicate, refl, sym, ap, subst, ◌∙◌, arith, append_assoc, append-nil, get_or-set_same, get_or-set_other, ◌⊎◌, inl, inr}
 use Rattle.std.specs.Prelude.{min}
 use Rattle.std.specs.List.{flat_map, list_any, count_by, AllByRecursion, Contains}
-use Rattle.std.proofs.lemmas.List.{get_or_past, get_or-replicate, length-replicate}
+use Rattle.std.proofs.lemmas.List.{get_or_past, get_or-replicate, length-replicate, map-append, take_more}
+use Rattle.std.proofs.lemmas.List.Concat.{flat_map-append}
 use Rattle.std.proofs.lemmas.List.Sums.{sum_by-set}
 use Rattle.std.proofs.lemmas.Bool.{false≢true, cases_lt}
 use Rattle.std.proofs.lemmas.Bool.Decides.{eqb_tells}
@@ -66,6 +67,27 @@ any_push test (y ∷ xs) x = ap (λ b. test y || b) (any_push test xs x) ∙ of 
   of true false c = refl
   of false true c = refl
   of false false c = refl
+
+-- a test of what is made of the first and of one more
+pub any_more : {X Y : Type 0} (v : X → Y) (test : Y → Bool) (xs : List X) (i : ℕ) (d : X) → i < length xs → list_any test (map v (take (i + 1) xs)) ≡ cond (test (v (get_or xs i d))) true (list_any test (map v (take i xs)))
+any_more v test xs i d within =
+    ap (λ l. list_any test (map v l)) (take_more xs i d within) ∙ ap (list_any test) (map-append v (take i xs) (get_or xs i d ∷ [])) ∙ any_push test (map v (take i xs)) (v (get_or xs i d))
+
+or_true : (b : Bool) → b || true ≡ true
+or_true true = refl
+or_true false = refl
+
+-- what is made of one passes
+pub any_at : {X Y : Type 0} (v : X → Y) (test : Y → Bool) (xs : List X) (i : ℕ) (d : X) → i < length xs → test (v (get_or xs i d)) ≡ true → list_any test (map v xs) ≡ true
+any_at v test [] i d within passes = absurd (omega (arith, within))
+any_at v test (x ∷ xs) zero d within passes = ap (λ b. b || list_any test (map v xs)) passes
+any_at v test (x ∷ xs) (suc i) d within passes = ap (λ b. test (v x) || b) (any_at v test xs i d (omega (arith, within)) passes) ∙ or_true (test (v x))
+
+-- what is made of the first and of one more
+pub made_of_more : {X Y A : Type 0} (v : X → Y) (f : Y → List A) (xs : List X) (i : ℕ) (x : X) → i < length xs → get_or xs i x ≡ x → flat_map f (map v (take (i + 1) xs)) ≡ flat_map f (map v (take i xs)) ++ f (v x)
+made_of_more v f xs i x within is =
+    ap (λ l. flat_map f (map v l)) (take_more xs i x within ∙ ap (λ y. take i xs ++ y ∷ []) is) ∙ ap (flat_map f) (map-append v (take i xs) (x ∷ []))
+    ∙ flat_map-append f (map v (take i xs)) (v x ∷ []) ∙ ap (λ l. flat_map f (map v (take i xs)) ++ l) (append-nil (f (v x)))
 
 -- ---- marks
 

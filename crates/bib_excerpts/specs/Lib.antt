@@ -2,6 +2,7 @@ pub mod Answers
 pub mod Citations
 pub mod Cited
 pub mod Collecting
+pub mod Known
 pub mod Names
 pub mod Needed
 pub mod Searching

@@ -4,6 +4,7 @@
 pub mod citations;
 mod cited;
 pub mod excerpts;
+pub mod known;
 mod names;
 mod needed;
 pub mod request;
