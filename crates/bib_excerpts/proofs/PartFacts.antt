@@ -1,0 +1,39 @@
+-- A text that stands in another.
+use Rattle.std.proofs.Common.{◌≡◌, ◌≢◌, ◌≤◌, ◌<◌, ◌+◌, ◌-◌, ◌||◌, ℕ, zero, suc, Bool, true, false, List, [], ◌∷◌, ◌++◌, drop, length, refl, sym, ap, ap₂, ◌∙◌, arith, MatchBool, MatchOption, Option, Some, None, eqb}
+use Rattle.std.specs.List.{starts_with}
+use Rattle.std.specs.Str.Pattern.{FindsText, HasMatch, LacksTextAt}
+use Rattle.std.proofs.lemmas.Bool.Decides.{Decides-eqb}
+use Rattle.std.proofs.lemmas.Slice.Eq.{starts_is}
+use Rattle.bib_excerpts.specs.Answers.{has_part}
+
+-- where a text begins with a part
+pub begins : (part text rest : List ℕ) → text ≡ part ++ rest → starts_with eqb text part ≡ true
+begins part text rest is = (starts_is Decides-eqb text part (starts_with eqb text part) refl).1 rest is
+
+-- where it doesn't
+pub begins_not : (part text : List ℕ) → ((rest : List ℕ) → text ≢ part ++ rest) → starts_with eqb text part ≡ false
+begins_not part text never = of (starts_with eqb text part) refl where
+  of : (b : Bool) → starts_with eqb text part ≡ b → starts_with eqb text part ≡ false
+  of true is = absurd (never _ ((starts_is Decides-eqb text part (starts_with eqb text part) refl).0 is))
+  of false is = is
+
+or_true : (b : Bool) → b || true ≡ true
+or_true true = refl
+or_true false = refl
+
+-- a part that stands at some place
+part_at : (part text : List ℕ) (at : ℕ) (rest : List ℕ) → drop at text ≡ part ++ rest → has_part part text ≡ true
+part_at part [] zero rest is = begins part [] rest is
+part_at part [] (suc at) rest is = begins part [] rest is
+part_at part (b ∷ text) zero rest is = ap (λ d. d || has_part part text) (begins part (b ∷ text) rest is)
+part_at part (b ∷ text) (suc at) rest is = ap (λ d. starts_with eqb (b ∷ text) part || d) (part_at part text at rest is) ∙ or_true (starts_with eqb (b ∷ text) part)
+
+-- a part that stands at no place
+part_nowhere : (part text : List ℕ) → ((at : ℕ) → at ≤ length text → LacksTextAt part text at) → has_part part text ≡ false
+part_nowhere part [] lacks = begins_not part [] (lacks 0 (omega arith))
+part_nowhere part (b ∷ text) lacks = ap₂ (λ c d. c || d) (begins_not part (b ∷ text) (lacks 0 (omega arith))) (part_nowhere part text (λ at within. lacks (suc at) (omega (arith, within))))
+
+-- what is found is what stands there
+pub part_found : (part text : List ℕ) (found : Bool) → MatchBool found (HasMatch (FindsText part) text) (FindsText part text None) → found ≡ has_part part text
+part_found part text true at = sym (part_at part text at.0 (drop at.1 text) at.2.1.split)
+part_found part text false lacks = sym (part_nowhere part text lacks)

@@ -1,0 +1,57 @@
+-- Meaning: words of public contracts.
+-- What is printed of a text for each request.
+use Rattle.std.specs.Prelude.{◌≡◌, ℕ, Bool, ◌||◌, ◌&&◌, if◌then◌else◌, List, [], ◌∷◌, eqb, map}
+use Rattle.std.specs.List.{flat_map, list_any, starts_with}
+use Rattle.bib_syntax.specs.Grammar.{is_word}
+use Rattle.bib_syntax.specs.Reading.{EntryReading, FieldReading, FileReading, Piece}
+use Rattle.bib_syntax.specs.Reading.Piece.{abbreviation, literal}
+use Rattle.bib_syntax.specs.Recovery.{IsRecovery}
+use Rattle.bib_syntax.specs.declared.raw.recovery.SkippedBlock.{SkippedBlock}
+use Rattle.bib_excerpts.specs.Cited.{IsExcerpt, entry_line, line}
+use Rattle.bib_excerpts.specs.Needed.{is_among}
+use Rattle.bib_excerpts.specs.declared.request.Request.{Request}
+use Rattle.bib_excerpts.specs.declared.request.Request.TheVariants.{Keys, Get, Grep, Cited}
+
+-- whether a text stands in another
+abbrev pub has_part : List ℕ → List ℕ → Bool
+has_part part [] = starts_with eqb [] part
+has_part part (b ∷ rest) = starts_with eqb (b ∷ rest) part || has_part part rest
+
+-- the text of an element
+abbrev pub piece_text : Piece → List ℕ
+piece_text (literal p) = p.text
+piece_text (abbreviation p) = p.text
+
+-- whether a field has this name, in any ASCII case, and this text stands in an element of its value
+abbrev pub is_found : List ℕ → List ℕ → FieldReading → Bool
+is_found name part f = is_word f.name.text name && list_any (λ piece. has_part part (piece_text piece)) f.value.pieces
+
+-- each key in a line of its own
+abbrev pub key_lines : List EntryReading → List ℕ
+key_lines entries = flat_map (λ e. line e.key.text) entries
+
+-- the entries that pass a test, as they stand, each with a line feed after it
+abbrev pub passing_lines : (EntryReading → Bool) → List ℕ → List EntryReading → List ℕ
+passing_lines test text entries = flat_map (λ e. if test e then entry_line text e else []) entries
+
+-- whether an entry has one of these keys
+abbrev pub has_key : List (List ℕ) → EntryReading → Bool
+has_key keys e = is_among keys e.key.text
+
+-- whether a text stands in a field of this name of an entry
+abbrev pub is_found_in : List ℕ → List ℕ → EntryReading → Bool
+is_found_in name part e = list_any (is_found name part) e.fields
+
+-- what is printed of what a text says
+abbrev pub IsPrinted : Request → List ℕ → FileReading → List ℕ → Type 0
+IsPrinted Keys text says printed = printed ≡ key_lines says.entries
+IsPrinted (Get keys) text says printed = printed ≡ passing_lines (has_key (map (λ key. key.now) keys.items)) text says.entries
+IsPrinted (Grep search) text says printed = printed ≡ passing_lines (is_found_in search.field.now search.part.now) text says.entries
+IsPrinted (Cited cited) text says printed = IsExcerpt (map (λ key. key.now) cited.keys.items) cited.all text says printed
+
+-- what is printed of a text: of what can be read of it
+pub record IsTextAnswer (request : Request) (text printed : List ℕ) : Type 0 where
+  pub says : FileReading
+  pub skipped : List SkippedBlock
+  pub recovery : IsRecovery text says skipped
+  pub is : IsPrinted request text says printed

@@ -1,0 +1,52 @@
+-- Meaning: words of public contracts.
+-- What is printed of a text for a document that cites entries: what stands alone, the entries that are cited, the entries that
+-- these refer to, and so on, and before them the abbreviations that these use.
+use Rattle.std.specs.Prelude.{◌≡◌, ℕ, ◌+◌, Bool, true, List, ◌++◌, codes, length, map, slice_range}
+use Rattle.std.specs.List.{flat_map}
+use Rattle.std.specs.Str.{trim_end}
+use Rattle.bib_syntax.specs.Reading.{EntryReading, FieldReading, FileReading}
+use Rattle.bib_excerpts.specs.Names.{definition_node, entry_node, used_in_fields}
+use Rattle.bib_excerpts.specs.Needed.{AreMarks, IsNeeded, Node, marked}
+use Rattle.bib_excerpts.specs.declared.request.CitedKeys.{CitedKeys}
+
+-- a text and a line feed
+abbrev pub line : List ℕ → List ℕ
+line text = text ++ codes "\n"
+
+-- an entry as it stands in a text: from its at sign to its closing brace
+abbrev pub excerpt : List ℕ → EntryReading → List ℕ
+excerpt text e = slice_range text e.start (e.end + 1)
+
+-- the definition of an abbreviation as it stands in a text: from its name to the end of its value
+abbrev pub definition_text : List ℕ → FieldReading → List ℕ
+definition_text text f = trim_end (slice_range text f.name.start f.value.end)
+
+-- the definition of an abbreviation in a block of its own
+abbrev pub definition_line : List ℕ → FieldReading → List ℕ
+definition_line text f = codes "@string{" ++ (definition_text text f ++ line (codes "}"))
+
+-- an entry as it stands in a text, and a line feed
+abbrev pub entry_line : List ℕ → EntryReading → List ℕ
+entry_line text e = line (excerpt text e)
+
+-- the abbreviations that an entry uses
+abbrev pub used_in_entry : EntryReading → List (List ℕ)
+used_in_entry e = used_in_fields e.fields
+
+-- the abbreviations that entries use
+abbrev pub used_in_entries : List EntryReading → List (List ℕ)
+used_in_entries entries = flat_map used_in_entry entries
+
+-- the entry at an index is cited, or needed by one that is
+pub data IsCited (names : List (List ℕ)) (all : Bool) (nodes : List Node) : ℕ → Type 0 where
+  any : {index : ℕ} → all ≡ true → IsCited names all nodes index
+  needed : {index : ℕ} → IsNeeded names nodes index → IsCited names all nodes index
+
+-- what is printed of what a text says
+pub record IsExcerpt (names : List (List ℕ)) (all : Bool) (text : List ℕ) (says : FileReading) (printed : List ℕ) : Type 0 where
+  pub entry_marks : List Bool
+  pub definition_marks : List Bool
+  pub entries : AreMarks (IsCited names all (map entry_node says.entries)) (length says.entries) entry_marks
+  pub definitions : AreMarks (IsNeeded (used_in_entries (marked entry_marks says.entries)) (map definition_node says.abbreviations)) (length says.abbreviations) definition_marks
+  pub is : printed ≡ flat_map (definition_line text) (marked definition_marks says.abbreviations)
+      ++ flat_map (entry_line text) (marked entry_marks says.entries)

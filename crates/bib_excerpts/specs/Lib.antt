@@ -1,0 +1,11 @@
+pub mod Answers
+pub mod Citations
+pub mod Cited
+pub mod Collecting
+pub mod Known
+pub mod Names
+pub mod Needed
+pub mod Searching
+pub mod Sets
+pub mod Standing
+pub mod Texts

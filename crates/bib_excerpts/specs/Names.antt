@@ -1,0 +1,74 @@
+-- Meaning: words of public contracts.
+-- Names in fields: those of entries and of abbreviations, and those that they refer to.
+use Rattle.std.specs.Prelude.{ℕ, Bool, not, ◌||◌, ◌==◌, if◌then◌else◌, List, [], ◌∷◌, length, codes}
+use Rattle.std.specs.List.{flat_map, slice_split}
+use Rattle.std.specs.Str.{trim}
+use Rattle.bib_text.specs.Characters as char
+use Rattle.bib_syntax.specs.Grammar.{is_word}
+use Rattle.bib_syntax.specs.Reading.{EntryReading, FieldReading, Piece}
+use Rattle.bib_syntax.specs.Reading.Piece.{abbreviation, literal}
+use Rattle.bib_excerpts.specs.Needed.{Node}
+
+-- a name that isn't empty, and else none
+abbrev pub filled : List ℕ → List (List ℕ)
+filled name = if length name == 0 then [] else name ∷ []
+
+-- the parts of a comma list, without the white space around them; what is empty is no part
+abbrev pub comma_parts : List ℕ → List (List ℕ)
+comma_parts list = flat_map (λ part. filled (trim part)) (slice_split (λ c. c == char.comma) list)
+
+-- the parts of the comma list that a literal element is
+abbrev pub piece_parts : Piece → List (List ℕ)
+piece_parts (literal p) = comma_parts p.text
+piece_parts (abbreviation p) = []
+
+-- the parts of the comma lists that the literal elements of a value are
+abbrev pub literal_parts : List Piece → List (List ℕ)
+literal_parts pieces = flat_map piece_parts pieces
+
+-- whether a field's value lists names of entries that its entry refers to
+abbrev pub is_reference_field : List ℕ → Bool
+is_reference_field name =
+    is_word name (codes "crossref") || is_word name (codes "xdata") || is_word name (codes "xref") || is_word name (codes "related")
+    || is_word name (codes "entryset") || is_word name (codes "set")
+
+-- the names that a field lists, where it is one of references
+abbrev pub references_in : FieldReading → List (List ℕ)
+references_in f = if is_reference_field f.name.text then literal_parts f.value.pieces else []
+
+-- the names that an entry with these fields refers to
+abbrev pub references : List FieldReading → List (List ℕ)
+references fields = flat_map references_in fields
+
+-- the names that a field lists, where it is the field of an entry's further names
+abbrev pub aliases_in : FieldReading → List (List ℕ)
+aliases_in f = if is_word f.name.text (codes "ids") then literal_parts f.value.pieces else []
+
+-- the further names of an entry with these fields
+abbrev pub aliases : List FieldReading → List (List ℕ)
+aliases fields = flat_map aliases_in fields
+
+-- the names of an entry: its key, and its further names
+abbrev pub entry_names : EntryReading → List (List ℕ)
+entry_names e = e.key.text ∷ aliases e.fields
+
+-- an entry's names, and those that it refers to
+abbrev pub entry_node : EntryReading → Node
+entry_node e = record { names = entry_names e; references = references e.fields }
+
+-- the abbreviation that an element is
+abbrev pub used_as : Piece → List (List ℕ)
+used_as (literal p) = []
+used_as (abbreviation p) = p.text ∷ []
+
+-- the abbreviations of a value
+abbrev pub used_in_value : List Piece → List (List ℕ)
+used_in_value pieces = flat_map used_as pieces
+
+-- the abbreviations of fields
+abbrev pub used_in_fields : List FieldReading → List (List ℕ)
+used_in_fields fields = flat_map (λ f. used_in_value f.value.pieces) fields
+
+-- an abbreviation's name, and those that its definition uses
+abbrev pub definition_node : FieldReading → Node
+definition_node f = record { names = f.name.text ∷ []; references = used_in_value f.value.pieces }

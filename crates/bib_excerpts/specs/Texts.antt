@@ -1,0 +1,15 @@
+-- Machinery: words of private contracts.
+-- Names as the code has them.
+use Rattle.std.specs.Prelude.{ℕ, List, [], map, Option}
+use Rattle.std.specs.Borrow.{Bor}
+use Rattle.std.specs.Global.{Vec}
+use Rattle.bib_excerpts.specs.Needed.{Node}
+use Rattle.bib_excerpts.specs.declared.names.Links.{Links}
+
+-- texts by their bytes
+abbrev pub texts : Vec (Bor (List ℕ)) → List (List ℕ)
+texts names = map (λ name. name.now) names.items
+
+-- the names of something, and those that it refers to
+abbrev pub node_of : Links → Node
+node_of links = record { names = texts links.names; references = texts links.references }

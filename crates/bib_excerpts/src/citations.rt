@@ -1,0 +1,306 @@
+//! The keys that a document cites, by the files that LaTeX writes for BibTeX and BibLaTeX for biber.
+
+ghost use Rattle.std.specs.Prelude.{◌≡◌, ◌++◌, ◌==◌, [], ◌∷◌, false, length, map, IfOk, OnOk};
+ghost use Rattle.std.specs.Option.{option_map};
+ghost use Rattle.std.specs.String.{string_bytes};
+ghost use Rattle.bib_text.specs.Characters as char;
+ghost use Rattle.bib_excerpts.specs.Citations as spec;
+ghost use Rattle.bib_excerpts.specs.Citations.{AreCitations, aux_cited, bcf_cited, cites_at};
+ghost use Rattle.bib_excerpts.specs.Collecting.{IsCollected, IsSeen};
+ghost use Rattle.bib_excerpts.specs.Names.{filled};
+ghost use Rattle.bib_excerpts.specs.Texts.{texts};
+
+use crate::names::push_parts;
+use bib_text::text::Text;
+use std::alloc::{AllocError, Global};
+use std::collections::BTreeMap;
+
+/// A key that is cited.
+#[derive(Debug, Drop)]
+pub struct Citation {
+    /// The key.
+    pub key: Text,
+    /// Where the line, or the element, begins that cites it first, in bytes of the file.
+    pub at: usize,
+}
+
+/// What a document cites.
+#[derive(Debug, Drop)]
+pub struct Citations {
+    /// Each key that is cited once, in the order of first citation.
+    pub keys: Vec<Citation>,
+    /// Whether all entries are cited, as by LaTeX's `\nocite{*}`.
+    pub all: bool,
+}
+
+// Citations, and the keys that are among them.
+#[derive(Drop)]
+struct Collected {
+    keys: Vec<Citation>,
+    all: bool,
+    seen: BTreeMap<String, ()>,
+}
+
+// What stands after a prefix of a text.
+fn after_prefix<'s>(text: &'s str, prefix: &str) -> Option<&'s str>
+    ensures { option_map (λ rest. rest.now) result ≡ spec.after_prefix prefix.now text.now }
+{
+    text.strip_prefix(prefix)
+}
+
+// The text of an argument, up to its brace.
+fn argument(text: &str) -> Option<&str>
+    ensures { option_map (λ rest. rest.now) result ≡ spec.argument text.now }
+{
+    let (inside, _) = text.split_once('}')?;
+    Some(inside)
+}
+
+// The text of the last of one or two arguments, of which the first begins here.
+fn last_argument(text: &str) -> Option<&str>
+    ensures { option_map (λ rest. rest.now) result ≡ spec.last_argument text.now }
+{
+    let (first, following) = text.split_once('}')?;
+    match after_prefix(following, "{") {
+        Some(second) => argument(second),
+        None => Some(first),
+    }
+}
+
+// What stands after a command of citation that a line begins with.
+fn after_command(line: &str) -> Option<&str>
+    ensures { option_map (λ rest. rest.now) result ≡ spec.after_command line.now }
+{
+    match after_prefix(line, "\\citation{") {
+        Some(rest) => Some(rest),
+        None => after_prefix(line, "\\abx@aux@cite{"),
+    }
+}
+
+// The comma list of keys that a line of an .aux file cites.
+fn aux_list(line: &str) -> Option<&str>
+    ensures { option_map (λ rest. rest.now) result ≡ spec.aux_list line.now }
+{
+    let rest = after_command(line)?;
+    last_argument(rest)
+}
+
+impl Collected {
+    // Nothing is cited yet.
+    fn new(alloc: Global) -> Self
+        ensures keys { result.keys.items ≡ [] }
+        ensures all { result.all ≡ false }
+        ensures seen { IsSeen result }
+    {
+        Collected {
+            keys: Vec::new(alloc),
+            all: false,
+            seen: BTreeMap::new(alloc),
+        }
+    }
+
+    // Adds a key that isn't among those that are cited.
+    fn push(&mut self, alloc: Global, key: &str, at: usize) -> Result<(), AllocError>
+        requires { IsSeen self.old }
+        ensures keys { OnOk result (self.new.keys.items ≡ self.old.keys.items ++ record { key = key.now; at = at } ∷ []) }
+        ensures all { OnOk result (self.new.all ≡ self.old.all) }
+        ensures seen { OnOk result (IsSeen self.new) }
+    {
+        self.seen.insert(String::from_str(alloc, key)?, ())?;
+        let key = Text::from_str(alloc, key)?;
+        self.keys.push(Citation { key, at })?;
+        Ok(())
+    }
+
+    // Adds a key, if it isn't among those that are cited.
+    fn add(&mut self, alloc: Global, key: &str, at: usize) -> Result<(), AllocError>
+        requires { IsSeen self.old }
+        ensures { OnOk result (IsCollected self.old (record { key = key.now; at = at } ∷ []) self.new) }
+    {
+        if key == "*" {
+            self.all = true;
+            return Ok(());
+        }
+        if self.seen.contains_key(key) {
+            return Ok(());
+        }
+        self.push(alloc, key, at)?;
+        Ok(())
+    }
+
+    // Adds keys that are cited at a place.
+    fn add_all(&mut self, alloc: Global, keys: &[&str], at: usize) -> Result<(), AllocError>
+        requires { IsSeen self.old }
+        ensures { OnOk result (IsCollected self.old (cites_at at (map (λ k. k.now) keys.now)) self.new) }
+    {
+        'keys: for key in keys {
+            self.add(alloc, key, at)?;
+        }
+        Ok(())
+    }
+
+    // Adds the keys that a line of an .aux file cites.
+    fn add_line(&mut self, alloc: Global, line: &str, at: usize) -> Result<(), AllocError>
+        requires { IsSeen self.old }
+        ensures { OnOk result (IsCollected self.old (cites_at at (aux_cited line.now)) self.new) }
+    {
+        let mut keys = Vec::new(alloc);
+        push_aux_keys(&mut keys, line)?;
+        self.add_all(alloc, &keys, at)?;
+        Ok(())
+    }
+}
+
+impl Collected {
+    // What was collected.
+    fn into_citations(self) -> Citations
+        ensures keys { result.keys.items ≡ self.keys.items }
+        ensures all { result.all ≡ self.all }
+    {
+        let Collected { keys, all, seen: _ } = self;
+        Citations { keys, all }
+    }
+}
+
+// What stands after the tag that ends first.
+fn after_tag(text: &str) -> Option<&str>
+    ensures { option_map (λ rest. rest.now) result ≡ spec.after_tag text.now }
+{
+    let (_, rest) = text.split_once('>')?;
+    Some(rest)
+}
+
+// What stands after the tag of an element `bcf:citekey`, where such a tag is what stands after a `<`.
+fn citekey_text(piece: &str) -> Option<&str>
+    ensures { option_map (λ rest. rest.now) result ≡ spec.citekey_text piece.now }
+{
+    match after_prefix(piece, "bcf:citekey>") {
+        Some(text) => Some(text),
+        None => attributed_text(piece),
+    }
+}
+
+// The same, where the tag has attributes.
+fn attributed_text(piece: &str) -> Option<&str>
+    ensures { option_map (λ rest. rest.now) result ≡ spec.attributed_text piece.now }
+{
+    let rest = after_prefix(piece, "bcf:citekey ")?;
+    after_tag(rest)
+}
+
+// The character that a name in XML stands for, and what stands after the name; an ampersand, and the whole, where none does.
+fn escape(text: &str) -> (&str, &str)
+    ensures { result.0.now ++ result.1.now ≡ spec.unescaped_piece text.now }
+{
+    if let Some(rest) = after_prefix(text, "amp;") {
+        return ("&", rest);
+    }
+    if let Some(rest) = after_prefix(text, "lt;") {
+        return ("<", rest);
+    }
+    if let Some(rest) = after_prefix(text, "gt;") {
+        return (">", rest);
+    }
+    if let Some(rest) = after_prefix(text, "quot;") {
+        return ("\"", rest);
+    }
+    if let Some(rest) = after_prefix(text, "apos;") {
+        return ("'", rest);
+    }
+    ("&", text)
+}
+
+// Adds what a text after an ampersand stands for in XML.
+fn push_piece(written: &mut String, piece: &str) -> Result<(), AllocError>
+    ensures { OnOk result (string_bytes written.new ≡ string_bytes written.old ++ spec.unescaped_piece piece.now) }
+{
+    let (character, rest) = escape(piece);
+    written.push_str(character)?;
+    written.push_str(rest)?;
+    Ok(())
+}
+
+// Adds what texts after ampersands stand for in XML.
+fn push_pieces(written: &mut String, text: &str) -> Result<(), AllocError>
+    ensures { OnOk result (string_bytes written.new ≡ string_bytes written.old ++ spec.unescaped_rest text.now) }
+{
+    'pieces: for piece in text.split('&') {
+        push_piece(written, piece)?;
+    }
+    Ok(())
+}
+
+// What a text stands for in XML.
+fn unescaped(alloc: Global, text: &str) -> Result<String, AllocError>
+    ensures { IfOk result (λ written. string_bytes written ≡ spec.unescaped text.now) }
+{
+    let Some((first, rest)) = text.split_once('&') else {
+        return String::from_str(alloc, text);
+    };
+    let mut written = String::from_str(alloc, first)?;
+    push_pieces(&mut written, rest)?;
+    Ok(written)
+}
+
+impl Collected {
+    // Adds a key that isn't empty.
+    fn add_filled(&mut self, alloc: Global, key: &str, at: usize) -> Result<(), AllocError>
+        requires { IsSeen self.old }
+        ensures { OnOk result (IsCollected self.old (cites_at at (filled key.now)) self.new) }
+    {
+        if key.is_empty() {
+            return Ok(());
+        }
+        self.add(alloc, key, at)?;
+        Ok(())
+    }
+
+    // Adds the key that an element of a control file cites, given what stands after its `<`.
+    fn add_element(&mut self, alloc: Global, piece: &str, at: usize) -> Result<(), AllocError>
+        requires { IsSeen self.old }
+        ensures { OnOk result (IsCollected self.old (cites_at at (bcf_cited piece.now)) self.new) }
+    {
+        let Some(text) = citekey_text(piece) else {
+            return Ok(());
+        };
+        let key = unescaped(alloc, text)?;
+        self.add_filled(alloc, key.as_str().trim(), at)?;
+        Ok(())
+    }
+}
+
+// Adds the keys that a line of an .aux file cites to these.
+fn push_aux_keys<'s>(keys: &mut Vec<&'s str>, line: &'s str) -> Result<(), AllocError>
+    ensures { OnOk result (texts keys.new ≡ texts keys.old ++ aux_cited line.now) }
+{
+    match aux_list(line) {
+        Some(list) => push_parts(keys, list),
+        None => Ok(()),
+    }
+}
+
+/// What the lines of an .aux file cite: `\citation`, as LaTeX and natbib write it, and `\abx@aux@cite`, as BibLaTeX does.
+pub fn in_aux(alloc: Global, text: &str) -> Result<Citations, AllocError>
+    ensures { IfOk result (AreCitations aux_cited (λ b. b == char.line_feed) text.now) }
+{
+    let mut collected = Collected::new(alloc);
+    let mut at = 0;
+    'lines: for line in text.split('\n') {
+        collected.add_line(alloc, line, at)?;
+        at += line.len() + 1;
+    }
+    Ok(collected.into_citations())
+}
+
+/// What the elements `bcf:citekey` of a control file of biber cite. Places are those after the `<` of an element.
+pub fn in_bcf(alloc: Global, text: &str) -> Result<Citations, AllocError>
+    ensures { IfOk result (AreCitations bcf_cited (λ b. b == 60) text.now) }
+{
+    let mut collected = Collected::new(alloc);
+    let mut at = 0;
+    'elements: for piece in text.split('<') {
+        collected.add_element(alloc, piece, at)?;
+        at += piece.len() + 1;
+    }
+    Ok(collected.into_citations())
+}

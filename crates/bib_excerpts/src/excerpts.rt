@@ -1,0 +1,180 @@
+//! Entries as they stand in a text.
+
+ghost use Rattle.std.specs.Prelude.{◌≡◌, ◌++◌, [], map, if◌then◌else◌, IfOk, OnOk};
+ghost use Rattle.std.specs.List.{AllByRecursion, list_any};
+ghost use Rattle.std.specs.String.{string_bytes};
+ghost use Rattle.bib_syntax.specs.Recovery.{IsBlockOf};
+ghost use Rattle.bib_syntax.specs.Views.{entry_reading_of, field_of, file_of, piece_of};
+ghost use Rattle.bib_excerpts.specs.Answers as answers;
+ghost use Rattle.bib_excerpts.specs.Answers.{IsPrinted, IsTextAnswer, has_key, is_found_in, key_lines, passing_lines, piece_text};
+ghost use Rattle.bib_excerpts.specs.Cited.{entry_line};
+ghost use Rattle.bib_excerpts.specs.Cited as cited_spec;
+ghost use Rattle.bib_excerpts.specs.Standing.{IsFieldIn};
+
+use crate::cited::cited;
+use crate::names::is_name;
+use crate::request::{Request, Search};
+use crate::sets::name_set;
+use bib_syntax::raw::{Pair, RawBibliography, RawChunk, RawEntry};
+use bib_text::spanned::Spanned;
+use std::alloc::{AllocError, Global};
+
+// The text of an element of a value.
+fn text_of<'s>(piece: &Spanned<RawChunk<'s>>) -> &'s str
+    ensures { result.now ≡ piece_text (piece_of piece.now) }
+{
+    match piece.v {
+        RawChunk::Normal(text) | RawChunk::Abbreviation(text) => text,
+    }
+}
+
+// Whether a text stands in another.
+fn has_part(text: &str, part: &str) -> bool
+    ensures { result ≡ answers.has_part part.now text.now }
+{
+    text.contains(part)
+}
+
+// Whether a text stands in an element of a value.
+fn is_in_value(value: &[Spanned<RawChunk<'_>>], part: &str) -> bool
+    ensures { result ≡ list_any (λ piece. answers.has_part part.now (piece_text (piece_of piece))) value.now }
+{
+    value.iter().any(|piece| has_part(text_of(piece), part))
+}
+
+// Whether a text stands in a field with the name that is looked for.
+fn is_found(field: &Pair<'_>, search: &Search<'_>) -> bool
+    ensures { result ≡ answers.is_found search.now.field.now search.now.part.now (field_of field.now) }
+{
+    is_name(field.key.v, search.field) && is_in_value(&field.value.v, search.part)
+}
+
+// Whether a text stands in one of the fields with the name that is looked for.
+fn is_in_fields(fields: &[Pair<'_>], search: &Search<'_>) -> bool
+    ensures { result ≡ list_any (λ f. answers.is_found search.now.field.now search.now.part.now (field_of f)) fields.now }
+{
+    fields.iter().any(|field| is_found(field, search))
+}
+
+// Whether a text stands in one of the fields of an entry with the name that is looked for.
+fn is_found_in(entry: &Spanned<RawEntry<'_>>, search: &Search<'_>) -> bool
+    ensures { result ≡ answers.is_found_in search.now.field.now search.now.part.now (entry_reading_of entry.now) }
+{
+    is_in_fields(&entry.v.fields, search)
+}
+
+// An entry as it stands in the text.
+fn excerpt<'s>(text: &'s str, entry: &Spanned<RawEntry<'_>>) -> &'s str
+    requires { IsBlockOf text.now (entry_reading_of entry.now) }
+    ensures { result.now ≡ cited_spec.excerpt text.now (entry_reading_of entry.now) }
+{
+    &text[entry.span.start..entry.span.end + 1]
+}
+
+// Prints an entry as it stands, and a line feed.
+fn print_entry(
+    printed: &mut String,
+    text: &str,
+    entry: &Spanned<RawEntry<'_>>,
+) -> Result<(), AllocError>
+    requires { IsBlockOf text.now (entry_reading_of entry.now) }
+    ensures { OnOk result (string_bytes printed.new ≡
+        string_bytes printed.old ++ entry_line text.now (entry_reading_of entry.now)) }
+{
+    printed.push_str(excerpt(text, entry))?;
+    printed.push('\n')?;
+    Ok(())
+}
+
+// Prints an entry as it stands, and a line feed, if it is asked for.
+pub(crate) fn print_if(
+    printed: &mut String,
+    text: &str,
+    entry: &Spanned<RawEntry<'_>>,
+    is_asked: bool,
+) -> Result<(), AllocError>
+    requires { IsBlockOf text.now (entry_reading_of entry.now) }
+    ensures { OnOk result (string_bytes printed.new ≡
+        string_bytes printed.old ++ (if is_asked then entry_line text.now (entry_reading_of entry.now) else [])) }
+{
+    if is_asked {
+        return print_entry(printed, text, entry);
+    }
+    Ok(())
+}
+
+// The keys of entries, each in a line of its own.
+fn keys(alloc: Global, entries: &[Spanned<RawEntry<'_>>]) -> Result<String, AllocError>
+    ensures { IfOk result (λ printed. string_bytes printed ≡ key_lines (map entry_reading_of entries.now)) }
+{
+    let mut printed = String::new(alloc);
+    'entries: for entry in entries {
+        printed.push_str(entry.v.key.v)?;
+        printed.push('\n')?;
+    }
+    Ok(printed)
+}
+
+// The entries with these keys.
+fn get(
+    alloc: Global,
+    keys: &[&str],
+    text: &str,
+    entries: &[Spanned<RawEntry<'_>>],
+) -> Result<String, AllocError>
+    requires { AllByRecursion (IsBlockOf text.now) (map entry_reading_of entries.now) }
+    ensures { IfOk result (λ printed. string_bytes printed ≡
+        passing_lines (has_key (map (λ key. key.now) keys.now)) text.now (map entry_reading_of entries.now)) }
+{
+    let asked = name_set(alloc, keys)?;
+    let mut printed = String::new(alloc);
+    'entries: for entry in entries {
+        print_if(&mut printed, text, entry, asked.contains(entry.v.key.v))?;
+    }
+    Ok(printed)
+}
+
+// The entries in whose field of a name a text stands.
+fn grep(
+    alloc: Global,
+    search: &Search<'_>,
+    text: &str,
+    entries: &[Spanned<RawEntry<'_>>],
+) -> Result<String, AllocError>
+    requires { AllByRecursion (IsBlockOf text.now) (map entry_reading_of entries.now) }
+    ensures { IfOk result (λ printed. string_bytes printed ≡
+        passing_lines (is_found_in search.now.field.now search.now.part.now) text.now (map entry_reading_of entries.now)) }
+{
+    let mut printed = String::new(alloc);
+    'entries: for entry in entries {
+        print_if(&mut printed, text, entry, is_found_in(entry, search))?;
+    }
+    Ok(printed)
+}
+
+// What is printed of what can be read of a text.
+fn printed(
+    alloc: Global,
+    request: &Request<'_>,
+    text: &str,
+    raw: &RawBibliography<'_>,
+) -> Result<String, AllocError>
+    requires entries { AllByRecursion (IsBlockOf text.now) (file_of raw.now).entries }
+    requires definitions { AllByRecursion (IsFieldIn text.now) (file_of raw.now).abbreviations }
+    ensures { IfOk result (λ printed. IsPrinted request.now text.now (file_of raw.now) (string_bytes printed)) }
+{
+    match request {
+        Request::Keys => keys(alloc, &raw.entries),
+        Request::Get(names) => get(alloc, names, text, &raw.entries),
+        Request::Grep(search) => grep(alloc, search, text, &raw.entries),
+        Request::Cited(keys) => cited(alloc, keys, text, raw),
+    }
+}
+
+/// What is printed of a text for a request, of what can be read of it.
+pub fn answer(alloc: Global, request: &Request<'_>, text: &str) -> Result<String, AllocError>
+    ensures { IfOk result (λ printed. IsTextAnswer request.now text.now (string_bytes printed)) }
+{
+    let found = RawBibliography::recover(alloc, text)?;
+    printed(alloc, request, text, &found.raw)
+}

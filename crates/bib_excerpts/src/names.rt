@@ -1,0 +1,228 @@
+//! Names in fields: those of entries and of abbreviations, and those that they refer to.
+
+ghost use Rattle.std.specs.Prelude.{◌≡◌, ◌++◌, map, IfOk, OnOk};
+ghost use Rattle.bib_syntax.specs.Grammar as grammar;
+ghost use Rattle.bib_syntax.specs.Views.{entry_reading_of, field_of, piece_of};
+ghost use Rattle.bib_excerpts.specs.Names as spec;
+ghost use Rattle.bib_excerpts.specs.Names.{comma_parts, literal_parts, aliases, references, used_in_value, used_in_fields, entry_node, definition_node};
+ghost use Rattle.bib_excerpts.specs.Texts.{texts, node_of};
+
+use bib_syntax::raw::{Pair, RawChunk, RawEntry};
+use bib_text::spanned::Spanned;
+use std::alloc::{AllocError, Global};
+
+/// The names of an entry or of an abbreviation, and the names that it refers to.
+#[derive(Debug, Drop)]
+pub struct Links<'s> {
+    /// Its own names.
+    pub names: Vec<&'s str>,
+    /// The names that it refers to.
+    pub references: Vec<&'s str>,
+}
+
+// Whether a name is this word, in any ASCII case.
+pub(crate) fn is_name(name: &str, word: &str) -> bool
+    ensures { result ≡ grammar.is_word name.now word.now }
+{
+    name.eq_ignore_ascii_case(word)
+}
+
+// Whether a field's value lists names of entries that its entry refers to.
+fn is_reference_field(name: &str) -> bool
+    ensures { result ≡ spec.is_reference_field name.now }
+{
+    is_name(name, "crossref")
+        || is_name(name, "xdata")
+        || is_name(name, "xref")
+        || is_name(name, "related")
+        || is_name(name, "entryset")
+        || is_name(name, "set")
+}
+
+// Adds the parts of a comma list, without the white space around them; what is empty is no part.
+pub(crate) fn push_parts<'s>(names: &mut Vec<&'s str>, list: &'s str) -> Result<(), AllocError>
+    ensures { OnOk result (texts names.new ≡ texts names.old ++ comma_parts list.now) }
+{
+    'parts: for part in list.split(',') {
+        push_filled(names, part.trim())?;
+    }
+    Ok(())
+}
+
+// Adds a name that isn't empty.
+fn push_filled<'s>(names: &mut Vec<&'s str>, name: &'s str) -> Result<(), AllocError>
+    ensures { OnOk result (texts names.new ≡ texts names.old ++ spec.filled name.now) }
+{
+    if name.is_empty() {
+        return Ok(());
+    }
+    names.push(name)?;
+    Ok(())
+}
+
+// Adds the parts of the comma lists that the literal elements of a value are.
+fn push_listed<'s>(
+    names: &mut Vec<&'s str>,
+    value: &[Spanned<RawChunk<'s>>],
+) -> Result<(), AllocError>
+    ensures { OnOk result (texts names.new ≡ texts names.old ++ literal_parts (map piece_of value.now)) }
+{
+    'pieces: for piece in value {
+        push_piece(names, piece)?;
+    }
+    Ok(())
+}
+
+// Adds the parts of the comma list that a literal element is.
+fn push_piece<'s>(names: &mut Vec<&'s str>, piece: &Spanned<RawChunk<'s>>) -> Result<(), AllocError>
+    ensures { OnOk result (texts names.new ≡ texts names.old ++ spec.piece_parts (piece_of piece.now)) }
+{
+    match piece.v {
+        RawChunk::Normal(text) => push_parts(names, text),
+        RawChunk::Abbreviation(_) => Ok(()),
+    }
+}
+
+// Adds the names that a field lists, where it is the field of an entry's further names.
+fn push_alias_field<'s>(names: &mut Vec<&'s str>, field: &Pair<'s>) -> Result<(), AllocError>
+    ensures { OnOk result (texts names.new ≡ texts names.old ++ spec.aliases_in (field_of field.now)) }
+{
+    if is_name(field.key.v, "ids") {
+        return push_listed(names, &field.value.v);
+    }
+    Ok(())
+}
+
+// Adds the further names of an entry with these fields.
+fn push_aliases<'s>(names: &mut Vec<&'s str>, fields: &[Pair<'s>]) -> Result<(), AllocError>
+    ensures { OnOk result (texts names.new ≡ texts names.old ++ aliases (map field_of fields.now)) }
+{
+    'fields: for field in fields {
+        push_alias_field(names, field)?;
+    }
+    Ok(())
+}
+
+// Adds the names that a field lists, where it is one of references.
+fn push_reference_field<'s>(names: &mut Vec<&'s str>, field: &Pair<'s>) -> Result<(), AllocError>
+    ensures { OnOk result (texts names.new ≡ texts names.old ++ spec.references_in (field_of field.now)) }
+{
+    if is_reference_field(field.key.v) {
+        return push_listed(names, &field.value.v);
+    }
+    Ok(())
+}
+
+// Adds the names that an entry with these fields refers to.
+fn push_references<'s>(names: &mut Vec<&'s str>, fields: &[Pair<'s>]) -> Result<(), AllocError>
+    ensures { OnOk result (texts names.new ≡ texts names.old ++ references (map field_of fields.now)) }
+{
+    'fields: for field in fields {
+        push_reference_field(names, field)?;
+    }
+    Ok(())
+}
+
+// Adds the abbreviation that an element is.
+fn push_used_piece<'s>(
+    names: &mut Vec<&'s str>,
+    piece: &Spanned<RawChunk<'s>>,
+) -> Result<(), AllocError>
+    ensures { OnOk result (texts names.new ≡ texts names.old ++ spec.used_as (piece_of piece.now)) }
+{
+    match piece.v {
+        RawChunk::Normal(_) => Ok(()),
+        RawChunk::Abbreviation(name) => {
+            names.push(name)?;
+            Ok(())
+        }
+    }
+}
+
+// Adds the abbreviations of a value.
+fn push_used<'s>(
+    names: &mut Vec<&'s str>,
+    value: &[Spanned<RawChunk<'s>>],
+) -> Result<(), AllocError>
+    ensures { OnOk result (texts names.new ≡ texts names.old ++ used_in_value (map piece_of value.now)) }
+{
+    'pieces: for piece in value {
+        push_used_piece(names, piece)?;
+    }
+    Ok(())
+}
+
+// Adds the abbreviations of fields.
+pub(crate) fn push_used_in_fields<'s>(
+    names: &mut Vec<&'s str>,
+    fields: &[Pair<'s>],
+) -> Result<(), AllocError>
+    ensures { OnOk result (texts names.new ≡ texts names.old ++ used_in_fields (map field_of fields.now)) }
+{
+    'fields: for field in fields {
+        push_used(names, &field.value.v)?;
+    }
+    Ok(())
+}
+
+// The names of an entry: its key, and those that its field `ids` lists.
+pub(crate) fn entry_names<'s>(
+    alloc: Global,
+    entry: &Spanned<RawEntry<'s>>,
+) -> Result<Vec<&'s str>, AllocError>
+    ensures { IfOk result (λ names. texts names ≡ spec.entry_names (entry_reading_of entry.now)) }
+{
+    let mut names = Vec::new(alloc);
+    names.push(entry.v.key.v)?;
+    push_aliases(&mut names, &entry.v.fields)?;
+    Ok(names)
+}
+
+// The names of an entry, and those that it refers to.
+fn entry_links<'s>(alloc: Global, entry: &Spanned<RawEntry<'s>>) -> Result<Links<'s>, AllocError>
+    ensures { IfOk result (λ links. node_of links ≡ entry_node (entry_reading_of entry.now)) }
+{
+    let names = entry_names(alloc, entry)?;
+    let mut references = Vec::new(alloc);
+    push_references(&mut references, &entry.v.fields)?;
+    Ok(Links { names, references })
+}
+
+// The name of an abbreviation, and those that its definition uses.
+fn definition_links<'s>(alloc: Global, pair: &Pair<'s>) -> Result<Links<'s>, AllocError>
+    ensures { IfOk result (λ links. node_of links ≡ definition_node (field_of pair.now)) }
+{
+    let mut names = Vec::new(alloc);
+    names.push(pair.key.v)?;
+    let mut references = Vec::new(alloc);
+    push_used(&mut references, &pair.value.v)?;
+    Ok(Links { names, references })
+}
+
+// The names of each entry, and those that it refers to.
+pub(crate) fn links_of_entries<'s>(
+    alloc: Global,
+    entries: &[Spanned<RawEntry<'s>>],
+) -> Result<Vec<Links<'s>>, AllocError>
+    ensures { IfOk result (λ links. map node_of links.items ≡ map entry_node (map entry_reading_of entries.now)) }
+{
+    let mut links = Vec::with_capacity(alloc, entries.len())?;
+    'entries: for entry in entries {
+        links.push(entry_links(alloc, entry)?)?;
+    }
+    Ok(links)
+}
+
+// The name of each abbreviation, and those that its definition uses.
+pub(crate) fn links_of_definitions<'s>(
+    alloc: Global,
+    pairs: &[Pair<'s>],
+) -> Result<Vec<Links<'s>>, AllocError>
+    ensures { IfOk result (λ links. map node_of links.items ≡ map definition_node (map field_of pairs.now)) }
+{
+    let mut links = Vec::with_capacity(alloc, pairs.len())?;
+    'pairs: for pair in pairs {
+        links.push(definition_links(alloc, pair)?)?;
+    }
+    Ok(links)
+}

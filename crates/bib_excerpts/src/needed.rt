@@ -1,0 +1,150 @@
+//! What is needed, where things have names and refer to names.
+
+ghost use Rattle.std.specs.Prelude.{◌≡◌, ◌↔◌, ◌⊎◌, ◌+◌, ◌<◌, ℕ, List, [], ◌∷◌, ◌++◌, true, false, length, map, bytes_eq, slice_index_or, if◌then◌else◌, IfOk, OnOk};
+ghost use Rattle.std.specs.List.{All, Contains};
+ghost use Rattle.bib_excerpts.specs.Needed.{AreMarks, HasName, IsNeeded, is_among};
+ghost use Rattle.bib_excerpts.specs.Searching.{AreHolders, AreHoldersIn, IsMarked, Marks, Expands, holders_in, unmarked};
+ghost use Rattle.bib_excerpts.specs.Texts.{node_of, texts};
+
+use crate::names::Links;
+use std::alloc::{AllocError, Global};
+use std::collections::BTreeMap;
+
+// Takes the indices of a name out of a map.
+fn taken(alloc: Global, holders: &mut BTreeMap<&str, Vec<usize>>, name: &str) -> Vec<usize>
+    ensures items { result.items ≡ holders_in holders.old name.now }
+    ensures left { (other : List ℕ) → holders_in holders.new other ≡
+        (if bytes_eq name.now other then [] else holders_in holders.old other) }
+{
+    match holders.remove(name) {
+        Some(indices) => indices,
+        None => Vec::new(alloc),
+    }
+}
+
+// Adds an index to those of a name.
+fn add_holder<'s>(
+    alloc: Global,
+    holders: &mut BTreeMap<&'s str, Vec<usize>>,
+    name: &'s str,
+    index: usize,
+) -> Result<(), AllocError>
+    ensures { OnOk result ((other : List ℕ) → holders_in holders.new other ≡
+        (if bytes_eq name.now other then holders_in holders.old other ++ index ∷ [] else holders_in holders.old other)) }
+{
+    let mut indices = taken(alloc, holders, name);
+    indices.push(index)?;
+    holders.insert(name, indices)?;
+    Ok(())
+}
+
+// Adds an index to those of each of these names.
+fn add_holders<'s>(
+    alloc: Global,
+    holders: &mut BTreeMap<&'s str, Vec<usize>>,
+    names: &[&'s str],
+    index: usize,
+) -> Result<(), AllocError>
+    ensures { OnOk result ((name : List ℕ) (one : ℕ) → Contains (holders_in holders.new name) one ↔
+        (Contains (holders_in holders.old name) one ⊎ ((one ≡ index) × (is_among (map (λ n. n.now) names.now) name ≡ true)))) }
+{
+    'names: for name in names {
+        add_holder(alloc, holders, name, index)?;
+    }
+    Ok(())
+}
+
+// For each name the indices of the things that have it.
+fn holders<'s>(
+    alloc: Global,
+    links: &[Links<'s>],
+) -> Result<BTreeMap<&'s str, Vec<usize>>, AllocError>
+    ensures { IfOk result (AreHolders (map node_of links.now)) }
+{
+    let mut holders = BTreeMap::new(alloc);
+    'links: for (index, link) in links.iter().enumerate() {
+        add_holders(alloc, &mut holders, &link.names, index)?;
+    }
+    Ok(holders)
+}
+
+// Marks indices, and keeps those that had no mark for later.
+fn mark_all(
+    indices: &[usize],
+    marks: &mut [bool],
+    pending: &mut Vec<usize>,
+) -> Result<(), AllocError>
+    requires { All (λ index. index < length marks.old) indices.now }
+    ensures length { length marks.new ≡ length marks.old }
+    ensures marks { OnOk result (Marks (Contains indices.now) marks.old pending.old.items marks.new pending.new.items) }
+    ensures all { OnOk result (All (IsMarked marks.new) indices.now) }
+{
+    'indices: for index in indices {
+        if !marks[*index] {
+            marks[*index] = true;
+            pending.push(*index)?;
+        }
+    }
+    Ok(())
+}
+
+// Marks what has a name, and keeps for later what had no mark. A name that was looked up once isn't looked up again.
+fn mark_name(
+    alloc: Global,
+    holders: &mut BTreeMap<&str, Vec<usize>>,
+    name: &str,
+    marks: &mut [bool],
+    pending: &mut Vec<usize>,
+) -> Result<(), AllocError>
+    requires { (other : List ℕ) → All (λ index. index < length marks.old) (holders_in holders.old other) }
+    ensures length { length marks.new ≡ length marks.old }
+    ensures marks { OnOk result (Marks (Contains (holders_in holders.old name.now)) marks.old pending.old.items marks.new pending.new.items) }
+    ensures all { OnOk result (All (IsMarked marks.new) (holders_in holders.old name.now)) }
+    ensures left { (other : List ℕ) → holders_in holders.new other ≡ (if bytes_eq name.now other then [] else holders_in holders.old other) }
+{
+    let indices = taken(alloc, holders, name);
+    mark_all(&indices, marks, pending)
+}
+
+// Marks what has one of these names, and keeps for later what had no mark.
+fn mark_names(
+    alloc: Global,
+    holders: &mut BTreeMap<&str, Vec<usize>>,
+    names: &[&str],
+    marks: &mut [bool],
+    pending: &mut Vec<usize>,
+) -> Result<(), AllocError>
+    requires { (other : List ℕ) → All (λ index. index < length marks.old) (holders_in holders.old other) }
+    ensures length { length marks.new ≡ length marks.old }
+    ensures marks { OnOk result (Marks (AreHoldersIn holders.old (map (λ n. n.now) names.now)) marks.old pending.old.items marks.new pending.new.items) }
+    ensures expands { OnOk result (Expands holders.old (map (λ n. n.now) names.now) marks.new holders.new) }
+{
+    'names: for name in names {
+        mark_name(alloc, holders, name, marks, pending)?;
+    }
+    Ok(())
+}
+
+// Marks what is needed where these names are asked for.
+pub(crate) fn needed(
+    alloc: Global,
+    names: &[&str],
+    links: &[Links<'_>],
+) -> Result<Vec<bool>, AllocError>
+    ensures { IfOk result (λ marks. AreMarks (IsNeeded (map (λ n. n.now) names.now) (map node_of links.now)) (length links.now) marks.items) }
+{
+    let mut holders = holders(alloc, links)?;
+    let mut marks = vec![in alloc; false; links.len()]?;
+    let mut pending = Vec::new(alloc);
+    mark_names(alloc, &mut holders, names, &mut marks, &mut pending)?;
+    'search: while let Some(index) = pending.pop() {
+        mark_names(
+            alloc,
+            &mut holders,
+            &links[index].references,
+            &mut marks,
+            &mut pending,
+        )?;
+    }
+    Ok(marks)
+}
