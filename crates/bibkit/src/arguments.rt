@@ -48,7 +48,7 @@ Status: 0 something found, 1 nothing found, 2 wrong usage, a file that can't be 
 3 out of memory";
 
 // The argument for the files that are read.
-fn file_argument(alloc: Global) -> Arg<'static> {
+fn file_argument<'a>(alloc: Global) -> Arg<'a> {
     Arg::new(alloc, "FILE")
         .num_args(0..)
         .action(ArgAction::Append)
@@ -56,7 +56,7 @@ fn file_argument(alloc: Global) -> Arg<'static> {
 }
 
 // An option whose values are codes.
-fn code_option(alloc: Global, name: &'static str, help: &'static str) -> Arg<'static> {
+fn code_option<'a>(alloc: Global, name: &'a str, help: &'a str) -> Arg<'a> {
     Arg::new(alloc, name)
         .long(name)
         .value_name("CODES")
@@ -68,12 +68,7 @@ fn code_option(alloc: Global, name: &'static str, help: &'static str) -> Arg<'st
 }
 
 // An option with one value.
-fn value_option(
-    alloc: Global,
-    name: &'static str,
-    value: &'static str,
-    help: &'static str,
-) -> Arg<'static> {
+fn value_option<'a>(alloc: Global, name: &'a str, value: &'a str, help: &'a str) -> Arg<'a> {
     Arg::new(alloc, name)
         .long(name)
         .value_name(value)
@@ -82,7 +77,7 @@ fn value_option(
 }
 
 // An argument that has to be there.
-fn required(alloc: Global, name: &'static str, help: &'static str) -> Arg<'static> {
+fn required<'a>(alloc: Global, name: &'a str, help: &'a str) -> Arg<'a> {
     Arg::new(alloc, name)
         .required(true)
         .action(ArgAction::Set)
@@ -90,7 +85,7 @@ fn required(alloc: Global, name: &'static str, help: &'static str) -> Arg<'stati
 }
 
 // The command `lint`.
-fn lint_command(alloc: Global) -> Result<Command<'static>, AllocError> {
+fn lint_command<'a>(alloc: Global) -> Result<Command<'a>, AllocError> {
     let only = code_option(alloc, "only", "Report these codes alone, separated by commas");
     let ignore = code_option(alloc, "ignore", "Leave these codes out, separated by commas");
     let format = value_option(alloc, "format", "FORMAT", "How findings are printed")
@@ -119,7 +114,7 @@ fn lint_command(alloc: Global) -> Result<Command<'static>, AllocError> {
 }
 
 // The command `keys`.
-fn keys_command(alloc: Global) -> Result<Command<'static>, AllocError> {
+fn keys_command<'a>(alloc: Global) -> Result<Command<'a>, AllocError> {
     Command::new(alloc, "keys")
         .about("Print the key of each entry")
         .after_help("Example:\n  bibkit keys refs.bib")
@@ -127,7 +122,7 @@ fn keys_command(alloc: Global) -> Result<Command<'static>, AllocError> {
 }
 
 // The command `get`.
-fn get_command(alloc: Global) -> Result<Command<'static>, AllocError> {
+fn get_command<'a>(alloc: Global) -> Result<Command<'a>, AllocError> {
     let keys = required(alloc, "KEYS", "Keys, separated by commas").value_delimiter(',');
     Command::new(alloc, "get")
         .about("Print the entries with these keys, as they stand in the files")
@@ -137,7 +132,7 @@ fn get_command(alloc: Global) -> Result<Command<'static>, AllocError> {
 }
 
 // The command `grep`.
-fn grep_command(alloc: Global) -> Result<Command<'static>, AllocError> {
+fn grep_command<'a>(alloc: Global) -> Result<Command<'a>, AllocError> {
     let field = required(alloc, "FIELD", "The name of a field, in any case");
     let text = required(alloc, "TEXT", "The text that has to stand in its value, as the file has it");
     Command::new(alloc, "grep")
@@ -149,7 +144,7 @@ fn grep_command(alloc: Global) -> Result<Command<'static>, AllocError> {
 }
 
 // The command `cited`.
-fn cited_command(alloc: Global) -> Result<Command<'static>, AllocError> {
+fn cited_command<'a>(alloc: Global) -> Result<Command<'a>, AllocError> {
     let document = required(alloc, "DOCUMENT", "The .aux or .bcf file that LaTeX wrote for the document");
     Command::new(alloc, "cited")
         .about("Print the entries that a document cites, as they stand in the files")
@@ -159,7 +154,7 @@ fn cited_command(alloc: Global) -> Result<Command<'static>, AllocError> {
 }
 
 // The command `stats`.
-fn stats_command(alloc: Global) -> Result<Command<'static>, AllocError> {
+fn stats_command<'a>(alloc: Global) -> Result<Command<'a>, AllocError> {
     Command::new(alloc, "stats")
         .about("Count entries by type and year, fields by name, and findings by code")
         .after_help("Example:\n  bibkit stats refs.bib")
@@ -167,7 +162,7 @@ fn stats_command(alloc: Global) -> Result<Command<'static>, AllocError> {
 }
 
 // The whole command line.
-fn command(alloc: Global) -> Result<Command<'static>, AllocError> {
+fn command<'a>(alloc: Global) -> Result<Command<'a>, AllocError> {
     Command::new(alloc, "bibkit")
         .about("Check and search bibliography files")
         .version("0.1.0")

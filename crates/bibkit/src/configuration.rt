@@ -12,9 +12,9 @@ use toml::{Table, Value};
 /// Why the settings of a project can't be read.
 #[derive(Debug, Drop)]
 pub enum ConfigurationError {
-    /// The file of this name is wrong, for this reason.
-    Wrong(String, String),
-    /// There was no memory for it.
+    /// This is wrong.
+    Wrong(String),
+    /// There was no memory for them.
     OutOfMemory,
 }
 
@@ -24,33 +24,29 @@ impl From<AllocError> for ConfigurationError {
     }
 }
 
-// What is wrong with a file.
-enum Fault {
-    // This.
-    Wrong(String),
-    // There was no memory.
-    OutOfMemory,
-}
-
-impl<T: Drop> From<AllocFailed<T>> for Fault {
+impl<T: Drop> From<AllocFailed<T>> for ConfigurationError {
     fn from(_error: AllocFailed<T>) -> Self {
-        Fault::OutOfMemory
+        ConfigurationError::OutOfMemory
     }
 }
 
-impl From<AllocError> for Fault {
-    fn from(_error: AllocError) -> Self {
-        Fault::OutOfMemory
+impl ConfigurationError {
+    // This error, with the name of the file that is wrong.
+    fn of_file(self, alloc: Global, name: &str) -> Result<Self, AllocError> {
+        match self {
+            Self::Wrong(reason) => Ok(Self::Wrong(format!(in alloc; "{name}: {}", reason.as_str())?)),
+            other => Ok(other),
+        }
     }
 }
 
 // A setting that is wrong.
-fn wrong<T: Drop>(alloc: Global, key: &str, wanted: &str) -> Result<T, Fault> {
-    Err(Fault::Wrong(format!(in alloc; "{key} has to be {wanted}")?))
+fn wrong<T: Drop>(alloc: Global, key: &str, wanted: &str) -> Result<T, ConfigurationError> {
+    Err(ConfigurationError::Wrong(format!(in alloc; "{key} has to be {wanted}")?))
 }
 
 // The code that a value names.
-fn code(alloc: Global, key: &str, value: &Value) -> Result<Code, Fault> {
+fn code(alloc: Global, key: &str, value: &Value) -> Result<Code, ConfigurationError> {
     match value.as_str().and_then(Code::named) {
         Some(code) => Ok(code),
         None => wrong(alloc, key, "a list of codes"),
@@ -58,7 +54,7 @@ fn code(alloc: Global, key: &str, value: &Value) -> Result<Code, Fault> {
 }
 
 // The codes that a value lists.
-fn codes(alloc: Global, key: &str, value: &Value) -> Result<Option<Vec<Code>>, Fault> {
+fn codes(alloc: Global, key: &str, value: &Value) -> Result<Option<Vec<Code>>, ConfigurationError> {
     let Some(values) = value.as_array() else {
         return wrong(alloc, key, "a list of codes");
     };
@@ -70,7 +66,7 @@ fn codes(alloc: Global, key: &str, value: &Value) -> Result<Option<Vec<Code>>, F
 }
 
 // Sets what a key of the file sets.
-fn set(alloc: Global, settings: &mut Settings, key: &str, value: &Value) -> Result<(), Fault> {
+fn set(alloc: Global, settings: &mut Settings, key: &str, value: &Value) -> Result<(), ConfigurationError> {
     match key {
         "only" => settings.only = codes(alloc, key, value)?,
         "ignore" => settings.ignored = codes(alloc, key, value)?,
@@ -82,13 +78,13 @@ fn set(alloc: Global, settings: &mut Settings, key: &str, value: &Value) -> Resu
             Some(format) => settings.format = Some(format),
             None => return wrong(alloc, key, "\"text\" or \"json\""),
         },
-        _ => return Err(Fault::Wrong(format!(in alloc; "there is no setting {key}")?)),
+        _ => return Err(ConfigurationError::Wrong(format!(in alloc; "there is no setting {key}")?)),
     }
     Ok(())
 }
 
 // The settings of a table.
-fn settings_of(alloc: Global, table: &Table) -> Result<Settings, Fault> {
+fn settings_of(alloc: Global, table: &Table) -> Result<Settings, ConfigurationError> {
     let mut settings = Settings::none();
     'keys: for (key, value) in table {
         set(alloc, &mut settings, key.as_str(), value)?;
@@ -97,13 +93,13 @@ fn settings_of(alloc: Global, table: &Table) -> Result<Settings, Fault> {
 }
 
 // The settings of a file's bytes.
-fn read(alloc: Global, bytes: Vec<u8>) -> Result<Settings, Fault> {
+fn read(alloc: Global, bytes: Vec<u8>) -> Result<Settings, ConfigurationError> {
     let Ok(text) = String::from_utf8(bytes) else {
-        return Err(Fault::Wrong(String::from_str(alloc, "it is not UTF-8")?));
+        return Err(ConfigurationError::Wrong(String::from_str(alloc, "it is not UTF-8")?));
     };
     match toml::table_from_str(alloc, text.as_str()) {
         Ok(table) => settings_of(alloc, &table),
-        Err(error) => Err(Fault::Wrong(format!(in alloc; "{error}")?)),
+        Err(error) => Err(ConfigurationError::Wrong(format!(in alloc; "{error}")?)),
     }
 }
 
@@ -116,14 +112,14 @@ fn folder(name: &str) -> Path<'_> {
 }
 
 // The settings of a file that is there, and none where it isn't.
-fn settings_at<R: Files + AllocGlobal>(rt: &R, name: &str) -> Result<Option<Settings>, Fault> {
+fn settings_at<R: Files + AllocGlobal>(rt: &R, name: &str) -> Result<Option<Settings>, ConfigurationError> {
     let alloc = rt.alloc();
     match fs::read(rt, name) {
         Ok(bytes) => Ok(Some(read(alloc, bytes)?)),
         Err(error) => match error.kind() {
             ErrorKind::NotFound => Ok(None),
-            ErrorKind::OutOfMemory => Err(Fault::OutOfMemory),
-            _ => Err(Fault::Wrong(String::from_str(alloc, "it can't be read")?)),
+            ErrorKind::OutOfMemory => Err(ConfigurationError::OutOfMemory),
+            _ => Err(ConfigurationError::Wrong(String::from_str(alloc, "it can't be read")?)),
         },
     }
 }
@@ -139,14 +135,11 @@ pub fn project_settings<R: Files + AllocGlobal>(
     };
     'folders: for folder in start.ancestors() {
         let path = folder.join(rt.alloc(), "bibkit.toml")?;
-        match settings_at(rt, path.to_string_lossy()) {
+        let name = path.to_string_lossy();
+        match settings_at(rt, name) {
             Ok(Some(settings)) => return Ok(settings),
             Ok(None) => {}
-            Err(Fault::OutOfMemory) => return Err(ConfigurationError::OutOfMemory),
-            Err(Fault::Wrong(reason)) => {
-                let name = String::from_str(rt.alloc(), path.to_string_lossy())?;
-                return Err(ConfigurationError::Wrong(name, reason));
-            }
+            Err(error) => return Err(error.of_file(rt.alloc(), name)?),
         }
     }
     Ok(Settings::none())

@@ -112,8 +112,8 @@ fn answer(rt: &HostRuntime, words: Words<'_>) -> u8 {
             run(rt.alloc(), &call, &mut files, &mut output, messages)
         }
         Err(ConfigurationError::OutOfMemory) => out_of_memory(rt),
-        Err(ConfigurationError::Wrong(name, reason)) => {
-            let _ = eprintln!(rt; "bibkit: {name}: {reason}");
+        Err(ConfigurationError::Wrong(reason)) => {
+            let _ = eprintln!(rt; "bibkit: {reason}");
             2
         }
     }

@@ -15,7 +15,7 @@ use Rattle.bibkit_core.specs.declared.request.Style.{Style}
 use Rattle.bibkit_core.specs.declared.selection.Selection.{Selection}
 use Rattle.bibkit_core.specs.declared.tally.Tally.{Tally}
 use Rattle.bibkit_core.specs.Asked.{asked, is_asked}
-use Rattle.bibkit_core.specs.Adding.{Adds, IsPrinted}
+use Rattle.bibkit_core.specs.Adding.{IsAdded, IsPrintedOne}
 use Rattle.bib_encoding.specs.declared.decoding.Decoded.{Decoded}
 use Rattle.bib_findings.specs.Findings.{AreFindings}
 use Rattle.bibkit_core.specs.declared.request.Lint.{Lint}
@@ -69,8 +69,8 @@ shown_more {style} {name} {bytes} {is_first} f u (next {f = g} {rest = rest} tex
     subst (λ t. AreShown style name bytes is_first (g ∷ (rest ++ f ∷ [])) t) (sym (append_assoc text texts u)) (next text s (shown_more f u more later))
 
 -- one more is printed and counted
-pub one_added : {style : Style} {name bytes : List ℕ} {xs : List Finding} {a b c : Printed} (f : Finding) → Adds (ArePrinted style name bytes xs) a b
-    → Adds (IsPrinted style name (position_at bytes f.span.start) f) b c → Adds (ArePrinted style name bytes (xs ++ f ∷ [])) a c
+pub one_added : {style : Style} {name bytes : List ℕ} {xs : List Finding} {a b c : Printed} (f : Finding) → IsAdded (ArePrinted style name bytes xs) a b
+    → IsAdded (IsPrintedOne style name (position_at bytes f.span.start) f) b c → IsAdded (ArePrinted style name bytes (xs ++ f ∷ [])) a c
 one_added {style} {name} {bytes} {xs} {a} {b} {c} f before one = record {
   text = before.text ++ one.text;
   are = record {
@@ -81,7 +81,7 @@ one_added {style} {name} {bytes} {xs} {a} {b} {c} f before one = record {
 }
 
 -- none are printed
-pub none_added : {style : Style} {name bytes : List ℕ} (a : Printed) → Adds (ArePrinted style name bytes []) a a
+pub none_added : {style : Style} {name bytes : List ℕ} (a : Printed) → IsAdded (ArePrinted style name bytes []) a a
 none_added a = record { text = []; are = record { shown = none; tally = refl }; printed = sym (append-nil (string_bytes a.text)) }
 
 -- one more that is asked for
@@ -94,23 +94,23 @@ asked_same s xs f isnt = filter-append (λ g. is_asked s g.code) xs (f ∷ []) �
 
 -- a step at which the finding is printed
 pub step_printed : {style : Style} {name bytes : List ℕ} (s : Selection) (xs more : List Finding) (f : Finding) (place : Position) {a b c d : Printed} → more ≡ xs ++ f ∷ [] → is_asked s f.code ≡ true
-    → place ≡ position_at bytes f.span.start → Adds (ArePrinted style name bytes (asked s xs)) a b → Adds (IsPrinted style name place f) b c → d ≡ c → Adds (ArePrinted style name bytes (asked s more)) a d
+    → place ≡ position_at bytes f.span.start → IsAdded (ArePrinted style name bytes (asked s xs)) a b → IsAdded (IsPrintedOne style name place f) b c → d ≡ c → IsAdded (ArePrinted style name bytes (asked s more)) a d
 step_printed {style} {name} {bytes} s xs more f place {a} {b} {c} {d} grows is at before one same =
-    subst (λ p. Adds (ArePrinted style name bytes (asked s more)) a p) (sym same)
-    (subst (λ ys. Adds (ArePrinted style name bytes ys) a c) (sym (ap (asked s) grows ∙ asked_more s xs f is))
-    (one_added f before (subst (λ p. Adds (IsPrinted style name p f) b c) at one)))
+    subst (λ p. IsAdded (ArePrinted style name bytes (asked s more)) a p) (sym same)
+    (subst (λ ys. IsAdded (ArePrinted style name bytes ys) a c) (sym (ap (asked s) grows ∙ asked_more s xs f is))
+    (one_added f before (subst (λ p. IsAdded (IsPrintedOne style name p f) b c) at one)))
 
 -- a step at which it isn't
 pub step_passed : {style : Style} {name bytes : List ℕ} (s : Selection) (xs more : List Finding) (f : Finding) {a b d : Printed} → more ≡ xs ++ f ∷ [] → is_asked s f.code ≡ false
-    → Adds (ArePrinted style name bytes (asked s xs)) a b → d ≡ b → Adds (ArePrinted style name bytes (asked s more)) a d
+    → IsAdded (ArePrinted style name bytes (asked s xs)) a b → d ≡ b → IsAdded (ArePrinted style name bytes (asked s more)) a d
 step_passed {style} {name} {bytes} s xs more f {a} {b} {d} grows isnt before same =
-    subst (λ p. Adds (ArePrinted style name bytes (asked s more)) a p) (sym same)
-    (subst (λ ys. Adds (ArePrinted style name bytes ys) a b) (sym (ap (asked s) grows ∙ asked_same s xs f isnt)) before)
+    subst (λ p. IsAdded (ArePrinted style name bytes (asked s more)) a p) (sym same)
+    (subst (λ ys. IsAdded (ArePrinted style name bytes ys) a b) (sym (ap (asked s) grows ∙ asked_same s xs f isnt)) before)
 
 -- the findings of a file, after the byte that isn't UTF-8
 pub file_added : {lint : Lint} {name bytes : List ℕ} {decoded : Decoded} (found : List Finding) {a b c : Printed} → AreFindings (string_bytes decoded.text) found
-    → Adds (ArePrinted lint.style name bytes (asked lint.selection (unread_findings decoded.invalid))) a b
-    → Adds (ArePrinted lint.style name (string_bytes decoded.text) (asked lint.selection found)) b c → Adds (IsPrintedFile lint name bytes decoded) a c
+    → IsAdded (ArePrinted lint.style name bytes (asked lint.selection (unread_findings decoded.invalid))) a b
+    → IsAdded (ArePrinted lint.style name (string_bytes decoded.text) (asked lint.selection found)) b c → IsAdded (IsPrintedFile lint name bytes decoded) a c
 file_added found {a} {b} {c} are first second = record {
   text = first.text ++ second.text;
   are = record { found = found; are = are; between = b.tally; first = first.text; second = second.text; unread = first.are; of_text = second.are; is = refl };
@@ -118,5 +118,5 @@ file_added found {a} {b} {c} are first second = record {
 }
 
 -- what is printed after nothing
-pub added_alone : {Are : Tally → List ℕ → Tally → Type 0} {a b : Printed} → string_bytes a.text ≡ [] → Adds Are a b → Are a.tally (string_bytes b.text) b.tally
+pub added_alone : {Are : Tally → List ℕ → Tally → Type 0} {a b : Printed} → string_bytes a.text ≡ [] → IsAdded Are a b → Are a.tally (string_bytes b.text) b.tally
 added_alone {Are} {a} {b} empty added = subst (λ t. Are a.tally t b.tally) (sym (added.printed ∙ ap (λ s. s ++ added.text) empty)) added.are

@@ -1,2 +1,3 @@
+pub mod AnswerFacts
 pub mod FindingFacts
 pub mod RunFacts

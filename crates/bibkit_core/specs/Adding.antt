@@ -10,12 +10,12 @@ use Rattle.bibkit_core.specs.declared.tally.Tally.{Tally}
 use Rattle.bibkit_core.specs.Printed.{IsShown, is_none, one_more}
 
 -- a text of which this holds, with the numbers of findings before and after it, is printed after others
-pub record Adds (Are : Tally → List ℕ → Tally → Type 0) (old new : Printed) : Type 0 where
+pub record IsAdded (Are : Tally → List ℕ → Tally → Type 0) (old new : Printed) : Type 0 where
   pub text : List ℕ
   pub are : Are old.tally text new.tally
   pub printed : string_bytes new.text ≡ string_bytes old.text ++ text
 
 -- this is printed of a finding, and so many there are before and after
-pub record IsPrinted (style : Style) (name : List ℕ) (place : Position) (f : Finding) (before : Tally) (text : List ℕ) (after : Tally) : Type 0 where
+pub record IsPrintedOne (style : Style) (name : List ℕ) (place : Position) (f : Finding) (before : Tally) (text : List ℕ) (after : Tally) : Type 0 where
   pub shown : IsShown style (is_none before) name place f text
   pub tally : after ≡ one_more before (severity_of f.code)

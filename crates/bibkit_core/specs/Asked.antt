@@ -8,17 +8,17 @@ use Rattle.bib_findings.specs.declared.finding.Finding.{Finding}
 use Rattle.bibkit_core.specs.declared.selection.Selection.{Selection}
 
 -- whether a code is one of these
-abbrev pub is_among : List Code → Code → Bool
-is_among codes code = list_any (λ one. bytes_eq (code_name one) (code_name code)) codes
+abbrev pub has_code : List Code → Code → Bool
+has_code codes code = list_any (λ one. bytes_eq (code_name one) (code_name code)) codes
 
 -- whether there are none
-abbrev pub is_empty : List Code → Bool
-is_empty [] = true
-is_empty (c ∷ rest) = false
+abbrev pub has_none : List Code → Bool
+has_none [] = true
+has_none (c ∷ rest) = false
 
 -- whether findings with this code are asked for
 abbrev pub is_asked : Selection → Code → Bool
-is_asked selection code = (is_empty selection.only.items || is_among selection.only.items code) && not (is_among selection.ignored.items code)
+is_asked selection code = (has_none selection.only.items || has_code selection.only.items code) && not (has_code selection.ignored.items code)
 
 -- the findings that are asked for
 abbrev pub asked : Selection → List Finding → List Finding

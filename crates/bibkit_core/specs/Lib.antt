@@ -1,4 +1,5 @@
 pub mod Adding
+pub mod Answered
 pub mod Asked
 pub mod Linted
 pub mod Printed

@@ -52,24 +52,24 @@ abbrev pub counts_line : Tally → List ℕ
 counts_line tally = codes "errors: " ++ (decimal tally.errors ++ (codes ", warnings: " ++ (decimal tally.warnings ++ codes "\n")))
 
 -- what turns bold type on, and the colour of a severity, and all of these off
-abbrev pub bold : List ℕ
-bold = 27 ∷ codes "[1m"
+abbrev pub bold_type : List ℕ
+bold_type = 27 ∷ codes "[1m"
 
 abbrev pub color : Severity → List ℕ
 color Error = 27 ∷ codes "[1;31m"
 color Warning = 27 ∷ codes "[1;33m"
 
-abbrev pub plain : List ℕ
-plain = 27 ∷ codes "[0m"
+abbrev pub plain_type : List ℕ
+plain_type = 27 ∷ codes "[0m"
 
 -- where a finding is, in bold type
 abbrev pub colored_place : List ℕ → Position → List ℕ
-colored_place name place = bold ++ (name ++ (codes ":" ++ (decimal place.line ++ (codes ":" ++ (decimal place.column ++ (codes ":" ++ (plain ++ codes " ")))))))
+colored_place name place = bold_type ++ (name ++ (codes ":" ++ (decimal place.line ++ (codes ":" ++ (decimal place.column ++ (codes ":" ++ (plain_type ++ codes " ")))))))
 
 -- what a finding is, in the colour of its severity
 abbrev pub colored_text : Finding → List ℕ
 colored_text f =
-    color (severity_of f.code) ++ (severity_name (severity_of f.code) ++ (codes ":" ++ (plain ++ (codes " " ++ (f.message ++ (codes " [" ++ (code_name f.code ++ codes "]\n")))))))
+    color (severity_of f.code) ++ (severity_name (severity_of f.code) ++ (codes ":" ++ (plain_type ++ (codes " " ++ (f.message ++ (codes " [" ++ (code_name f.code ++ codes "]\n")))))))
 
 -- the line of a finding in colours
 abbrev pub colored_line : List ℕ → Position → Finding → List ℕ

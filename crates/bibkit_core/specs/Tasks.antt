@@ -1,6 +1,6 @@
 -- Meaning: words of public contracts.
 -- What is printed of files for a command, and the status.
-use Rattle.std.specs.Prelude.{◌≡◌, ◌==◌, ◌&&◌, ℕ, Bool, true, false, not, if◌then◌else◌, List, [], ◌++◌, codes, MatchOption, string_bytes}
+use Rattle.std.specs.Prelude.{◌≡◌, ◌==◌, ◌&&◌, ◌||◌, ℕ, length, Bool, true, false, not, if◌then◌else◌, List, [], ◌++◌, codes, MatchOption, string_bytes}
 use Rattle.std.specs.Str.{IsUtf8}
 use Rattle.bib_encoding.specs.Encoding.{without_byte_order_mark, windows_1252_text, IsFirstInvalid}
 use Rattle.bib_encoding.specs.declared.decoding.Decoded.{Decoded}
@@ -11,6 +11,9 @@ use Rattle.bib_findings.specs.declared.finding.Finding.{Finding}
 use Rattle.bibkit_core.specs.Asked.{asked}
 use Rattle.bibkit_core.specs.Linted.{ArePrinted, IsPrintedFile}
 use Rattle.bibkit_core.specs.Printed.{counts_line, is_none}
+use Rattle.bibkit_core.specs.declared.comparing.Comparing.{Comparing}
+use Rattle.bibkit_core.specs.declared.entries.Entries.{Entries}
+use Rattle.bibkit_core.specs.declared.linting.Linting.{Linting}
 use Rattle.bibkit_core.specs.declared.request.Lint.{Lint}
 use Rattle.bibkit_core.specs.declared.request.Style.{Style}
 use Rattle.bibkit_core.specs.declared.request.Style.TheVariants.{Plain, Colored, Json}
@@ -81,3 +84,52 @@ is_search _ = true
 -- the status: 1 where entries are looked for and none is found
 abbrev pub entries_status : Request → Bool → ℕ
 entries_status request is_found = if is_search request && not is_found then 1 else 0
+
+-- the task of printing findings, before any is printed
+pub record BeginsLinting (lint : Lint) (task : Linting) : Type 0 where
+  pub lint_is : task.lint.now ≡ lint
+  pub no_errors : task.tally.errors ≡ 0
+  pub no_warnings : task.tally.warnings ≡ 0
+
+-- what this task prints before files
+abbrev pub linting_begins : Linting → List ℕ
+linting_begins task = opening task.lint.now.style
+
+-- what it prints of a file
+abbrev pub linting_prints : Linting → List ℕ → List ℕ → List ℕ → Linting → Type 0
+linting_prints old name bytes text new = (new.lint.now ≡ old.lint.now) × PrintsFindings old.lint.now name bytes old.tally text new.tally
+
+-- what it prints after files, and its status
+abbrev pub linting_ends : Linting → List ℕ → ℕ → Type 0
+linting_ends task text status = (text ≡ closing task.lint.now.style task.tally) × (status ≡ lint_status task.tally)
+
+-- what the task prints before files that compares them with what a document cites
+abbrev pub comparing_begins : Comparing → List ℕ
+comparing_begins task = opening task.linting.lint.now.style
+
+-- what that task prints of a file
+abbrev pub comparing_prints : Comparing → List ℕ → List ℕ → List ℕ → Comparing → Type 0
+comparing_prints old name bytes text new =
+    (new.linting.lint.now ≡ old.linting.lint.now) × PrintsCompared old.linting.lint.now name bytes old.linting.tally text new.linting.tally
+
+-- what that task prints after files, and its status
+abbrev pub comparing_ends : Comparing → List ℕ → ℕ → Type 0
+comparing_ends task text status = EndsCompared task.linting.lint.now task.linting.tally text status
+
+-- the task of printing entries, before any is found
+pub record BeginsEntries (request : Request) (task : Entries) : Type 0 where
+  pub request_is : task.request.now ≡ request
+  pub none_found : task.is_found ≡ false
+
+-- what the task of printing entries prints before files
+abbrev pub entries_begins : Entries → List ℕ
+entries_begins task = []
+
+-- what it prints of a file, and whether anything is found so far
+abbrev pub entries_prints : Entries → List ℕ → List ℕ → List ℕ → Entries → Type 0
+entries_prints old name bytes text new =
+    (new.request.now ≡ old.request.now) × PrintsEntries old.request.now bytes text × (new.is_found ≡ (old.is_found || not (length text == 0)))
+
+-- what it prints after files, and its status
+abbrev pub entries_ends : Entries → List ℕ → ℕ → Type 0
+entries_ends task text status = (text ≡ []) × (status ≡ entries_status task.request.now task.is_found)

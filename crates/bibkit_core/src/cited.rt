@@ -105,11 +105,23 @@ impl<'t> Document<'t> {
     /// Notes which citations have entries in a file, and answers which of its entries the document doesn't cite, where these are
     /// asked for.
     pub fn compare(&mut self, alloc: Global, text: &str) -> Result<Vec<Finding>, AllocError> {
+        self.known = self.known_with(alloc, text)?;
+        self.unused(alloc, text)
+    }
+
+    // Which citations have entries in the files so far, and this one.
+    fn known_with(&self, alloc: Global, text: &str) -> Result<Vec<bool>, AllocError> {
         let keys = keys(alloc, &self.citations)?;
-        self.known = either(alloc, &self.known, &known(alloc, text, &keys)?)?;
+        let here = known(alloc, text, &keys)?;
+        either(alloc, &self.known, &here)
+    }
+
+    // The entries of a file that the document doesn't cite, where these are asked for.
+    fn unused(&self, alloc: Global, text: &str) -> Result<Vec<Finding>, AllocError> {
         if !self.has_unused || self.citations.all {
             return Ok(Vec::new(alloc));
         }
+        let keys = keys(alloc, &self.citations)?;
         unused_entries(alloc, &uncited(alloc, text, &keys)?)
     }
 

@@ -1,7 +1,6 @@
 //! What is wrong in files, and what a document cites, as a task.
 
-ghost use Rattle.std.specs.Prelude.{◌≡◌};
-ghost use Rattle.bibkit_core.specs.Tasks.{PrintsCompared, EndsCompared, opening};
+ghost use Rattle.bibkit_core.specs.Tasks.{BeginsLinting, comparing_begins, comparing_ends, comparing_prints};
 
 use crate::cited::Document;
 use crate::decoding::decoded;
@@ -20,7 +19,9 @@ pub struct Comparing<'r, 'a> {
 
 impl<'r, 'a> Comparing<'r, 'a> {
     /// These findings, of which none is printed yet.
-    pub fn new(lint: &'r Lint<'a>, document: Document<'r>) -> Self {
+    pub fn new(lint: &'r Lint<'a>, document: Document<'r>) -> Self
+        ensures { BeginsLinting lint.now result.linting }
+    {
         Comparing {
             linting: Linting::new(lint),
             document,
@@ -29,12 +30,11 @@ impl<'r, 'a> Comparing<'r, 'a> {
 }
 
 impl<'r, 'a> Task for Comparing<'r, 'a> {
-    ghost begins = { λ task. opening task.linting.lint.now.style };
+    ghost begins = { comparing_begins };
 
-    ghost prints = { λ old name bytes text new. (new.linting.lint.now ≡ old.linting.lint.now) ×
-        PrintsCompared old.linting.lint.now name bytes old.linting.tally text new.linting.tally };
+    ghost prints = { comparing_prints };
 
-    ghost ends = { λ task text status. EndsCompared task.linting.lint.now task.linting.tally text status };
+    ghost ends = { comparing_ends };
 
     fn begin(&self) -> &'static str {
         self.linting.begin()

@@ -1,7 +1,7 @@
 //! Entries of files, or their keys, as a task.
 
-ghost use Rattle.std.specs.Prelude.{◌≡◌, ◌||◌, ◌==◌, [], false, length, not};
-ghost use Rattle.bibkit_core.specs.Tasks.{PrintsEntries, entries_status};
+ghost use Rattle.std.specs.Prelude.{◌≡◌, ◌||◌, ◌==◌, length, not};
+ghost use Rattle.bibkit_core.specs.Tasks.{BeginsEntries, entries_begins, entries_ends, entries_prints};
 ghost use Rattle.bibkit_core.specs.Tasks as spec;
 
 use crate::decoding::decoded;
@@ -20,8 +20,7 @@ pub struct Entries<'r, 'a> {
 impl<'r, 'a> Entries<'r, 'a> {
     /// These entries, of which none is found yet.
     pub fn new(request: &'r Excerpts<'a>) -> Self
-        ensures request { result.request.now ≡ request.now }
-        ensures found { result.is_found ≡ false }
+        ensures { BeginsEntries request.now result }
     {
         Entries {
             request,
@@ -55,12 +54,11 @@ fn entries_status(request: &Excerpts<'_>, is_found: bool) -> u8
 }
 
 impl<'r, 'a> Task for Entries<'r, 'a> {
-    ghost begins = { λ task. [] };
+    ghost begins = { entries_begins };
 
-    ghost prints = { λ old name bytes text new. (new.request.now ≡ old.request.now) ×
-        PrintsEntries old.request.now bytes text × (new.is_found ≡ (old.is_found || not (length text == 0))) };
+    ghost prints = { entries_prints };
 
-    ghost ends = { λ task text status. (text ≡ []) × (status ≡ entries_status task.request.now task.is_found) };
+    ghost ends = { entries_ends };
 
     fn begin(&self) -> &'static str {
         ""

@@ -2,7 +2,7 @@
 
 ghost use Rattle.std.specs.Prelude.{◌≡◌, ◌≢◌, ℕ, List, Option, Some, None, IfOk, IfErr};
 
-use std::alloc::Global;
+use std::alloc::{AllocError, Global};
 
 /// Why a file could not be read.
 #[derive(Debug, Clone, Copy, PartialEq, Eq)]
@@ -20,6 +20,16 @@ pub enum FileError {
 }
 
 impl FileError {
+    /// The error, unless it is that there was no memory.
+    pub fn unless_out_of_memory(self) -> Result<Self, AllocError>
+        ensures { IfOk result (λ e. (e ≡ self) × (e ≢ FileError.OutOfMemory)) }
+    {
+        match self {
+            Self::OutOfMemory => Err(AllocError),
+            _ => Ok(self),
+        }
+    }
+
     /// What is said of it.
     pub fn text(self) -> &'static str {
         match self {

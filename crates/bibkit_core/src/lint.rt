@@ -4,7 +4,7 @@ ghost use Rattle.std.specs.Prelude.{◌≡◌, OnOk, IfOk};
 ghost use Rattle.std.specs.String.{string_bytes};
 ghost use Rattle.bibkit_core.specs.Printed.{IsShown};
 ghost use Rattle.bibkit_core.specs.Asked.{asked};
-ghost use Rattle.bibkit_core.specs.Adding.{Adds, IsPrinted};
+ghost use Rattle.bibkit_core.specs.Adding.{IsAdded, IsPrintedOne};
 ghost use Rattle.bibkit_core.specs.Linted.{ArePrinted, IsPrintedFile, unread_finding, unread_findings};
 ghost use Rattle.bibkit_core.specs.Printed as spec;
 
@@ -67,7 +67,7 @@ fn print_finding(
     place: Position,
     finding: &Finding,
 ) -> Result<(), AllocError>
-    ensures { OnOk result (Adds (IsPrinted style origin.now.name.now place finding.now) printed.old printed.new) }
+    ensures { OnOk result (IsAdded (IsPrintedOne style origin.now.name.now place finding.now) printed.old printed.new) }
 {
     let text = shown(alloc, style, printed.tally, origin, place, finding)?;
     printed.text.push_str(&text)?;
@@ -83,7 +83,7 @@ pub fn print_findings(
     origin: &Origin<'_>,
     found: &[Finding],
 ) -> Result<(), AllocError>
-    ensures { OnOk result (Adds (ArePrinted lint.now.style origin.now.name.now origin.now.bytes.now
+    ensures { OnOk result (IsAdded (ArePrinted lint.now.style origin.now.name.now origin.now.bytes.now
         (asked lint.now.selection found.now)) printed.old printed.new) }
 {
     let mut positions = Positions::of_bytes(origin.bytes);
@@ -115,7 +115,7 @@ fn print_unread(
     origin: &Origin<'_>,
     invalid: Option<usize>,
 ) -> Result<(), AllocError>
-    ensures { OnOk result (Adds (ArePrinted lint.now.style origin.now.name.now origin.now.bytes.now
+    ensures { OnOk result (IsAdded (ArePrinted lint.now.style origin.now.name.now origin.now.bytes.now
         (asked lint.now.selection (unread_findings invalid))) printed.old printed.new) }
 {
     let Some(at) = invalid else {
@@ -134,7 +134,7 @@ pub fn print_file(
     origin: &Origin<'_>,
     decoded: &Decoded,
 ) -> Result<(), AllocError>
-    ensures { OnOk result (Adds (IsPrintedFile lint.now origin.now.name.now origin.now.bytes.now decoded.now) printed.old printed.new) }
+    ensures { OnOk result (IsAdded (IsPrintedFile lint.now origin.now.name.now origin.now.bytes.now decoded.now) printed.old printed.new) }
 {
     print_unread(alloc, printed, lint, origin, decoded.invalid)?;
     let text = Origin {

@@ -4,7 +4,7 @@ ghost use Rattle.std.specs.Prelude.{◌≡◌, [], IfOk};
 ghost use Rattle.std.specs.String.{string_bytes};
 ghost use Rattle.bibkit_core.specs.Asked.{asked};
 ghost use Rattle.bibkit_core.specs.Linted.{ArePrinted};
-ghost use Rattle.bibkit_core.specs.Tasks.{PrintsFindings, closing, lint_status, opening};
+ghost use Rattle.bibkit_core.specs.Tasks.{BeginsLinting, linting_begins, linting_ends, linting_prints};
 ghost use Rattle.bibkit_core.specs.Tasks as spec;
 
 use crate::decoding::decoded;
@@ -25,9 +25,7 @@ pub struct Linting<'r, 'a> {
 impl<'r, 'a> Linting<'r, 'a> {
     /// These findings, of which none is printed yet.
     pub fn new(lint: &'r Lint<'a>) -> Self
-        ensures lint { result.lint.now ≡ lint.now }
-        ensures errors { result.tally.errors ≡ 0 }
-        ensures warnings { result.tally.warnings ≡ 0 }
+        ensures { BeginsLinting lint.now result }
     {
         Linting {
             lint,
@@ -102,13 +100,11 @@ fn lint_status(tally: Tally) -> u8
 }
 
 impl<'r, 'a> Task for Linting<'r, 'a> {
-    ghost begins = { λ task. opening task.lint.now.style };
+    ghost begins = { linting_begins };
 
-    ghost prints = { λ old name bytes text new.
-        (new.lint.now ≡ old.lint.now) × PrintsFindings old.lint.now name bytes old.tally text new.tally };
+    ghost prints = { linting_prints };
 
-    ghost ends = { λ task text status.
-        (text ≡ closing task.lint.now.style task.tally) × (status ≡ lint_status task.tally) };
+    ghost ends = { linting_ends };
 
     fn begin(&self) -> &'static str {
         opening(self.lint.style)

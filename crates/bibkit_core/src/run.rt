@@ -1,21 +1,24 @@
 //! The engine of the program.
 
-ghost use Rattle.std.specs.Prelude.{◌≡◌, ◌&&◌, map, IfOk, OnOk, option_map, if◌then◌else◌};
+ghost use Rattle.std.specs.Prelude.{◌≡◌, ◌<◌, ◌&&◌, ℕ, List, map, IfOk, OnOk, option_map, if◌then◌else◌};
 ghost use Rattle.std.specs.Io.KnownBytes.{Appends};
-ghost use Rattle.bibkit_core.specs.Steps.{HasStep, HasRun, HasAnswer};
+ghost use Rattle.bibkit_core.specs.Answered.{meaning_text};
+ghost use Rattle.bibkit_core.specs.Steps.{HasAnswer, HasCallAnswer, HasCompared, HasRun, HasStep, IsFileRead};
+ghost use Rattle.bibkit_core.specs.Tasks.{BeginsEntries, BeginsLinting, entries_begins, entries_ends, entries_prints, linting_begins, linting_ends, linting_prints};
 
 use crate::cited::{Document, citations, keys};
 use crate::comparing::Comparing;
 use crate::counting::Counting;
+use crate::decoding::decoded;
 use crate::entries::Entries;
-use crate::files::{FileError, Files};
+use crate::files::Files;
 use crate::linting::Linting;
 use crate::messages::Messages;
-use crate::request::{Call, Lint, Request};
+use crate::request::{Call, Cited, Lint, Request};
 use crate::task::Task;
 use bib_excerpts::request::{CitedKeys, Request as Excerpts};
 use bib_findings::codes::Code;
-use biblatex::{Sink, decode};
+use biblatex::Sink;
 use std::alloc::{AllocError, Global};
 
 // Why a run ends before its answer is whole.
@@ -53,8 +56,8 @@ fn bytes_of<F: Files, M: Sink>(
 {
     match files.read(alloc, name) {
         Ok(bytes) => Ok(Some(bytes)),
-        Err(FileError::OutOfMemory) => Err(AllocError),
         Err(error) => {
+            let error = error.unless_out_of_memory()?;
             messages.unread(alloc, name, error)?;
             Ok(None)
         }
@@ -142,14 +145,54 @@ fn document_text<F: Files, M: Sink>(
     name: &str,
     files: &mut F,
     messages: &mut Messages<M>,
-) -> Result<String, Stop> {
+) -> Result<String, Stop>
+    ensures { IfOk result (λ _. IsFileRead F.reads files.old name.now files.new) }
+{
     let Some(bytes) = bytes_of(alloc, name, files, messages)? else {
         return Err(Stop::NoDocument);
     };
-    Ok(decode(alloc, &bytes)?.text)
+    let decoded = decoded(alloc, &bytes)?;
+    Ok(decoded.text)
 }
 
 // Prints the findings that are asked for.
+fn run_findings<F: Files, K: Sink, M: Sink>(
+    alloc: Global,
+    lint: &Lint<'_>,
+    names: &[&str],
+    files: &mut F,
+    output: &mut K,
+    messages: &mut Messages<M>,
+) -> Result<u8, Stop>
+    ensures { IfOk result (λ status. (task : Linting) × BeginsLinting lint.now task × HasAnswer F.reads linting_begins linting_prints
+        linting_ends files.old task (map (λ name. name.now) names.now) (K.taken output.old) (K.taken output.new) status) }
+{
+    let mut task = Linting::new(lint);
+    let status = run_task(alloc, names, &mut task, files, output, messages)?;
+    Ok(status)
+}
+
+// Prints the findings that are asked for, with those of what a document cites.
+fn run_compared<F: Files, K: Sink, M: Sink>(
+    alloc: Global,
+    lint: &Lint<'_>,
+    cited: Cited<'_>,
+    names: &[&str],
+    files: &mut F,
+    output: &mut K,
+    messages: &mut Messages<M>,
+) -> Result<u8, Stop>
+    ensures { IfOk result (λ status. HasCompared F.reads lint.now cited.entry.name.now files.old (map (λ name. name.now) names.now)
+        (K.taken output.old) (K.taken output.new) status) }
+{
+    let text = document_text(alloc, cited.name, files, messages)?;
+    let document = Document::new(alloc, cited.name, text.as_str(), cited.has_unused)?;
+    let mut task = Comparing::new(lint, document);
+    let status = run_task(alloc, names, &mut task, files, output, messages)?;
+    Ok(status)
+}
+
+// Prints what is asked for of findings.
 fn run_lint<F: Files, K: Sink, M: Sink>(
     alloc: Global,
     lint: &Lint<'_>,
@@ -157,14 +200,20 @@ fn run_lint<F: Files, K: Sink, M: Sink>(
     files: &mut F,
     output: &mut K,
     messages: &mut Messages<M>,
-) -> Result<u8, Stop> {
-    let Some(cited) = lint.cited else {
-        return run_task(alloc, names, &mut Linting::new(lint), files, output, messages);
-    };
-    let text = document_text(alloc, cited.name, files, messages)?;
-    let document = Document::new(alloc, cited.name, text.as_str(), cited.has_unused)?;
-    let mut task = Comparing::new(lint, document);
-    run_task(alloc, names, &mut task, files, output, messages)
+) -> Result<u8, Stop>
+    ensures { IfOk result (HasCallAnswer F.reads files.old (map (λ name. name.now) names.now) (Request.Lint lint.now)
+        (K.taken output.old) (K.taken output.new)) }
+{
+    match lint.cited {
+        None => {
+            let status = run_findings(alloc, lint, names, files, output, messages)?;
+            Ok(status)
+        }
+        Some(cited) => {
+            let status = run_compared(alloc, lint, cited, names, files, output, messages)?;
+            Ok(status)
+        }
+    }
 }
 
 // Prints the entries that are asked for.
@@ -175,8 +224,13 @@ fn run_entries<F: Files, K: Sink, M: Sink>(
     files: &mut F,
     output: &mut K,
     messages: &mut Messages<M>,
-) -> Result<u8, Stop> {
-    run_task(alloc, names, &mut Entries::new(request), files, output, messages)
+) -> Result<u8, Stop>
+    ensures { IfOk result (λ status. (task : Entries) × BeginsEntries request.now task × HasAnswer F.reads entries_begins
+        entries_prints entries_ends files.old task (map (λ name. name.now) names.now) (K.taken output.old) (K.taken output.new) status) }
+{
+    let mut task = Entries::new(request);
+    let status = run_task(alloc, names, &mut task, files, output, messages)?;
+    Ok(status)
 }
 
 // Prints the entries that a document cites.
@@ -187,38 +241,79 @@ fn run_cited<F: Files, K: Sink, M: Sink>(
     files: &mut F,
     output: &mut K,
     messages: &mut Messages<M>,
-) -> Result<u8, Stop> {
+) -> Result<u8, Stop>
+    ensures { IfOk result (HasCallAnswer F.reads files.old (map (λ name. name.now) names.now) (Request.Cited document.entry)
+        (K.taken output.old) (K.taken output.new)) }
+{
     let text = document_text(alloc, document, files, messages)?;
     let citations = citations(alloc, document, text.as_str())?;
     let request = Excerpts::Cited(CitedKeys {
         keys: keys(alloc, &citations)?,
         all: citations.all,
     });
-    run_entries(alloc, &request, names, files, output, messages)
+    let status = run_entries(alloc, &request, names, files, output, messages)?;
+    Ok(status)
+}
+
+// Prints how many there are of what.
+fn run_counts<F: Files, K: Sink, M: Sink>(
+    alloc: Global,
+    names: &[&str],
+    files: &mut F,
+    output: &mut K,
+    messages: &mut Messages<M>,
+) -> Result<u8, Stop>
+    ensures { IfOk result (HasCallAnswer F.reads files.old (map (λ name. name.now) names.now) Request.Stats
+        (K.taken output.old) (K.taken output.new)) }
+{
+    let mut task = Counting::new(alloc);
+    let status = run_task(alloc, names, &mut task, files, output, messages)?;
+    Ok(status)
 }
 
 // Prints what a code means.
-fn explain<K: Sink>(alloc: Global, code: Code, output: &mut K) -> Result<u8, Stop> {
+fn explain<K: Sink>(alloc: Global, code: Code, output: &mut K) -> Result<u8, Stop>
+    ensures { IfOk result (λ status. (text : List ℕ) × Appends (K.taken output.old) (K.taken output.new) (meaning_text code text)
+        × (status ≡ 0)) }
+{
     let text = format!(in alloc; "{} ({}): {}\n", code.name(), code.severity().name(), code.explanation())?;
-    print(output, &text)?;
+    print(output, text.as_str())?;
     Ok(0)
 }
 
 // Prints what is asked for, and answers the status.
 fn answer<F: Files, K: Sink, M: Sink>(
     alloc: Global,
-    call: &Call<'_>,
+    request: &Request<'_>,
+    names: &[&str],
     files: &mut F,
     output: &mut K,
     messages: &mut Messages<M>,
-) -> Result<u8, Stop> {
-    let names = call.names.as_slice();
-    match &call.request {
-        Request::Lint(lint) => run_lint(alloc, lint, names, files, output, messages),
-        Request::Explain(code) => explain(alloc, *code, output),
-        Request::Entries(request) => run_entries(alloc, request, names, files, output, messages),
-        Request::Cited(document) => run_cited(alloc, *document, names, files, output, messages),
-        Request::Stats => run_task(alloc, names, &mut Counting::new(alloc), files, output, messages),
+) -> Result<u8, Stop>
+    ensures { IfOk result (HasCallAnswer F.reads files.old (map (λ name. name.now) names.now) request.now
+        (K.taken output.old) (K.taken output.new)) }
+{
+    match request {
+        Request::Lint(lint) => {
+            let status = run_lint(alloc, lint, names, files, output, messages)?;
+            Ok(status)
+        }
+        Request::Explain(code) => {
+            let status = explain(alloc, *code, output)?;
+            Ok(status)
+        }
+        Request::Entries(request) => {
+            let status = run_entries(alloc, request, names, files, output, messages)?;
+            Ok(status)
+        }
+        Request::Cited(document) => {
+            let status = run_cited(alloc, *document, names, files, output, messages)?;
+            Ok(status)
+        }
+        Request::Stats => {
+            let status = run_counts(alloc, names, files, output, messages)?;
+            Ok(status)
+        }
     }
 }
 
@@ -230,9 +325,12 @@ pub fn run<F: Files, K: Sink, M: Sink + Drop>(
     files: &mut F,
     output: &mut K,
     messages: M,
-) -> u8 {
+) -> u8
+    ensures { result < 2 → HasCallAnswer F.reads files.old (map (λ name. name.now) call.now.names.items) call.now.request
+        (K.taken output.old) (K.taken output.new) result }
+{
     let mut messages = Messages::new(messages, call.has_progress, call.names.len());
-    match answer(alloc, call, files, output, &mut messages) {
+    match answer(alloc, &call.request, &call.names, files, output, &mut messages) {
         Ok(status) => {
             messages.clear();
             status

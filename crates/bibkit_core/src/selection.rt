@@ -15,8 +15,8 @@ pub struct Selection {
 }
 
 // Whether a code is one of these.
-fn is_among(codes: &[Code], code: Code) -> bool
-    ensures { result ≡ asked.is_among codes.now code }
+fn has_code(codes: &[Code], code: Code) -> bool
+    ensures { result ≡ asked.has_code codes.now code }
 {
     codes.iter().any(|one| one.name() == code.name())
 }
@@ -26,6 +26,6 @@ impl Selection {
     pub fn asks_for(&self, code: Code) -> bool
         ensures { result ≡ asked.is_asked self.now code }
     {
-        (self.only.is_empty() || is_among(&self.only, code)) && !is_among(&self.ignored, code)
+        (self.only.is_empty() || has_code(&self.only, code)) && !has_code(&self.ignored, code)
     }
 }
