@@ -142,8 +142,8 @@ run 'the entries that a document cites' 0 $'@misc{b, title={x y}, author={Knuth,
 run 'cited entries of a document that is not there' 2 '' cited no.aux two.bib
 
 # what a document cites
-run 'a key that no file has' 1 $'paper.aux:3:11: error: no file has an entry "z" [missing-entry]\nerrors: 1, warnings: 0\n' lint --ignore missing-field --cited paper.aux two.bib
-run 'an entry that is never cited' 1 $'two.bib:1:7: warning: a: never cited [unused-entry]\npaper.aux:3:11: error: no file has an entry "z" [missing-entry]\nerrors: 1, warnings: 1\n' lint --ignore missing-field --cited paper.aux --unused two.bib
+run 'a key that no file has' 1 $'paper.aux:3:1: error: no file has an entry "z" [missing-entry]\nerrors: 1, warnings: 0\n' lint --ignore missing-field --cited paper.aux two.bib
+run 'an entry that is never cited' 1 $'two.bib:1:7: warning: a: never cited [unused-entry]\npaper.aux:3:1: error: no file has an entry "z" [missing-entry]\nerrors: 1, warnings: 1\n' lint --ignore missing-field --cited paper.aux --unused two.bib
 run 'a document that is not there' 2 '' lint --cited no.aux two.bib
 
 # statistics

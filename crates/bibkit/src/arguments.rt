@@ -86,15 +86,39 @@ fn required<'a>(alloc: Global, name: &'a str, help: &'a str) -> Arg<'a> {
 
 // The command `lint`.
 fn lint_command<'a>(alloc: Global) -> Result<Command<'a>, AllocError> {
-    let only = code_option(alloc, "only", "Report these codes alone, separated by commas");
-    let ignore = code_option(alloc, "ignore", "Leave these codes out, separated by commas");
-    let format = value_option(alloc, "format", "FORMAT", "How findings are printed")
-        .value_parser(FORMATS.as_slice());
-    let color = value_option(alloc, "color", "WHEN", "Whether colours, and the lines of the files, are printed")
-        .value_parser(COLORS.as_slice());
-    let explain = value_option(alloc, "explain", "CODE", "Say what a code means, and read no file")
-        .value_parser(CODES.as_slice());
-    let cited = value_option(alloc, "cited", "DOCUMENT", "Report keys that this .aux or .bcf file cites and no file has");
+    let only = code_option(
+        alloc,
+        "only",
+        "Report these codes alone, separated by commas",
+    );
+    let ignore = code_option(
+        alloc,
+        "ignore",
+        "Leave these codes out, separated by commas",
+    );
+    let format = value_option(alloc, "format", "FORMAT", "How findings are printed").value_parser(
+        FORMATS.as_slice(),
+    );
+    let color = value_option(
+        alloc,
+        "color",
+        "WHEN",
+        "Whether colours, and the lines of the files, are printed",
+    )
+    .value_parser(COLORS.as_slice());
+    let explain = value_option(
+        alloc,
+        "explain",
+        "CODE",
+        "Say what a code means, and read no file",
+    )
+    .value_parser(CODES.as_slice());
+    let cited = value_option(
+        alloc,
+        "cited",
+        "DOCUMENT",
+        "Report keys that this .aux or .bcf file cites and no file has",
+    );
     let unused = Arg::new(alloc, "unused")
         .long("unused")
         .action(ArgAction::SetTrue)
@@ -126,7 +150,9 @@ fn get_command<'a>(alloc: Global) -> Result<Command<'a>, AllocError> {
     let keys = required(alloc, "KEYS", "Keys, separated by commas").value_delimiter(',');
     Command::new(alloc, "get")
         .about("Print the entries with these keys, as they stand in the files")
-        .after_help("Example:\n  bibkit get tolkien1937,knuth1984 refs.bib\n\nStatus 1 where no entry has one of the keys")
+        .after_help(
+            "Example:\n  bibkit get tolkien1937,knuth1984 refs.bib\n\nStatus 1 where no entry has one of the keys",
+        )
         .arg(keys)?
         .arg(file_argument(alloc))
 }
@@ -134,10 +160,16 @@ fn get_command<'a>(alloc: Global) -> Result<Command<'a>, AllocError> {
 // The command `grep`.
 fn grep_command<'a>(alloc: Global) -> Result<Command<'a>, AllocError> {
     let field = required(alloc, "FIELD", "The name of a field, in any case");
-    let text = required(alloc, "TEXT", "The text that has to stand in its value, as the file has it");
+    let text = required(
+        alloc,
+        "TEXT",
+        "The text that has to stand in its value, as the file has it",
+    );
     Command::new(alloc, "grep")
         .about("Print the entries in whose field a text stands, as they stand in the files")
-        .after_help("Example:\n  bibkit grep author Knuth refs.bib\n\nStatus 1 where there is no such entry")
+        .after_help(
+            "Example:\n  bibkit grep author Knuth refs.bib\n\nStatus 1 where there is no such entry",
+        )
         .arg(field)?
         .arg(text)?
         .arg(file_argument(alloc))
@@ -145,10 +177,16 @@ fn grep_command<'a>(alloc: Global) -> Result<Command<'a>, AllocError> {
 
 // The command `cited`.
 fn cited_command<'a>(alloc: Global) -> Result<Command<'a>, AllocError> {
-    let document = required(alloc, "DOCUMENT", "The .aux or .bcf file that LaTeX wrote for the document");
+    let document = required(
+        alloc,
+        "DOCUMENT",
+        "The .aux or .bcf file that LaTeX wrote for the document",
+    );
     Command::new(alloc, "cited")
         .about("Print the entries that a document cites, as they stand in the files")
-        .after_help("Example:\n  bibkit cited thesis.bcf refs.bib >cited.bib\n\nStatus 1 where no cited entry is found")
+        .after_help(
+            "Example:\n  bibkit cited thesis.bcf refs.bib >cited.bib\n\nStatus 1 where no cited entry is found",
+        )
         .arg(document)?
         .arg(file_argument(alloc))
 }
@@ -196,7 +234,10 @@ fn given_codes(
 ) -> Result<Option<Vec<Code>>, AllocError> {
     match matches.get_strs(id) {
         Some(names) => {
-            let codes = names.iter().filter_map(|name| Code::named(name)).collect(alloc)?;
+            let codes = names
+                .iter()
+                .filter_map(|name| Code::named(name))
+                .collect(alloc)?;
             Ok(Some(codes))
         }
         None => Ok(None),
@@ -222,7 +263,11 @@ fn lint_asked<'a>(alloc: Global, matches: &ArgMatches<'a>) -> Result<Asked<'a>, 
 }
 
 // What a command was asked for.
-fn request_of<'a>(alloc: Global, name: &str, matches: &ArgMatches<'a>) -> Result<Asked<'a>, AllocError> {
+fn request_of<'a>(
+    alloc: Global,
+    name: &str,
+    matches: &ArgMatches<'a>,
+) -> Result<Asked<'a>, AllocError> {
     let request = match name {
         "lint" => return lint_asked(alloc, matches),
         "get" => Request::Entries(Excerpts::Get(texts(alloc, matches, "KEYS")?)),

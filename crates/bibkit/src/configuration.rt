@@ -34,7 +34,10 @@ impl ConfigurationError {
     // This error, with the name of the file that is wrong.
     fn of_file(self, alloc: Global, name: &str) -> Result<Self, AllocError> {
         match self {
-            Self::Wrong(reason) => Ok(Self::Wrong(format!(in alloc; "{name}: {}", reason.as_str())?)),
+            Self::Wrong(reason) => Ok(Self::Wrong(format!(in alloc;
+                "{name}: {}",
+                reason.as_str()
+            )?)),
             other => Ok(other),
         }
     }
@@ -66,7 +69,12 @@ fn codes(alloc: Global, key: &str, value: &Value) -> Result<Option<Vec<Code>>, C
 }
 
 // Sets what a key of the file sets.
-fn set(alloc: Global, settings: &mut Settings, key: &str, value: &Value) -> Result<(), ConfigurationError> {
+fn set(
+    alloc: Global,
+    settings: &mut Settings,
+    key: &str,
+    value: &Value,
+) -> Result<(), ConfigurationError> {
     match key {
         "only" => settings.only = codes(alloc, key, value)?,
         "ignore" => settings.ignored = codes(alloc, key, value)?,
@@ -112,7 +120,10 @@ fn folder(name: &str) -> Path<'_> {
 }
 
 // The settings of a file that is there, and none where it isn't.
-fn settings_at<R: Files + AllocGlobal>(rt: &R, name: &str) -> Result<Option<Settings>, ConfigurationError> {
+fn settings_at<R: Files + AllocGlobal>(
+    rt: &R,
+    name: &str,
+) -> Result<Option<Settings>, ConfigurationError> {
     let alloc = rt.alloc();
     match fs::read(rt, name) {
         Ok(bytes) => Ok(Some(read(alloc, bytes)?)),

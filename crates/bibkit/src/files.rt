@@ -2,10 +2,8 @@
 
 use bibkit_core::files::{FileError, Files};
 use std::alloc::Global;
-use std::fs;
-use std::io;
 use std::io::{ErrorKind, Read};
-use std::rt;
+use std::{fs, io, rt};
 
 /// The system's files, and its standard input.
 #[derive(Drop)]

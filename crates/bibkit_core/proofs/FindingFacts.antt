@@ -65,7 +65,7 @@ unfolding is_first_after
 shown_more {style} {name} {bytes} {is_first} f u none shown = subst (λ t. AreShown style name bytes is_first (f ∷ []) t) (append-nil u) (next u shown none)
 shown_more {style} {name} {bytes} {is_first} f u (next {f = g} {rest = rest} text {texts} s more) shown =
     let later : IsShown style (is_first_after false rest) name (position_at bytes f.span.start) f u
-        = subst (λ b. IsShown style b name (position_at bytes f.span.start) f u) (sym (never_first rest)) shown in
+    = subst (λ b. IsShown style b name (position_at bytes f.span.start) f u) (sym (never_first rest)) shown in
     subst (λ t. AreShown style name bytes is_first (g ∷ (rest ++ f ∷ [])) t) (sym (append_assoc text texts u)) (next text s (shown_more f u more later))
 
 -- one more is printed and counted

@@ -4,8 +4,8 @@ ghost use Rattle.bibkit_core.specs.Tasks.{BeginsLinting, comparing_begins, compa
 
 use crate::cited::Document;
 use crate::decoding::decoded;
-use crate::linting::Linting;
 use crate::lint::Origin;
+use crate::linting::Linting;
 use crate::request::Lint;
 use crate::task::{End, Task};
 use std::alloc::{AllocError, Global};
@@ -55,7 +55,9 @@ impl<'r, 'a> Task for Comparing<'r, 'a> {
 
     fn end(&mut self, alloc: Global) -> Result<End, AllocError> {
         let missing = self.document.missing(alloc)?;
-        let mut text = self.linting.print(alloc, &self.document.origin(), &missing)?;
+        let mut text = self
+            .linting
+            .print(alloc, &self.document.origin(), &missing)?;
         let end = self.linting.end(alloc)?;
         text.push_str(&end.text)?;
         Ok(End {

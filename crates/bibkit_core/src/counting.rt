@@ -56,7 +56,8 @@ impl Counting {
     // Counts the findings of a text.
     fn add_findings(&mut self, alloc: Global, text: &str) -> Result<(), AllocError> {
         'findings: for finding in &findings(alloc, text)? {
-            self.findings.add(String::from_str(alloc, finding.code.name())?)?;
+            self.findings
+                .add(String::from_str(alloc, finding.code.name())?)?;
         }
         Ok(())
     }
@@ -69,7 +70,10 @@ fn lowercase(alloc: Global, name: &str) -> Result<String, AllocError> {
 
 // The text that the value of a field begins with.
 fn value_of<'s>(fields: &[Pair<'s>], name: &str) -> Option<&'s str> {
-    let field = fields.iter().rev().find(|field| field.key.v.eq_ignore_ascii_case(name))?;
+    let field = fields
+        .iter()
+        .rev()
+        .find(|field| field.key.v.eq_ignore_ascii_case(name))?;
     match field.value.v.first()?.v {
         RawChunk::Normal(text) => Some(text.trim()),
         RawChunk::Abbreviation(_) => None,

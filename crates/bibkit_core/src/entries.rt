@@ -50,7 +50,11 @@ fn is_found_with(is_found: bool, text: &str) -> bool
 fn entries_status(request: &Excerpts<'_>, is_found: bool) -> u8
     ensures { result ≡ spec.entries_status request.now is_found }
 {
-    if is_search(request) && !is_found { 1 } else { 0 }
+    if is_search(request) && !is_found {
+        1
+    } else {
+        0
+    }
 }
 
 impl<'r, 'a> Task for Entries<'r, 'a> {

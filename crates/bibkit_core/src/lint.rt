@@ -103,7 +103,10 @@ fn unread_bytes(alloc: Global, at: usize) -> Result<Finding, AllocError>
     Ok(Finding {
         code: Code::UnreadBytes,
         span: at..at,
-        message: Text::from_str(alloc, "not UTF-8 from here on, so the file is read as Windows-1252")?,
+        message: Text::from_str(
+            alloc,
+            "not UTF-8 from here on, so the file is read as Windows-1252",
+        )?,
     })
 }
 

@@ -113,7 +113,13 @@ impl<'r, 'a> Task for Linting<'r, 'a> {
     fn file(&mut self, alloc: Global, name: &str, bytes: &[u8]) -> Result<String, AllocError> {
         let decoded = decoded(alloc, bytes)?;
         let mut printed = self.nothing(alloc);
-        print_file(alloc, &mut printed, self.lint, &Origin { name, bytes }, &decoded)?;
+        print_file(
+            alloc,
+            &mut printed,
+            self.lint,
+            &Origin { name, bytes },
+            &decoded,
+        )?;
         Ok(self.kept(printed))
     }
 

@@ -34,8 +34,18 @@ impl<M: Sink> Messages<M> {
     pub fn begin(&mut self, alloc: Global, name: &str) -> Result<(), AllocError> {
         self.begun = self.begun.saturating_add(1);
         if self.has_progress {
-            let name: String = name.chars().filter(|character| !character.is_control()).take(MOST_SHOWN).collect(alloc)?;
-            let text = format!(in alloc; "{}[{}/{}] {}", CLEAR, self.begun, self.total, name.as_str())?;
+            let name: String = name
+                .chars()
+                .filter(|character| !character.is_control())
+                .take(MOST_SHOWN)
+                .collect(alloc)?;
+            let text = format!(in alloc;
+                "{}[{}/{}] {}",
+                CLEAR,
+                self.begun,
+                self.total,
+                name.as_str()
+            )?;
             let _ = self.sink.write_str(&text);
         }
         Ok(())
@@ -49,7 +59,12 @@ impl<M: Sink> Messages<M> {
     }
 
     /// Says why a file could not be read.
-    pub fn unread(&mut self, alloc: Global, name: &str, error: FileError) -> Result<(), AllocError> {
+    pub fn unread(
+        &mut self,
+        alloc: Global,
+        name: &str,
+        error: FileError,
+    ) -> Result<(), AllocError> {
         self.clear();
         let text = format!(in alloc; "bibkit: {name}: {}\n", error.text())?;
         let _ = self.sink.write_str(&text);

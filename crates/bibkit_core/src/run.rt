@@ -42,7 +42,11 @@ impl From<AllocError> for Stop {
 fn print<K: Sink>(output: &mut K, text: &str) -> Result<(), Stop>
     ensures { OnOk result (Appends (K.taken output.old) (K.taken output.new) text.now) }
 {
-    if output.write_str(text) { Ok(()) } else { Err(Stop::Refused) }
+    if output.write_str(text) {
+        Ok(())
+    } else {
+        Err(Stop::Refused)
+    }
 }
 
 // The bytes of a file, or none where it can't be read, which is reported.
@@ -276,7 +280,12 @@ fn explain<K: Sink>(alloc: Global, code: Code, output: &mut K) -> Result<u8, Sto
     ensures { IfOk result (λ status. (text : List ℕ) × Appends (K.taken output.old) (K.taken output.new) (meaning_text code text)
         × (status ≡ 0)) }
 {
-    let text = format!(in alloc; "{} ({}): {}\n", code.name(), code.severity().name(), code.explanation())?;
+    let text = format!(in alloc;
+        "{} ({}): {}\n",
+        code.name(),
+        code.severity().name(),
+        code.explanation()
+    )?;
     print(output, text.as_str())?;
     Ok(0)
 }
@@ -330,7 +339,14 @@ pub fn run<F: Files, K: Sink, M: Sink + Drop>(
         (K.taken output.old) (K.taken output.new) result }
 {
     let mut messages = Messages::new(messages, call.has_progress, call.names.len());
-    match answer(alloc, &call.request, &call.names, files, output, &mut messages) {
+    match answer(
+        alloc,
+        &call.request,
+        &call.names,
+        files,
+        output,
+        &mut messages,
+    ) {
         Ok(status) => {
             messages.clear();
             status

@@ -44,21 +44,35 @@ impl Counts {
     }
 
     /// Appends a table with this title: the rows by name.
-    pub fn push_by_name(&self, alloc: Global, text: &mut String, title: &str) -> Result<(), AllocError> {
+    pub fn push_by_name(
+        &self,
+        alloc: Global,
+        text: &mut String,
+        title: &str,
+    ) -> Result<(), AllocError> {
         push_table(alloc, text, title, &self.rows(alloc)?)
     }
 
     /// Appends a table with this title: the rows by count, the greatest first, and those with one count by name.
-    pub fn push_by_count(&self, alloc: Global, text: &mut String, title: &str) -> Result<(), AllocError> {
+    pub fn push_by_count(
+        &self,
+        alloc: Global,
+        text: &mut String,
+        title: &str,
+    ) -> Result<(), AllocError> {
         let mut rows = self.rows(alloc)?;
-        rows.as_mut_slice().sort_by_key(alloc, |row| u64::MAX - row.count)?;
+        rows.as_mut_slice()
+            .sort_by_key(alloc, |row| u64::MAX - row.count)?;
         push_table(alloc, text, title, &rows)
     }
 }
 
 // How many characters the longest name has.
 fn width(rows: &[Row<'_>]) -> usize {
-    rows.iter().map(|row| row.name.chars().count()).max().unwrap_or(0)
+    rows.iter()
+        .map(|row| row.name.chars().count())
+        .max()
+        .unwrap_or(0)
 }
 
 // Appends spaces after a text, up to a width.
@@ -70,7 +84,12 @@ fn push_spaces(text: &mut String, written: usize, width: usize) -> Result<(), Al
 }
 
 // Appends a row: its name, and its count under the others.
-fn push_row(alloc: Global, text: &mut String, row: &Row<'_>, width: usize) -> Result<(), AllocError> {
+fn push_row(
+    alloc: Global,
+    text: &mut String,
+    row: &Row<'_>,
+    width: usize,
+) -> Result<(), AllocError> {
     text.push_str("  ")?;
     text.push_str(row.name)?;
     push_spaces(text, row.name.chars().count(), width)?;
@@ -79,7 +98,12 @@ fn push_row(alloc: Global, text: &mut String, row: &Row<'_>, width: usize) -> Re
 }
 
 // Appends a table, after an empty line where it isn't the first.
-fn push_table(alloc: Global, text: &mut String, title: &str, rows: &[Row<'_>]) -> Result<(), AllocError> {
+fn push_table(
+    alloc: Global,
+    text: &mut String,
+    title: &str,
+    rows: &[Row<'_>],
+) -> Result<(), AllocError> {
     if !text.is_empty() {
         text.push('\n')?;
     }

@@ -17,7 +17,7 @@ pub returns : goal.returns
 returns g c = record {
   text = string_bytes c.in_ok-text.text;
   step = read c.in-Some.bytes.items
-    (subst (λ o. g.F.Files.reads c.args.files.now c.args.name.now (option_map (λ b. b.items) o) c.bytes_of.new.files) c.in-Some.is c.in_ok-bytes.ensures)
-    (subst (λ b. g.T.Task.prints c.args.task.now c.args.name.now b (string_bytes c.in_ok-text.text) c.file.new.self) c.deref.ensures.value c.in_ok-text.ensures);
+      (subst (λ o. g.F.Files.reads c.args.files.now c.args.name.now (option_map (λ b. b.items) o) c.bytes_of.new.files) c.in-Some.is c.in_ok-bytes.ensures)
+      (subst (λ b. g.T.Task.prints c.args.task.now c.args.name.now b (string_bytes c.in_ok-text.text) c.file.new.self) c.deref.ensures.value c.in_ok-text.ensures);
   printed = subst (λ t. Appends (g.K.Sink.taken c.args.output.now) (g.K.Sink.taken c.print.new.output) t) c.deref-2.ensures c.in_ok-print.ensures;
 }

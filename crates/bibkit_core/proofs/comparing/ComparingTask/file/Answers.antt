@@ -11,8 +11,7 @@ returns c =
     let text = string_bytes c.in_ok-more.more in
     let of_lint = subst (λ l. ArePrinted l.style c.args.name.now c.as_bytes.result.now (asked l.selection c.deref.result.now) before text after) c.in_ok-text.ensures.0 c.in_ok-more.ensures.printed in
     let lint = c.args.self.now.linting.lint.now in
-    let listed = subst (λ f. ArePrinted lint.style c.args.name.now c.as_bytes.result.now (asked lint.selection f) before text after) c.deref.ensures.value of_lint in
-    (
+    let listed = subst (λ f. ArePrinted lint.style c.args.name.now c.as_bytes.result.now (asked lint.selection f) before text after) c.deref.ensures.value of_lint in (
       c.in_ok-more.ensures.lint ∙ c.in_ok-text.ensures.0,
       record {
         first = string_bytes c.in_ok-text.text;

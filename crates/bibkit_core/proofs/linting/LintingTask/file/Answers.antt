@@ -5,8 +5,7 @@ use Rattle.bibkit_core.proofs.linting.LintingTask.file.Goals as goal
 
 pub returns : goal.returns
 returns c =
-    let printed = added_alone c.nothing-printed.ensures.text c.in_ok-print_file.ensures in
-    (
+    let printed = added_alone c.nothing-printed.ensures.text c.in_ok-print_file.ensures in (
       c.kept.ensures.lint,
       record {
         decoded = c.in_ok-decoded.decoded;
