@@ -1,0 +1,2 @@
+mod AddingFacts
+mod NameFacts

@@ -1,0 +1,24 @@
+-- Meaning: words of public contracts.
+-- All that is wrong in a file: the findings of what recovery reports, and those of each entry that it keeps.
+use Rattle.std.specs.Prelude.{◌≡◌, List, ◌++◌}
+use Rattle.std.specs.List.Sorted.{IsPermutation, IsSortedByKey, IsStableByKey}
+use Rattle.std.specs.Ordering.{nat_cmp}
+use Rattle.bib_entry.specs.declared.entry.Entry.{Entry}
+use Rattle.bib_syntax.specs.Reading.{EntryReading}
+use Rattle.bib_findings.specs.Entries.{AreOfReport}
+use Rattle.bib_findings.specs.Names.{AreOfUnknown}
+use Rattle.bib_findings.specs.declared.finding.Finding.{Finding}
+
+-- the findings of an entry, which the file says so: those of the report on it, and those of fields whose names aren't known
+pub record AreOfEntry (said : EntryReading) (entry : Entry) (found : List Finding) : Type 0 where
+  pub of_report : List Finding
+  pub report : AreOfReport said entry of_report
+  pub of_unknown : List Finding
+  pub unknown : AreOfUnknown said of_unknown
+  pub are : found ≡ of_report ++ of_unknown
+
+-- findings in the order in which they start in the file; those that start at one place stay in the order that they had
+pub record AreSortedByPlace (all found : List Finding) : Type 0 where
+  pub same : IsPermutation all found
+  pub sorted : IsSortedByKey (λ f. f.span.start) nat_cmp found
+  pub stable : IsStableByKey (λ f. f.span.start) nat_cmp all found
