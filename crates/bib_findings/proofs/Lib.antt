@@ -1,2 +1,3 @@
 mod AddingFacts
 mod NameFacts
+mod SeenFacts

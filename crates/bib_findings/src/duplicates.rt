@@ -1,6 +1,6 @@
 //! Findings of entries that are likely the same work.
 
-ghost use Rattle.std.specs.Prelude.{◌≡◌, ◌++◌, ◌∷◌, [], List, ℕ, map, IfOk, OnOk};
+ghost use Rattle.std.specs.Prelude.{◌≡◌, ◌<◌, ◌++◌, ◌∷◌, [], List, ℕ, All, length, map, IfOk, OnOk};
 ghost use Rattle.std.specs.BTreeMap.{get_by_text};
 ghost use Rattle.std.specs.String.{string_bytes};
 ghost use Rattle.bib_syntax.specs.Views.{entry_reading_of};
@@ -86,13 +86,15 @@ fn entries_at<'e, 's>(
     said: &'e [Spanned<RawEntry<'s>>],
     indices: &[usize],
 ) -> Result<Vec<&'e Spanned<RawEntry<'s>>>, AllocError>
+    requires { All (λ index. index < length said.now) indices.now }
     ensures { IfOk result (λ entries. readings entries.items ≡
         entries_at (map entry_reading_of said.now) indices.now) }
 {
-    indices
-        .iter()
-        .filter_map(|index| said.get(*index))
-        .collect(alloc)
+    let mut entries = Vec::new(alloc);
+    'indices: for index in indices {
+        entries.push(&said[*index])?;
+    }
+    Ok(entries)
 }
 
 // Adds a finding where an entry is likely the same as an earlier one, and remembers its identities.
@@ -138,6 +140,7 @@ pub(crate) fn add_duplicates(
     said: &[Spanned<RawEntry<'_>>],
     origins: &[usize],
 ) -> Result<(), AllocError>
+    requires { All (λ index. index < length said.now) origins.now }
     ensures { OnOk result (found.new.items ≡ found.old.items ++
         duplicates (entries_at (map entry_reading_of said.now) origins.now)) }
 {

@@ -87,7 +87,7 @@ pub(crate) fn add_blocks(
 ) -> Result<(), AllocError>
     ensures { OnOk result (found.new.items ≡ found.old.items ++ map block_finding blocks.now) }
 {
-    'blocks: for block in blocks {
+    'skipped: for block in blocks {
         found.push(block_finding(alloc, block)?)?;
     }
     Ok(())

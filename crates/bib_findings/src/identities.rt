@@ -1,6 +1,6 @@
 //! By what entries are likely the same work: a DOI, an ISBN, or a title with its first person and its year.
 
-ghost use Rattle.std.specs.Prelude.{◌≡◌, ◌++◌, map, not, take, IfOk, OnOk, encode_utf8_all};
+ghost use Rattle.std.specs.Prelude.{◌≡◌, ◌++◌, ◌≤◌, length, map, not, take, IfOk, OnOk, encode_utf8_all};
 ghost use Rattle.std.specs.List.{take_while};
 ghost use Rattle.std.specs.String.{string_bytes};
 ghost use Rattle.bib_syntax.specs.Views.{entry_reading_of, piece_of};
@@ -122,8 +122,9 @@ fn is_and(word: &[char]) -> bool
 
 // How many words the first of some people has.
 fn words_of_first(words: &[&[char]]) -> usize
-    ensures { take result (map (λ word. word.now) words.now) ≡
+    ensures cut { take result (map (λ word. word.now) words.now) ≡
         take_while (λ word. not (is_and word)) (map (λ word. word.now) words.now) }
+    ensures within { result ≤ length words.now }
 {
     words
         .iter()
@@ -150,7 +151,7 @@ fn first_four(alloc: Global, text: &str) -> Result<String, AllocError>
 
 // The characters of a text in lowercase, but for braces and white space.
 fn squeezed(alloc: Global, text: &str) -> Result<String, AllocError>
-    ensures { IfOk result (λ squeezed. string_bytes squeezed ≡ squeezed text.now) }
+    ensures { IfOk result (λ found. string_bytes found ≡ squeezed text.now) }
 {
     let characters = folded(alloc, text)?;
     characters
