@@ -1,5 +1,6 @@
 -- Facts on what is kept of a file's fields and entries, one after another.
-use Rattle.std.proofs.Common.{◌≡◌, ℕ, ◌+◌, Bool, true, false, List, [], ◌∷◌, ◌++◌, length, map, refl, sym, ap, subst, ◌∙◌, append_assoc, is_some, reverse}
+use Rattle.std.proofs.Common.{◌≡◌, ℕ, ◌+◌, Bool, true, false, List, [], ◌∷◌, ◌++◌, ◌<◌, zero, suc, drop, length, map, refl, sym, ap, subst, ◌∙◌, append_assoc, is_some, reverse, add-one, arith}
+use Rattle.std.specs.Prelude.{slice_get, Some}
 use Rattle.std.specs.FinMap as by_name
 use Rattle.std.specs.List.{AllZip}
 use Rattle.std.specs.declared.ops.Range.{Range}
@@ -11,7 +12,7 @@ use Rattle.bib_entry_types.specs.EntryType.{entry_type_of}
 use Rattle.bib_file_entries.specs.Bibliography.{claims, empty_bibliography}
 use Rattle.bib_file_entries.specs.Claiming.{IsKeptSoFar, place_of}
 use Rattle.bib_file_entries.specs.Keeping.{AreKeptFields, IsKeptEntry, IsKeptField, IsLeftOut}
-use Rattle.bib_file_entries.specs.Kept.{EntriesKept, FieldsKept, duplicate_key, mended, unknown_names, with_fields}
+use Rattle.bib_file_entries.specs.Kept.{EntriesKept, FieldsKept, IsKeptFrom, duplicate_key, mended, unknown_names, with_fields}
 use Rattle.bib_file_entries.specs.Loaded.{CanBeRead, IsEntry, is_claimed, loaded_after}
 use Rattle.bib_file_entries.specs.Loading.{IsRead, last_field, pieces_of}
 use Rattle.bib_file_entries.proofs.BibliographyFacts.{below_empty}
@@ -110,33 +111,54 @@ kept_entry {definitions} raw {old} {errors} {pairs} entry fields key kind is = r
   errors = fields.errors;
 }
 
--- entries were kept so far
-pub record EntriesKeptSoFar (definitions : Definitions) (said rest : List EntryReading) (found : List Entry) (names : ByText ℕ) (places : List (Range ℕ)) (errors : List ParseError) : Type 0 where
+-- the element at which the rest of a list begins
+record BeginsAt {A : Type 0} (all : List A) (index : ℕ) (one : A) (rest : List A) : Type 0 where
+  there : slice_get all index ≡ Some one
+  more : drop (suc index) all ≡ rest
+  within : index < length all
+
+begins_at : {A : Type 0} (all : List A) (index : ℕ) (one : A) (rest : List A) → drop index all ≡ one ∷ rest → BeginsAt all index one rest
+begins_at [] zero one rest is = cc
+begins_at [] (suc index) one rest is = cc
+begins_at (x ∷ all) zero one rest is = record { there = cc; more = cc; within = omega arith }
+begins_at (x ∷ all) (suc index) one rest is =
+    let next = begins_at all index one rest is in
+    record { there = next.there; more = next.more; within = omega (arith, next.within) }
+
+-- entries were kept so far, and those from this index on are left
+pub record EntriesKeptSoFar (definitions : Definitions) (said rest : List EntryReading) (found : List Entry) (names : ByText ℕ) (places : List (Range ℕ)) (origins : List ℕ) (index : ℕ) (errors : List ParseError) : Type 0 where
   pub kept : List EntryReading
   pub earlier : List (List ℕ)
   pub same : (name : List ℕ) → is_some (by_name.get names name) ≡ is_claimed earlier name
   pub onward : (more_kept : List EntryReading) (more : List Entry) (later : List ParseError) → EntriesKept definitions earlier rest more_kept more later
       → EntriesKept definitions [] said (kept ++ more_kept) (found ++ more) (errors ++ later)
   pub stand : places ≡ map place_of kept
+  pub ahead : drop index said ≡ rest
+  pub origin : AllZip (IsKeptFrom said) origins kept
   pub bibliography : loaded_after empty_bibliography found ≡ record { entries = found; names = names }
   pub below : AreIndicesBelow (length found) names
 
-pub entries_none : (definitions : Definitions) (said : List EntryReading) → EntriesKeptSoFar definitions said said [] by_name.empty [] []
+pub entries_none : (definitions : Definitions) (said : List EntryReading) → EntriesKeptSoFar definitions said said [] by_name.empty [] [] 0 []
 entries_none definitions said = record {
   kept = [];
   earlier = [];
   same = λ name. ap is_some (get-empty by_bytes name);
   onward = λ more_kept more later is. is;
   stand = refl;
+  ahead = refl;
+  origin = tt;
   bibliography = refl;
   below = below_empty 0;
 }
 
+ahead_next : {A : Type 0} {all rest : List A} {index : ℕ} {one : A} → drop index all ≡ one ∷ rest → drop (index + 1) all ≡ rest
+ahead_next {all = all} {rest = rest} {index = index} {one = one} is = rw add-one (begins_at all index one rest is).more
+
 -- an entry whose key was claimed is left out
-pub entries_duplicate : {definitions : Definitions} {said rest : List EntryReading} {one : EntryReading} {found : List Entry} {names : ByText ℕ} {places : List (Range ℕ)} {errors : List ParseError} (e : ParseError)
-    → EntriesKeptSoFar definitions said (one ∷ rest) found names places errors → is_some (by_name.get names one.key.text) ≡ true → e ≡ duplicate_key one
-    → EntriesKeptSoFar definitions said rest found names places (errors ++ e ∷ [])
-entries_duplicate {definitions} {said} {rest} {one} {found} {names} {places} {errors} e so_far had is = record {
+pub entries_duplicate : {definitions : Definitions} {said rest : List EntryReading} {one : EntryReading} {found : List Entry} {names : ByText ℕ} {places : List (Range ℕ)} {origins : List ℕ} {index : ℕ} {errors : List ParseError} (e : ParseError)
+    → EntriesKeptSoFar definitions said (one ∷ rest) found names places origins index errors → is_some (by_name.get names one.key.text) ≡ true → e ≡ duplicate_key one
+    → EntriesKeptSoFar definitions said rest found names places origins (index + 1) (errors ++ e ∷ [])
+entries_duplicate {definitions} {said} {rest} {one} {found} {names} {places} {origins} {index} {errors} e so_far had is = record {
   kept = so_far.kept;
   earlier = so_far.earlier;
   same = so_far.same;
@@ -145,15 +167,17 @@ entries_duplicate {definitions} {said} {rest} {one} {found} {names} {places} {er
       (ap (λ first. errors ++ (first ∷ later)) (sym is) ∙ sym (append_assoc errors (e ∷ []) later))
       (so_far.onward more_kept more (duplicate_key one ∷ later) (EntriesKept.duplicate (sym (so_far.same one.key.text) ∙ had) following));
   stand = so_far.stand;
+  ahead = ahead_next so_far.ahead;
+  origin = so_far.origin;
   bibliography = so_far.bibliography;
   below = so_far.below;
 }
 
 -- one more entry is kept
-pub entries_next : {definitions : Definitions} {said rest : List EntryReading} {one : EntryReading} {found : List Entry} {names : ByText ℕ} {places : List (Range ℕ)} {errors new : List ParseError} (entry : Entry)
-    → EntriesKeptSoFar definitions said (one ∷ rest) found names places errors → is_some (by_name.get names one.key.text) ≡ false → IsKeptEntry definitions one errors new entry
-    → EntriesKeptSoFar definitions said rest (found ++ entry ∷ []) (claimed names (claims_for (claims entry) (length found))) (places ++ place_of one ∷ []) new
-entries_next {definitions} {said} {rest} {one} {found} {names} {places} {errors} {new} entry so_far absent read =
+pub entries_next : {definitions : Definitions} {said rest : List EntryReading} {one : EntryReading} {found : List Entry} {names : ByText ℕ} {places : List (Range ℕ)} {origins : List ℕ} {index : ℕ} {errors new : List ParseError} (entry : Entry)
+    → EntriesKeptSoFar definitions said (one ∷ rest) found names places origins index errors → is_some (by_name.get names one.key.text) ≡ false → IsKeptEntry definitions one errors new entry
+    → EntriesKeptSoFar definitions said rest (found ++ entry ∷ []) (claimed names (claims_for (claims entry) (length found))) (places ++ place_of one ∷ []) (origins ++ index ∷ []) (index + 1) new
+entries_next {definitions} {said} {rest} {one} {found} {names} {places} {origins} {index} {errors} {new} entry so_far absent read =
     let fresh : is_claimed so_far.earlier one.key.text ≡ false = sym (so_far.same one.key.text) ∙ absent in
     record {
       kept = so_far.kept ++ with_fields one read.fields ∷ [];
@@ -166,19 +190,23 @@ entries_next {definitions} {said} {rest} {one} {found} {names} {places} {errors}
           (subst (EntriesKept definitions [] said (so_far.kept ++ (with_fields one read.fields ∷ more_kept)) (found ++ (entry ∷ more)))
           (sym (append_assoc errors read.more later) ∙ ap (λ l. l ++ later) (sym read.errors)) told));
       stand = ap (λ l. l ++ place_of one ∷ []) so_far.stand ∙ sym (map-append place_of so_far.kept (with_fields one read.fields ∷ []));
+      ahead = ahead_next so_far.ahead;
+      origin = AllZip-push (IsKeptFrom said) origins so_far.kept index (with_fields one read.fields) so_far.origin
+          (record { one = one; there = (begins_at said index one rest so_far.ahead).there; is = refl });
       bibliography = bibliography_next found entry names so_far.bibliography;
       below = below_next found entry names so_far.below;
     }
 
 -- all entries were kept or left out
-pub entries_all : {definitions : Definitions} {said : List EntryReading} {found : List Entry} {names : ByText ℕ} {places : List (Range ℕ)} {errors : List ParseError}
-    → EntriesKeptSoFar definitions said [] found names places errors → IsKeptSoFar definitions said found names places errors
-entries_all {definitions} {said} {found} {names} {places} {errors} so_far = record {
+pub entries_all : {definitions : Definitions} {said : List EntryReading} {found : List Entry} {names : ByText ℕ} {places : List (Range ℕ)} {origins : List ℕ} {index : ℕ} {errors : List ParseError}
+    → EntriesKeptSoFar definitions said [] found names places origins index errors → IsKeptSoFar definitions said found names places origins errors
+entries_all {definitions} {said} {found} {names} {places} {origins} {index} {errors} so_far = record {
   kept = so_far.kept;
   read =
       subst (λ l. EntriesKept definitions [] said l found errors) (append-nil so_far.kept)
       (subst (λ l. EntriesKept definitions [] said (so_far.kept ++ []) l errors) (append-nil found)
       (subst (EntriesKept definitions [] said (so_far.kept ++ []) (found ++ [])) (append-nil errors) (so_far.onward [] [] [] EntriesKept.none)));
   stand = so_far.stand;
+  origin = so_far.origin;
   bibliography = so_far.bibliography;
 }

@@ -1,7 +1,7 @@
 -- Meaning: words of public contracts.
 -- What is kept of a file's entries where not all of it can be read: an entry is left out whose key was claimed, and a field
 -- that can't be read, each with its error. A name that stands for nothing is kept as text, as if it stood in braces.
-use Rattle.std.specs.Prelude.{◌≡◌, Bool, true, false, List, [], ◌∷◌, ◌++◌, ℕ, map, if◌then◌else◌}
+use Rattle.std.specs.Prelude.{◌≡◌, Bool, true, false, List, [], ◌∷◌, ◌++◌, ℕ, map, slice_get, Some, if◌then◌else◌}
 use Rattle.bib_abbreviations.specs.Abbreviations.{Definitions, IsFirstError, error_at, is_known}
 use Rattle.bib_entry.specs.declared.entry.Entry.{Entry}
 use Rattle.bib_entry_types.specs.VerbatimFields.{is_verbatim_field}
@@ -43,6 +43,12 @@ pub data FieldsKept (definitions : Definitions) : List FieldReading → List Fie
 -- an entry with these fields
 abbrev pub with_fields : EntryReading → List FieldReading → EntryReading
 with_fields said fields = record said { fields = fields }
+
+-- an entry that is kept is the one with this index among those that a file says, but for the fields that are left out
+pub record IsKeptFrom (said : List EntryReading) (index : ℕ) (kept : EntryReading) : Type 0 where
+  pub one : EntryReading
+  pub there : slice_get said index ≡ Some one
+  pub is : kept ≡ with_fields one kept.fields
 
 -- the error of a key that was claimed, at its entry
 abbrev pub duplicate_key : EntryReading → ParseError

@@ -34,6 +34,8 @@ pub struct KeptEntries {
     pub names: Names,
     /// Where each entry stands in the file, in bytes.
     pub spans: Vec<Span>,
+    /// The index of each entry among the entries of the file.
+    pub origins: Vec<usize>,
     /// The error of each name that stands for nothing, and of each field and entry that is left out, in the order of the
     /// file.
     pub errors: Vec<ParseError>,
@@ -160,20 +162,26 @@ fn keep_entries<'f, 's>(
     definitions: BTreeMap<&'s str, &'f Field<'s>>,
 ) -> Result<KeptEntries, AllocError>
     ensures kept { IfOk result (λ found. IsKeptSoFar (sorted_in definitions.entry)
-        (map entry_reading_of raw.entry.items) found.entries.items found.names found.spans.items found.errors.items) }
+        (map entry_reading_of raw.entry.items) found.entries.items found.names found.spans.items
+        found.origins.items found.errors.items) }
     ensures below { IfOk result (λ found. AreIndicesBelow (length found.entries.items) found.names) }
 {
     let mut reader = FieldReader::new(alloc, definitions);
     let mut entries = Vec::with_capacity(alloc, raw.len())?;
     let mut spans = Vec::with_capacity(alloc, raw.len())?;
+    let mut origins = Vec::with_capacity(alloc, raw.len())?;
     let mut names = Claims::new(alloc);
     let mut errors = Vec::new(alloc);
+    let mut next = 0;
     'entries: for said in raw {
+        let origin = next;
+        next += 1;
         if names.get(said.v.key.v).is_some() {
             errors.push(duplicate(alloc, &said)?)?;
             continue 'entries;
         }
         spans.push(said.span.start..said.span.end)?;
+        origins.push(origin)?;
         let entry = keep_entry(alloc, said, &mut reader, &mut errors)?;
         names.claim_all(claims(alloc, &entry)?, entries.len())?;
         entries.push(entry)?;
@@ -183,6 +191,7 @@ fn keep_entries<'f, 's>(
         entries,
         names,
         spans,
+        origins,
         errors,
     })
 }
@@ -192,7 +201,8 @@ fn keep_entries<'f, 's>(
 /// Each of these has its error. Refused only when out of memory.
 pub fn keep(alloc: Global, raw: RawBibliography<'_>) -> Result<KeptEntries, AllocError>
     ensures kept { IfOk result (λ found. IsKeptSoFar (definition_in (file_of raw.entry).abbreviations)
-        (file_of raw.entry).entries found.entries.items found.names found.spans.items found.errors.items) }
+        (file_of raw.entry).entries found.entries.items found.names found.spans.items
+        found.origins.items found.errors.items) }
     ensures below { IfOk result (λ found. AreIndicesBelow (length found.entries.items) found.names) }
 {
     let RawBibliography {

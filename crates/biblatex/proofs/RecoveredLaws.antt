@@ -9,7 +9,7 @@ use Rattle.bib_abbreviations.specs.Abbreviations.{AreOneError}
 use Rattle.bib_entry.specs.declared.entry.Entry.{Entry}
 use Rattle.bib_file_entries.specs.Bibliography.{Bibliography}
 use Rattle.bib_file_entries.specs.Claiming.{place_of}
-use Rattle.bib_file_entries.specs.Kept.{EntriesKept}
+use Rattle.bib_file_entries.specs.Kept.{EntriesKept, IsKeptFrom}
 use Rattle.bib_file_entries.specs.Loaded.{AreEntries, definition_in}
 use Rattle.bib_graph.specs.Graph.{Graph, HasNoCycle, Leads, refs_of}
 use Rattle.bib_inheritance.specs.InheritableDate.{looks_for_date}
@@ -97,8 +97,8 @@ accepted_of {own = own} {entries = entries} are found none = record {
 }
 
 -- and is the bibliography of its text
-pub recovered_loaded : {text : List ℕ} {bibliography : Bibliography} → IsRecoveredBibliography text bibliography [] [] → IsBibliographyOf text bibliography
-recovered_loaded {text} {bibliography} r =
+pub recovered_loaded : {text : List ℕ} {bibliography : Bibliography} {origins : List ℕ} → IsRecoveredBibliography text bibliography origins [] [] → IsBibliographyOf text bibliography
+recovered_loaded {text} {bibliography} {origins} r =
     let of_entries : r.of_entries ≡ [] = none_before r.of_entries r.of_references (sym r.all) in
     let of_references : r.of_references ≡ [] = none_after r.of_entries r.of_references (sym r.all) in
     let are : AreOwn r.says r.own = subst (λ k. AreEntries (definition_in r.says.abbreviations) [] k r.own) (entries_all r.entries of_entries) (kept_are_entries r.entries) in
@@ -114,7 +114,7 @@ recovered_loaded {text} {bibliography} r =
       };
     }
 
-pub recovered_accepted : {text : List ℕ} {bibliography : Bibliography} → IsRecoveredBibliography text bibliography [] [] → IsAcceptedText text
+pub recovered_accepted : {text : List ℕ} {bibliography : Bibliography} {origins : List ℕ} → IsRecoveredBibliography text bibliography origins [] [] → IsAcceptedText text
 recovered_accepted r = let is = recovered_loaded r in record { says = is.says; reading = is.reading; accepted = is.loaded.accepted }
 
 -- ---- of a text that is accepted nothing is left out
@@ -142,9 +142,9 @@ nothing_told {says} {own} {kept} {entries} {of_entries} {of_references} accepted
     let are : AreOwn says own = subst (λ k. AreEntries (definition_in says.abbreviations) [] k own) (entries_all is none) (kept_are_entries is) in
     ap (λ es. es ++ of_references) none ∙ references_fine accepted are found
 
-pub accepted_recovered : {text : List ℕ} {bibliography : Bibliography} {skipped : List SkippedBlock} {errors : List ParseError} → IsAcceptedText text → IsRecoveredBibliography text bibliography skipped errors
+pub accepted_recovered : {text : List ℕ} {bibliography : Bibliography} {origins : List ℕ} {skipped : List SkippedBlock} {errors : List ParseError} → IsAcceptedText text → IsRecoveredBibliography text bibliography origins skipped errors
     → (skipped ≡ []) × (errors ≡ [])
-accepted_recovered {text} accepted r =
+accepted_recovered {text} {bibliography} {origins} accepted r =
     let same = raw.recovery_same r.recovery (raw.kept accepted.reading) in
     (same.1, r.all ∙ nothing_told (subst IsAccepted (sym same.0) accepted.accepted) r.entries r.resolved)
 
@@ -231,9 +231,9 @@ once_of says {kept} {left} {own} {others} one other {skipped} {passed} {of_entri
       names = names ∙ names_same file first second ∙ sym names';
     }
 
-pub recovered_once : {text : List ℕ} (one other : Bibliography) {skipped passed : List SkippedBlock} {errors faults : List ParseError} → IsRecoveredBibliography text one skipped errors → IsRecoveredBibliography text other passed faults
+pub recovered_once : {text : List ℕ} (one other : Bibliography) {origins indices : List ℕ} {skipped passed : List SkippedBlock} {errors faults : List ParseError} → IsRecoveredBibliography text one origins skipped errors → IsRecoveredBibliography text other indices passed faults
     → IsSameRecovery one other skipped passed errors faults
-recovered_once {text} one other {skipped} {passed} {errors} {faults} r s =
+recovered_once {text} one other {origins} {indices} {skipped} {passed} {errors} {faults} r s =
     let same = raw.recovery_same r.recovery s.recovery in
     let moved : EntriesKept (definition_in r.says.abbreviations) [] r.says.entries s.kept s.own s.of_entries = subst (λ t. EntriesKept (definition_in t.abbreviations) [] t.entries s.kept s.own s.of_entries) (sym same.0) s.entries in
     subst (λ es. IsSameRecovery one other skipped passed es faults) (sym r.all)
@@ -241,16 +241,17 @@ recovered_once {text} one other {skipped} {passed} {errors} {faults} r s =
     (once_of r.says one other same.1 r.entries moved r.resolved s.resolved r.names s.names))
 
 -- what is read, kept and resolved of a text is what is recovered of it
-pub recovered_of : {text : List ℕ} (says : FileReading) (kept : List EntryReading) (own entries : List Entry) (names : ByText ℕ) (places : List (Range ℕ)) {skipped : List SkippedBlock} (of_entries of_references : List ParseError) {errors : List ParseError}
-    → IsRecovery text says skipped → EntriesKept (definition_in says.abbreviations) [] says.entries kept own of_entries → places ≡ map place_of kept → names_of own ≡ names
-    → AreRecovered places names own entries of_references → errors ≡ of_entries ++ of_references → IsRecoveredBibliography text (record { entries = entries; names = names }) skipped errors
-recovered_of says kept own entries names places of_entries of_references recovery is stand named resolved all = record {
+pub recovered_of : {text : List ℕ} (says : FileReading) (kept : List EntryReading) (own entries : List Entry) (names : ByText ℕ) (places : List (Range ℕ)) (origins : List ℕ) {skipped : List SkippedBlock} (of_entries of_references : List ParseError) {errors : List ParseError}
+    → IsRecovery text says skipped → EntriesKept (definition_in says.abbreviations) [] says.entries kept own of_entries → places ≡ map place_of kept → AllZip (IsKeptFrom says.entries) origins kept → names_of own ≡ names
+    → AreRecovered places names own entries of_references → errors ≡ of_entries ++ of_references → IsRecoveredBibliography text (record { entries = entries; names = names }) origins skipped errors
+recovered_of says kept own entries names places origins of_entries of_references recovery is stand origin named resolved all = record {
   says = says;
   recovery = recovery;
   kept = kept;
   own = own;
   of_entries = of_entries;
   entries = is;
+  origin = origin;
   of_references = of_references;
   resolved = subst (λ p. AreRecovered p (names_of own) own entries of_references) stand (subst (λ n. AreRecovered places n own entries of_references) (sym named) resolved);
   names = sym named;

@@ -65,20 +65,21 @@ pub fn one_error()
 
 /// What is recovered of a text has no errors exactly where the text is accepted, and then is its bibliography.
 pub fn recovered_is_loaded()
-    ensures accepted { (text : List ℕ) (bibliography : Bibliography) →
-        IsRecoveredBibliography text bibliography [] [] → IsAcceptedText text }
-    ensures loaded { (text : List ℕ) (bibliography : Bibliography) →
-        IsRecoveredBibliography text bibliography [] [] → IsBibliographyOf text bibliography }
-    ensures none { (text : List ℕ) (bibliography : Bibliography) (skipped : List SkippedBlock)
+    ensures accepted { (text : List ℕ) (bibliography : Bibliography) (origins : List ℕ) →
+        IsRecoveredBibliography text bibliography origins [] [] → IsAcceptedText text }
+    ensures loaded { (text : List ℕ) (bibliography : Bibliography) (origins : List ℕ) →
+        IsRecoveredBibliography text bibliography origins [] [] → IsBibliographyOf text bibliography }
+    ensures none { (text : List ℕ) (bibliography : Bibliography) (origins : List ℕ) (skipped : List SkippedBlock)
         (errors : List ParseError) → IsAcceptedText text →
-        IsRecoveredBibliography text bibliography skipped errors → (skipped ≡ []) × (errors ≡ []) }
+        IsRecoveredBibliography text bibliography origins skipped errors → (skipped ≡ []) × (errors ≡ []) }
 {}
 
 /// Of each text one bibliography is recovered: of two the keys and the names are the same and, but for the borders of chunks
 /// and their places, the fields. So are the stretches that are passed over and, as far as `one_error` says, each error.
 pub fn one_recovered_bibliography()
-    ensures { (text : List ℕ) (one other : Bibliography) (skipped passed : List SkippedBlock)
-        (errors others : List ParseError) → IsRecoveredBibliography text one skipped errors →
-        IsRecoveredBibliography text other passed others →
+    ensures { (text : List ℕ) (one other : Bibliography) (origins indices : List ℕ)
+        (skipped passed : List SkippedBlock) (errors others : List ParseError) →
+        IsRecoveredBibliography text one origins skipped errors →
+        IsRecoveredBibliography text other indices passed others →
         IsSameRecovery one other skipped passed errors others }
 {}

@@ -14,6 +14,9 @@ use std::alloc::{AllocError, Global};
 pub struct BibliographyRecovery {
     /// The bibliography of all that can be read.
     pub bibliography: Bibliography,
+    /// For each entry of the bibliography, in order, its index among the entries that `RawBibliography::recover` reads of the
+    /// text: there its key, its fields and their values stand with their places.
+    pub origins: Vec<usize>,
     /// The stretches of the text that are passed over, each with its syntax error.
     pub skipped: Vec<SkippedBlock>,
     /// What is wrong with the rest: in the order of the file the names that stand for nothing, the fields and the entries
@@ -31,19 +34,22 @@ impl Bibliography {
     /// start of a month is read as text (`UnknownAbbreviation`). An entry that looks for a date takes over none that can't be
     /// read (`ResolutionError`). Refused only when out of memory.
     pub fn recover(alloc: Global, src: &str) -> Result<BibliographyRecovery, AllocError>
-        ensures { IfOk result (λ found. IsRecoveredBibliography src.now found.bibliography found.skipped.items found.errors.items) }
+        ensures { IfOk result (λ found. IsRecoveredBibliography src.now found.bibliography found.origins.items
+            found.skipped.items found.errors.items) }
     {
         let RawRecovery { raw, skipped } = RawBibliography::recover(alloc, src)?;
         let KeptEntries {
             mut entries,
             names,
             spans,
+            origins,
             mut errors,
         } = keep(alloc, raw)?;
         let mut unresolved = resolve_readable(alloc, &spans, &names, &mut entries)?;
         errors.append(&mut unresolved)?;
         Ok(BibliographyRecovery {
             bibliography: Bibliography::from_names(entries, names),
+            origins,
             skipped,
             errors,
         })

@@ -29,6 +29,20 @@ pub(crate) fn recover(alloc: Global, file: &str) -> Result<String, AllocError> {
     Ok(out)
 }
 
+/// For each entry that is kept, its index among those that are read of the file.
+pub(crate) fn origins(alloc: Global, file: &str) -> Result<String, AllocError> {
+    let found = Bibliography::recover(alloc, file)?;
+    let mut out = String::new(alloc);
+    for origin in &found.origins {
+        if !out.is_empty() {
+            out.push_str(" ")?;
+        }
+        let text = format!(in alloc; "{origin}")?;
+        out.push_str(text.as_str())?;
+    }
+    Ok(out)
+}
+
 // Whether an error that has this text is among those of what was read.
 fn has_error(alloc: Global, found: &BibliographyRecovery, text: &str) -> Result<bool, AllocError> {
     if let Some(block) = found.skipped.as_slice().first() {

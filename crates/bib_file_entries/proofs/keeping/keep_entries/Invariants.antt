@@ -11,5 +11,5 @@ invariant-entries l = record {
   can_next : (goal.iterator-entries).can_next l.said-iterator;
   is_finite : (goal.iterator-entries).is_finite l.said-iterator;
   reader : l.reader ≡ pairs_in l.fn.definitions;
-  kept : EntriesKeptSoFar (sorted_in l.fn.definitions) (map entry_reading_of l.fn.raw.items) (map entry_reading_of (into_iter_items l.said-iterator)) l.entries.items l.names l.spans.items l.errors.items;
+  kept : EntriesKeptSoFar (sorted_in l.fn.definitions) (map entry_reading_of l.fn.raw.items) (map entry_reading_of (into_iter_items l.said-iterator)) l.entries.items l.names l.spans.items l.origins.items l.next l.errors.items;
 }

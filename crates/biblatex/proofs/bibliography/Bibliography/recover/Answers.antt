@@ -33,6 +33,6 @@ returns c =
     let count : length c.resolve_readable.new.entries ≡ length own = c.in_ok-unresolved.ensures.length ∙ ap length c.deref_mut.ensures.value in
     let all = all_taken c.in_ok-entries.field-0.entries.len c.resolve_readable.new.entries own (count ∙ sym c.in_ok-entries.field-0.entries.ok.0) in
     let resolved = subst (λ es. AreRecovered c.deref.result.now names es c.resolve_readable.new.entries c.in_ok-unresolved.unresolved.items) c.deref_mut.ensures.value c.in_ok-unresolved.ensures.recovered in
-    subst (λ b. IsRecoveredBibliography c.args.src.now b c.in_ok-raw.field-0.skipped.items c.append.new.self.items) (sym (c.from_names.ensures ∙ ap (λ es. with_names es names) all))
-    (recovered_of (file_of c.in_ok-raw.field-0.raw) kept.kept own c.resolve_readable.new.entries names c.deref.result.now c.in_ok-entries.field-0.errors.items c.in_ok-unresolved.unresolved.items
-    c.in_ok-raw.ensures kept.read (c.deref.ensures.value ∙ kept.stand) (ap (λ l. l.names) kept.bibliography) resolved c.in_ok-append.ensures.items)
+    subst (λ b. IsRecoveredBibliography c.args.src.now b c.in_ok-entries.field-0.origins.items c.in_ok-raw.field-0.skipped.items c.append.new.self.items) (sym (c.from_names.ensures ∙ ap (λ es. with_names es names) all))
+    (recovered_of (file_of c.in_ok-raw.field-0.raw) kept.kept own c.resolve_readable.new.entries names c.deref.result.now c.in_ok-entries.field-0.origins.items c.in_ok-entries.field-0.errors.items c.in_ok-unresolved.unresolved.items
+    c.in_ok-raw.ensures kept.read (c.deref.ensures.value ∙ kept.stand) kept.origin (ap (λ l. l.names) kept.bibliography) resolved c.in_ok-append.ensures.items)
