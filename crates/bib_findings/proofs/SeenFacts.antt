@@ -1,19 +1,25 @@
 -- Facts on the identities of the entries so far, and on the first entry that has one of some identities.
-use Rattle.std.proofs.Common.{◌≡◌, ℕ, Bool, true, false, List, [], ◌∷◌, ◌++◌, ◌+◌, ◌<◌, ◌≤◌, ◌||◌, length, get_or, take, map, suc, Option, Some, None, refl, sym, ap, ◌∙◌, append_assoc, append-nil, subst, arith, cond}
-use Rattle.std.specs.Prelude.{Global, String, bytes_eq, find, is_some, min, slice_get}
+use Rattle.std.proofs.Common.{◌≡◌, ℕ, Bool, true, false, List, [], ◌∷◌, ◌++◌, ◌+◌, ◌<◌, ◌≤◌, ◌||◌, length, get_or, take, map, suc, zero, Option, Some, None, Result, Ok, Err, OnOk, refl, sym, ap, ◌∙◌, append_assoc, append-nil, subst, arith, cond}
+use Rattle.std.specs.Prelude.{IfSome, String, bytes_eq, find, is_some, min, slice_get}
+use Rattle.std.specs.Global.{Global}
+use Rattle.std.proofs.lemmas.List.Elements.{All-get_or, All-head, All-tail}
 use Rattle.std.specs.Bool.{one_answer}
 use Rattle.std.specs.Map.{update}
 use Rattle.std.specs.String.{string_bytes}
-use Rattle.std.proofs.lemmas.List.{map_more, map-append}
+use Rattle.std.proofs.lemmas.List.{map_more, map-append, take_more}
 use Rattle.std.proofs.lemmas.List.Folds.{list_any-append}
 use Rattle.std.proofs.lemmas.Slice.Eq.{bytes_eq-Decides}
-use Rattle.std.specs.List.{list_any, position_from}
-use Rattle.std.specs.Option.{option_or}
+use Rattle.std.specs.List.{All, cons_option, list_any, position_from}
+use Rattle.std.specs.Option.{option_map_or, option_or}
 use Rattle.bib_entry_types.specs.Requirements.{Names}
+use Rattle.bib_text.specs.declared.spanned.Spanned.{Spanned}
 use Rattle.bib_syntax.specs.Reading.{EntryReading}
-use Rattle.bib_findings.specs.Duplicates.{duplicate_after, duplicates_after}
+use Rattle.bib_syntax.specs.Views.{entry_reading_of}
+use Rattle.bib_syntax.specs.declared.raw.RawEntry.{RawEntry}
+use Rattle.bib_findings.specs.Duplicates.{duplicate_after, duplicate_finding, duplicates_after, entries_at}
 use Rattle.bib_findings.specs.Identities.{has_any, has_identity, identities}
-use Rattle.bib_findings.specs.Seen.{HasFirst, least_of, lesser, remembered}
+use Rattle.bib_findings.specs.Seen.{HasFirst, duplicate_at, least_of, lesser, remembered}
+use Rattle.bib_findings.proofs.ListFacts.{get_mapped, given_more}
 use Rattle.bib_findings.specs.declared.finding.Finding.{Finding}
 
 pub lesser_none : (one : Option ℕ) → lesser one None ≡ one
@@ -209,3 +215,68 @@ remembered_same old seen done name index before some id =
     had_by (old id) index (list_any (bytes_eq id) ids) (bytes_eq id (string_bytes name)) (seen id) (before id)
     (λ here. ap (λ at. is_some (seen at)) ((bytes_eq-Decides id (string_bytes name)).0 here) ∙ some)
     ∙ ap (λ b. option_or (old id) (cond b (Some index) None)) (sym (ap (list_any (bytes_eq id)) (map-append string_bytes done (name ∷ [])) ∙ list_any-append (bytes_eq id) ids (string_bytes name ∷ [])))
+
+-- one of the entries at some indices
+pub entry_there : (said : List (Spanned RawEntry)) (indices : List ℕ) (at : ℕ) (other : Spanned RawEntry) → All (λ index. index < length said) indices → at < length indices
+    → slice_get (entries_at (map entry_reading_of said) indices) at ≡ Some (entry_reading_of (get_or said (get_or indices at 0) other))
+entry_there said [] at other there within = absurd (omega arith)
+entry_there said (index ∷ indices) zero other there within =
+    ap (λ o. slice_get (cons_option o (entries_at (map entry_reading_of said) indices)) 0) (get_mapped entry_reading_of said index other (All-head (λ i. i < length said) index indices there))
+entry_there said (index ∷ indices) (suc at) other there within =
+    ap (λ o. slice_get (cons_option o (entries_at (map entry_reading_of said) indices)) (suc at)) (get_mapped entry_reading_of said index other (All-head (λ i. i < length said) index indices there))
+    ∙ entry_there said indices at other (All-tail (λ i. i < length said) index indices there) (omega arith)
+
+-- as many entries as indices
+pub as_many : (said : List (Spanned RawEntry)) (other : Spanned RawEntry) (indices : List ℕ) → All (λ index. index < length said) indices
+    → length (entries_at (map entry_reading_of said) indices) ≡ length indices
+as_many said other [] there = refl
+as_many said other (index ∷ indices) there =
+    ap (λ o. length (cons_option o (entries_at (map entry_reading_of said) indices))) (get_mapped entry_reading_of said index other (All-head (λ i. i < length said) index indices there))
+    ∙ ap suc (as_many said other indices (All-tail (λ i. i < length said) index indices there))
+
+-- the entries at some indices and one more
+pub entries_more : (said : List (Spanned RawEntry)) (indices : List ℕ) (index : ℕ) (other : Spanned RawEntry) → index < length said
+    → entries_at (map entry_reading_of said) (indices ++ index ∷ []) ≡ entries_at (map entry_reading_of said) indices ++ entry_reading_of (get_or said index other) ∷ []
+entries_more said indices index other within =
+    given_more (slice_get (map entry_reading_of said)) indices index (entry_reading_of (get_or said index other)) (get_mapped entry_reading_of said index other within)
+
+-- where the index of the first entry is known that has one of some identities, it is in range
+pub first_within : (index_of : List ℕ → Option ℕ) (earlier : List EntryReading) (ids : Names) (first : Option ℕ) → HasFirst index_of earlier → first ≡ least_of index_of ids
+    → IfSome first (λ index. index < length earlier)
+first_within index_of earlier ids None has is = tt
+first_within index_of earlier ids (Some index) has is = (one_found (has_any ids) earlier index (sym (is ∙ least_is_first index_of earlier ids has))).within
+
+-- and the finding is that of the first
+pub finds_first : (index_of : List ℕ → Option ℕ) (earlier : List EntryReading) (said : EntryReading) (first : Option ℕ) → HasFirst index_of earlier → first ≡ least_of index_of (identities said)
+    → duplicate_at earlier said first ≡ duplicate_after earlier said
+finds_first index_of earlier said None has is =
+    ap (λ o. option_map_or (λ one. duplicate_finding said one ∷ []) o []) (sym (none_found (has_any (identities said)) earlier (sym (is ∙ least_is_first index_of earlier (identities said) has))))
+finds_first index_of earlier said (Some index) has is =
+    ap (λ o. option_map_or (λ one. duplicate_finding said one ∷ []) o []) (sym (one_found (has_any (identities said)) earlier index (sym (is ∙ least_is_first index_of earlier (identities said) has))).found)
+
+pub not_some : (contains : Bool) (had : Option ℕ) → contains ≡ is_some had → contains ≡ false → had ≡ None
+not_some contains None is none = refl
+not_some contains (Some index) is none = absurd (let clash : true ≡ false = sym is ∙ none in cc)
+
+-- the finding of an entry that is likely the same as the one at an index of earlier ones
+pub at_first : (said : List (Spanned RawEntry)) (earlier : List ℕ) (one : EntryReading) (first : Option ℕ) (index : ℕ) (item : Spanned RawEntry) → first ≡ Some index
+    → All (λ i. i < length said) earlier → IfSome first (λ i. i < length earlier) → item ≡ get_or said (get_or earlier index 0) item
+    → duplicate_at (entries_at (map entry_reading_of said) earlier) one first ≡ duplicate_finding one (entry_reading_of item) ∷ []
+at_first said earlier one first index item some there within is =
+    let below : index < length earlier = subst (λ o. IfSome o (λ i. i < length earlier)) some within in
+    ap (duplicate_at (entries_at (map entry_reading_of said) earlier) one) some
+    ∙ ap (λ o. option_map_or (λ e. duplicate_finding one e ∷ []) o []) (entry_there said earlier index item there below ∙ ap (λ e. Some (entry_reading_of e)) (sym is))
+
+pub on_ok : {U E : Type 0} {P : Type 0} (r : Result U E) → P → OnOk r P
+on_ok (Ok u) p = p
+on_ok (Err e) p = tt
+
+-- the entries at the indices so far, and one more
+pub entries_next : (said : List (Spanned RawEntry)) (indices : List ℕ) (index : ℕ) (item : Spanned RawEntry) → All (λ i. i < length said) indices → index < length indices
+    → item ≡ get_or said (get_or indices index 0) item
+    → entries_at (map entry_reading_of said) (take (index + 1) indices) ≡ entries_at (map entry_reading_of said) (take index indices) ++ entry_reading_of item ∷ []
+entries_next said indices index item there within is =
+    let so_far : List EntryReading = entries_at (map entry_reading_of said) (take index indices) in
+    ap (entries_at (map entry_reading_of said)) (take_more indices index 0 within)
+    ∙ entries_more said (take index indices) (get_or indices index 0) item (All-get_or (λ i. i < length said) indices index 0 within there)
+    ∙ ap (λ e. so_far ++ entry_reading_of e ∷ []) (sym is)

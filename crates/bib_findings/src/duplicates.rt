@@ -1,12 +1,12 @@
 //! Findings of entries that are likely the same work.
 
-ghost use Rattle.std.specs.Prelude.{◌≡◌, ◌<◌, ◌++◌, ◌∷◌, [], List, ℕ, All, length, map, IfOk, OnOk};
+ghost use Rattle.std.specs.Prelude.{◌≡◌, ◌<◌, ◌++◌, ◌∷◌, [], List, ℕ, All, length, map, IfOk, IfSome, OnOk};
 ghost use Rattle.std.specs.BTreeMap.{get_by_text};
 ghost use Rattle.std.specs.String.{string_bytes};
 ghost use Rattle.bib_syntax.specs.Views.{entry_reading_of};
 ghost use Rattle.bib_findings.specs.Duplicates.{duplicate_after, duplicate_finding, duplicate_message, duplicates, entries_at};
 ghost use Rattle.bib_findings.specs.Identities.{identities};
-ghost use Rattle.bib_findings.specs.Seen.{HasFirst, least_of, lesser, readings, remembered};
+ghost use Rattle.bib_findings.specs.Seen.{HasFirst, duplicate_at, least_of, lesser, remembered};
 
 use crate::codes::Code;
 use crate::finding::Finding;
@@ -80,57 +80,46 @@ fn duplicate_finding(
     })
 }
 
-// The entries that have these indices.
-fn entries_at<'e, 's>(
+// Adds a finding where there is an index of an earlier entry: an entry is likely the same as that.
+fn add_if_first(
     alloc: Global,
-    said: &'e [Spanned<RawEntry<'s>>],
-    indices: &[usize],
-) -> Result<Vec<&'e Spanned<RawEntry<'s>>>, AllocError>
-    requires { All (λ index. index < length said.now) indices.now }
-    ensures { IfOk result (λ entries. readings entries.items ≡
-        entries_at (map entry_reading_of said.now) indices.now) }
+    found: &mut Vec<Finding>,
+    said: &[Spanned<RawEntry<'_>>],
+    earlier: &[usize],
+    one: &Spanned<RawEntry<'_>>,
+    first: Option<usize>,
+) -> Result<(), AllocError>
+    requires there { All (λ index. index < length said.now) earlier.now }
+    requires first { IfSome first (λ first. first < length earlier.now) }
+    ensures { OnOk result (found.new.items ≡ found.old.items ++
+        duplicate_at (entries_at (map entry_reading_of said.now) earlier.now) (entry_reading_of one.now) first) }
 {
-    let mut entries = Vec::new(alloc);
-    'indices: for index in indices {
-        entries.push(&said[*index])?;
+    if let Some(first) = first {
+        found.push(duplicate_finding(alloc, one, &said[earlier[first]])?)?;
     }
-    Ok(entries)
+    Ok(())
 }
 
-// Adds a finding where an entry is likely the same as an earlier one, and remembers its identities.
+// Adds a finding where an entry is likely the same as one of those with these indices, and remembers its identities.
 fn add_duplicate(
     alloc: Global,
     found: &mut Vec<Finding>,
     seen: &mut BTreeMap<String, usize>,
-    earlier: &[&Spanned<RawEntry<'_>>],
-    said: &Spanned<RawEntry<'_>>,
+    said: &[Spanned<RawEntry<'_>>],
+    earlier: &[usize],
+    one: &Spanned<RawEntry<'_>>,
 ) -> Result<(), AllocError>
-    requires { HasFirst (get_by_text seen.old) (readings earlier.now) }
+    requires there { All (λ index. index < length said.now) earlier.now }
+    requires seen { HasFirst (get_by_text seen.old) (entries_at (map entry_reading_of said.now) earlier.now) }
     ensures seen { OnOk result (HasFirst (get_by_text seen.new)
-        (readings earlier.now ++ entry_reading_of said.now ∷ [])) }
+        (entries_at (map entry_reading_of said.now) earlier.now ++ entry_reading_of one.now ∷ [])) }
     ensures added { OnOk result (found.new.items ≡ found.old.items ++
-        duplicate_after (readings earlier.now) (entry_reading_of said.now)) }
+        duplicate_after (entries_at (map entry_reading_of said.now) earlier.now) (entry_reading_of one.now)) }
 {
-    let identities = identities(alloc, said)?;
-    if let Some(first) = least_of(seen, &identities) {
-        found.push(duplicate_finding(alloc, said, earlier[first])?)?;
-    }
-    remember(seen, identities, earlier.len())
-}
-
-// Adds a finding for each of some entries that is likely the same as one before it.
-fn add_duplicates_among(
-    alloc: Global,
-    found: &mut Vec<Finding>,
-    entries: &[&Spanned<RawEntry<'_>>],
-) -> Result<(), AllocError>
-    ensures { OnOk result (found.new.items ≡ found.old.items ++ duplicates (readings entries.now)) }
-{
-    let mut seen = BTreeMap::new(alloc);
-    'entries: for index in 0..entries.len() {
-        add_duplicate(alloc, found, &mut seen, &entries[..index], entries[index])?;
-    }
-    Ok(())
+    let identities = identities(alloc, one)?;
+    let first = least_of(seen, &identities);
+    remember(seen, identities, earlier.len())?;
+    add_if_first(alloc, found, said, earlier, one, first)
 }
 
 // Adds a finding for each entry that is likely the same as one before it. Each has its index among the entries of the file.
@@ -144,6 +133,10 @@ pub(crate) fn add_duplicates(
     ensures { OnOk result (found.new.items ≡ found.old.items ++
         duplicates (entries_at (map entry_reading_of said.now) origins.now)) }
 {
-    let entries = entries_at(alloc, said, origins)?;
-    add_duplicates_among(alloc, found, &entries)
+    let mut seen = BTreeMap::new(alloc);
+    'origins: for index in 0..origins.len() {
+        let one = &said[origins[index]];
+        add_duplicate(alloc, found, &mut seen, said, &origins[..index], one)?;
+    }
+    Ok(())
 }
