@@ -1,7 +1,7 @@
 -- Facts on lists that grow by one.
-use Rattle.std.proofs.Common.{◌≡◌, ℕ, Bool, true, false, List, [], ◌∷◌, ◌++◌, ◌+◌, ◌<◌, length, get_or, take, map, Option, Some, None, refl, sym, ap, ◌∙◌, append_assoc, append-nil, arith, cond, suc, zero}
+use Rattle.std.proofs.Common.{◌≡◌, ℕ, Bool, ◌||◌, List, [], ◌∷◌, ◌++◌, ◌+◌, ◌<◌, length, get_or, take, map, Option, Some, None, refl, sym, ap, ◌∙◌, append_assoc, append-nil, arith, cond, suc, zero}
 use Rattle.std.specs.Prelude.{slice_get}
-use Rattle.std.specs.List.{cons_option, filter_map}
+use Rattle.std.specs.List.{cons_option, filter_map, list_any}
 use Rattle.std.proofs.lemmas.List.{take_more}
 
 -- the items so far, and one more
@@ -28,3 +28,8 @@ given_more given [] item one is = rw is refl
 given_more given (first ∷ items) item one is =
     elim (given first) as (λ o. cons_option o (filter_map given (items ++ item ∷ [])) ≡ cons_option o (filter_map given items) ++ one ∷ [])
     [ None ↦ given_more given items item one is | Some here ↦ ap (λ l. here ∷ l) (given_more given items item one is) ]
+
+-- whether one of mapped items passes
+pub any_of_map : {A B : Type 0} (f : A → B) (test : B → Bool) (items : List A) → list_any test (map f items) ≡ list_any (λ item. test (f item)) items
+any_of_map f test [] = refl
+any_of_map f test (item ∷ items) = ap (λ b. test (f item) || b) (any_of_map f test items)

@@ -1,7 +1,6 @@
 -- Meaning: words of public contracts.
 -- Codes of findings: their names, and how severe they are.
-use Rattle.std.specs.Prelude.{ℕ, List, [], ◌∷◌, Option, codes}
-use Rattle.bib_text.specs.Enums.{named, by_name}
+use Rattle.std.specs.Prelude.{ℕ, List, [], ◌∷◌, Option, bytes_eq, codes, find}
 use Rattle.bib_findings.specs.declared.codes.Code.{Code}
 use Rattle.bib_findings.specs.declared.codes.Code.TheVariants.{UnreadBytes, Syntax, UnreadField, UnknownAbbreviation, CircularAbbreviation, DuplicateKey, CircularReference, UnreadDate, MissingField, SuperfluousField, MalformedField, UnknownField, UnknownReference, LikelyDuplicate, MissingEntry, UnusedEntry}
 use Rattle.bib_findings.specs.declared.codes.Severity.{Severity}
@@ -40,7 +39,7 @@ all_codes =
 
 -- the code that has this name
 abbrev pub code_named : List ℕ → Option Code
-code_named = named (by_name code_name all_codes)
+code_named name = find (λ code. bytes_eq (code_name code) name) all_codes
 
 -- a code is an error where something isn't read as it stands, or is missing, and else a warning
 abbrev pub severity_of : Code → Severity

@@ -1,6 +1,6 @@
 //! Codes of findings, each with how severe it is and what to do.
 
-ghost use Rattle.std.specs.Prelude.{◌≡◌};
+ghost use Rattle.std.specs.Prelude.{◌≡◌, bytes_eq, find};
 ghost use Rattle.bib_findings.specs.Codes.{all_codes, code_name, code_named, severity_of, severity_name};
 
 /// How severe a finding is.
@@ -117,25 +117,7 @@ impl Code {
     pub fn named(name: &str) -> Option<Self>
         ensures { result ≡ code_named name.now }
     {
-        match name {
-            "unread-bytes" => Some(Self::UnreadBytes),
-            "syntax" => Some(Self::Syntax),
-            "unread-field" => Some(Self::UnreadField),
-            "unknown-abbreviation" => Some(Self::UnknownAbbreviation),
-            "circular-abbreviation" => Some(Self::CircularAbbreviation),
-            "duplicate-key" => Some(Self::DuplicateKey),
-            "circular-reference" => Some(Self::CircularReference),
-            "unread-date" => Some(Self::UnreadDate),
-            "missing-field" => Some(Self::MissingField),
-            "superfluous-field" => Some(Self::SuperfluousField),
-            "malformed-field" => Some(Self::MalformedField),
-            "unknown-field" => Some(Self::UnknownField),
-            "unknown-reference" => Some(Self::UnknownReference),
-            "likely-duplicate" => Some(Self::LikelyDuplicate),
-            "missing-entry" => Some(Self::MissingEntry),
-            "unused-entry" => Some(Self::UnusedEntry),
-            _ => None,
-        }
+        first_named(&CODES, name)
     }
 
     /// How severe it is: an error where something isn't read as it stands, or is missing.
@@ -183,4 +165,11 @@ impl Code {
             Self::UnusedEntry => "No document cites this entry. Remove it if it isn't needed, or cite it.",
         }
     }
+}
+
+// The first of some codes that has this name.
+fn first_named(codes: &[Code], name: &str) -> Option<Code>
+    ensures { result ≡ find (λ code. bytes_eq (code_name code) name.now) codes.now }
+{
+    codes.iter().copied().find(|code| code.name() == name)
 }

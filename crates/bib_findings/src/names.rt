@@ -1,6 +1,8 @@
 //! Names of fields that BibLaTeX knows.
 
 ghost use Rattle.std.specs.Prelude.{◌≡◌, IfOk, OnOk, option_copied};
+ghost use Rattle.std.specs.List.{list_any};
+ghost use Rattle.std.specs.Str.{str_eq_ignore_ascii_case};
 ghost use Rattle.std.specs.String.{string_bytes};
 ghost use Rattle.bib_entry_types.specs.Requirements.{texts};
 ghost use Rattle.bib_syntax.specs.Views.{entry_reading_of, field_of};
@@ -181,13 +183,18 @@ static KNOWN_FIELDS: [&str; 162] = [
     "year",
 ];
 
+// Whether a name is among some, in any ASCII case.
+fn is_among(names: &[&'static str], name: &str) -> bool
+    ensures { result ≡ list_any (λ known. str_eq_ignore_ascii_case known name.now) (texts names.now) }
+{
+    names.iter().any(|known| known.eq_ignore_ascii_case(name))
+}
+
 // Whether BibLaTeX knows a field of this name, in any ASCII case.
 fn is_known_field(name: &str) -> bool
     ensures { result ≡ is_known_field name.now }
 {
-    KNOWN_FIELDS
-        .iter()
-        .any(|known| known.eq_ignore_ascii_case(name))
+    is_among(&KNOWN_FIELDS, name)
 }
 
 // The most edits by which a name may differ from the one that is meant.
