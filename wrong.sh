@@ -15,7 +15,7 @@ rm -rf crates/*/must-fail
 for crate in "$@"; do
     mv "crates/$crate/wrong" "crates/$crate/must-fail"
 done
-rt ci "$@" >said 2>&1 || true
+rt must-fail "$@" >said 2>&1 || true
 count() { for crate in "$@"; do ls "crates/$crate/must-fail/"*.edit; done | wc -l; }
 refused=$(grep -c '\.edit: refused' said || true)
 grep '\.edit: ' said | grep -v ': refused' || true

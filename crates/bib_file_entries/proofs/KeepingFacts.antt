@@ -151,8 +151,8 @@ entries_none definitions said = record {
   below = below_empty 0;
 }
 
-ahead_next : {A : Type 0} {all rest : List A} {index : ℕ} {one : A} → drop index all ≡ one ∷ rest → drop (index + 1) all ≡ rest
-ahead_next {all = all} {rest = rest} {index = index} {one = one} is = rw add-one (begins_at all index one rest is).more
+ahead_next : {A : Type 0} (all rest : List A) (index : ℕ) (one : A) → drop index all ≡ one ∷ rest → drop (index + 1) all ≡ rest
+ahead_next all rest index one is = rw add-one (begins_at all index one rest is).more
 
 -- an entry whose key was claimed is left out
 pub entries_duplicate : {definitions : Definitions} {said rest : List EntryReading} {one : EntryReading} {found : List Entry} {names : ByText ℕ} {places : List (Range ℕ)} {origins : List ℕ} {index : ℕ} {errors : List ParseError} (e : ParseError)
@@ -167,7 +167,7 @@ entries_duplicate {definitions} {said} {rest} {one} {found} {names} {places} {or
       (ap (λ first. errors ++ (first ∷ later)) (sym is) ∙ sym (append_assoc errors (e ∷ []) later))
       (so_far.onward more_kept more (duplicate_key one ∷ later) (EntriesKept.duplicate (sym (so_far.same one.key.text) ∙ had) following));
   stand = so_far.stand;
-  ahead = ahead_next so_far.ahead;
+  ahead = ahead_next said rest index one so_far.ahead;
   origin = so_far.origin;
   bibliography = so_far.bibliography;
   below = so_far.below;
@@ -190,7 +190,7 @@ entries_next {definitions} {said} {rest} {one} {found} {names} {places} {origins
           (subst (EntriesKept definitions [] said (so_far.kept ++ (with_fields one read.fields ∷ more_kept)) (found ++ (entry ∷ more)))
           (sym (append_assoc errors read.more later) ∙ ap (λ l. l ++ later) (sym read.errors)) told));
       stand = ap (λ l. l ++ place_of one ∷ []) so_far.stand ∙ sym (map-append place_of so_far.kept (with_fields one read.fields ∷ []));
-      ahead = ahead_next so_far.ahead;
+      ahead = ahead_next said rest index one so_far.ahead;
       origin = AllZip-push (IsKeptFrom said) origins so_far.kept index (with_fields one read.fields) so_far.origin
           (record { one = one; there = (begins_at said index one rest so_far.ahead).there; is = refl });
       bibliography = bibliography_next found entry names so_far.bibliography;

@@ -14,7 +14,7 @@ entries-init c = record {
   can_next = tt;
   is_finite = tt;
   reader = c.new-reader.ensures;
-  kept = rw (c.into_iter-said-iterator.ensures.into_iter_gives.0, c.in_ok-entries.ensures.items, c.in_ok-spans.ensures.items, c.new-names.ensures, c.new-errors.ensures.items) (entries_none _ _);
+  kept = rw (c.into_iter-said-iterator.ensures.into_iter_gives.0, c.in_ok-entries.ensures.items, c.in_ok-spans.ensures.items, c.in_ok-origins.ensures.items, c.new-names.ensures, c.new-errors.ensures.items) (entries_none _ _);
 }
 
 pub entries-preserved-then-is_some : goal.entries-preserved-then-is_some
@@ -38,7 +38,7 @@ entries-preserved c =
       can_next = tt;
       is_finite = tt;
       reader = c.in_ok-entry.ensures.same ∙ c.entries.invariant.reader;
-      kept = rw (c.in_ok-push-3.ensures.items, more, c.in_ok-push-2.ensures.items) (entries_next c.in_ok-entry.entry (rw c.in-Some.ensures.steps.0 at c.entries.invariant.kept) absent (rw same at c.in_ok-entry.ensures.kept));
+      kept = rw (c.in_ok-push-4.ensures.items, more, c.in_ok-push-2.ensures.items, c.in_ok-push-3.ensures.items) (entries_next c.in_ok-entry.entry (rw c.in-Some.ensures.steps.0 at c.entries.invariant.kept) absent (rw same at c.in_ok-entry.ensures.kept));
     }
 
 pub returns-clause-kept : goal.returns-clause-kept
