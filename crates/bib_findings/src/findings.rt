@@ -1,15 +1,18 @@
 //! All that is wrong in a file.
 
-ghost use Rattle.std.specs.Prelude.{◌≡◌, ◌<◌, All, length, map, OnOk};
+ghost use Rattle.std.specs.Prelude.{◌≡◌, ◌<◌, All, length, map, IfOk, OnOk};
 ghost use Rattle.bib_syntax.specs.Views.{entry_reading_of};
 ghost use Rattle.bib_findings.specs.Adding.{Adds};
 ghost use Rattle.bib_findings.specs.Entries.{AreOfEach};
-ghost use Rattle.bib_findings.specs.Findings.{AreOfEntry};
+ghost use Rattle.bib_findings.specs.Findings.{AreBetween, AreOfEntry, AreSortedByPlace};
 
+use crate::duplicates::add_duplicates;
 use crate::entries::add_report;
 use crate::finding::Finding;
 use crate::names::add_unknown_fields;
+use crate::references::add_references;
 use bib_entry::entry::Entry;
+use bib_maps::names::Names;
 use bib_syntax::raw::RawEntry;
 use bib_text::spanned::Spanned;
 use std::alloc::{AllocError, Global};
@@ -41,8 +44,38 @@ fn add_entries(
     ensures { OnOk result (Adds (AreOfEach AreOfEntry (map entry_reading_of said.now) origins.now entries.now)
         found.old.items found.new.items) }
 {
-    'entries: for (index, entry) in origins.iter().zip(entries) {
-        add_entry(alloc, found, &said[*index], entry)?;
+    'entries: for index in 0..entries.len() {
+        let one = &said[origins[index]];
+        let entry = &entries[index];
+        add_entry(alloc, found, one, entry)?;
     }
     Ok(())
+}
+
+// What is wrong between entries: the keys that they refer to and that none has, by the fields that they have of their own,
+// and those that are likely the same work as an earlier one. Each has its index among the entries of the file.
+fn between(
+    alloc: Global,
+    said: &[Spanned<RawEntry<'_>>],
+    origins: &[usize],
+    names: &Names,
+    own: &[Entry],
+) -> Result<Vec<Finding>, AllocError>
+    requires same_length { length origins.now ≡ length own.now }
+    requires there { All (λ index. index < length said.now) origins.now }
+    ensures { IfOk result (λ found. AreBetween names.now (map entry_reading_of said.now) origins.now own.now found.items) }
+{
+    let mut found = Vec::new(alloc);
+    add_references(alloc, &mut found, names, said, origins, own)?;
+    add_duplicates(alloc, &mut found, said, origins)?;
+    Ok(found)
+}
+
+// Findings in the order in which they start in the file.
+fn sorted_by_place(found: Vec<Finding>) -> Result<Vec<Finding>, AllocError>
+    ensures { IfOk result (λ sorted. AreSortedByPlace found.items sorted.items) }
+{
+    let mut found = found;
+    found.sort_by_key(|finding| finding.span.start)?;
+    Ok(found)
 }
