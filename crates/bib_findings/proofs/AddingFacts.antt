@@ -15,7 +15,12 @@ use Rattle.bib_entry_types.specs.Requirements.{Names}
 use Rattle.bib_syntax.specs.Reading.{EntryReading}
 use Rattle.bib_findings.specs.Adding.{Adds}
 use Rattle.bib_findings.specs.Entries.{AreOfEach, AreOfReport, field_finding, malformed_finding, report_findings}
-use Rattle.bib_findings.specs.Findings.{AreOfEntry}
+use Rattle.bib_findings.specs.Findings.{AreFindingsIn, AreOfEntry, AreSortedByPlace}
+use Rattle.bib_findings.specs.Errors.{block_finding, error_finding}
+use Rattle.bib_syntax.specs.declared.raw.ParseError.{ParseError}
+use Rattle.bib_syntax.specs.declared.raw.recovery.SkippedBlock.{SkippedBlock}
+use Rattle.std.specs.Global.{Global}
+use Rattle.std.specs.Prelude.{IfOk, Vec}
 use Rattle.bib_findings.specs.Names.{AreOfUnknown}
 use Rattle.bib_findings.specs.declared.codes.Code.TheVariants.{MissingField, SuperfluousField}
 use Rattle.bib_findings.specs.declared.finding.Finding.{Finding}
@@ -105,3 +110,21 @@ each_at Are said origins entries index one entry old mid new there same within o
 -- findings that are known are added
 pub added_known : (Are : List Finding → Type 0) (known old new : List Finding) → Are known → new ≡ old ++ known → Adds Are old new
 added_known Are known old new are is = record { added = known; are = are; new_is = is }
+
+-- four lists that are added one after another to none
+pub added_in_order : (none one two three new a b c d : List Finding) → none ≡ [] → one ≡ none ++ a → two ≡ one ++ b → three ≡ two ++ c → new ≡ three ++ d
+    → new ≡ a ++ (b ++ (c ++ d))
+added_in_order none one two three new a b c d empty first second third fourth =
+    let start : one ≡ a = first ∙ ap (λ l. l ++ a) empty in
+    added_thrice one two three new b c d second third fourth ∙ ap (λ l. l ++ (b ++ (c ++ d))) start
+
+-- all findings, once they are sorted
+pub sorted_are : {E : Type 0} (skipped : List SkippedBlock) (errors : List ParseError) (said : List EntryReading) (origins : List ℕ) (entries : List Entry) (between of_entries all : List Finding) (r : Result (Vec Finding Global) E)
+    → AreOfEach AreOfEntry said origins entries of_entries → all ≡ map block_finding skipped ++ (map error_finding errors ++ (of_entries ++ between))
+    → IfOk r (λ sorted. AreSortedByPlace all sorted.items) → IfOk r (λ found. AreFindingsIn skipped errors said origins entries between found.items)
+sorted_are skipped errors said origins entries between of_entries all (Ok found) reports are sorted = record {
+  of_entries = of_entries;
+  reports = reports;
+  sorted = subst (λ l. AreSortedByPlace l found.items) are sorted;
+}
+sorted_are skipped errors said origins entries between of_entries all (Err e) reports are sorted = tt

@@ -4,16 +4,17 @@ ghost use Rattle.std.specs.Prelude.{◌≡◌, ◌<◌, All, length, map, IfOk, 
 ghost use Rattle.bib_syntax.specs.Views.{entry_reading_of};
 ghost use Rattle.bib_findings.specs.Adding.{Adds};
 ghost use Rattle.bib_findings.specs.Entries.{AreOfEach};
-ghost use Rattle.bib_findings.specs.Findings.{AreBetween, AreOfEntry, AreSortedByPlace};
+ghost use Rattle.bib_findings.specs.Findings.{AreBetween, AreFindingsIn, AreOfEntry, AreSortedByPlace};
 
 use crate::duplicates::add_duplicates;
 use crate::entries::add_report;
+use crate::errors::{add_blocks, add_errors};
 use crate::finding::Finding;
 use crate::names::add_unknown_fields;
 use crate::references::add_references;
 use bib_entry::entry::Entry;
 use bib_maps::names::Names;
-use bib_syntax::raw::RawEntry;
+use bib_syntax::raw::{ParseError, RawEntry, SkippedBlock};
 use bib_text::spanned::Spanned;
 use std::alloc::{AllocError, Global};
 
@@ -52,9 +53,9 @@ fn add_entries(
     Ok(())
 }
 
-// What is wrong between entries: the keys that they refer to and that none has, by the fields that they have of their own,
-// and those that are likely the same work as an earlier one. Each has its index among the entries of the file.
-fn between(
+/// What is wrong between entries: the keys that they refer to and that none has, by the fields that they have of their own,
+/// and those that are likely the same work as an earlier one. Each has its index among the entries of the file.
+pub fn between(
     alloc: Global,
     said: &[Spanned<RawEntry<'_>>],
     origins: &[usize],
@@ -78,4 +79,30 @@ fn sorted_by_place(found: Vec<Finding>) -> Result<Vec<Finding>, AllocError>
     let mut found = found;
     found.sort_by_key(|finding| finding.span.start)?;
     Ok(found)
+}
+
+/// All that is wrong in a file, or may be, in the order of where it starts, where the file was recovered: these blocks were
+/// passed over, these are the errors of what was read, these entries are kept, each with its index among the entries of the
+/// file, and this is wrong between them. Refused only when out of memory.
+pub fn findings_in(
+    alloc: Global,
+    skipped: &[SkippedBlock],
+    errors: &[ParseError],
+    said: &[Spanned<RawEntry<'_>>],
+    origins: &[usize],
+    entries: &[Entry],
+    between: Vec<Finding>,
+) -> Result<Vec<Finding>, AllocError>
+    requires same_length { length origins.now ≡ length entries.now }
+    requires there { All (λ index. index < length said.now) origins.now }
+    ensures { IfOk result (λ found. AreFindingsIn skipped.now errors.now (map entry_reading_of said.now)
+        origins.now entries.now between.items found.items) }
+{
+    let mut between = between;
+    let mut found = Vec::new(alloc);
+    add_blocks(alloc, &mut found, skipped)?;
+    add_errors(alloc, &mut found, errors)?;
+    add_entries(alloc, &mut found, said, origins, entries)?;
+    found.append(&mut between)?;
+    sorted_by_place(found)
 }
