@@ -5,7 +5,10 @@ use Rattle.std.specs.List.Sorted.{IsPermutation, IsSortedByKey, IsStableByKey}
 use Rattle.std.specs.Ordering.{nat_cmp}
 use Rattle.bib_entry.specs.declared.entry.Entry.{Entry}
 use Rattle.bib_syntax.specs.Reading.{EntryReading}
+use Rattle.bib_syntax.specs.Views.{entry_reading_of}
 use Rattle.bib_syntax.specs.declared.raw.ParseError.{ParseError}
+use Rattle.bib_syntax.specs.declared.raw.RawEntry.{RawEntry}
+use Rattle.bib_text.specs.declared.spanned.Spanned.{Spanned}
 use Rattle.bib_syntax.specs.declared.raw.recovery.SkippedBlock.{SkippedBlock}
 use Rattle.bib_maps.specs.Sorted.{ByText}
 use Rattle.bib_findings.specs.Duplicates.{duplicates, entries_at}
@@ -14,6 +17,10 @@ use Rattle.bib_findings.specs.Errors.{block_finding, error_finding}
 use Rattle.bib_findings.specs.Names.{AreOfUnknown}
 use Rattle.bib_findings.specs.References.{AreReferences}
 use Rattle.bib_findings.specs.declared.finding.Finding.{Finding}
+
+-- what entries of a file say, in order
+abbrev pub entries_said : List (Spanned RawEntry) → List EntryReading
+entries_said = map entry_reading_of
 
 -- the findings of an entry, which the file says so: those of the report on it, and those of fields whose names aren't known
 pub record AreOfEntry (said : EntryReading) (entry : Entry) (found : List Finding) : Type 0 where

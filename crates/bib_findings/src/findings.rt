@@ -4,7 +4,7 @@ ghost use Rattle.std.specs.Prelude.{◌≡◌, ◌<◌, All, length, map, IfOk, 
 ghost use Rattle.bib_syntax.specs.Views.{entry_reading_of};
 ghost use Rattle.bib_findings.specs.Adding.{Adds};
 ghost use Rattle.bib_findings.specs.Entries.{AreOfEach};
-ghost use Rattle.bib_findings.specs.Findings.{AreBetween, AreFindingsIn, AreOfEntry, AreSortedByPlace};
+ghost use Rattle.bib_findings.specs.Findings.{AreBetween, AreFindingsIn, AreOfEntry, AreSortedByPlace, entries_said};
 
 use crate::duplicates::add_duplicates;
 use crate::entries::add_report;
@@ -64,7 +64,7 @@ pub fn between(
 ) -> Result<Vec<Finding>, AllocError>
     requires same_length { length origins.now ≡ length own.now }
     requires there { All (λ index. index < length said.now) origins.now }
-    ensures { IfOk result (λ found. AreBetween names.now (map entry_reading_of said.now) origins.now own.now found.items) }
+    ensures { IfOk result (λ found. AreBetween names.now (entries_said said.now) origins.now own.now found.items) }
 {
     let mut found = Vec::new(alloc);
     add_references(alloc, &mut found, names, said, origins, own)?;
@@ -95,7 +95,7 @@ pub fn findings_in(
 ) -> Result<Vec<Finding>, AllocError>
     requires same_length { length origins.now ≡ length entries.now }
     requires there { All (λ index. index < length said.now) origins.now }
-    ensures { IfOk result (λ found. AreFindingsIn skipped.now errors.now (map entry_reading_of said.now)
+    ensures { IfOk result (λ found. AreFindingsIn skipped.now errors.now (entries_said said.now)
         origins.now entries.now between.items found.items) }
 {
     let mut between = between;
