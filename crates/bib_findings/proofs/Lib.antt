@@ -1,0 +1,5 @@
+mod AddingFacts
+mod IdentityFacts
+mod ListFacts
+mod NameFacts
+mod SeenFacts

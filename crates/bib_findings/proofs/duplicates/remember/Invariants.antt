@@ -1,0 +1,9 @@
+use Rattle.std.proofs.Common.{◌≡◌, ℕ, List, map}
+use Rattle.std.specs.BTreeMap.{get_by_text}
+use Rattle.std.specs.String.{string_bytes}
+use Rattle.bib_findings.specs.Seen.{remembered}
+use Rattle.bib_findings.proofs.duplicates.remember.Given as goal
+
+-- each of the identities so far has an index
+abbrev pub invariant-identities : goal.invariant-identities
+invariant-identities l = (id : List ℕ) → get_by_text l.seen id ≡ remembered (map string_bytes l.yielded) l.index id (get_by_text l.initial.seen id)

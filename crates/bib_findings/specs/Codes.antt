@@ -1,0 +1,53 @@
+-- Meaning: words of public contracts.
+-- Codes of findings: their names, and how severe they are.
+use Rattle.std.specs.Prelude.{ℕ, List, [], ◌∷◌, Option, bytes_eq, codes, find}
+use Rattle.bib_findings.specs.declared.codes.Code.{Code}
+use Rattle.bib_findings.specs.declared.codes.Code.TheVariants.{UnreadBytes, Syntax, UnreadField, UnknownAbbreviation, CircularAbbreviation, DuplicateKey, CircularReference, UnreadDate, MissingField, SuperfluousField, MalformedField, UnknownField, UnknownReference, LikelyDuplicate, MissingEntry, UnusedEntry}
+use Rattle.bib_findings.specs.declared.codes.Severity.{Severity}
+use Rattle.bib_findings.specs.declared.codes.Severity.TheVariants.{Error, Warning}
+
+-- the word by which a severity is printed
+abbrev pub severity_name : Severity → List ℕ
+severity_name Error = codes "error"
+severity_name Warning = codes "warning"
+
+-- the name by which a code is printed and asked for
+abbrev pub code_name : Code → List ℕ
+code_name UnreadBytes = codes "unread-bytes"
+code_name Syntax = codes "syntax"
+code_name UnreadField = codes "unread-field"
+code_name UnknownAbbreviation = codes "unknown-abbreviation"
+code_name CircularAbbreviation = codes "circular-abbreviation"
+code_name DuplicateKey = codes "duplicate-key"
+code_name CircularReference = codes "circular-reference"
+code_name UnreadDate = codes "unread-date"
+code_name MissingField = codes "missing-field"
+code_name SuperfluousField = codes "superfluous-field"
+code_name MalformedField = codes "malformed-field"
+code_name UnknownField = codes "unknown-field"
+code_name UnknownReference = codes "unknown-reference"
+code_name LikelyDuplicate = codes "likely-duplicate"
+code_name MissingEntry = codes "missing-entry"
+code_name UnusedEntry = codes "unused-entry"
+
+-- the codes, in the order in which they are listed
+abbrev pub all_codes : List Code
+all_codes =
+    UnreadBytes ∷ Syntax ∷ UnreadField ∷ UnknownAbbreviation ∷ CircularAbbreviation ∷ DuplicateKey ∷ CircularReference ∷ UnreadDate
+    ∷ MissingField ∷ SuperfluousField ∷ MalformedField ∷ UnknownField ∷ UnknownReference ∷ LikelyDuplicate ∷ MissingEntry
+    ∷ UnusedEntry ∷ []
+
+-- the code that has this name
+abbrev pub code_named : List ℕ → Option Code
+code_named name = find (λ code. bytes_eq (code_name code) name) all_codes
+
+-- a code is an error where something isn't read as it stands, or is missing, and else a warning
+abbrev pub severity_of : Code → Severity
+severity_of UnreadBytes = Error
+severity_of Syntax = Error
+severity_of UnreadField = Error
+severity_of CircularAbbreviation = Error
+severity_of DuplicateKey = Error
+severity_of CircularReference = Error
+severity_of MissingEntry = Error
+severity_of _ = Warning

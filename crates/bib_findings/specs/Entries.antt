@@ -1,0 +1,65 @@
+-- Meaning: words of public contracts.
+-- Where the fields of an entry stand in the file, and the findings of the report on an entry.
+use Rattle.std.specs.Prelude.{◌≡◌, ℕ, List, [], ◌∷◌, ◌++◌, codes, map, reverse, slice_get, Option, Some, None}
+use Rattle.std.specs.List.{find}
+use Rattle.std.specs.Str.{str_eq_ignore_ascii_case}
+use Rattle.std.specs.declared.ops.Range.{Range}
+use Rattle.bib_enums.specs.TypeError.{type_kind_text}
+use Rattle.bib_enums.specs.declared.type_error.TypeError.{TypeError}
+use Rattle.bib_entry.specs.Reports.{AreMalformed, missing_of, superfluous_of}
+use Rattle.bib_entry.specs.declared.entry.Entry.{Entry}
+use Rattle.bib_syntax.specs.Reading.{Part, EntryReading, FieldReading}
+use Rattle.bib_findings.specs.Errors.{finding_at}
+use Rattle.bib_findings.specs.declared.codes.Code.{Code}
+use Rattle.bib_findings.specs.declared.codes.Code.TheVariants as code
+use Rattle.bib_findings.specs.declared.finding.Finding.{Finding}
+
+-- where a part of the file stands
+abbrev pub part_range : Part → Range ℕ
+part_range p = record { start = p.start; end = p.end }
+
+-- the last field of this name, in any ASCII case: the one that is read
+abbrev pub last_named : List FieldReading → List ℕ → Option FieldReading
+last_named all name = find (λ f. str_eq_ignore_ascii_case f.name.text name) (reverse all)
+
+-- where the name of a field stands, or else this
+abbrev pub range_or : Range ℕ → Option FieldReading → Range ℕ
+range_or other None = other
+range_or other (Some f) = part_range f.name
+
+-- where the field of a name stands in an entry: at its name, and at the entry's key where it has none
+abbrev pub field_place : EntryReading → List ℕ → Range ℕ
+field_place said name = range_or (part_range said.key) (last_named said.fields name)
+
+-- what is said of a field of the entry with this key: what is wrong, and the field's name
+abbrev pub field_message : List ℕ → List ℕ → List ℕ → List ℕ
+field_message key wrong name = key ++ (codes ": " ++ (wrong ++ (codes " " ++ name)))
+
+-- the finding of a field that is wrong in this way
+abbrev pub field_finding : EntryReading → Code → List ℕ → List ℕ → Finding
+field_finding said c wrong name = finding_at c (field_place said name) (field_message said.key.text wrong name)
+
+-- the finding of a field that isn't read as a value of its type, with the kind of its error
+abbrev pub malformed_finding : EntryReading → List ℕ × TypeError → Finding
+malformed_finding said e =
+    finding_at code.MalformedField (field_place said e.0) (field_message said.key.text (codes "malformed") (e.0 ++ (codes ": " ++ type_kind_text e.1.kind)))
+
+-- the findings of a report: of the fields that the entry lacks, of those that it must not have, and of those that aren't read
+abbrev pub report_findings : EntryReading → Entry → List (List ℕ × TypeError) → List Finding
+report_findings said entry errors =
+    map (field_finding said code.MissingField (codes "missing")) (missing_of entry)
+    ++ (map (field_finding said code.SuperfluousField (codes "superfluous")) (superfluous_of entry)
+    ++ map (malformed_finding said) errors)
+
+-- these are the findings of the report on an entry, which the file says so
+pub record AreOfReport (said : EntryReading) (entry : Entry) (found : List Finding) : Type 0 where
+  pub errors : List (List ℕ × TypeError)
+  pub malformed : AreMalformed entry errors
+  pub are : found ≡ report_findings said entry errors
+
+-- the findings of entries, one entry after another, each with its index among the entries of the file; those of each are such
+pub data AreOfEach (Are : EntryReading → Entry → List Finding → Type 0) (said : List EntryReading) : List ℕ → List Entry → List Finding → Type 0 where
+  none : AreOfEach Are said [] [] []
+  next : {index : ℕ} {indices : List ℕ} {one : EntryReading} {entry : Entry} {entries : List Entry} {first rest : List Finding}
+      → slice_get said index ≡ Some one → Are one entry first → AreOfEach Are said indices entries rest
+      → AreOfEach Are said (index ∷ indices) (entry ∷ entries) (first ++ rest)

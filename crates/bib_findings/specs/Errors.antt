@@ -1,0 +1,51 @@
+-- Meaning: words of public contracts.
+-- The findings of what recovery reports: of the blocks that are passed over, and of errors.
+use Rattle.std.specs.Prelude.{ℕ, List, ◌++◌, codes}
+use Rattle.std.specs.declared.ops.Range.{Range}
+use Rattle.bib_enums.specs.TypeError.{type_kind_text}
+use Rattle.bib_syntax.specs.Errors.{token_text}
+use Rattle.bib_syntax.specs.declared.raw.ParseError.{ParseError}
+use Rattle.bib_syntax.specs.declared.raw.ParseErrorKind.{ParseErrorKind}
+use Rattle.bib_syntax.specs.declared.raw.ParseErrorKind.TheVariants.{UnexpectedEof, Unexpected, Expected, UnknownAbbreviation, MalformedCommand, DuplicateKey, ResolutionError, AbbreviationCycle, ReferenceCycle}
+use Rattle.bib_syntax.specs.declared.raw.recovery.SkippedBlock.{SkippedBlock}
+use Rattle.bib_findings.specs.declared.codes.Code.{Code}
+use Rattle.bib_findings.specs.declared.codes.Code.TheVariants as code
+use Rattle.bib_findings.specs.declared.finding.Finding.{Finding}
+
+-- a finding with this code, at these bytes of the file, that says this
+abbrev pub finding_at : Code → Range ℕ → List ℕ → Finding
+finding_at c span message = record { code = c; span = span; message = message }
+
+-- words, and a name between quotes, as it stands in the file
+abbrev pub with_name : List ℕ → List ℕ → List ℕ
+with_name words name = words ++ (codes " \"" ++ (name ++ codes "\""))
+
+-- what an error says
+abbrev pub error_message : ParseErrorKind → List ℕ
+error_message UnexpectedEof = codes "unexpected end of file"
+error_message (Unexpected token) = codes "unexpected " ++ token_text token
+error_message (Expected token) = codes "expected " ++ token_text token
+error_message (UnknownAbbreviation name) = with_name (codes "unknown abbreviation") name
+error_message MalformedCommand = codes "malformed command"
+error_message (DuplicateKey key) = with_name (codes "duplicate key") key
+error_message (ResolutionError kind) = codes "a date that would be inherited can't be read: " ++ type_kind_text kind
+error_message (AbbreviationCycle name) = with_name (codes "circular abbreviation") name
+error_message (ReferenceCycle key) = with_name (codes "circular reference") key
+error_message _ = codes "out of memory"
+
+-- the code of an error of an abbreviation, an entry, a reference or a date; any other is one of a field that can't be read
+abbrev pub error_code : ParseErrorKind → Code
+error_code (UnknownAbbreviation name) = code.UnknownAbbreviation
+error_code (AbbreviationCycle name) = code.CircularAbbreviation
+error_code (DuplicateKey key) = code.DuplicateKey
+error_code (ReferenceCycle key) = code.CircularReference
+error_code (ResolutionError kind) = code.UnreadDate
+error_code _ = code.UnreadField
+
+-- the finding of an error
+abbrev pub error_finding : ParseError → Finding
+error_finding e = finding_at (error_code e.kind) e.span (error_message e.kind)
+
+-- the finding of a block that is passed over, at its error
+abbrev pub block_finding : SkippedBlock → Finding
+block_finding block = finding_at code.Syntax block.error.span (error_message block.error.kind)

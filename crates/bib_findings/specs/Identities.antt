@@ -1,0 +1,113 @@
+-- Meaning: words of public contracts.
+-- By what entries are likely the same work: the same DOI, the same ISBN, or the same title, first person and year, each
+-- as it stands in the file, but for the case of letters, braces and white space.
+use Rattle.std.specs.Prelude.{ℕ, Bool, not, ◌==◌, ◌||◌, List, [], ◌∷◌, ◌++◌, codes, chars, length, take, drop, filter, bytes_eq, nat_eq, encode_utf8_all, Option, Some, None, if◌then◌else◌}
+use Rattle.std.specs.Char.{is_whitespace}
+use Rattle.std.specs.List.{flat_map, list_any, slice_split, starts_with, take_while}
+use Rattle.std.specs.StrCase.Lower.{str_to_lowercase}
+use Rattle.bib_text.specs.Characters as char
+use Rattle.bib_entry_types.specs.Requirements.{Names, fields}
+use Rattle.bib_syntax.specs.Reading.{EntryReading, FieldReading, Piece}
+use Rattle.bib_syntax.specs.Reading.Piece.{literal}
+use Rattle.bib_findings.specs.Entries.{last_named}
+
+-- the text of a value that is one text in braces, in quotes, or a number; else no text
+abbrev pub literal_text : List Piece → List ℕ
+literal_text (literal p ∷ []) = p.text
+literal_text _ = []
+
+-- the text of a field, if there is one
+abbrev pub field_literal : Option FieldReading → List ℕ
+field_literal None = []
+field_literal (Some f) = literal_text f.value.pieces
+
+-- the text of the field of this name of an entry: of two fields with one name the last
+abbrev pub own_literal : EntryReading → List ℕ → List ℕ
+own_literal said name = field_literal (last_named said.fields name)
+
+-- of two texts the first, unless it is empty
+abbrev pub or_else : List ℕ → List ℕ → List ℕ
+or_else text other = if length text == 0 then other else text
+
+-- whether a character is a brace
+abbrev pub is_brace : ℕ → Bool
+is_brace c = c == char.open_brace || c == char.close_brace
+
+-- the characters of a text in lowercase, but for braces
+abbrev pub folded : List ℕ → List ℕ
+folded text = filter (λ c. not (is_brace c)) (chars (str_to_lowercase text))
+
+-- the words among characters: what stands between white space
+abbrev pub folded_words : List ℕ → List (List ℕ)
+folded_words characters = filter (λ word. not (length word == 0)) (slice_split is_whitespace characters)
+
+-- words, a space after each
+abbrev pub spaced_words : List (List ℕ) → List ℕ
+spaced_words = flat_map (λ word. encode_utf8_all word ++ codes " ")
+
+-- the words of a text, a space after each
+abbrev pub plain_words : List ℕ → List ℕ
+plain_words text = spaced_words (folded_words (folded text))
+
+-- whether a word stands between people
+abbrev pub is_between_people : List ℕ → Bool
+is_between_people word = bytes_eq word (codes "and")
+
+-- the words of the first of some people, a space after each
+abbrev pub first_person : List ℕ → List ℕ
+first_person people = spaced_words (take_while (λ word. not (is_between_people word)) (folded_words (folded people)))
+
+-- the first four characters of a text
+abbrev pub first_four : List ℕ → List ℕ
+first_four text = encode_utf8_all (take 4 (chars text))
+
+-- the characters of a text in lowercase, but for braces and white space
+abbrev pub squeezed : List ℕ → List ℕ
+squeezed text = encode_utf8_all (filter (λ c. not (is_whitespace c)) (folded text))
+
+-- how a DOI may begin that is written as a link
+abbrev pub doi_prefixes : Names
+doi_prefixes = fields "https://doi.org/ http://doi.org/ https://dx.doi.org/ http://dx.doi.org/ doi:"
+
+-- a text without the first of these prefixes that it begins with
+abbrev pub without_prefixes : List ℕ → Names → List ℕ
+without_prefixes text [] = text
+without_prefixes text (prefix ∷ prefixes) = if starts_with nat_eq text prefix then drop (length prefix) text else without_prefixes text prefixes
+
+-- the DOI of an entry
+abbrev pub doi_of : EntryReading → List ℕ
+doi_of said = without_prefixes (squeezed (own_literal said (codes "doi"))) doi_prefixes
+
+-- the ISBN of an entry, without hyphens
+abbrev pub isbn_of : EntryReading → List ℕ
+isbn_of said = encode_utf8_all (filter (λ c. not (c == char.hyphen)) (chars (squeezed (own_literal said (codes "isbn")))))
+
+-- the year of an entry: its field `year`, or else the first four characters of its date
+abbrev pub year_of : EntryReading → List ℕ
+year_of said = plain_words (or_else (own_literal said (codes "year")) (first_four (own_literal said (codes "date"))))
+
+-- a title, a first person and a year as one text, if none is empty; they hold no braces, so these stand between them
+abbrev pub work_text : List ℕ → List ℕ → List ℕ → List ℕ
+work_text title person year =
+    if length title == 0 || length person == 0 || length year == 0 then [] else title ++ (codes "{" ++ (person ++ (codes "{" ++ year)))
+
+-- the title, the first person and the year of an entry
+abbrev pub work_of : EntryReading → List ℕ
+work_of said =
+    work_text (plain_words (own_literal said (codes "title"))) (first_person (or_else (own_literal said (codes "author")) (own_literal said (codes "editor")))) (year_of said)
+
+-- the identity of this kind, where there is a text
+abbrev pub identity : List ℕ → List ℕ → Names
+identity kind text = if length text == 0 then [] else (kind ++ text) ∷ []
+
+-- the identities of an entry
+abbrev pub identities : EntryReading → Names
+identities said = identity (codes "doi ") (doi_of said) ++ (identity (codes "isbn ") (isbn_of said) ++ identity (codes "work ") (work_of said))
+
+-- whether an entry has this identity
+abbrev pub has_identity : List ℕ → EntryReading → Bool
+has_identity id said = list_any (bytes_eq id) (identities said)
+
+-- whether an entry has one of these identities
+abbrev pub has_any : Names → EntryReading → Bool
+has_any ids said = list_any (λ id. has_identity id said) ids

@@ -1,0 +1,10 @@
+pub mod Adding
+pub mod Codes
+pub mod Entries
+pub mod Errors
+pub mod Duplicates
+pub mod Findings
+pub mod Identities
+pub mod Names
+pub mod References
+pub mod Seen

@@ -1,0 +1,75 @@
+-- Meaning: words of public contracts.
+-- The names of fields that BibLaTeX knows, and the findings of the fields that have another name.
+use Rattle.std.specs.Prelude.{◌≡◌, ℕ, ◌<◌, ◌≤◌, Bool, not, List, ◌∷◌, ◌++◌, codes, length, nat_eq, Option, Some, None}
+use Rattle.std.specs.List.{All, AllZip, filter, list_any}
+use Rattle.std.specs.Str.{chars, str_eq_ignore_ascii_case, str_to_ascii_lowercase}
+use Rattle.strsim.specs.Edits.{levenshtein_row}
+use Rattle.bib_entry_types.specs.Requirements.{Names, fields}
+use Rattle.bib_syntax.specs.Reading.{EntryReading, FieldReading}
+use Rattle.bib_findings.specs.Entries.{part_range}
+use Rattle.bib_findings.specs.Errors.{finding_at}
+use Rattle.bib_findings.specs.declared.codes.Code.TheVariants.{UnknownField}
+use Rattle.bib_findings.specs.declared.finding.Finding.{Finding}
+
+-- the fields of BibLaTeX's default data model (manual, 2.2), the names that it takes over from BibTeX (2.2.5), and the parts
+-- of dates
+abbrev pub known_fields : Names
+known_fields = fields "abstract addendum address afterword annotation annotator annote archiveprefix author authortype bookauthor"
+    ++ (fields "bookpagination booksubtitle booktitle booktitleaddon chapter commentator crossref date day doi edition editor"
+    ++ (fields "editora editoratype editorb editorbtype editorc editorctype editortype eid endday endmonth endyear entryset"
+    ++ (fields "entrysubtype eprint eprintclass eprinttype eventdate eventday eventmonth eventtitle eventtitleaddon eventyear"
+    ++ (fields "execute file foreword gender holder howpublished hyphenation ids indexsorttitle indextitle institution"
+    ++ (fields "introduction isan isbn ismn isrn issn issue issuesubtitle issuetitle issuetitleaddon iswc journal"
+    ++ (fields "journalsubtitle journaltitle journaltitleaddon key keywords label langid langidopts language library lista"
+    ++ (fields "listb listc listd liste listf location mainsubtitle maintitle maintitleaddon month namea nameaddon nameatype"
+    ++ (fields "nameb namebtype namec namectype note number options organization origdate origday origlanguage origlocation"
+    ++ (fields "origmonth origpublisher origtitle origyear pages pagetotal pagination part pdf presort primaryclass publisher"
+    ++ (fields "pubstate related relatedoptions relatedstring relatedtype reprinttitle school series shortauthor shorteditor"
+    ++ (fields "shorthand shorthandintro shortjournal shortseries shorttitle sortkey sortname sortshorthand sorttitle sortyear"
+    ++ (fields "subtitle title titleaddon translator type url urldate urlday urlmonth urlyear usera userb userc userd usere"
+    ++ fields "userf venue verba verbb verbc version volume volumes xdata xref year"))))))))))))
+
+-- whether BibLaTeX knows a field of this name, in any ASCII case
+abbrev pub is_known_field : List ℕ → Bool
+is_known_field name = list_any (λ known. str_eq_ignore_ascii_case known name) known_fields
+
+-- how many edits lead from one name to another: characters that are put in, taken out or exchanged (Levenshtein's distance)
+abbrev pub distance : List ℕ → List ℕ → ℕ
+distance name other = levenshtein_row nat_eq (chars name) (chars other) (length (chars other))
+
+-- the most edits by which a name may differ from the one that is meant
+abbrev pub most_edits : ℕ
+most_edits = 2
+
+-- one of some names is the first of the nearest to a name: those before it are farther, and none after it is nearer
+pub record IsFirstNearest (all : Names) (name known : List ℕ) : Type 0 where
+  pub before : Names
+  pub after : Names
+  pub is_there : all ≡ before ++ known ∷ after
+  pub near : distance name known ≤ most_edits
+  pub farther : All (λ other. distance name known < distance name other) before
+  pub as_far : All (λ other. distance name known ≤ distance name other) after
+
+-- of some names the first of the nearest to a name, where that isn't too many edits away
+abbrev pub IsNearest : Names → List ℕ → Option (List ℕ) → Type 0
+IsNearest all name (Some known) = IsFirstNearest all name known
+IsNearest all name None = All (λ known. most_edits < distance name known) all
+
+-- what is said of a field whose name isn't known, of the entry with this key, where this name may be meant
+abbrev pub unknown_message : List ℕ → List ℕ → Option (List ℕ) → List ℕ
+unknown_message key name None = key ++ (codes ": unknown field " ++ name)
+unknown_message key name (Some known) = key ++ (codes ": unknown field " ++ (name ++ (codes "; is " ++ (known ++ codes " meant?"))))
+
+-- the finding of a field whose name isn't known, at the name: the nearest of the known fields, if there is one, may be meant
+pub record IsOfUnknown (key : List ℕ) (field : FieldReading) (found : Finding) : Type 0 where
+  pub meant : Option (List ℕ)
+  pub nearest : IsNearest known_fields (str_to_ascii_lowercase field.name.text) meant
+  pub is : found ≡ finding_at UnknownField (part_range field.name) (unknown_message key field.name.text meant)
+
+-- the fields whose names BibLaTeX doesn't know
+abbrev pub unknown_among : List FieldReading → List FieldReading
+unknown_among all = filter (λ f. not (is_known_field f.name.text)) all
+
+-- these are the findings of an entry's fields whose names aren't known, one for each in their order
+abbrev pub AreOfUnknown : EntryReading → List Finding → Type 0
+AreOfUnknown said found = AllZip (IsOfUnknown said.key.text) (unknown_among said.fields) found

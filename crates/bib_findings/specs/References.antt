@@ -1,0 +1,53 @@
+-- Meaning: words of public contracts.
+-- The keys that entries refer to, and the findings of those that no entry has.
+use Rattle.std.specs.Prelude.{◌≡◌, ℕ, Bool, not, ◌&&◌, List, [], ◌∷◌, ◌++◌, codes, map, filter, bytes_eq, is_none, length, ◌==◌, if◌then◌else◌}
+use Rattle.std.specs.List.{flat_map}
+use Rattle.std.specs.Option.{option_map_or}
+use Rattle.std.specs.FinMap as by_name
+use Rattle.bib_chunks.specs.Styled.{Atom, styled}
+use Rattle.bib_entry.specs.declared.entry.Entry.{Entry}
+use Rattle.bib_entry_types.specs.Requirements.{Names, fields}
+use Rattle.bib_inheritance.specs.References.{plain}
+use Rattle.bib_maps.specs.Sorted.{ByText}
+use Rattle.bib_styled.specs.Lists.{comma_texts}
+use Rattle.bib_syntax.specs.Reading.{EntryReading}
+use Rattle.bib_findings.specs.Entries.{field_place}
+use Rattle.bib_findings.specs.Errors.{finding_at}
+use Rattle.bib_findings.specs.declared.codes.Code.TheVariants.{UnknownReference}
+use Rattle.bib_findings.specs.declared.finding.Finding.{Finding}
+
+-- the fields by which an entry names others
+abbrev pub reference_fields : Names
+reference_fields = fields "crossref xdata xref related entryset"
+
+-- the keys that a field with this styled text names: `crossref` one, its text as it stands, and any other a comma list
+abbrev pub keys_of : List ℕ → List Atom → List (List ℕ)
+keys_of field atoms = if bytes_eq field (codes "crossref") then plain atoms ∷ [] else comma_texts atoms
+
+-- the keys that the field of this name of an entry names
+abbrev pub keys_in : Entry → List ℕ → List (List ℕ)
+keys_in entry field = option_map_or (λ chunks. keys_of field (styled chunks)) (by_name.get entry.fields field) []
+
+-- whether a text is a key, and no entry has it, nor names it in its field `ids`
+abbrev pub is_unknown : ByText ℕ → List ℕ → Bool
+is_unknown names key = not (length key == 0) && is_none (by_name.get names key)
+
+-- what is said of a key that a field of the entry with this key names
+abbrev pub reference_message : List ℕ → List ℕ → List ℕ → List ℕ
+reference_message key field named = key ++ (codes ": no entry \"" ++ (named ++ (codes "\" (" ++ (field ++ codes ")"))))
+
+-- the finding of a key that a field names, at the name of the field
+abbrev pub reference_finding : EntryReading → List ℕ → List ℕ → Finding
+reference_finding said field named = finding_at UnknownReference (field_place said field) (reference_message said.key.text field named)
+
+-- the findings of the keys that a field of an entry names, and that no entry has
+abbrev pub field_references : ByText ℕ → EntryReading → Entry → List ℕ → List Finding
+field_references names said entry field = map (reference_finding said field) (filter (is_unknown names) (keys_in entry field))
+
+-- the findings of the keys that an entry names, and that no entry has
+abbrev pub entry_references : ByText ℕ → EntryReading → Entry → List Finding
+entry_references names said entry = flat_map (field_references names said entry) reference_fields
+
+-- these are the findings of the keys that an entry names
+abbrev pub AreReferences : ByText ℕ → EntryReading → Entry → List Finding → Type 0
+AreReferences names said entry found = found ≡ entry_references names said entry

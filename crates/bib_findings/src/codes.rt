@@ -1,0 +1,191 @@
+//! Codes of findings, each with how severe it is and what to do.
+
+ghost use Rattle.std.specs.Prelude.{◌≡◌, bytes_eq, find};
+ghost use Rattle.bib_findings.specs.Codes.{all_codes, code_name, code_named, severity_of, severity_name};
+
+/// How severe a finding is.
+#[derive(Debug, Clone, Copy, PartialEq, Eq)]
+pub enum Severity {
+    /// Something of the file is not read as it stands.
+    Error,
+    /// All is read, and something may be wrong.
+    Warning,
+}
+
+impl Severity {
+    /// The word by which it is printed.
+    pub fn name(self) -> &'static str
+        ensures { result.now ≡ severity_name self }
+    {
+        match self {
+            Self::Error => "error",
+            Self::Warning => "warning",
+        }
+    }
+}
+
+/// What a finding is.
+#[derive(Debug, Clone, Copy, PartialEq, Eq)]
+pub enum Code {
+    /// A byte from which on the file isn't UTF-8, so that it was read as Windows-1252.
+    UnreadBytes,
+    /// A block that can't be read, and is passed over.
+    Syntax,
+    /// A field whose contents can't be read, and which is left out.
+    UnreadField,
+    /// A name that is neither an abbreviation of the file nor a month, and is read as text.
+    UnknownAbbreviation,
+    /// An abbreviation that reaches itself; the field is left out.
+    CircularAbbreviation,
+    /// An entry whose key an earlier entry claimed, and which is left out.
+    DuplicateKey,
+    /// An entry that refers to itself, by others or at once, and loses its references.
+    CircularReference,
+    /// A date that can't be read, where an entry would inherit it.
+    UnreadDate,
+    /// A field that the entry's type requires, and that it lacks.
+    MissingField,
+    /// A field that the entry's type forbids.
+    SuperfluousField,
+    /// A field that can't be read as a value of its type.
+    MalformedField,
+    /// A field whose name BibLaTeX doesn't know.
+    UnknownField,
+    /// A key that an entry refers to, and that no entry has.
+    UnknownReference,
+    /// An entry that is likely the same work as an earlier one.
+    LikelyDuplicate,
+    /// A key that is cited, and that no file has.
+    MissingEntry,
+    /// An entry that is never cited.
+    UnusedEntry,
+}
+
+// The codes, in the order in which they are listed: as the parts of a file are read, and then what is between its entries.
+static CODES: [Code; 16] = [
+    Code::UnreadBytes,
+    Code::Syntax,
+    Code::UnreadField,
+    Code::UnknownAbbreviation,
+    Code::CircularAbbreviation,
+    Code::DuplicateKey,
+    Code::CircularReference,
+    Code::UnreadDate,
+    Code::MissingField,
+    Code::SuperfluousField,
+    Code::MalformedField,
+    Code::UnknownField,
+    Code::UnknownReference,
+    Code::LikelyDuplicate,
+    Code::MissingEntry,
+    Code::UnusedEntry,
+];
+
+impl Code {
+    /// All codes, each once, in the order in which they are listed.
+    pub fn all() -> &'static [Self]
+        ensures { result.now ≡ all_codes }
+    {
+        &CODES
+    }
+
+    /// The name by which it is printed and asked for: words in lowercase, with hyphens.
+    pub fn name(self) -> &'static str
+        ensures { result.now ≡ code_name self }
+    {
+        match self {
+            Self::UnreadBytes => "unread-bytes",
+            Self::Syntax => "syntax",
+            Self::UnreadField => "unread-field",
+            Self::UnknownAbbreviation => "unknown-abbreviation",
+            Self::CircularAbbreviation => "circular-abbreviation",
+            Self::DuplicateKey => "duplicate-key",
+            Self::CircularReference => "circular-reference",
+            Self::UnreadDate => "unread-date",
+            Self::MissingField => "missing-field",
+            Self::SuperfluousField => "superfluous-field",
+            Self::MalformedField => "malformed-field",
+            Self::UnknownField => "unknown-field",
+            Self::UnknownReference => "unknown-reference",
+            Self::LikelyDuplicate => "likely-duplicate",
+            Self::MissingEntry => "missing-entry",
+            Self::UnusedEntry => "unused-entry",
+        }
+    }
+
+    /// The code of this name.
+    pub fn named(name: &str) -> Option<Self>
+        ensures { result ≡ code_named name.now }
+    {
+        first_named(&CODES, name)
+    }
+
+    /// How severe it is: an error where something isn't read as it stands, or is missing.
+    pub fn severity(self) -> Severity
+        ensures { result ≡ severity_of self }
+    {
+        match self {
+            Self::UnreadBytes
+            | Self::Syntax
+            | Self::UnreadField
+            | Self::CircularAbbreviation
+            | Self::DuplicateKey
+            | Self::CircularReference
+            | Self::MissingEntry => Severity::Error,
+            Self::UnknownAbbreviation
+            | Self::UnreadDate
+            | Self::MissingField
+            | Self::SuperfluousField
+            | Self::MalformedField
+            | Self::UnknownField
+            | Self::UnknownReference
+            | Self::LikelyDuplicate
+            | Self::UnusedEntry => Severity::Warning,
+        }
+    }
+
+    /// What it means and what to do, in some lines.
+    pub fn explanation(self) -> &'static str {
+        match self {
+            Self::UnreadBytes =>
+                "From this byte on the file isn't UTF-8, so all of it was read as Windows-1252. Save the file as UTF-8.",
+            Self::Syntax =>
+                "A block can't be read as an entry, a preamble, abbreviations or a comment. It is passed over, up to the next at sign that begins a line. Most often a comma, a brace or a quote is missing at the place that is reported, or before it.",
+            Self::UnreadField =>
+                "The text of a field can't be read: a brace closes what isn't open, math has one dollar sign, or a command's argument isn't closed. The field is left out. Close what is open, or write \\$ for a dollar sign.",
+            Self::UnknownAbbreviation =>
+                "A name stands without braces or quotes, and is neither defined by @string nor a month (jan to dec). It is read as text. BibTeX and Biber put nothing in its place. Write it in braces, or define it.",
+            Self::CircularAbbreviation =>
+                "The definition of an abbreviation uses the abbreviation itself, by others or at once. Fields that use it are left out. Write the text itself in one of the definitions.",
+            Self::DuplicateKey =>
+                "An earlier entry has this key, or names it in its field ids. This entry is left out. Give one of the two another key, or remove one.",
+            Self::CircularReference =>
+                "An entry refers to itself by crossref or xdata, by others or at once. It loses its references. Remove one of them.",
+            Self::UnreadDate =>
+                "An entry would inherit a date that can't be read. It inherits none. Write the date as YYYY-MM-DD, YYYY-MM or YYYY in the entry that is referred to.",
+            Self::MissingField =>
+                "BibLaTeX requires this field of an entry of this type, and the entry neither has nor inherits it.",
+            Self::SuperfluousField =>
+                "An entry of this type has no use for this field, or it contradicts another one. Remove it, or change the type of the entry.",
+            Self::MalformedField =>
+                "The field is read as text, but not as the number, range, date or word that it should be. The text after the colon says what is wrong.",
+            Self::UnknownField =>
+                "BibLaTeX's data model has no field of this name, so nothing will print it. Where a known name is nearly the same it is named. Ignore this code where other programs keep fields of their own in the file.",
+            Self::UnknownReference =>
+                "A field refers to an entry by a key that no entry of the file has, nor names in its field ids. Nothing is inherited from there. Correct the key, or add the entry.",
+            Self::LikelyDuplicate =>
+                "An earlier entry has the same DOI, the same ISBN, or the same title, first person and year. Keep one of the two, and name the key of the other in its field ids.",
+            Self::MissingEntry =>
+                "A key is cited that no entry of the files has, nor names in its field ids. Correct the key, or add the entry.",
+            Self::UnusedEntry =>
+                "No document cites this entry. Remove it if it isn't needed, or cite it.",
+        }
+    }
+}
+
+// The first of some codes that has this name.
+fn first_named(codes: &[Code], name: &str) -> Option<Code>
+    ensures { result ≡ find (λ code. bytes_eq (code_name code) name.now) codes.now }
+{
+    codes.iter().copied().find(|code| code.name() == name)
+}

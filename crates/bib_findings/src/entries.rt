@@ -1,0 +1,126 @@
+//! Findings of the reports on entries.
+
+ghost use Rattle.std.specs.Prelude.{◌≡◌, ◌++◌, map, IfOk, OnOk};
+ghost use Rattle.std.specs.String.{string_bytes};
+ghost use Rattle.bib_entry_types.specs.Requirements.{texts};
+ghost use Rattle.bib_syntax.specs.Views.{entry_reading_of};
+ghost use Rattle.bib_findings.specs.Adding.{Adds};
+ghost use Rattle.bib_findings.specs.Entries.{AreOfReport, field_finding, field_message, malformed_finding};
+
+use crate::codes::Code;
+use crate::finding::Finding;
+use crate::places::field_place;
+use bib_entry::entry::Entry;
+use bib_enums::type_error::TypeError;
+use bib_syntax::raw::RawEntry;
+use bib_text::spanned::Spanned;
+use bib_text::text::Text;
+use std::alloc::{AllocError, Global};
+
+// What is said of a field of the entry with this key: what is wrong, and the field's name.
+fn field_message(alloc: Global, key: &str, wrong: &str, name: &str) -> Result<String, AllocError>
+    ensures { IfOk result (λ text. string_bytes text ≡ field_message key.now wrong.now name.now) }
+{
+    format!(in alloc; "{key}: {wrong} {name}")
+}
+
+// The finding of a field of an entry that is wrong in this way.
+fn field_finding(
+    alloc: Global,
+    said: &Spanned<RawEntry<'_>>,
+    code: Code,
+    wrong: &str,
+    name: &str,
+) -> Result<Finding, AllocError>
+    ensures { IfOk result (λ finding. finding ≡
+        field_finding (entry_reading_of said.now) code wrong.now name.now) }
+{
+    let message = Text::from_string(field_message(alloc, said.v.key.v, wrong, name)?);
+    Ok(Finding {
+        code,
+        span: field_place(said, name),
+        message,
+    })
+}
+
+// Adds a finding for each name of a field that is wrong in this way.
+fn add_names(
+    alloc: Global,
+    found: &mut Vec<Finding>,
+    said: &Spanned<RawEntry<'_>>,
+    code: Code,
+    wrong: &str,
+    names: &[&'static str],
+) -> Result<(), AllocError>
+    ensures { OnOk result (found.new.items ≡ found.old.items ++
+        map (field_finding (entry_reading_of said.now) code wrong.now) (texts names.now)) }
+{
+    'names: for name in names {
+        found.push(field_finding(alloc, said, code, wrong, *name)?)?;
+    }
+    Ok(())
+}
+
+// The finding of a field that isn't read as a value of its type.
+fn malformed_finding(
+    alloc: Global,
+    said: &Spanned<RawEntry<'_>>,
+    name: &str,
+    error: &TypeError,
+) -> Result<Finding, AllocError>
+    ensures { IfOk result (λ finding. finding ≡
+        malformed_finding (entry_reading_of said.now) (name.now, error.now)) }
+{
+    let what = format!(in alloc; "{name}: {}", error.kind)?;
+    let message = Text::from_string(field_message(alloc, said.v.key.v, "malformed", &what)?);
+    Ok(Finding {
+        code: Code::MalformedField,
+        span: field_place(said, name),
+        message,
+    })
+}
+
+// Adds a finding for each field that isn't read.
+fn add_malformed(
+    alloc: Global,
+    found: &mut Vec<Finding>,
+    said: &Spanned<RawEntry<'_>>,
+    errors: &[(Text, TypeError)],
+) -> Result<(), AllocError>
+    ensures { OnOk result (found.new.items ≡ found.old.items ++
+        map (malformed_finding (entry_reading_of said.now)) errors.now) }
+{
+    'errors: for (name, error) in errors {
+        found.push(malformed_finding(alloc, said, name.as_str(), error)?)?;
+    }
+    Ok(())
+}
+
+// Adds the findings of the report on an entry.
+pub(crate) fn add_report(
+    alloc: Global,
+    found: &mut Vec<Finding>,
+    said: &Spanned<RawEntry<'_>>,
+    entry: &Entry,
+) -> Result<(), AllocError>
+    ensures { OnOk result (Adds (AreOfReport (entry_reading_of said.now) entry.now) found.old.items found.new.items) }
+{
+    let report = entry.verify(alloc)?;
+    add_names(
+        alloc,
+        found,
+        said,
+        Code::MissingField,
+        "missing",
+        &report.missing,
+    )?;
+    add_names(
+        alloc,
+        found,
+        said,
+        Code::SuperfluousField,
+        "superfluous",
+        &report.superfluous,
+    )?;
+    add_malformed(alloc, found, said, &report.malformed)
+}
