@@ -12,6 +12,7 @@ mod counting;
 mod decoding;
 mod entries;
 pub mod files;
+mod found;
 mod frames;
 mod lines;
 mod lint;
