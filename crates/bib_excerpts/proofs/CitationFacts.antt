@@ -117,4 +117,4 @@ pub collected_next : (cited : List ℕ → List (List ℕ)) (old mid new : Colle
     → IsCollected old (cites_from cited 0 (xs ++ x ∷ [])) new
 collected_next cited old mid new xs x at is first second =
     subst (λ l. IsCollected old l new) (sym (cites_push cited 0 xs x)) (collected_then old mid new (cites_from cited 0 xs) (cites_at (0 + past xs) (cited x)) first
-        (subst (λ n. IsCollected mid (cites_at n (cited x)) new) (omega (arith, is)) second))
+    (subst (λ n. IsCollected mid (cites_at n (cited x)) new) (omega (arith, is)) second))
