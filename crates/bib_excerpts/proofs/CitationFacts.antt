@@ -1,5 +1,5 @@
 -- Citations, collected from one piece of a file after another.
-use Rattle.std.proofs.Common.{◌≡◌, ◌≢◌, ◌≤◌, ◌<◌, ◌+◌, ◌||◌, ℕ, zero, suc, Bool, true, false, cond, List, [], ◌∷◌, ◌++◌, drop, take, map, length, Option, Some, None, MatchOption, refl, sym, ap, ap₂, subst, ◌∙◌, arith, append_assoc, append-nil, eqb}
+use Rattle.std.proofs.Common.{◌≡◌, ◌≤◌, ◌<◌, ◌+◌, ◌||◌, ℕ, zero, suc, Bool, true, false, cond, List, [], ◌∷◌, ◌++◌, drop, take, length, Option, Some, None, MatchOption, refl, sym, ap, ap₂, subst, ◌∙◌, arith, append_assoc, append-nil}
 use Rattle.std.specs.Prelude.{bytes_eq, codes, fold, is_some}
 use Rattle.std.specs.Borrow.{Bor}
 use Rattle.std.specs.List.{list_any, slice_split, onto_first}
@@ -11,7 +11,6 @@ use Rattle.bib_excerpts.specs.Citations.{add_citation, after_prefix, cites_all, 
 use Rattle.bib_excerpts.specs.Collecting.{IsCollected, IsSeen}
 use Rattle.bib_excerpts.specs.declared.citations.Citation.{Citation}
 use Rattle.bib_excerpts.specs.declared.citations.Collected.{Collected}
-use Rattle.bib_excerpts.proofs.MarkFacts.{any_push}
 use Rattle.bib_excerpts.proofs.PartFacts.{begins, begins_not}
 
 -- what is left after a prefix

@@ -1,7 +1,7 @@
 -- A search for what is needed: how far it has come.
-use Rattle.std.proofs.Common.{◌≡◌, ◌≢◌, ◌≤◌, ◌<◌, ◌+◌, ◌↔◌, ℕ, zero, suc, Bool, true, false, not, cond, ◌||◌, List, [], ◌∷◌, ◌++◌, take, map, length, get_or, set, replicate, refl, sym, ap, subst, ◌∙◌, arith, ◌⊎◌, inl, inr, ⊎_elim, Option, Some, None}
-use Rattle.std.specs.Prelude.{bytes_eq, if◌then◌else◌}
-use Rattle.std.specs.List.{All, Contains, list_any}
+use Rattle.std.proofs.Common.{◌≡◌, ◌<◌, ◌+◌, ◌↔◌, ℕ, zero, suc, Bool, true, false, cond, ◌||◌, List, [], ◌∷◌, ◌++◌, take, map, length, get_or, set, replicate, refl, sym, ap, subst, ◌∙◌, arith, ◌⊎◌, inl, inr, ⊎_elim, Option, Some, None}
+use Rattle.std.specs.Prelude.{bytes_eq}
+use Rattle.std.specs.List.{All, Contains}
 use Rattle.std.specs.Borrow.{Bor}
 use Rattle.std.specs.Global.{Vec}
 use Rattle.std.specs.BTreeMap.{BTreeMap, get_by}
@@ -16,7 +16,7 @@ use Rattle.bib_excerpts.specs.declared.names.Links.{Links}
 use Rattle.bib_excerpts.specs.Texts.{node_of}
 use Rattle.bib_excerpts.specs.Needed.{Node, node_at, HasName, RefersTo, IsNeeded, AreMarks, is_among}
 use Rattle.bib_excerpts.specs.Needed.IsNeeded.{asked, reached}
-use Rattle.bib_excerpts.specs.Searching.{AreHolders, AreHoldersIn, IsMarked, Marks, Expands, holders_in, unmarked}
+use Rattle.bib_excerpts.specs.Searching.{AreHolders, AreHoldersIn, IsMarked, Marks, Expands, holders_in}
 use Rattle.bib_excerpts.proofs.MarkFacts.{any_push, unmarked_less, set_decides, mark_kept, none_marked, marked_below, contains_none}
 
 abbrev pub Map : Type 0

@@ -1,6 +1,6 @@
 -- Meaning: words of public contracts.
 -- What a document cites, by the files that LaTeX writes for BibTeX and BibLaTeX for biber.
-use Rattle.std.specs.Prelude.{◌≡◌, ℕ, ◌+◌, ◌<◌, ◌==◌, ◌||◌, Bool, if◌then◌else◌, List, [], ◌∷◌, ◌++◌, Option, Some, None, bytes_eq, codes, drop, eqb, fold, length, map, nat_lt}
+use Rattle.std.specs.Prelude.{◌≡◌, ℕ, ◌+◌, ◌==◌, ◌||◌, Bool, if◌then◌else◌, List, [], ◌∷◌, ◌++◌, Option, Some, None, bytes_eq, codes, drop, eqb, fold, length, map, nat_lt}
 use Rattle.std.specs.List.{after_first, before_first, flat_map, list_any, position_or_len, slice_split, starts_with}
 use Rattle.std.specs.Option.{option_and_then, option_map_or, option_or}
 use Rattle.std.specs.Str.{trim}

@@ -7,7 +7,6 @@ use Rattle.std.specs.Str.{trim_end}
 use Rattle.bib_syntax.specs.Reading.{EntryReading, FieldReading, FileReading}
 use Rattle.bib_excerpts.specs.Names.{definition_node, entry_node, used_in_fields}
 use Rattle.bib_excerpts.specs.Needed.{AreMarks, IsNeeded, Node, marked}
-use Rattle.bib_excerpts.specs.declared.request.CitedKeys.{CitedKeys}
 
 -- a text and a line feed
 abbrev pub line : List ℕ → List ℕ

@@ -1,6 +1,6 @@
 -- Meaning: words of public contracts.
 -- Names in fields: those of entries and of abbreviations, and those that they refer to.
-use Rattle.std.specs.Prelude.{ℕ, Bool, not, ◌||◌, ◌==◌, if◌then◌else◌, List, [], ◌∷◌, length, codes}
+use Rattle.std.specs.Prelude.{ℕ, Bool, ◌||◌, ◌==◌, if◌then◌else◌, List, [], ◌∷◌, length, codes}
 use Rattle.std.specs.List.{flat_map, slice_split}
 use Rattle.std.specs.Str.{trim}
 use Rattle.bib_text.specs.Characters as char

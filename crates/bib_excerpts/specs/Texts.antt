@@ -1,6 +1,6 @@
 -- Machinery: words of private contracts.
 -- Names as the code has them.
-use Rattle.std.specs.Prelude.{ℕ, List, [], map, Option}
+use Rattle.std.specs.Prelude.{ℕ, List, map}
 use Rattle.std.specs.Borrow.{Bor}
 use Rattle.std.specs.Global.{Vec}
 use Rattle.bib_excerpts.specs.Needed.{Node}

@@ -1,4 +1,4 @@
-use Rattle.std.proofs.Common.{◌≡◌, ◌∙◌, List, ℕ, true, length, map, replicate, ap, sym, rules}
+use Rattle.std.proofs.Common.{◌≡◌, ◌∙◌, List, true, length, map, replicate, ap, sym, rules}
 use Rattle.std.proofs.lemmas.List.{length-map}
 use Rattle.bib_syntax.specs.Views.{entry_reading_of}
 use Rattle.bib_excerpts.specs.Names.{entry_node}

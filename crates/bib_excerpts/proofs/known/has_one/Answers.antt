@@ -1,4 +1,4 @@
-use Rattle.std.proofs.Common.{◌≡◌, ◌∙◌, ℕ, List, Bool, true, false, [], cond, get_or, ap, ap₂, sym, arith}
+use Rattle.std.proofs.Common.{◌∙◌, ℕ, List, true, [], cond, get_or, ap₂, sym, arith}
 use Rattle.std.specs.Borrow.{Bor}
 use Rattle.bib_excerpts.specs.Needed.{is_among}
 use Rattle.bib_excerpts.proofs.MarkFacts.{any_at, any_more}
