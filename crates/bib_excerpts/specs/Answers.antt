@@ -8,7 +8,7 @@ use Rattle.bib_syntax.specs.Reading.Piece.{abbreviation, literal}
 use Rattle.bib_syntax.specs.Recovery.{IsRecovery}
 use Rattle.bib_syntax.specs.declared.raw.recovery.SkippedBlock.{SkippedBlock}
 use Rattle.bib_excerpts.specs.Cited.{IsExcerpt, entry_line, with_line_feed}
-use Rattle.bib_excerpts.specs.Needed.{is_one_of}
+use Rattle.bib_excerpts.specs.Needed.{is_listed}
 use Rattle.bib_excerpts.specs.declared.request.Request.{Request}
 use Rattle.bib_excerpts.specs.declared.request.Request.TheVariants.{Keys, Get, Grep, Cited}
 
@@ -36,7 +36,7 @@ passing_lines test text entries = flat_map (λ e. if test e then entry_line text
 
 -- whether an entry has one of these keys
 abbrev pub has_key : List (List ℕ) → EntryReading → Bool
-has_key keys e = is_one_of keys e.key.text
+has_key keys e = is_listed keys e.key.text
 
 -- whether a text stands in a field of this name of an entry
 abbrev pub is_found_in : List ℕ → List ℕ → EntryReading → Bool

@@ -6,7 +6,7 @@ use Rattle.bib_syntax.specs.Reading.{EntryReading, FileReading, Part}
 use Rattle.bib_syntax.specs.Recovery.{IsRecovery}
 use Rattle.bib_syntax.specs.declared.raw.recovery.SkippedBlock.{SkippedBlock}
 use Rattle.bib_excerpts.specs.Names.{entry_names}
-use Rattle.bib_excerpts.specs.Needed.{is_one_of}
+use Rattle.bib_excerpts.specs.Needed.{is_listed}
 
 -- the names of entries
 abbrev pub all_names : List EntryReading → List (List ℕ)
@@ -17,11 +17,11 @@ pub record IsKnownIn (text : List ℕ) (keys : List (List ℕ)) (marks : List Bo
   pub says : FileReading
   pub skipped : List SkippedBlock
   pub recovery : IsRecovery text says skipped
-  pub is : marks ≡ map (is_one_of (all_names says.entries)) keys
+  pub is : marks ≡ map (is_listed (all_names says.entries)) keys
 
 -- whether one of these names is among those keys
 abbrev pub has_name_among : List (List ℕ) → List (List ℕ) → Bool
-has_name_among keys names = list_any (λ name. is_one_of keys name) names
+has_name_among keys names = list_any (λ name. is_listed keys name) names
 
 -- the key of an entry, where none of its names is among these keys
 abbrev pub uncited_key : List (List ℕ) → EntryReading → List Part

@@ -8,7 +8,7 @@ use Rattle.std.specs.Global.{Vec}
 use Rattle.std.specs.BTreeMap.{BTreeMap, get_by}
 use Rattle.std.specs.Cmp.Lexicographic.{slice_cmp}
 use Rattle.std.specs.Ordering.{nat_cmp}
-use Rattle.bib_excerpts.specs.Needed.{Node, HasName, is_one_of}
+use Rattle.bib_excerpts.specs.Needed.{Node, HasName, is_listed}
 
 -- the indices of what has a name, by a map
 abbrev pub holders_in : BTreeMap (Bor (List ℕ)) (Vec ℕ) → List ℕ → List ℕ
@@ -20,7 +20,7 @@ AreHolders nodes m = (name : List ℕ) (index : ℕ) → Contains (holders_in m 
 
 -- an index is one of those of one of these names
 abbrev pub AreHoldersIn : BTreeMap (Bor (List ℕ)) (Vec ℕ) → List (List ℕ) → ℕ → Type 0
-AreHoldersIn m names index = (name : List ℕ) × (is_one_of names name ≡ true) × Contains (holders_in m name) index
+AreHoldersIn m names index = (name : List ℕ) × (is_listed names name ≡ true) × Contains (holders_in m name) index
 
 -- an index has a mark
 abbrev pub IsMarked : List Bool → ℕ → Type 0
@@ -40,5 +40,5 @@ pub record Marks (is_new : ℕ → Type 0) (old : List Bool) (before : List ℕ)
 
 -- these names were looked up: what has one has a mark, and a name is left as it was or what has it has a mark
 pub record LooksUp (old : BTreeMap (Bor (List ℕ)) (Vec ℕ)) (names : List (List ℕ)) (marks : List Bool) (new : BTreeMap (Bor (List ℕ)) (Vec ℕ)) : Type 0 where
-  pub looked_up : (name : List ℕ) → is_one_of names name ≡ true → All (IsMarked marks) (holders_in old name)
+  pub looked_up : (name : List ℕ) → is_listed names name ≡ true → All (IsMarked marks) (holders_in old name)
   pub left : (name : List ℕ) → (holders_in new name ≡ holders_in old name) ⊎ ((holders_in new name ≡ []) × All (IsMarked marks) (holders_in old name))

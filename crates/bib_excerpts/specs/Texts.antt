@@ -7,9 +7,9 @@ use Rattle.bib_excerpts.specs.Needed.{Node}
 use Rattle.bib_excerpts.specs.declared.names.Links.{Links}
 
 -- texts by their bytes
-abbrev pub names_in : Vec (Bor (List ℕ)) → List (List ℕ)
-names_in names = map (λ name. name.now) names.items
+abbrev pub text_list : Vec (Bor (List ℕ)) → List (List ℕ)
+text_list names = map (λ name. name.now) names.items
 
 -- the names of something, and those that it refers to
 abbrev pub node_of : Links → Node
-node_of links = record { names = names_in links.names; references = names_in links.references }
+node_of links = record { names = text_list links.names; references = text_list links.references }

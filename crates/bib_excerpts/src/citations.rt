@@ -8,7 +8,7 @@ ghost use Rattle.bib_excerpts.specs.Citations as spec;
 ghost use Rattle.bib_excerpts.specs.Citations.{AreCitations, aux_cited, bcf_cited, cites_at};
 ghost use Rattle.bib_excerpts.specs.Collecting.{IsCollected, IsSeen};
 ghost use Rattle.bib_excerpts.specs.Names.{filled};
-ghost use Rattle.bib_excerpts.specs.Texts.{names_in};
+ghost use Rattle.bib_excerpts.specs.Texts.{text_list};
 
 use crate::names::push_parts;
 use bib_text::text::Text;
@@ -271,7 +271,7 @@ impl Collected {
 
 // Adds the keys that a line of an .aux file cites to these.
 fn push_aux_keys<'s>(keys: &mut Vec<&'s str>, line: &'s str) -> Result<(), AllocError>
-    ensures { OnOk result (names_in keys.new ≡ names_in keys.old ++ aux_cited line.now) }
+    ensures { OnOk result (text_list keys.new ≡ text_list keys.old ++ aux_cited line.now) }
 {
     match aux_list(line) {
         Some(list) => push_parts(keys, list),

@@ -2,9 +2,9 @@
 
 ghost use Rattle.std.specs.Prelude.{◌≡◌, ◌↔◌, ◌⊎◌, ◌+◌, ◌<◌, ℕ, List, [], ◌∷◌, ◌++◌, true, false, length, map, bytes_eq, slice_index_or, if◌then◌else◌, IfOk, OnOk};
 ghost use Rattle.std.specs.List.{All, Contains};
-ghost use Rattle.bib_excerpts.specs.Needed.{AreMarks, HasName, IsNeeded, is_one_of};
+ghost use Rattle.bib_excerpts.specs.Needed.{AreMarks, HasName, IsNeeded, is_listed};
 ghost use Rattle.bib_excerpts.specs.Searching.{AreHolders, AreHoldersIn, IsMarked, Marks, LooksUp, holders_in, unmarked};
-ghost use Rattle.bib_excerpts.specs.Texts.{node_of, names_in};
+ghost use Rattle.bib_excerpts.specs.Texts.{node_of, text_list};
 
 use crate::names::Links;
 use std::alloc::{AllocError, Global};
@@ -46,7 +46,7 @@ fn add_holders<'s>(
     index: usize,
 ) -> Result<(), AllocError>
     ensures { OnOk result ((name : List ℕ) (one : ℕ) → Contains (holders_in holders.new name) one ↔
-        (Contains (holders_in holders.old name) one ⊎ ((one ≡ index) × (is_one_of (map (λ n. n.now) names.now) name ≡ true)))) }
+        (Contains (holders_in holders.old name) one ⊎ ((one ≡ index) × (is_listed (map (λ n. n.now) names.now) name ≡ true)))) }
 {
     'names: for name in names {
         add_holder(alloc, holders, name, index)?;
