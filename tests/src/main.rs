@@ -11,6 +11,7 @@ mod bibliography_calls;
 mod calls;
 mod contents;
 mod entries;
+mod excerpts;
 mod support;
 mod syntax;
 mod tables;
@@ -27,6 +28,7 @@ fn rows(alloc: Global, layer: &str, input: &str) -> Result<String, AllocError> {
         "contents" => answered::<contents::Contents>(alloc, input),
         "tables" => answered::<tables::Tables>(alloc, input),
         "values" => answered::<values::Values>(alloc, input),
+        "excerpts" => answered::<excerpts::Excerpts>(alloc, input),
         "entries" => answered::<entries::Entries>(alloc, input),
         "bibliographies" => answered::<bibliographies::Bibliographies>(alloc, input),
         _ => String::from_str(alloc, "there is no such layer"),

@@ -1,5 +1,5 @@
 -- Citations, collected from one piece of a file after another.
-use Rattle.std.proofs.Common.{◌≡◌, ◌≢◌, ◌≤◌, ◌<◌, ◌+◌, ◌||◌, ℕ, zero, suc, Bool, true, false, cond, List, [], ◌∷◌, ◌++◌, drop, take, map, length, Option, Some, None, MatchOption, refl, sym, ap, ap₂, subst, ◌∙◌, arith, append_assoc, append-nil, eqb}
+use Rattle.std.proofs.Common.{◌≡◌, ◌≤◌, ◌<◌, ◌+◌, ◌||◌, ℕ, zero, suc, Bool, true, false, cond, List, [], ◌∷◌, ◌++◌, drop, take, length, Option, Some, None, MatchOption, refl, sym, ap, ap₂, subst, ◌∙◌, arith, append_assoc, append-nil}
 use Rattle.std.specs.Prelude.{bytes_eq, codes, fold, is_some}
 use Rattle.std.specs.Borrow.{Bor}
 use Rattle.std.specs.List.{list_any, slice_split, onto_first}
@@ -7,16 +7,15 @@ use Rattle.std.specs.Option.{option_map}
 use Rattle.std.specs.Str.Pattern.{FindsTextPrefix}
 use Rattle.std.proofs.lemmas.List.Sums.{fold-append}
 use Rattle.std.proofs.lemmas.List.Folds.{list_any-append}
-use Rattle.bib_excerpts.specs.Citations.{add_citation, after_prefix, cites_all, cites_at, cites_from}
+use Rattle.bib_excerpts.specs.Citations.{add_citation, left_after, cites_all, cites_at, cites_from}
 use Rattle.bib_excerpts.specs.Collecting.{IsCollected, IsSeen}
 use Rattle.bib_excerpts.specs.declared.citations.Citation.{Citation}
 use Rattle.bib_excerpts.specs.declared.citations.Collected.{Collected}
-use Rattle.bib_excerpts.proofs.MarkFacts.{any_push}
 use Rattle.bib_excerpts.proofs.PartFacts.{begins, begins_not}
 
 -- what is left after a prefix
 pub prefix_after : (prefix text : List ℕ) (r : Option (Bor (List ℕ))) → MatchOption r (FindsTextPrefix prefix text None) (λ x. (n : ℕ) × FindsTextPrefix prefix text (Some n) × (x.now ≡ drop n text) × (length x.now + n ≡ length text))
-    → option_map (λ x. x.now) r ≡ after_prefix prefix text
+    → option_map (λ x. x.now) r ≡ left_after prefix text
 prefix_after prefix text None h = sym (ap (λ b. cond b (Some (drop (length prefix) text)) None) (begins_not prefix text h))
 prefix_after prefix text (Some x) h =
     ap Some (h.2 ∙ ap (λ k. drop k text) h.1.0) ∙ sym (ap (λ b. cond b (Some (drop (length prefix) text)) None) (begins prefix text (drop h.0 text) h.1.1))
@@ -117,4 +116,4 @@ pub collected_next : (cited : List ℕ → List (List ℕ)) (old mid new : Colle
     → IsCollected old (cites_from cited 0 (xs ++ x ∷ [])) new
 collected_next cited old mid new xs x at is first second =
     subst (λ l. IsCollected old l new) (sym (cites_push cited 0 xs x)) (collected_then old mid new (cites_from cited 0 xs) (cites_at (0 + past xs) (cited x)) first
-        (subst (λ n. IsCollected mid (cites_at n (cited x)) new) (omega (arith, is)) second))
+    (subst (λ n. IsCollected mid (cites_at n (cited x)) new) (omega (arith, is)) second))

@@ -1,8 +1,12 @@
 -- Marks on what is cited.
-use Rattle.std.proofs.Common.{◌≡◌, ◌<◌, ℕ, Bool, true, false, List, length, get_or, replicate, sym, ap, subst, ◌∙◌}
+use Rattle.std.proofs.Common.{◌≡◌, ℕ, Bool, true, false, List, length, get_or, replicate, sym, ap, subst, ◌∙◌, arith, ◌<◌}
 use Rattle.std.proofs.lemmas.Bool.{false≢true}
 use Rattle.std.proofs.lemmas.List.{get_or-replicate, length-replicate}
-use Rattle.bib_excerpts.specs.Needed.{AreMarks, IsNeeded, Node}
+use Rattle.bib_excerpts.specs.Needed.{AreMarks, IsNeeded, Node, HasName, RefersTo, is_listed}
+use Rattle.bib_excerpts.specs.Needed.IsNeeded.{asked, reached}
+use Rattle.bib_excerpts.specs.Searching.{IsMarked}
+use Rattle.bib_excerpts.proofs.MarkFacts.{marked_below}
+use Rattle.bib_excerpts.proofs.SearchFacts.{named_below}
 use Rattle.bib_excerpts.specs.Cited.{IsCited}
 use Rattle.bib_excerpts.specs.Cited.IsCited.{any, needed}
 
@@ -26,5 +30,32 @@ all_marks names all nodes n marks is made = record {
 
 -- the same marks for the same things
 pub same_marks : (names names' : List (List ℕ)) (nodes nodes' : List Node) (n n' : ℕ) (marks : List Bool) → names ≡ names' → nodes ≡ nodes' → n ≡ n' → AreMarks (IsNeeded names nodes) n marks → AreMarks (IsNeeded names' nodes') n' marks
-same_marks names names' nodes nodes' n n' marks asked things long h =
-    subst (λ l. AreMarks (IsNeeded l nodes') n' marks) asked (subst (λ l. AreMarks (IsNeeded names l) n' marks) things (subst (λ k. AreMarks (IsNeeded names nodes) k marks) long h))
+same_marks names names' nodes nodes' n n' marks alike things long h =
+    subst (λ l. AreMarks (IsNeeded l nodes') n' marks) alike (subst (λ l. AreMarks (IsNeeded names l) n' marks) things (subst (λ k. AreMarks (IsNeeded names nodes) k marks) long h))
+
+-- what a cited entry refers to is cited
+cited_more : (names : List (List ℕ)) (all : Bool) (nodes : List Node) (first second : ℕ) (name : List ℕ) → RefersTo nodes first name → HasName nodes second name → IsCited names all nodes first → IsCited names all nodes second
+cited_more names all nodes first second name refers named (any is) = any is
+cited_more names all nodes first second name refers named (needed h) = needed (reached name h refers named)
+
+-- so where marks are on what is cited
+pub cited_marked : (names : List (List ℕ)) (all : Bool) (nodes : List Node) (n : ℕ) (marks : List Bool) (first second : ℕ) (name : List ℕ) → length nodes ≡ n → AreMarks (IsCited names all nodes) n marks
+    → IsMarked marks first → RefersTo nodes first name → HasName nodes second name → IsMarked marks second
+cited_marked names all nodes n marks first second name long h mark refers named =
+    let here : first < n = omega (arith, marked_below marks first mark, h.same_length) in
+    let there : second < n = omega (arith, named_below nodes second name named, long) in
+    (h.each second there).1 (cited_more names all nodes first second name refers named ((h.each first here).0 mark))
+
+-- and on what is needed
+pub needed_marked : (names : List (List ℕ)) (nodes : List Node) (n : ℕ) (marks : List Bool) (first second : ℕ) (name : List ℕ) → length nodes ≡ n → AreMarks (IsNeeded names nodes) n marks
+    → IsMarked marks first → RefersTo nodes first name → HasName nodes second name → IsMarked marks second
+needed_marked names nodes n marks first second name long h mark refers named =
+    let here : first < n = omega (arith, marked_below marks first mark, h.same_length) in
+    let there : second < n = omega (arith, named_below nodes second name named, long) in
+    (h.each second there).1 (reached name ((h.each first here).0 mark) refers named)
+
+pub asked_marked : (names : List (List ℕ)) (nodes : List Node) (n : ℕ) (marks : List Bool) (index : ℕ) (name : List ℕ) → length nodes ≡ n → AreMarks (IsNeeded names nodes) n marks
+    → is_listed names name ≡ true → HasName nodes index name → IsMarked marks index
+asked_marked names nodes n marks index name long h listed named =
+    let there : index < n = omega (arith, named_below nodes index name named, long) in
+    (h.each index there).1 (asked name listed named)

@@ -1,13 +1,13 @@
 -- Where entries stand in a text, and what is printed of them one after another.
-use Rattle.std.proofs.Common.{◌≡◌, ◌≤◌, ◌<◌, ◌+◌, ◌-◌, ◌||◌, ℕ, Bool, true, false, List, [], ◌∷◌, ◌++◌, map, drop, length, get_or, refl, sym, ap, ap₂, subst, ◌∙◌, arith}
-use Rattle.std.specs.List.{list_any, flat_map}
+use Rattle.std.proofs.Common.{◌≡◌, ◌≤◌, ◌<◌, ◌+◌, ◌||◌, ℕ, Bool, List, [], ◌∷◌, ◌++◌, map, drop, length, get_or, refl, sym, ap, subst, ◌∙◌, arith}
+use Rattle.std.specs.List.{list_any}
 use Rattle.std.specs.Char.{len_utf8}
 use Rattle.std.specs.Str.{IsUtf8, IsCharBoundary}
 use Rattle.std.proofs.lemmas.List.{get_or-drop}
 use Rattle.std.proofs.lemmas.Str.{IsCharBoundary-before_ascii, IsCharBoundary-after_ascii, encode_ascii, len_utf8_bounds}
-use Rattle.bib_text.specs.Places.{Place, place, CharAt}
+use Rattle.bib_text.specs.Places.{Place, CharAt}
 use Rattle.bib_text.proofs.PlaceFacts.{Ahead, ahead_then, ahead_char, ahead_run, char_left}
-use Rattle.bib_syntax.specs.Grammar.{Block, BlockKind, Body, longest}
+use Rattle.bib_syntax.specs.Grammar.{BlockKind, Body, longest}
 use Rattle.bib_syntax.specs.Grammar.Body.{comment, preamble, strings, entry}
 use Rattle.bib_syntax.specs.Reading.{EntryReading, FileReading, Part}
 use Rattle.bib_syntax.specs.Recovery.{IsBlockOf}

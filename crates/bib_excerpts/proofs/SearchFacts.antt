@@ -1,7 +1,7 @@
 -- A search for what is needed: how far it has come.
-use Rattle.std.proofs.Common.{◌≡◌, ◌≢◌, ◌≤◌, ◌<◌, ◌+◌, ◌↔◌, ℕ, zero, suc, Bool, true, false, not, cond, ◌||◌, List, [], ◌∷◌, ◌++◌, take, map, length, get_or, set, replicate, refl, sym, ap, subst, ◌∙◌, arith, ◌⊎◌, inl, inr, ⊎_elim, Option, Some, None}
-use Rattle.std.specs.Prelude.{bytes_eq, if◌then◌else◌}
-use Rattle.std.specs.List.{All, Contains, list_any}
+use Rattle.std.proofs.Common.{◌≡◌, ◌<◌, ◌+◌, ◌↔◌, ℕ, zero, suc, Bool, true, false, cond, ◌||◌, List, [], ◌∷◌, ◌++◌, take, map, length, get_or, set, replicate, refl, sym, ap, subst, ◌∙◌, arith, ◌⊎◌, inl, inr, ⊎_elim, Option, Some, None}
+use Rattle.std.specs.Prelude.{bytes_eq}
+use Rattle.std.specs.List.{All, Contains}
 use Rattle.std.specs.Borrow.{Bor}
 use Rattle.std.specs.Global.{Vec}
 use Rattle.std.specs.BTreeMap.{BTreeMap, get_by}
@@ -14,9 +14,9 @@ use Rattle.std.proofs.lemmas.Bool.{false≢true, cases_lt}
 use Rattle.std.proofs.lemmas.Slice.Eq.{bytes_eq-Decides}
 use Rattle.bib_excerpts.specs.declared.names.Links.{Links}
 use Rattle.bib_excerpts.specs.Texts.{node_of}
-use Rattle.bib_excerpts.specs.Needed.{Node, node_at, HasName, RefersTo, IsNeeded, AreMarks, is_among}
+use Rattle.bib_excerpts.specs.Needed.{Node, node_at, HasName, RefersTo, IsNeeded, AreMarks, is_listed}
 use Rattle.bib_excerpts.specs.Needed.IsNeeded.{asked, reached}
-use Rattle.bib_excerpts.specs.Searching.{AreHolders, AreHoldersIn, IsMarked, Marks, Expands, holders_in, unmarked}
+use Rattle.bib_excerpts.specs.Searching.{AreHolders, AreHoldersIn, IsMarked, Marks, LooksUp, holders_in}
 use Rattle.bib_excerpts.proofs.MarkFacts.{any_push, unmarked_less, set_decides, mark_kept, none_marked, marked_below, contains_none}
 
 abbrev pub Map : Type 0
@@ -29,7 +29,7 @@ empty (x ∷ l) is = absurd (omega (arith, is))
 -- ---- one more name, one more thing
 
 -- whether a name is among these and one more
-pub among_push : (names : List (List ℕ)) (one name : List ℕ) → is_among (names ++ one ∷ []) name ≡ cond (bytes_eq one name) true (is_among names name)
+pub among_push : (names : List (List ℕ)) (one name : List ℕ) → is_listed (names ++ one ∷ []) name ≡ cond (bytes_eq one name) true (is_listed names name)
 among_push names one name = any_push (λ n. bytes_eq n name) names one
 
 -- an index among some and one more, where that is of this name
@@ -48,14 +48,14 @@ or_true : (b : Bool) → b || true ≡ true
 or_true true = refl
 or_true false = refl
 
-pub among_more : (names : List (Bor (List ℕ))) (i : ℕ) (d : Bor (List ℕ)) (name : List ℕ) → i < length names → is_among (map (λ n. n.now) (take (i + 1) names)) name ≡ cond (bytes_eq (get_or names i d).now name) true (is_among (map (λ n. n.now) (take i names)) name)
+pub among_more : (names : List (Bor (List ℕ))) (i : ℕ) (d : Bor (List ℕ)) (name : List ℕ) → i < length names → is_listed (map (λ n. n.now) (take (i + 1) names)) name ≡ cond (bytes_eq (get_or names i d).now name) true (is_listed (map (λ n. n.now) (take i names)) name)
 among_more names i d name within =
-    ap (λ l. is_among (map (λ n. n.now) l) name) (take_more names i d within) ∙ ap (λ l. is_among l name) (map-append (λ n. n.now) (take i names) (get_or names i d ∷ []))
+    ap (λ l. is_listed (map (λ n. n.now) l) name) (take_more names i d within) ∙ ap (λ l. is_listed l name) (map-append (λ n. n.now) (take i names) (get_or names i d ∷ []))
     ∙ among_push (map (λ n. n.now) (take i names)) (get_or names i d).now name
 
-pub among_at : (names : List (Bor (List ℕ))) (i : ℕ) (d : Bor (List ℕ)) → i < length names → is_among (map (λ n. n.now) names) (get_or names i d).now ≡ true
+pub among_at : (names : List (Bor (List ℕ))) (i : ℕ) (d : Bor (List ℕ)) → i < length names → is_listed (map (λ n. n.now) names) (get_or names i d).now ≡ true
 among_at [] i d within = absurd (omega (arith, within))
-among_at (n ∷ names) zero d within = ap (λ b. b || is_among (map (λ n. n.now) names) n.now) ((bytes_eq-Decides n.now n.now).1 refl)
+among_at (n ∷ names) zero d within = ap (λ b. b || is_listed (map (λ n. n.now) names) n.now) ((bytes_eq-Decides n.now n.now).1 refl)
 among_at (n ∷ names) (suc i) d within = ap (λ b. bytes_eq n.now (get_or names i d).now || b) (among_at names i d (omega (arith, within))) ∙ or_true (bytes_eq n.now (get_or names i d).now)
 
 -- ---- the map, where a name's indices are taken out, and where one is added
@@ -87,7 +87,7 @@ abbrev nobody : Node
 nobody = record { names = []; references = [] }
 
 -- the thing at an index, where there is one more
-pub node_push : (nodes : List Node) (node : Node) (index : ℕ) (name : List ℕ) → HasName (nodes ++ node ∷ []) index name ↔ (HasName nodes index name ⊎ ((index ≡ length nodes) × (is_among node.names name ≡ true)))
+pub node_push : (nodes : List Node) (node : Node) (index : ℕ) (name : List ℕ) → HasName (nodes ++ node ∷ []) index name ↔ (HasName nodes index name ⊎ ((index ≡ length nodes) × (is_listed node.names name ≡ true)))
 node_push [] node zero name = (λ h. inr (refl, h), λ h. ⊎_elim (λ no. absurd (false≢true no)) (λ x. x.1) h)
 node_push [] node (suc index) name = (λ h. absurd (false≢true h), λ h. ⊎_elim (λ no. absurd (false≢true no)) (λ x. absurd (omega (arith, x.0))) h)
 node_push (first ∷ nodes) node zero name = (λ h. inl h, λ h. ⊎_elim (λ x. x) (λ x. absurd (omega (arith, x.0))) h)
@@ -97,7 +97,7 @@ node_push (first ∷ nodes) node (suc index) name =
 
 -- a map of what has each name, with one more thing
 pub holders_push : (nodes : List Node) (node : Node) (m m' : Map) → AreHolders nodes m
-    → ((name : List ℕ) (one : ℕ) → Contains (holders_in m' name) one ↔ (Contains (holders_in m name) one ⊎ ((one ≡ length nodes) × (is_among node.names name ≡ true))))
+    → ((name : List ℕ) (one : ℕ) → Contains (holders_in m' name) one ↔ (Contains (holders_in m name) one ⊎ ((one ≡ length nodes) × (is_listed node.names name ≡ true))))
     → AreHolders (nodes ++ node ∷ []) m'
 holders_push nodes node m m' so more name index =
     let was = so name index in
@@ -106,21 +106,21 @@ holders_push nodes node m m' so more name index =
     (λ h. both.1 (⊎_elim (λ x. inl (was.0 x)) (λ x. inr x) (now.0 h)), λ h. now.1 (⊎_elim (λ x. inl (was.1 x)) (λ x. inr x) (both.0 h)))
 
 pub holders_next : (links : List Links) (i : ℕ) (link : Links) (names : List (Bor (List ℕ))) (m m' : Map) → i < length links → link ≡ get_or links i link → names ≡ link.names.items → AreHolders (map node_of (take i links)) m
-    → ((name : List ℕ) (one : ℕ) → Contains (holders_in m' name) one ↔ (Contains (holders_in m name) one ⊎ ((one ≡ i) × (is_among (map (λ n. n.now) names) name ≡ true))))
+    → ((name : List ℕ) (one : ℕ) → Contains (holders_in m' name) one ↔ (Contains (holders_in m name) one ⊎ ((one ≡ i) × (is_listed (map (λ n. n.now) names) name ≡ true))))
     → AreHolders (map node_of (take (i + 1) links)) m'
 holders_next links i link names m m' within is named so more =
     let before = map node_of (take i links) in
     let long : i ≡ length before = omega (arith, length-map (take i links) node_of, length-take i links, within) in
     let here : map node_of (take (i + 1) links) ≡ before ++ node_of link ∷ [] = ap (map node_of) (take_more links i link within ∙ ap (λ l. take i links ++ l ∷ []) (sym is)) ∙ map-append node_of (take i links) (link ∷ []) in
     subst (λ nodes. AreHolders nodes m') (sym here) (holders_push before (node_of link) m m' so
-    (λ name one. subst (λ k. Contains (holders_in m' name) one ↔ (Contains (holders_in m name) one ⊎ ((one ≡ k) × (is_among (map (λ n. n.now) link.names.items) name ≡ true)))) long
-    (subst (λ l. Contains (holders_in m' name) one ↔ (Contains (holders_in m name) one ⊎ ((one ≡ i) × (is_among (map (λ n. n.now) l) name ≡ true)))) named (more name one))))
+    (λ name one. subst (λ k. Contains (holders_in m' name) one ↔ (Contains (holders_in m name) one ⊎ ((one ≡ k) × (is_listed (map (λ n. n.now) link.names.items) name ≡ true)))) long
+    (subst (λ l. Contains (holders_in m' name) one ↔ (Contains (holders_in m name) one ⊎ ((one ≡ i) × (is_listed (map (λ n. n.now) l) name ≡ true)))) named (more name one))))
 
 -- what has a name stands in the list
 pub named_below : (nodes : List Node) (index : ℕ) (name : List ℕ) → HasName nodes index name → index < length nodes
 named_below nodes index name h = elim (cases_lt index (length nodes)) [
   | inl t ↦ omega arith
-  | inr t ↦ absurd (false≢true (ap (λ node. is_among node.names name) (sym (get_or_past nodes index nobody t)) ∙ h))
+  | inr t ↦ absurd (false≢true (ap (λ node. is_listed node.names name) (sym (get_or_past nodes index nobody t)) ∙ h))
 ]
 
 -- ---- marks on indices, one after another
@@ -177,12 +177,12 @@ all_next indices k marks marks' below kept here all = All-more (IsMarked marks')
 -- ---- names that are looked up, one after another
 
 -- nothing is looked up yet
-pub nothing_looked_up : (m : Map) (marks : List Bool) → Expands m [] marks m
+pub nothing_looked_up : (m : Map) (marks : List Bool) → LooksUp m [] marks m
 nothing_looked_up m marks = record { looked_up = λ name no. absurd (false≢true no); left = λ name. inl refl }
 
 -- one more name is looked up
-pub one_looked_up : (m mid new : Map) (names : List (List ℕ)) (one : List ℕ) (marks marks' : List Bool) → Expands m names marks mid → ((i : ℕ) → IsMarked marks i → IsMarked marks' i)
-    → All (IsMarked marks') (holders_in mid one) → ((other : List ℕ) → holders_in new other ≡ cond (bytes_eq one other) [] (holders_in mid other)) → Expands m (names ++ one ∷ []) marks' new
+pub one_looked_up : (m mid new : Map) (names : List (List ℕ)) (one : List ℕ) (marks marks' : List Bool) → LooksUp m names marks mid → ((i : ℕ) → IsMarked marks i → IsMarked marks' i)
+    → All (IsMarked marks') (holders_in mid one) → ((other : List ℕ) → holders_in new other ≡ cond (bytes_eq one other) [] (holders_in mid other)) → LooksUp m (names ++ one ∷ []) marks' new
 one_looked_up m mid new names one marks marks' h kept all left =
     let still : (name : List ℕ) → All (IsMarked marks) (holders_in m name) → All (IsMarked marks') (holders_in m name) = λ name a. All-weaker (IsMarked marks) (IsMarked marks') kept (holders_in m name) a in
     let here : (name : List ℕ) → (holders_in mid name ≡ holders_in m name) ⊎ ((holders_in mid name ≡ []) × All (IsMarked marks) (holders_in m name)) → All (IsMarked marks') (holders_in mid name) → All (IsMarked marks') (holders_in m name)
@@ -197,7 +197,7 @@ one_looked_up m mid new names one marks marks' h kept all left =
       marked_here : (name : List ℕ) → one ≡ name → All (IsMarked marks') (holders_in m name)
       marked_here name same = subst (λ n. All (IsMarked marks') (holders_in m n)) same (⊎_elim (λ e. subst (λ l. All (IsMarked marks') l) e all) (λ x. kept_all one x.1) (h.left one))
 
-      looked : (name : List ℕ) (b : Bool) → bytes_eq one name ≡ b → cond b true (is_among names name) ≡ true → All (IsMarked marks') (holders_in m name)
+      looked : (name : List ℕ) (b : Bool) → bytes_eq one name ≡ b → cond b true (is_listed names name) ≡ true → All (IsMarked marks') (holders_in m name)
       looked name true is among = marked_here name ((bytes_eq-Decides one name).0 is)
       looked name false is among = kept_all name (h.looked_up name among)
 
@@ -208,11 +208,11 @@ one_looked_up m mid new names one marks marks' h kept all left =
           ⊎_elim (λ e. inl (same ∙ e)) (λ x. inr (same ∙ x.0, kept_all name x.1)) (h.left name)
 
 -- a holder that is left by some lookups was one before
-pub holder_before : (m mid : Map) (names : List (List ℕ)) (marks : List Bool) (name : List ℕ) (i : ℕ) → Expands m names marks mid → Contains (holders_in mid name) i → Contains (holders_in m name) i
+pub holder_before : (m mid : Map) (names : List (List ℕ)) (marks : List Bool) (name : List ℕ) (i : ℕ) → LooksUp m names marks mid → Contains (holders_in mid name) i → Contains (holders_in m name) i
 holder_before m mid names marks name i h c = ⊎_elim (λ e. subst (λ l. Contains l i) e c) (λ x. absurd (contains_none i (subst (λ l. Contains l i) x.0 c))) (h.left name)
 
 -- what is left by some lookups lies below
-pub left_below : (m mid : Map) (names : List (List ℕ)) (marks : List Bool) (n : ℕ) → Expands m names marks mid → ((other : List ℕ) → All (λ i. i < n) (holders_in m other)) → (other : List ℕ) → All (λ i. i < n) (holders_in mid other)
+pub left_below : (m mid : Map) (names : List (List ℕ)) (marks : List Bool) (n : ℕ) → LooksUp m names marks mid → ((other : List ℕ) → All (λ i. i < n) (holders_in m other)) → (other : List ℕ) → All (λ i. i < n) (holders_in mid other)
 left_below m mid names marks n h below other = ⊎_elim (λ e. subst (λ l. All (λ i. i < n) l) (sym e) (below other)) (λ x. subst (λ l. All (λ i. i < n) l) (sym x.0) (λ k d no. absurd (omega (arith, no)))) (h.left other)
 
 -- ---- the search
@@ -233,7 +233,7 @@ module _ (names : List (List ℕ)) (nodes : List Node) where
   pub record IsSearch (m : Map) (marks : List Bool) (pending : List ℕ) : Type 0 where
     pub begun : IsBegun m marks
     pub waits : (i : ℕ) → Contains pending i → IsMarked marks i
-    pub found : (name : List ℕ) → is_among names name ≡ true → IsTaken nodes marks name
+    pub found : (name : List ℕ) → is_listed names name ≡ true → IsTaken nodes marks name
     pub closed : (i : ℕ) → IsMarked marks i → Contains pending i ⊎ ((name : List ℕ) → RefersTo nodes i name → IsTaken nodes marks name)
 
   pub at_first : (m : Map) (marks : List Bool) → length marks ≡ length nodes → ((i : ℕ) → IsMarked marks i → ⊥) → AreHolders nodes m → IsBegun m marks
@@ -249,11 +249,11 @@ module _ (names : List (List ℕ)) (nodes : List Node) where
 
   -- more names were looked up
   module _ (m m' : Map) (marks marks' : List Bool) (pending pending' : List ℕ) (asked_for : List (List ℕ)) (len : length marks' ≡ length marks) (marked : Marks (AreHoldersIn m asked_for) marks pending marks' pending')
-      (expands : Expands m asked_for marks' m') (h : IsBegun m marks) where
-    taken : (name : List ℕ) → is_among asked_for name ≡ true → IsTaken nodes marks' name
+      (expands : LooksUp m asked_for marks' m') (h : IsBegun m marks) where
+    taken : (name : List ℕ) → is_listed asked_for name ≡ true → IsTaken nodes marks' name
     taken name among i named = ⊎_elim (λ held. All-contains (IsMarked marks') (holders_in m name) i (expands.looked_up name among) held) (λ was. marked.kept i was) (h.left name i named)
 
-    pub begun_more : ((name : List ℕ) (i : ℕ) → is_among asked_for name ≡ true → HasName nodes i name → IsNeeded names nodes i) → IsBegun m' marks'
+    pub begun_more : ((name : List ℕ) (i : ℕ) → is_listed asked_for name ≡ true → HasName nodes i name → IsNeeded names nodes i) → IsBegun m' marks'
     begun_more needed = record {
       same_length = len ∙ h.same_length;
       sound = λ i now. ⊎_elim (λ was. h.sound i was) (λ x. needed x.0.0 i x.0.1 (h.held x.0.0 i x.0.2)) (marked.only i now);
@@ -266,14 +266,14 @@ module _ (names : List (List ℕ)) (nodes : List Node) where
     pub waits_more : ((i : ℕ) → Contains pending i → IsMarked marks i) → (i : ℕ) → Contains pending' i → IsMarked marks' i
     waits_more waits i c = ⊎_elim (λ was. marked.kept i (waits i was)) (λ now. now) (marked.waits i c)
 
-    pub taken_more : (name : List ℕ) → is_among asked_for name ≡ true → IsTaken nodes marks' name
+    pub taken_more : (name : List ℕ) → is_listed asked_for name ≡ true → IsTaken nodes marks' name
     taken_more = taken
 
     pub kept_taken : (name : List ℕ) → IsTaken nodes marks name → IsTaken nodes marks' name
     kept_taken name t i named = marked.kept i (t i named)
 
   -- the search begins with the names that are asked for
-  pub search_first : (m m' : Map) (marks marks' : List Bool) (pending' : List ℕ) → length marks' ≡ length marks → ((i : ℕ) → IsMarked marks i → ⊥) → Marks (AreHoldersIn m names) marks [] marks' pending' → Expands m names marks' m' → IsBegun m marks → IsSearch m' marks' pending'
+  pub search_first : (m m' : Map) (marks marks' : List Bool) (pending' : List ℕ) → length marks' ≡ length marks → ((i : ℕ) → IsMarked marks i → ⊥) → Marks (AreHoldersIn m names) marks [] marks' pending' → LooksUp m names marks' m' → IsBegun m marks → IsSearch m' marks' pending'
   search_first m m' marks marks' pending' len none marked expands h = record {
     begun = begun_more m m' marks marks' [] pending' names len marked expands h (λ name i among named. asked name among named);
     waits = waits_more m m' marks marks' [] pending' names len marked expands h (λ i c. absurd (contains_none i c));
@@ -283,7 +283,7 @@ module _ (names : List (List ℕ)) (nodes : List Node) where
 
   -- what the last that waits refers to is looked up
   pub search_more : (m m' : Map) (marks marks' : List Bool) (before pending pending' : List ℕ) (index : ℕ) → before ≡ pending ++ index ∷ [] → length marks' ≡ length marks
-      → Marks (AreHoldersIn m (node_at nodes index).references) marks pending marks' pending' → Expands m (node_at nodes index).references marks' m' → IsSearch m marks before → IsSearch m' marks' pending'
+      → Marks (AreHoldersIn m (node_at nodes index).references) marks pending marks' pending' → LooksUp m (node_at nodes index).references marks' m' → IsSearch m marks before → IsSearch m' marks' pending'
   search_more m m' marks marks' before pending pending' index popped len marked expands h =
       let refs = (node_at nodes index).references in
       let here : IsMarked marks index = h.waits index (subst (λ l. Contains l index) (sym popped) (Contains-push pending index)) in
@@ -313,7 +313,7 @@ module _ (names : List (List ℕ)) (nodes : List Node) where
   }
 
   -- the search begins with no marks
-  pub search_start : (m m' : Map) (old marks' : List Bool) (before pending' : List ℕ) → old ≡ replicate (length nodes) false → before ≡ [] → length marks' ≡ length old → Marks (AreHoldersIn m names) old before marks' pending' → Expands m names marks' m'
+  pub search_start : (m m' : Map) (old marks' : List Bool) (before pending' : List ℕ) → old ≡ replicate (length nodes) false → before ≡ [] → length marks' ≡ length old → Marks (AreHoldersIn m names) old before marks' pending' → LooksUp m names marks' m'
       → AreHolders nodes m → IsSearch m' marks' pending'
   search_start m m' old marks' before pending' none empty len marked expands holders =
       let unmarked_yet : (i : ℕ) → IsMarked old i → ⊥ = λ i h. none_marked (length nodes) i (subst (λ l. IsMarked l i) none h) in
@@ -337,10 +337,10 @@ node_of_at (l ∷ links) (suc index) link within is = node_of_at links index lin
 
 -- a step of the search
 pub search_step : (names : List (List ℕ)) (links : List Links) (m m' : Map) (marks old marks' : List Bool) (before pending pending' : List ℕ) (index : ℕ) (link : Links) (refs : List (Bor (List ℕ))) → old ≡ marks → before ≡ pending ++ index ∷ []
-    → index < length links → link ≡ get_or links index link → refs ≡ link.references.items → length marks' ≡ length old → Marks (AreHoldersIn m (map (λ n. n.now) refs)) old pending marks' pending' → Expands m (map (λ n. n.now) refs) marks' m'
+    → index < length links → link ≡ get_or links index link → refs ≡ link.references.items → length marks' ≡ length old → Marks (AreHoldersIn m (map (λ n. n.now) refs)) old pending marks' pending' → LooksUp m (map (λ n. n.now) refs) marks' m'
     → IsSearch names (map node_of links) m marks before → IsSearch names (map node_of links) m' marks' pending'
 search_step names links m m' marks old marks' before pending pending' index link refs same popped within is refers len marked expands h =
     let here : map (λ n. n.now) refs ≡ (node_at (map node_of links) index).references = ap (map (λ n. n.now)) refers ∙ ap (λ node. node.references) (sym (node_of_at links index link within is)) in
     search_more names (map node_of links) m m' marks marks' before pending pending' index popped (len ∙ ap length same)
     (subst (λ l. Marks (AreHoldersIn m l) marks pending marks' pending') here (subst (λ l. Marks (AreHoldersIn m (map (λ n. n.now) refs)) l pending marks' pending') same marked))
-    (subst (λ l. Expands m l marks' m') here expands) h
+    (subst (λ l. LooksUp m l marks' m') here expands) h

@@ -7,8 +7,8 @@ use Rattle.bib_syntax.specs.Reading.{EntryReading, FieldReading, FileReading, Pi
 use Rattle.bib_syntax.specs.Reading.Piece.{abbreviation, literal}
 use Rattle.bib_syntax.specs.Recovery.{IsRecovery}
 use Rattle.bib_syntax.specs.declared.raw.recovery.SkippedBlock.{SkippedBlock}
-use Rattle.bib_excerpts.specs.Cited.{IsExcerpt, entry_line, line}
-use Rattle.bib_excerpts.specs.Needed.{is_among}
+use Rattle.bib_excerpts.specs.Cited.{IsExcerpt, entry_line, with_line_feed}
+use Rattle.bib_excerpts.specs.Needed.{is_listed}
 use Rattle.bib_excerpts.specs.declared.request.Request.{Request}
 use Rattle.bib_excerpts.specs.declared.request.Request.TheVariants.{Keys, Get, Grep, Cited}
 
@@ -27,8 +27,8 @@ abbrev pub is_found : List ℕ → List ℕ → FieldReading → Bool
 is_found name part f = is_word f.name.text name && list_any (λ piece. has_part part (piece_text piece)) f.value.pieces
 
 -- each key in a line of its own
-abbrev pub key_lines : List EntryReading → List ℕ
-key_lines entries = flat_map (λ e. line e.key.text) entries
+abbrev pub lines_of_keys : List EntryReading → List ℕ
+lines_of_keys entries = flat_map (λ e. with_line_feed e.key.text) entries
 
 -- the entries that pass a test, as they stand, each with a line feed after it
 abbrev pub passing_lines : (EntryReading → Bool) → List ℕ → List EntryReading → List ℕ
@@ -36,7 +36,7 @@ passing_lines test text entries = flat_map (λ e. if test e then entry_line text
 
 -- whether an entry has one of these keys
 abbrev pub has_key : List (List ℕ) → EntryReading → Bool
-has_key keys e = is_among keys e.key.text
+has_key keys e = is_listed keys e.key.text
 
 -- whether a text stands in a field of this name of an entry
 abbrev pub is_found_in : List ℕ → List ℕ → EntryReading → Bool
@@ -44,7 +44,7 @@ is_found_in name part e = list_any (is_found name part) e.fields
 
 -- what is printed of what a text says
 abbrev pub IsPrinted : Request → List ℕ → FileReading → List ℕ → Type 0
-IsPrinted Keys text says printed = printed ≡ key_lines says.entries
+IsPrinted Keys text says printed = printed ≡ lines_of_keys says.entries
 IsPrinted (Get keys) text says printed = printed ≡ passing_lines (has_key (map (λ key. key.now) keys.items)) text says.entries
 IsPrinted (Grep search) text says printed = printed ≡ passing_lines (is_found_in search.field.now search.part.now) text says.entries
 IsPrinted (Cited cited) text says printed = IsExcerpt (map (λ key. key.now) cited.keys.items) cited.all text says printed

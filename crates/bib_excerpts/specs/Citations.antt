@@ -1,6 +1,6 @@
 -- Meaning: words of public contracts.
 -- What a document cites, by the files that LaTeX writes for BibTeX and BibLaTeX for biber.
-use Rattle.std.specs.Prelude.{◌≡◌, ℕ, ◌+◌, ◌<◌, ◌==◌, ◌||◌, Bool, if◌then◌else◌, List, [], ◌∷◌, ◌++◌, Option, Some, None, bytes_eq, codes, drop, eqb, fold, length, map, nat_lt}
+use Rattle.std.specs.Prelude.{◌≡◌, ℕ, ◌+◌, ◌==◌, ◌||◌, Bool, if◌then◌else◌, List, [], ◌∷◌, ◌++◌, Option, Some, None, bytes_eq, codes, drop, eqb, fold, length, map, nat_lt}
 use Rattle.std.specs.List.{after_first, before_first, flat_map, list_any, position_or_len, slice_split, starts_with}
 use Rattle.std.specs.Option.{option_and_then, option_map_or, option_or}
 use Rattle.std.specs.Str.{trim}
@@ -10,8 +10,8 @@ use Rattle.bib_excerpts.specs.declared.citations.Citation.{Citation}
 use Rattle.bib_excerpts.specs.declared.citations.Citations.{Citations}
 
 -- what stands after a prefix of a text
-abbrev pub after_prefix : List ℕ → List ℕ → Option (List ℕ)
-after_prefix prefix text = if starts_with eqb text prefix then Some (drop (length prefix) text) else None
+abbrev pub left_after : List ℕ → List ℕ → Option (List ℕ)
+left_after prefix text = if starts_with eqb text prefix then Some (drop (length prefix) text) else None
 
 -- whether a closing brace stands in a text
 abbrev pub has_close : List ℕ → Bool
@@ -30,11 +30,11 @@ argument text = if has_close text then Some (before_close text) else None
 
 -- the text of the last of one or two arguments, of which the first begins here
 abbrev pub last_argument : List ℕ → Option (List ℕ)
-last_argument text = if has_close text then option_map_or argument (after_prefix (codes "{") (after_close text)) (Some (before_close text)) else None
+last_argument text = if has_close text then option_map_or argument (left_after (codes "{") (after_close text)) (Some (before_close text)) else None
 
 -- what stands after a command of citation that a line begins with: LaTeX's, or BibLaTeX's
 abbrev pub after_command : List ℕ → Option (List ℕ)
-after_command line = option_or (after_prefix (codes "\\citation{") line) (after_prefix (codes "\\abx@aux@cite{") line)
+after_command line = option_or (left_after (codes "\\citation{") line) (left_after (codes "\\abx@aux@cite{") line)
 
 -- the comma list of keys that a line of an .aux file cites
 abbrev pub aux_list : List ℕ → Option (List ℕ)
@@ -46,37 +46,37 @@ aux_cited line = option_map_or comma_parts (aux_list line) []
 
 -- what stands after the tag that ends first
 abbrev pub after_tag : List ℕ → Option (List ℕ)
-after_tag text = if nat_lt (position_or_len (λ b. b == 62) text) (length text) then Some (after_first (λ b. b == 62) text) else None
+after_tag text = if nat_lt (position_or_len (λ b. b == char.greater) text) (length text) then Some (after_first (λ b. b == char.greater) text) else None
 
 -- what stands after the tag of an element `bcf:citekey` that has attributes, where such a tag is what stands after a `<`
 abbrev pub attributed_text : List ℕ → Option (List ℕ)
-attributed_text piece = option_and_then after_tag (after_prefix (codes "bcf:citekey ") piece)
+attributed_text piece = option_and_then after_tag (left_after (codes "bcf:citekey ") piece)
 
 -- the same, whether it has attributes or not
 abbrev pub citekey_text : List ℕ → Option (List ℕ)
-citekey_text piece = option_or (after_prefix (codes "bcf:citekey>") piece) (attributed_text piece)
+citekey_text piece = option_or (left_after (codes "bcf:citekey>") piece) (attributed_text piece)
 
 -- a text in which a name in XML, after its ampersand, is what it begins with, if it is this name, stands for this; else another
-abbrev pub named : List ℕ → List ℕ → List ℕ → List ℕ → List ℕ
-named name character other text = option_map_or (λ rest. character ++ rest) (after_prefix name text) other
+abbrev pub escape_of : List ℕ → List ℕ → List ℕ → List ℕ → List ℕ
+escape_of name character other text = option_map_or (λ rest. character ++ rest) (left_after name text) other
 
 -- what a text after an ampersand stands for in XML: one of five names is a character
 abbrev pub unescaped_piece : List ℕ → List ℕ
 unescaped_piece text =
-    named (codes "amp;") (codes "&")
-    (named (codes "lt;") (codes "<")
-    (named (codes "gt;") (codes ">")
-    (named (codes "quot;") (codes "\"")
-    (named (codes "apos;") (codes "'") (codes "&" ++ text) text) text) text) text) text
+    escape_of (codes "amp;") (codes "&")
+    (escape_of (codes "lt;") (codes "<")
+    (escape_of (codes "gt;") (codes ">")
+    (escape_of (codes "quot;") (codes "\"")
+    (escape_of (codes "apos;") (codes "'") (codes "&" ++ text) text) text) text) text) text
 
 -- what a text stands for in XML, of which an ampersand stands before it
 abbrev pub unescaped_rest : List ℕ → List ℕ
-unescaped_rest text = flat_map unescaped_piece (slice_split (λ b. b == 38) text)
+unescaped_rest text = flat_map unescaped_piece (slice_split (λ b. b == char.ampersand) text)
 
 -- what a text stands for in XML
 abbrev pub unescaped : List ℕ → List ℕ
 unescaped text =
-    if nat_lt (position_or_len (λ b. b == 38) text) (length text) then before_first (λ b. b == 38) text ++ unescaped_rest (after_first (λ b. b == 38) text) else text
+    if nat_lt (position_or_len (λ b. b == char.ampersand) text) (length text) then before_first (λ b. b == char.ampersand) text ++ unescaped_rest (after_first (λ b. b == char.ampersand) text) else text
 
 -- the key that an element of a control file cites, given what stands after its `<`
 abbrev pub bcf_cited : List ℕ → List (List ℕ)

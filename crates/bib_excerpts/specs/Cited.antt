@@ -7,11 +7,10 @@ use Rattle.std.specs.Str.{trim_end}
 use Rattle.bib_syntax.specs.Reading.{EntryReading, FieldReading, FileReading}
 use Rattle.bib_excerpts.specs.Names.{definition_node, entry_node, used_in_fields}
 use Rattle.bib_excerpts.specs.Needed.{AreMarks, IsNeeded, Node, marked}
-use Rattle.bib_excerpts.specs.declared.request.CitedKeys.{CitedKeys}
 
 -- a text and a line feed
-abbrev pub line : List ℕ → List ℕ
-line text = text ++ codes "\n"
+abbrev pub with_line_feed : List ℕ → List ℕ
+with_line_feed text = text ++ codes "\n"
 
 -- an entry as it stands in a text: from its at sign to its closing brace
 abbrev pub excerpt : List ℕ → EntryReading → List ℕ
@@ -23,11 +22,11 @@ definition_text text f = trim_end (slice_range text f.name.start f.value.end)
 
 -- the definition of an abbreviation in a block of its own
 abbrev pub definition_line : List ℕ → FieldReading → List ℕ
-definition_line text f = codes "@string{" ++ (definition_text text f ++ line (codes "}"))
+definition_line text f = codes "@string{" ++ (definition_text text f ++ with_line_feed (codes "}"))
 
 -- an entry as it stands in a text, and a line feed
 abbrev pub entry_line : List ℕ → EntryReading → List ℕ
-entry_line text e = line (excerpt text e)
+entry_line text e = with_line_feed (excerpt text e)
 
 -- the abbreviations that an entry uses
 abbrev pub used_in_entry : EntryReading → List (List ℕ)

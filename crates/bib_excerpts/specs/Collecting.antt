@@ -1,6 +1,6 @@
 -- Machinery: words of private contracts.
 -- How citations are collected.
-use Rattle.std.specs.Prelude.{◌≡◌, ℕ, ◌||◌, Bool, List, bytes_eq, fold, is_some}
+use Rattle.std.specs.Prelude.{◌≡◌, ℕ, ◌||◌, List, bytes_eq, fold, is_some}
 use Rattle.std.specs.List.{list_any}
 use Rattle.std.specs.BTreeMap.{get_by_text}
 use Rattle.bib_excerpts.specs.Citations.{add_citation, cites_all}

@@ -6,22 +6,22 @@ use Rattle.bib_syntax.specs.Reading.{EntryReading, FileReading, Part}
 use Rattle.bib_syntax.specs.Recovery.{IsRecovery}
 use Rattle.bib_syntax.specs.declared.raw.recovery.SkippedBlock.{SkippedBlock}
 use Rattle.bib_excerpts.specs.Names.{entry_names}
-use Rattle.bib_excerpts.specs.Needed.{is_among}
+use Rattle.bib_excerpts.specs.Needed.{is_listed}
 
 -- the names of entries
 abbrev pub all_names : List EntryReading → List (List ℕ)
 all_names entries = flat_map entry_names entries
 
 -- marks on those of these keys that are names of entries that can be read of a text
-pub record IsKnown (text : List ℕ) (keys : List (List ℕ)) (marks : List Bool) : Type 0 where
+pub record IsKnownIn (text : List ℕ) (keys : List (List ℕ)) (marks : List Bool) : Type 0 where
   pub says : FileReading
   pub skipped : List SkippedBlock
   pub recovery : IsRecovery text says skipped
-  pub is : marks ≡ map (is_among (all_names says.entries)) keys
+  pub is : marks ≡ map (is_listed (all_names says.entries)) keys
 
 -- whether one of these names is among those keys
 abbrev pub has_name_among : List (List ℕ) → List (List ℕ) → Bool
-has_name_among keys names = list_any (λ name. is_among keys name) names
+has_name_among keys names = list_any (λ name. is_listed keys name) names
 
 -- the key of an entry, where none of its names is among these keys
 abbrev pub uncited_key : List (List ℕ) → EntryReading → List Part

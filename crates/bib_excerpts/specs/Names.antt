@@ -1,6 +1,6 @@
 -- Meaning: words of public contracts.
 -- Names in fields: those of entries and of abbreviations, and those that they refer to.
-use Rattle.std.specs.Prelude.{ℕ, Bool, not, ◌||◌, ◌==◌, if◌then◌else◌, List, [], ◌∷◌, length, codes}
+use Rattle.std.specs.Prelude.{ℕ, Bool, ◌||◌, ◌==◌, if◌then◌else◌, List, [], ◌∷◌, length, codes}
 use Rattle.std.specs.List.{flat_map, slice_split}
 use Rattle.std.specs.Str.{trim}
 use Rattle.bib_text.specs.Characters as char
@@ -37,24 +37,24 @@ abbrev pub references_in : FieldReading → List (List ℕ)
 references_in f = if is_reference_field f.name.text then literal_parts f.value.pieces else []
 
 -- the names that an entry with these fields refers to
-abbrev pub references : List FieldReading → List (List ℕ)
-references fields = flat_map references_in fields
+abbrev pub references_of : List FieldReading → List (List ℕ)
+references_of fields = flat_map references_in fields
 
 -- the names that a field lists, where it is the field of an entry's further names
 abbrev pub aliases_in : FieldReading → List (List ℕ)
 aliases_in f = if is_word f.name.text (codes "ids") then literal_parts f.value.pieces else []
 
 -- the further names of an entry with these fields
-abbrev pub aliases : List FieldReading → List (List ℕ)
-aliases fields = flat_map aliases_in fields
+abbrev pub aliases_of : List FieldReading → List (List ℕ)
+aliases_of fields = flat_map aliases_in fields
 
 -- the names of an entry: its key, and its further names
 abbrev pub entry_names : EntryReading → List (List ℕ)
-entry_names e = e.key.text ∷ aliases e.fields
+entry_names e = e.key.text ∷ aliases_of e.fields
 
 -- an entry's names, and those that it refers to
 abbrev pub entry_node : EntryReading → Node
-entry_node e = record { names = entry_names e; references = references e.fields }
+entry_node e = record { names = entry_names e; references = references_of e.fields }
 
 -- the abbreviation that an element is
 abbrev pub used_as : Piece → List (List ℕ)

@@ -10,8 +10,8 @@ pub record Node : Type 0 where
   pub references : List (List ℕ)
 
 -- whether a name is one of these
-abbrev pub is_among : List (List ℕ) → List ℕ → Bool
-is_among names name = list_any (λ one. bytes_eq one name) names
+abbrev pub is_listed : List (List ℕ) → List ℕ → Bool
+is_listed names name = list_any (λ one. bytes_eq one name) names
 
 -- the thing at an index; one without names, where there is none
 abbrev pub node_at : List Node → ℕ → Node
@@ -19,15 +19,15 @@ node_at nodes index = slice_index_or nodes index (record { names = []; reference
 
 -- the thing at an index has a name
 abbrev pub HasName : List Node → ℕ → List ℕ → Type 0
-HasName nodes index name = is_among (node_at nodes index).names name ≡ true
+HasName nodes index name = is_listed (node_at nodes index).names name ≡ true
 
 -- the thing at an index refers to a name
 abbrev pub RefersTo : List Node → ℕ → List ℕ → Type 0
-RefersTo nodes index name = is_among (node_at nodes index).references name ≡ true
+RefersTo nodes index name = is_listed (node_at nodes index).references name ≡ true
 
 -- the thing at an index has a name that is asked for, or one that a needed thing refers to
 pub data IsNeeded (names : List (List ℕ)) (nodes : List Node) : ℕ → Type 0 where
-  asked : {index : ℕ} (name : List ℕ) → is_among names name ≡ true → HasName nodes index name → IsNeeded names nodes index
+  asked : {index : ℕ} (name : List ℕ) → is_listed names name ≡ true → HasName nodes index name → IsNeeded names nodes index
   reached : {first second : ℕ} (name : List ℕ) → IsNeeded names nodes first → RefersTo nodes first name → HasName nodes second name → IsNeeded names nodes second
 
 -- marks on the indices below a number of which a fact holds, and on no others

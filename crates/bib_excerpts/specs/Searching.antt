@@ -1,6 +1,6 @@
 -- Machinery: words of private contracts.
 -- A search for what is needed: marks on what was found, and the names that are still to be looked up.
-use Rattle.std.specs.Prelude.{◌≡◌, ◌↔◌, ◌⊎◌, ◌+◌, ◌<◌, ℕ, Bool, true, false, not, List, [], length, slice_index_or, count_by, Option, Some, None}
+use Rattle.std.specs.Prelude.{◌≡◌, ◌↔◌, ◌⊎◌, ◌+◌, ℕ, Bool, true, false, not, List, [], length, slice_index_or, count_by}
 use Rattle.std.specs.List.{All, Contains}
 use Rattle.std.specs.Option.{option_map_or}
 use Rattle.std.specs.Borrow.{Bor}
@@ -8,7 +8,7 @@ use Rattle.std.specs.Global.{Vec}
 use Rattle.std.specs.BTreeMap.{BTreeMap, get_by}
 use Rattle.std.specs.Cmp.Lexicographic.{slice_cmp}
 use Rattle.std.specs.Ordering.{nat_cmp}
-use Rattle.bib_excerpts.specs.Needed.{Node, HasName, is_among}
+use Rattle.bib_excerpts.specs.Needed.{Node, HasName, is_listed}
 
 -- the indices of what has a name, by a map
 abbrev pub holders_in : BTreeMap (Bor (List ℕ)) (Vec ℕ) → List ℕ → List ℕ
@@ -20,7 +20,7 @@ AreHolders nodes m = (name : List ℕ) (index : ℕ) → Contains (holders_in m 
 
 -- an index is one of those of one of these names
 abbrev pub AreHoldersIn : BTreeMap (Bor (List ℕ)) (Vec ℕ) → List (List ℕ) → ℕ → Type 0
-AreHoldersIn m names index = (name : List ℕ) × (is_among names name ≡ true) × Contains (holders_in m name) index
+AreHoldersIn m names index = (name : List ℕ) × (is_listed names name ≡ true) × Contains (holders_in m name) index
 
 -- an index has a mark
 abbrev pub IsMarked : List Bool → ℕ → Type 0
@@ -39,6 +39,6 @@ pub record Marks (is_new : ℕ → Type 0) (old : List Bool) (before : List ℕ)
   pub as_many : unmarked new + length after ≡ unmarked old + length before
 
 -- these names were looked up: what has one has a mark, and a name is left as it was or what has it has a mark
-pub record Expands (old : BTreeMap (Bor (List ℕ)) (Vec ℕ)) (names : List (List ℕ)) (marks : List Bool) (new : BTreeMap (Bor (List ℕ)) (Vec ℕ)) : Type 0 where
-  pub looked_up : (name : List ℕ) → is_among names name ≡ true → All (IsMarked marks) (holders_in old name)
+pub record LooksUp (old : BTreeMap (Bor (List ℕ)) (Vec ℕ)) (names : List (List ℕ)) (marks : List Bool) (new : BTreeMap (Bor (List ℕ)) (Vec ℕ)) : Type 0 where
+  pub looked_up : (name : List ℕ) → is_listed names name ≡ true → All (IsMarked marks) (holders_in old name)
   pub left : (name : List ℕ) → (holders_in new name ≡ holders_in old name) ⊎ ((holders_in new name ≡ []) × All (IsMarked marks) (holders_in old name))

@@ -8,7 +8,7 @@ ghost use Rattle.bib_excerpts.specs.Citations as spec;
 ghost use Rattle.bib_excerpts.specs.Citations.{AreCitations, aux_cited, bcf_cited, cites_at};
 ghost use Rattle.bib_excerpts.specs.Collecting.{IsCollected, IsSeen};
 ghost use Rattle.bib_excerpts.specs.Names.{filled};
-ghost use Rattle.bib_excerpts.specs.Texts.{texts};
+ghost use Rattle.bib_excerpts.specs.Texts.{text_list};
 
 use crate::names::push_parts;
 use bib_text::text::Text;
@@ -43,7 +43,7 @@ struct Collected {
 
 // What stands after a prefix of a text.
 fn after_prefix<'s>(text: &'s str, prefix: &str) -> Option<&'s str>
-    ensures { option_map (λ rest. rest.now) result ≡ spec.after_prefix prefix.now text.now }
+    ensures { option_map (λ rest. rest.now) result ≡ spec.left_after prefix.now text.now }
 {
     text.strip_prefix(prefix)
 }
@@ -271,7 +271,7 @@ impl Collected {
 
 // Adds the keys that a line of an .aux file cites to these.
 fn push_aux_keys<'s>(keys: &mut Vec<&'s str>, line: &'s str) -> Result<(), AllocError>
-    ensures { OnOk result (texts keys.new ≡ texts keys.old ++ aux_cited line.now) }
+    ensures { OnOk result (text_list keys.new ≡ text_list keys.old ++ aux_cited line.now) }
 {
     match aux_list(line) {
         Some(list) => push_parts(keys, list),
@@ -294,7 +294,7 @@ pub fn in_aux(alloc: Global, text: &str) -> Result<Citations, AllocError>
 
 /// What the elements `bcf:citekey` of a control file of biber cite. Places are those after the `<` of an element.
 pub fn in_bcf(alloc: Global, text: &str) -> Result<Citations, AllocError>
-    ensures { IfOk result (AreCitations bcf_cited (λ b. b == 60) text.now) }
+    ensures { IfOk result (AreCitations bcf_cited (λ b. b == char.less) text.now) }
 {
     let mut collected = Collected::new(alloc);
     let mut at = 0;

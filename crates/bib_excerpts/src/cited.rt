@@ -9,7 +9,7 @@ ghost use Rattle.bib_excerpts.specs.Cited.{IsCited, IsExcerpt, definition_line, 
 ghost use Rattle.bib_excerpts.specs.Names.{definition_node, entry_node};
 ghost use Rattle.bib_excerpts.specs.Needed.{AreMarks, IsNeeded, marked};
 ghost use Rattle.bib_excerpts.specs.Standing.{IsFieldIn};
-ghost use Rattle.bib_excerpts.specs.Texts.{texts};
+ghost use Rattle.bib_excerpts.specs.Texts.{text_list};
 
 use crate::excerpts::print_if;
 use crate::names::{links_of_definitions, links_of_entries, push_used_in_fields};
@@ -25,7 +25,7 @@ fn cited_entries(
     cited: &CitedKeys<'_>,
     entries: &[Spanned<RawEntry<'_>>],
 ) -> Result<Vec<bool>, AllocError>
-    ensures { IfOk result (λ marks. AreMarks (IsCited (texts cited.now.keys) cited.now.all
+    ensures { IfOk result (λ marks. AreMarks (IsCited (text_list cited.now.keys) cited.now.all
         (map entry_node (map entry_reading_of entries.now))) (length entries.now) marks.items) }
 {
     if cited.all {
@@ -43,7 +43,7 @@ fn push_used_if<'s>(
     entry: &Spanned<RawEntry<'s>>,
     has_mark: bool,
 ) -> Result<(), AllocError>
-    ensures { OnOk result (texts names.new ≡ texts names.old ++ (if has_mark then used_in_entry (entry_reading_of entry.now) else [])) }
+    ensures { OnOk result (text_list names.new ≡ text_list names.old ++ (if has_mark then used_in_entry (entry_reading_of entry.now) else [])) }
 {
     if has_mark {
         return push_used_in_fields(names, &entry.v.fields);
@@ -57,7 +57,7 @@ fn used<'s>(
     entries: &[Spanned<RawEntry<'s>>],
     marks: &[bool],
 ) -> Result<Vec<&'s str>, AllocError>
-    ensures { IfOk result (λ names. texts names ≡ used_in_entries (marked marks.now (map entry_reading_of entries.now))) }
+    ensures { IfOk result (λ names. text_list names ≡ used_in_entries (marked marks.now (map entry_reading_of entries.now))) }
 {
     let mut names = Vec::new(alloc);
     'entries: for (entry, mark) in entries.iter().zip(marks) {
@@ -153,7 +153,7 @@ pub(crate) fn cited(
 ) -> Result<String, AllocError>
     requires entries { AllByRecursion (IsBlockOf text.now) (file_of raw.now).entries }
     requires definitions { AllByRecursion (IsFieldIn text.now) (file_of raw.now).abbreviations }
-    ensures { IfOk result (λ printed. IsExcerpt (texts cited.now.keys) cited.now.all text.now
+    ensures { IfOk result (λ printed. IsExcerpt (text_list cited.now.keys) cited.now.all text.now
         (file_of raw.now) (string_bytes printed)) }
 {
     let marks = cited_entries(alloc, cited, &raw.entries)?;

@@ -6,7 +6,7 @@ ghost use Rattle.std.specs.String.{string_bytes};
 ghost use Rattle.bib_syntax.specs.Recovery.{IsBlockOf};
 ghost use Rattle.bib_syntax.specs.Views.{entry_reading_of, field_of, file_of, piece_of};
 ghost use Rattle.bib_excerpts.specs.Answers as answers;
-ghost use Rattle.bib_excerpts.specs.Answers.{IsPrinted, IsTextAnswer, has_key, is_found_in, key_lines, passing_lines, piece_text};
+ghost use Rattle.bib_excerpts.specs.Answers.{IsPrinted, IsTextAnswer, has_key, is_found_in, lines_of_keys, passing_lines, piece_text};
 ghost use Rattle.bib_excerpts.specs.Cited.{entry_line};
 ghost use Rattle.bib_excerpts.specs.Cited as cited_spec;
 ghost use Rattle.bib_excerpts.specs.Standing.{IsFieldIn};
@@ -105,7 +105,7 @@ pub(crate) fn print_if(
 
 // The keys of entries, each in a line of its own.
 fn keys(alloc: Global, entries: &[Spanned<RawEntry<'_>>]) -> Result<String, AllocError>
-    ensures { IfOk result (λ printed. string_bytes printed ≡ key_lines (map entry_reading_of entries.now)) }
+    ensures { IfOk result (λ printed. string_bytes printed ≡ lines_of_keys (map entry_reading_of entries.now)) }
 {
     let mut printed = String::new(alloc);
     'entries: for entry in entries {

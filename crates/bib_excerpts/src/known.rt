@@ -3,10 +3,10 @@
 ghost use Rattle.std.specs.Prelude.{◌≡◌, ◌++◌, ℕ, List, map, IfOk, OnOk};
 ghost use Rattle.bib_syntax.specs.Views.{entry_reading_of, part_of};
 ghost use Rattle.bib_excerpts.specs.Known as spec;
-ghost use Rattle.bib_excerpts.specs.Known.{IsKnown, IsUncited, has_name_among, uncited_key, uncited_keys};
-ghost use Rattle.bib_excerpts.specs.Needed.{is_among};
+ghost use Rattle.bib_excerpts.specs.Known.{IsKnownIn, IsUncited, has_name_among, uncited_key, uncited_keys};
+ghost use Rattle.bib_excerpts.specs.Needed.{is_listed};
 ghost use Rattle.bib_excerpts.specs.Sets.{is_in_set};
-ghost use Rattle.bib_excerpts.specs.Texts.{texts};
+ghost use Rattle.bib_excerpts.specs.Texts.{text_list};
 
 use crate::names::entry_names;
 use crate::sets::name_set;
@@ -20,7 +20,7 @@ fn all_names<'s>(
     alloc: Global,
     entries: &[Spanned<RawEntry<'s>>],
 ) -> Result<Vec<&'s str>, AllocError>
-    ensures { IfOk result (λ names. texts names ≡ spec.all_names (map entry_reading_of entries.now)) }
+    ensures { IfOk result (λ names. text_list names ≡ spec.all_names (map entry_reading_of entries.now)) }
 {
     let mut names = Vec::new(alloc);
     'entries: for entry in entries {
@@ -32,7 +32,7 @@ fn all_names<'s>(
 // Which keys are among these names.
 fn marks_among(alloc: Global, names: &[&str], keys: &[&str]) -> Result<Vec<bool>, AllocError>
     ensures { IfOk result (λ marks. marks.items ≡
-        map (is_among (map (λ n. n.now) names.now)) (map (λ k. k.now) keys.now)) }
+        map (is_listed (map (λ n. n.now) names.now)) (map (λ k. k.now) keys.now)) }
 {
     let set = name_set(alloc, names)?;
     let mut marks = Vec::with_capacity(alloc, keys.len())?;
@@ -44,7 +44,7 @@ fn marks_among(alloc: Global, names: &[&str], keys: &[&str]) -> Result<Vec<bool>
 
 /// Which keys are names of entries that can be read of a text: their keys, or names that their fields `ids` list.
 pub fn known(alloc: Global, text: &str, keys: &[&str]) -> Result<Vec<bool>, AllocError>
-    ensures { IfOk result (λ marks. IsKnown text.now (map (λ k. k.now) keys.now) marks.items) }
+    ensures { IfOk result (λ marks. IsKnownIn text.now (map (λ k. k.now) keys.now) marks.items) }
 {
     let found = RawBibliography::recover(alloc, text)?;
     let names = all_names(alloc, &found.raw.entries)?;
@@ -54,7 +54,7 @@ pub fn known(alloc: Global, text: &str, keys: &[&str]) -> Result<Vec<bool>, Allo
 
 // Whether a set has one of these names.
 fn has_one(set: &BTreeSet<&str>, names: &[&str]) -> bool
-    ensures { (keys : List (List ℕ)) → ((name : List ℕ) → is_in_set set.now name ≡ is_among keys name) →
+    ensures { (keys : List (List ℕ)) → ((name : List ℕ) → is_in_set set.now name ≡ is_listed keys name) →
         result ≡ has_name_among keys (map (λ n. n.now) names.now) }
 {
     'names: for name in names {
@@ -72,7 +72,7 @@ fn push_uncited<'s>(
     set: &BTreeSet<&str>,
     entry: &Spanned<RawEntry<'s>>,
 ) -> Result<(), AllocError>
-    ensures { OnOk result ((keys : List (List ℕ)) → ((name : List ℕ) → is_in_set set.now name ≡ is_among keys name) →
+    ensures { OnOk result ((keys : List (List ℕ)) → ((name : List ℕ) → is_in_set set.now name ≡ is_listed keys name) →
         map part_of found.new.items ≡ map part_of found.old.items ++ uncited_key keys (entry_reading_of entry.now)) }
 {
     let names = entry_names(alloc, entry)?;
@@ -89,7 +89,7 @@ fn uncited_among<'s>(
     set: &BTreeSet<&str>,
     entries: &[Spanned<RawEntry<'s>>],
 ) -> Result<Vec<Spanned<&'s str>>, AllocError>
-    ensures { IfOk result (λ found. (keys : List (List ℕ)) → ((name : List ℕ) → is_in_set set.now name ≡ is_among keys name) →
+    ensures { IfOk result (λ found. (keys : List (List ℕ)) → ((name : List ℕ) → is_in_set set.now name ≡ is_listed keys name) →
         map part_of found.items ≡ uncited_keys keys (map entry_reading_of entries.now)) }
 {
     let mut found = Vec::new(alloc);

@@ -4,8 +4,8 @@ ghost use Rattle.std.specs.Prelude.{◌≡◌, ◌++◌, map, IfOk, OnOk};
 ghost use Rattle.bib_syntax.specs.Grammar as grammar;
 ghost use Rattle.bib_syntax.specs.Views.{entry_reading_of, field_of, piece_of};
 ghost use Rattle.bib_excerpts.specs.Names as spec;
-ghost use Rattle.bib_excerpts.specs.Names.{comma_parts, literal_parts, aliases, references, used_in_value, used_in_fields, entry_node, definition_node};
-ghost use Rattle.bib_excerpts.specs.Texts.{texts, node_of};
+ghost use Rattle.bib_excerpts.specs.Names.{comma_parts, literal_parts, aliases_of, references_of, used_in_value, used_in_fields, entry_node, definition_node};
+ghost use Rattle.bib_excerpts.specs.Texts.{text_list, node_of};
 
 use bib_syntax::raw::{Pair, RawChunk, RawEntry};
 use bib_text::spanned::Spanned;
@@ -41,7 +41,7 @@ fn is_reference_field(name: &str) -> bool
 
 // Adds the parts of a comma list, without the white space around them; what is empty is no part.
 pub(crate) fn push_parts<'s>(names: &mut Vec<&'s str>, list: &'s str) -> Result<(), AllocError>
-    ensures { OnOk result (texts names.new ≡ texts names.old ++ comma_parts list.now) }
+    ensures { OnOk result (text_list names.new ≡ text_list names.old ++ comma_parts list.now) }
 {
     'parts: for part in list.split(',') {
         push_filled(names, part.trim())?;
@@ -51,7 +51,7 @@ pub(crate) fn push_parts<'s>(names: &mut Vec<&'s str>, list: &'s str) -> Result<
 
 // Adds a name that isn't empty.
 fn push_filled<'s>(names: &mut Vec<&'s str>, name: &'s str) -> Result<(), AllocError>
-    ensures { OnOk result (texts names.new ≡ texts names.old ++ spec.filled name.now) }
+    ensures { OnOk result (text_list names.new ≡ text_list names.old ++ spec.filled name.now) }
 {
     if name.is_empty() {
         return Ok(());
@@ -65,7 +65,7 @@ fn push_listed<'s>(
     names: &mut Vec<&'s str>,
     value: &[Spanned<RawChunk<'s>>],
 ) -> Result<(), AllocError>
-    ensures { OnOk result (texts names.new ≡ texts names.old ++ literal_parts (map piece_of value.now)) }
+    ensures { OnOk result (text_list names.new ≡ text_list names.old ++ literal_parts (map piece_of value.now)) }
 {
     'pieces: for piece in value {
         push_piece(names, piece)?;
@@ -75,7 +75,7 @@ fn push_listed<'s>(
 
 // Adds the parts of the comma list that a literal element is.
 fn push_piece<'s>(names: &mut Vec<&'s str>, piece: &Spanned<RawChunk<'s>>) -> Result<(), AllocError>
-    ensures { OnOk result (texts names.new ≡ texts names.old ++ spec.piece_parts (piece_of piece.now)) }
+    ensures { OnOk result (text_list names.new ≡ text_list names.old ++ spec.piece_parts (piece_of piece.now)) }
 {
     match piece.v {
         RawChunk::Normal(text) => push_parts(names, text),
@@ -85,7 +85,7 @@ fn push_piece<'s>(names: &mut Vec<&'s str>, piece: &Spanned<RawChunk<'s>>) -> Re
 
 // Adds the names that a field lists, where it is the field of an entry's further names.
 fn push_alias_field<'s>(names: &mut Vec<&'s str>, field: &Pair<'s>) -> Result<(), AllocError>
-    ensures { OnOk result (texts names.new ≡ texts names.old ++ spec.aliases_in (field_of field.now)) }
+    ensures { OnOk result (text_list names.new ≡ text_list names.old ++ spec.aliases_in (field_of field.now)) }
 {
     if is_name(field.key.v, "ids") {
         return push_listed(names, &field.value.v);
@@ -95,7 +95,7 @@ fn push_alias_field<'s>(names: &mut Vec<&'s str>, field: &Pair<'s>) -> Result<()
 
 // Adds the further names of an entry with these fields.
 fn push_aliases<'s>(names: &mut Vec<&'s str>, fields: &[Pair<'s>]) -> Result<(), AllocError>
-    ensures { OnOk result (texts names.new ≡ texts names.old ++ aliases (map field_of fields.now)) }
+    ensures { OnOk result (text_list names.new ≡ text_list names.old ++ aliases_of (map field_of fields.now)) }
 {
     'fields: for field in fields {
         push_alias_field(names, field)?;
@@ -105,7 +105,7 @@ fn push_aliases<'s>(names: &mut Vec<&'s str>, fields: &[Pair<'s>]) -> Result<(),
 
 // Adds the names that a field lists, where it is one of references.
 fn push_reference_field<'s>(names: &mut Vec<&'s str>, field: &Pair<'s>) -> Result<(), AllocError>
-    ensures { OnOk result (texts names.new ≡ texts names.old ++ spec.references_in (field_of field.now)) }
+    ensures { OnOk result (text_list names.new ≡ text_list names.old ++ spec.references_in (field_of field.now)) }
 {
     if is_reference_field(field.key.v) {
         return push_listed(names, &field.value.v);
@@ -115,7 +115,7 @@ fn push_reference_field<'s>(names: &mut Vec<&'s str>, field: &Pair<'s>) -> Resul
 
 // Adds the names that an entry with these fields refers to.
 fn push_references<'s>(names: &mut Vec<&'s str>, fields: &[Pair<'s>]) -> Result<(), AllocError>
-    ensures { OnOk result (texts names.new ≡ texts names.old ++ references (map field_of fields.now)) }
+    ensures { OnOk result (text_list names.new ≡ text_list names.old ++ references_of (map field_of fields.now)) }
 {
     'fields: for field in fields {
         push_reference_field(names, field)?;
@@ -128,7 +128,7 @@ fn push_used_piece<'s>(
     names: &mut Vec<&'s str>,
     piece: &Spanned<RawChunk<'s>>,
 ) -> Result<(), AllocError>
-    ensures { OnOk result (texts names.new ≡ texts names.old ++ spec.used_as (piece_of piece.now)) }
+    ensures { OnOk result (text_list names.new ≡ text_list names.old ++ spec.used_as (piece_of piece.now)) }
 {
     match piece.v {
         RawChunk::Normal(_) => Ok(()),
@@ -144,7 +144,7 @@ fn push_used<'s>(
     names: &mut Vec<&'s str>,
     value: &[Spanned<RawChunk<'s>>],
 ) -> Result<(), AllocError>
-    ensures { OnOk result (texts names.new ≡ texts names.old ++ used_in_value (map piece_of value.now)) }
+    ensures { OnOk result (text_list names.new ≡ text_list names.old ++ used_in_value (map piece_of value.now)) }
 {
     'pieces: for piece in value {
         push_used_piece(names, piece)?;
@@ -157,7 +157,7 @@ pub(crate) fn push_used_in_fields<'s>(
     names: &mut Vec<&'s str>,
     fields: &[Pair<'s>],
 ) -> Result<(), AllocError>
-    ensures { OnOk result (texts names.new ≡ texts names.old ++ used_in_fields (map field_of fields.now)) }
+    ensures { OnOk result (text_list names.new ≡ text_list names.old ++ used_in_fields (map field_of fields.now)) }
 {
     'fields: for field in fields {
         push_used(names, &field.value.v)?;
@@ -170,7 +170,7 @@ pub(crate) fn entry_names<'s>(
     alloc: Global,
     entry: &Spanned<RawEntry<'s>>,
 ) -> Result<Vec<&'s str>, AllocError>
-    ensures { IfOk result (λ names. texts names ≡ spec.entry_names (entry_reading_of entry.now)) }
+    ensures { IfOk result (λ names. text_list names ≡ spec.entry_names (entry_reading_of entry.now)) }
 {
     let mut names = Vec::new(alloc);
     names.push(entry.v.key.v)?;

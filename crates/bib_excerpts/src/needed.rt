@@ -2,9 +2,9 @@
 
 ghost use Rattle.std.specs.Prelude.{◌≡◌, ◌↔◌, ◌⊎◌, ◌+◌, ◌<◌, ℕ, List, [], ◌∷◌, ◌++◌, true, false, length, map, bytes_eq, slice_index_or, if◌then◌else◌, IfOk, OnOk};
 ghost use Rattle.std.specs.List.{All, Contains};
-ghost use Rattle.bib_excerpts.specs.Needed.{AreMarks, HasName, IsNeeded, is_among};
-ghost use Rattle.bib_excerpts.specs.Searching.{AreHolders, AreHoldersIn, IsMarked, Marks, Expands, holders_in, unmarked};
-ghost use Rattle.bib_excerpts.specs.Texts.{node_of, texts};
+ghost use Rattle.bib_excerpts.specs.Needed.{AreMarks, HasName, IsNeeded, is_listed};
+ghost use Rattle.bib_excerpts.specs.Searching.{AreHolders, AreHoldersIn, IsMarked, Marks, LooksUp, holders_in, unmarked};
+ghost use Rattle.bib_excerpts.specs.Texts.{node_of, text_list};
 
 use crate::names::Links;
 use std::alloc::{AllocError, Global};
@@ -46,7 +46,7 @@ fn add_holders<'s>(
     index: usize,
 ) -> Result<(), AllocError>
     ensures { OnOk result ((name : List ℕ) (one : ℕ) → Contains (holders_in holders.new name) one ↔
-        (Contains (holders_in holders.old name) one ⊎ ((one ≡ index) × (is_among (map (λ n. n.now) names.now) name ≡ true)))) }
+        (Contains (holders_in holders.old name) one ⊎ ((one ≡ index) × (is_listed (map (λ n. n.now) names.now) name ≡ true)))) }
 {
     'names: for name in names {
         add_holder(alloc, holders, name, index)?;
@@ -117,7 +117,7 @@ fn mark_names(
     requires { (other : List ℕ) → All (λ index. index < length marks.old) (holders_in holders.old other) }
     ensures length { length marks.new ≡ length marks.old }
     ensures marks { OnOk result (Marks (AreHoldersIn holders.old (map (λ n. n.now) names.now)) marks.old pending.old.items marks.new pending.new.items) }
-    ensures expands { OnOk result (Expands holders.old (map (λ n. n.now) names.now) marks.new holders.new) }
+    ensures expands { OnOk result (LooksUp holders.old (map (λ n. n.now) names.now) marks.new holders.new) }
 {
     'names: for name in names {
         mark_name(alloc, holders, name, marks, pending)?;

@@ -1,7 +1,7 @@
 //! Sets of names.
 
 ghost use Rattle.std.specs.Prelude.{◌≡◌, ℕ, List, map, IfOk};
-ghost use Rattle.bib_excerpts.specs.Needed.{is_among};
+ghost use Rattle.bib_excerpts.specs.Needed.{is_listed};
 ghost use Rattle.bib_excerpts.specs.Sets.{is_in_set};
 
 use std::alloc::{AllocError, Global};
@@ -12,7 +12,7 @@ pub(crate) fn name_set<'a>(
     alloc: Global,
     names: &[&'a str],
 ) -> Result<BTreeSet<&'a str>, AllocError>
-    ensures { IfOk result (λ set. (name : List ℕ) → is_in_set set name ≡ is_among (map (λ n. n.now) names.now) name) }
+    ensures { IfOk result (λ set. (name : List ℕ) → is_in_set set name ≡ is_listed (map (λ n. n.now) names.now) name) }
 {
     let mut set = BTreeSet::new(alloc);
     'names: for name in names {

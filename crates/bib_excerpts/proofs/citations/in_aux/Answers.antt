@@ -1,11 +1,11 @@
-use Rattle.std.proofs.Common.{◌≡◌, ◌≤◌, ◌<◌, ◌+◌, ◌^◌, ◌∙◌, ◌++◌, ◌∷◌, [], List, ℕ, true, false, map, take, length, get_or, sym, ap, ap₂, subst, arith, lit<}
+use Rattle.std.proofs.Common.{◌≡◌, ◌≤◌, ◌+◌, ◌∙◌, ◌++◌, ◌∷◌, [], List, ℕ, map, take, length, sym, ap, ap₂, arith, lit<}
 use Rattle.std.specs.Prelude.{◌==◌, ◌||◌, fold}
 use Rattle.std.specs.List.{slice_split}
 use Rattle.std.proofs.lemmas.List.{map-append, take_more}
 use Rattle.std.proofs.Math.Facts.{Fits-of_lt}
 use Rattle.std.proofs.lemmas.Iterator.Consumers.{YieldsList-end, YieldsList-so_far, YieldsList-turn}
 use Rattle.std.proofs.lemmas.Iterator.Splits.{YieldsList-from_str_split}
-use Rattle.bib_excerpts.specs.Citations.{AreCitations, add_citation, aux_cited, cites_all, cites_from}
+use Rattle.bib_excerpts.specs.Citations.{add_citation, aux_cited, cites_all, cites_from}
 use Rattle.bib_excerpts.proofs.CitationFacts.{collected_next, past, past_below, past_push}
 use Rattle.bib_excerpts.proofs.citations.in_aux.Goals as goal
 

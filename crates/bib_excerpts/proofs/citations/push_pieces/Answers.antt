@@ -1,8 +1,6 @@
-use Rattle.std.proofs.Common.{◌≡◌, ◌∙◌, ◌++◌, ◌∷◌, [], map, ap, sym, append_assoc, append-nil, lit<}
+use Rattle.std.proofs.Common.{◌∙◌, ◌++◌, ap, lit<}
 use Rattle.std.specs.List.{flat_map}
 use Rattle.std.specs.String.{string_bytes}
-use Rattle.std.proofs.lemmas.List.{map-append}
-use Rattle.std.proofs.lemmas.List.Concat.{flat_map-append}
 use Rattle.std.proofs.lemmas.Iterator.Consumers.{YieldsList-end}
 use Rattle.std.proofs.lemmas.Iterator.Splits.{YieldsList-from_str_split}
 use Rattle.bib_excerpts.specs.Citations.{unescaped_piece}

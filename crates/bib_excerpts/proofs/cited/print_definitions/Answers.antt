@@ -1,14 +1,12 @@
-use Rattle.std.proofs.Common.{◌≡◌, ◌∙◌, ◌+◌, ◌++◌, ◌∷◌, [], ℕ, List, length, map, take, ap, sym, subst}
+use Rattle.std.proofs.Common.{◌≡◌, ◌∙◌, ◌++◌, length, map, take, ap, sym, subst}
 use Rattle.std.specs.List.{flat_map}
 use Rattle.std.specs.String.{string_bytes}
 use Rattle.std.proofs.lemmas.List.{length_push}
 use Rattle.std.proofs.lemmas.Slice.Zip.{zip_turn, zip_end}
-use Rattle.bib_syntax.specs.Recovery.{IsBlockOf}
 use Rattle.bib_syntax.specs.Views.{field_of}
 use Rattle.bib_excerpts.specs.Cited.{definition_line}
 use Rattle.bib_excerpts.specs.Needed.{marked}
 use Rattle.bib_excerpts.specs.Standing.{IsFieldIn}
-use Rattle.bib_excerpts.specs.Texts.{texts}
 use Rattle.bib_excerpts.proofs.MarkFacts.{all_at, marked_all, marked_made}
 use Rattle.bib_excerpts.proofs.cited.print_definitions.Goals as goal
 

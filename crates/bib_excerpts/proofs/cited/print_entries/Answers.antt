@@ -1,4 +1,4 @@
-use Rattle.std.proofs.Common.{◌≡◌, ◌∙◌, ◌+◌, ◌++◌, ◌∷◌, [], ℕ, List, length, map, take, ap, sym, subst}
+use Rattle.std.proofs.Common.{◌≡◌, ◌∙◌, ◌++◌, length, map, take, ap, sym, subst}
 use Rattle.std.specs.List.{flat_map}
 use Rattle.std.specs.String.{string_bytes}
 use Rattle.std.proofs.lemmas.List.{length_push}
@@ -7,8 +7,6 @@ use Rattle.bib_syntax.specs.Recovery.{IsBlockOf}
 use Rattle.bib_syntax.specs.Views.{entry_reading_of}
 use Rattle.bib_excerpts.specs.Cited.{entry_line}
 use Rattle.bib_excerpts.specs.Needed.{marked}
-use Rattle.bib_excerpts.specs.Standing.{IsFieldIn}
-use Rattle.bib_excerpts.specs.Texts.{texts}
 use Rattle.bib_excerpts.proofs.MarkFacts.{all_at, marked_all, marked_made}
 use Rattle.bib_excerpts.proofs.cited.print_entries.Goals as goal
 

@@ -1,4 +1,4 @@
-use Rattle.std.proofs.Common.{◌≡◌, ◌∙◌, List, ℕ, length, map, ap, sym}
+use Rattle.std.proofs.Common.{◌≡◌, ◌∙◌, List, length, map, ap, sym}
 use Rattle.std.proofs.lemmas.List.{length-map}
 use Rattle.bib_syntax.specs.Views.{entry_reading_of, field_of}
 use Rattle.bib_excerpts.specs.Cited.{used_in_entries}

@@ -1,8 +1,6 @@
-use Rattle.std.proofs.Common.{◌≡◌, ◌∙◌, map, sym, arith}
-use Rattle.std.proofs.lemmas.Grind.{common_steps}
+use Rattle.std.proofs.Common.{sym}
 use Rattle.bib_syntax.specs.Recovery.{IsBlockOf}
 use Rattle.bib_syntax.specs.Views.{entry_reading_of}
-use Rattle.bib_excerpts.specs.Answers.{has_key}
 use Rattle.bib_excerpts.proofs.MarkFacts.{all_at}
 use Rattle.bib_excerpts.proofs.excerpts.grep.Goals as goal
 

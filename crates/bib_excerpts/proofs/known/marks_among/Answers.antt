@@ -1,7 +1,7 @@
 use Rattle.std.proofs.Common.{◌≡◌, ◌∙◌, ◌+◌, ◌++◌, ◌∷◌, ℕ, List, Bool, [], get_or, map, take, ap, ap₂, sym, arith}
 use Rattle.std.specs.Borrow.{Bor}
 use Rattle.std.proofs.lemmas.List.{map-append, take_more}
-use Rattle.bib_excerpts.specs.Needed.{is_among}
+use Rattle.bib_excerpts.specs.Needed.{is_listed}
 use Rattle.bib_excerpts.proofs.known.marks_among.Goals as goal
 
 pub keys-preserved : goal.keys-preserved
@@ -10,7 +10,7 @@ keys-preserved c =
     let keys = c.args.keys.now in
     let i : ℕ = c.keys.key-index in
     let key : Bor (List ℕ) = get_or keys i nobody in
-    let test : List ℕ → Bool = is_among (map (λ n. n.now) c.args.names.now) in
+    let test : List ℕ → Bool = is_listed (map (λ n. n.now) c.args.names.now) in
     let next : map (λ k. k.now) (take (i + 1) keys) ≡ map (λ k. k.now) (take i keys) ++ key.now ∷ [] = ap (map (λ k. k.now)) (take_more keys i nobody (omega arith)) ∙ map-append (λ k. k.now) (take i keys) (key ∷ []) in
     c.in_ok-push.ensures.items ∙ ap₂ (λ l b. l ++ b ∷ []) c.keys.invariant (c.contains.ensures ∙ c.in_ok-set.ensures key.now)
     ∙ sym (ap (map test) next ∙ map-append test (map (λ k. k.now) (take i keys)) (key.now ∷ []))

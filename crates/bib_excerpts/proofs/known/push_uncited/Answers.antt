@@ -1,4 +1,4 @@
-use Rattle.std.proofs.Common.{◌≡◌, ◌∙◌, ◌++◌, ◌∷◌, ℕ, List, Bool, true, false, [], cond, map, ap, sym, append-nil}
+use Rattle.std.proofs.Common.{◌≡◌, ◌∙◌, ◌++◌, ◌∷◌, true, false, [], cond, map, ap, sym, append-nil}
 use Rattle.std.proofs.lemmas.List.{map-append}
 use Rattle.bib_syntax.specs.Views.{entry_reading_of, part_of}
 use Rattle.bib_excerpts.specs.Known.{has_name_among}

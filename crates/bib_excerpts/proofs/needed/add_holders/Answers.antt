@@ -1,7 +1,7 @@
-use Rattle.std.proofs.Common.{◌≡◌, ◌↔◌, ◌⊎◌, List, ℕ, true, map, arith, subst}
+use Rattle.std.proofs.Common.{◌≡◌, ◌↔◌, ◌⊎◌, true, map, arith, subst}
 use Rattle.std.specs.List.{Contains}
 use Rattle.std.proofs.lemmas.List.{take_all}
-use Rattle.bib_excerpts.specs.Needed.{is_among}
+use Rattle.bib_excerpts.specs.Needed.{is_listed}
 use Rattle.bib_excerpts.specs.Searching.{holders_in}
 use Rattle.bib_excerpts.proofs.SearchFacts.{holder_more, among_more}
 use Rattle.bib_excerpts.proofs.needed.add_holders.Goals as goal
@@ -13,5 +13,5 @@ names-preserved c = λ name one.
 
 pub returns : goal.returns
 returns c = λ name one.
-    subst (λ l. Contains (holders_in c.names.holders name) one ↔ (Contains (holders_in c.args.holders.now name) one ⊎ ((one ≡ c.args.index) × (is_among (map (λ n. n.now) l) name ≡ true))))
+    subst (λ l. Contains (holders_in c.names.holders name) one ↔ (Contains (holders_in c.args.holders.now name) one ⊎ ((one ≡ c.args.index) × (is_listed (map (λ n. n.now) l) name ≡ true))))
     (take_all c.names.name-index c.args.names.now c.names-test.false) (c.names.invariant name one)

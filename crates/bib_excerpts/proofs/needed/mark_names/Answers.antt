@@ -2,7 +2,7 @@ use Rattle.std.proofs.Common.{◌≡◌, ◌<◌, ◌∙◌, ◌+◌, ℕ, List,
 use Rattle.std.specs.Borrow.{Bor}
 use Rattle.std.specs.List.{All, Contains}
 use Rattle.std.proofs.lemmas.List.{take_more, map-append}
-use Rattle.bib_excerpts.specs.Searching.{AreHoldersIn, Expands, holders_in}
+use Rattle.bib_excerpts.specs.Searching.{AreHoldersIn, LooksUp, holders_in}
 use Rattle.bib_excerpts.proofs.SearchFacts.{among_at, holder_before, left_below, marks_then, marks_weaker, one_looked_up}
 use Rattle.bib_excerpts.proofs.needed.mark_names.Goals as goal
 
@@ -27,6 +27,6 @@ names-preserved c =
           (marks_weaker (Contains (holders_in c.names.holders name)) (AreHoldersIn c.args.holders.now (map (λ n. n.now) names))
           (λ k held. (name, among_at names i nobody within, holder_before c.args.holders.now c.names.holders done c.names.marks name k c.names.invariant.expands held))
           c.names.marks c.names.pending.items c.mark_name.new.marks c.mark_name.new.pending.items says.marks);
-      expands = subst (λ l. Expands c.args.holders.now l c.mark_name.new.marks c.mark_name.new.holders) (sym next)
+      expands = subst (λ l. LooksUp c.args.holders.now l c.mark_name.new.marks c.mark_name.new.holders) (sym next)
           (one_looked_up c.args.holders.now c.names.holders c.mark_name.new.holders done name c.names.marks c.mark_name.new.marks c.names.invariant.expands says.marks.kept says.all says.left);
     }

@@ -1,4 +1,4 @@
-use Rattle.std.proofs.Common.{◌≡◌, ◌∙◌, ◌+◌, ℕ, Bool, true, List, [], map, take, get_or, cond, sym, ap, arith}
+use Rattle.std.proofs.Common.{◌∙◌, ℕ, true, List, [], get_or, cond, sym, ap, arith}
 use Rattle.std.specs.Prelude.{bytes_eq}
 use Rattle.std.specs.Borrow.{Bor}
 use Rattle.std.proofs.lemmas.Map.Text.{is_eq-slice_cmp}

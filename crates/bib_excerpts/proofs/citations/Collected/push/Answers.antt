@@ -1,4 +1,4 @@
-use Rattle.std.proofs.Common.{◌≡◌, ◌∙◌, ◌++◌, ◌∷◌, [], List, ℕ, Bool, true, cond, sym, ap}
+use Rattle.std.proofs.Common.{◌≡◌, ◌∙◌, ◌++◌, ◌∷◌, [], Bool, true, cond, sym, ap}
 use Rattle.std.specs.Prelude.{bytes_eq, is_some}
 use Rattle.std.specs.String.{string_bytes}
 use Rattle.std.specs.List.{list_any}
