@@ -17,7 +17,7 @@ use Rattle.bibkit_core.specs.declared.tally.Tally.{Tally}
 use Rattle.bibkit_core.specs.Asked.{asked, is_asked}
 use Rattle.bibkit_core.specs.Adding.{IsAdded, IsPrintedOne}
 use Rattle.bib_encoding.specs.declared.decoding.Decoded.{Decoded}
-use Rattle.bibkit_core.specs.Found.{AreFindings}
+use Rattle.bib_findings.specs.Findings.{AreFindings}
 use Rattle.bibkit_core.specs.declared.request.Lint.{Lint}
 use Rattle.bibkit_core.specs.Linted.{AreShown, ArePrinted, IsPrintedFile, counted, unread_findings}
 use Rattle.bibkit_core.specs.Linted.AreShown.{none, next}
@@ -108,7 +108,7 @@ step_passed {style} {name} {bytes} s xs more f {a} {b} {d} grows isnt before sam
     (subst (λ ys. IsAdded (ArePrinted style name bytes ys) a b) (sym (ap (asked s) grows ∙ asked_same s xs f isnt)) before)
 
 -- the findings of a file, after the byte that isn't UTF-8
-pub file_added : {lint : Lint} {name bytes : List ℕ} {decoded : Decoded} (found : List Finding) {a b c : Printed} → AreFindings found
+pub file_added : {lint : Lint} {name bytes : List ℕ} {decoded : Decoded} (found : List Finding) {a b c : Printed} → AreFindings (string_bytes decoded.text) found
     → IsAdded (ArePrinted lint.style name bytes (asked lint.selection (unread_findings decoded.invalid))) a b
     → IsAdded (ArePrinted lint.style name (string_bytes decoded.text) (asked lint.selection found)) b c → IsAdded (IsPrintedFile lint name bytes decoded) a c
 file_added found {a} {b} {c} are first second = record {

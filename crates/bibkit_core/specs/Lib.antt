@@ -1,7 +1,6 @@
 pub mod Adding
 pub mod Answered
 pub mod Asked
-pub mod Found
 pub mod Linted
 pub mod Printed
 pub mod Running

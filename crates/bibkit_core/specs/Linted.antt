@@ -5,10 +5,10 @@ use Rattle.bib_lines.specs.Positions.{position_at}
 use Rattle.bib_lines.specs.declared.positions.Position.{Position}
 use Rattle.bib_findings.specs.Codes.{severity_of}
 use Rattle.bib_encoding.specs.declared.decoding.Decoded.{Decoded}
+use Rattle.bib_findings.specs.Findings.{AreFindings}
 use Rattle.bib_findings.specs.declared.codes.Code.TheVariants.{UnreadBytes}
 use Rattle.bib_findings.specs.declared.finding.Finding.{Finding}
 use Rattle.bibkit_core.specs.Asked.{asked}
-use Rattle.bibkit_core.specs.Found.{AreFindings}
 use Rattle.bibkit_core.specs.declared.lint.Printed.{Printed}
 use Rattle.bibkit_core.specs.declared.request.Lint.{Lint}
 use Rattle.bibkit_core.specs.declared.request.Style.{Style}
@@ -43,7 +43,7 @@ unread_findings (Some at) = unread_finding at ∷ []
 -- which on it isn't UTF-8, at its place among the bytes, and then the findings of its text, each at its place there
 pub record IsPrintedFile (lint : Lint) (name bytes : List ℕ) (decoded : Decoded) (before : Tally) (text : List ℕ) (after : Tally) : Type 0 where
   pub found : List Finding
-  pub are : AreFindings found
+  pub are : AreFindings (string_bytes decoded.text) found
   pub between : Tally
   pub first : List ℕ
   pub second : List ℕ

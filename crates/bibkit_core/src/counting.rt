@@ -3,9 +3,9 @@
 ghost use Rattle.std.specs.Prelude.{◌≡◌, []};
 
 use crate::decoding::decoded;
-use crate::found::findings;
 use crate::tables::Counts;
 use crate::task::{End, Task};
+use bib_findings::findings::findings;
 use biblatex::{Pair, RawBibliography, RawChunk, RawEntry};
 use std::alloc::{AllocError, Global};
 

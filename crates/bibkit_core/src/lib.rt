@@ -12,7 +12,6 @@ mod counting;
 mod decoding;
 mod entries;
 pub mod files;
-mod found;
 mod frames;
 mod lines;
 mod lint;

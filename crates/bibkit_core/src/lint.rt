@@ -8,7 +8,6 @@ ghost use Rattle.bibkit_core.specs.Adding.{IsAdded, IsPrintedOne};
 ghost use Rattle.bibkit_core.specs.Linted.{ArePrinted, IsPrintedFile, unread_finding, unread_findings};
 ghost use Rattle.bibkit_core.specs.Printed as spec;
 
-use crate::found::findings;
 use crate::frames::framed_finding;
 use crate::lines::finding_line;
 use crate::objects::finding_object;
@@ -16,6 +15,7 @@ use crate::request::{Lint, Style};
 use crate::tally::Tally;
 use bib_findings::codes::Code;
 use bib_findings::finding::Finding;
+use bib_findings::findings::findings;
 use bib_lines::positions::{Position, Positions};
 use bib_text::text::Text;
 use biblatex::Decoded;
