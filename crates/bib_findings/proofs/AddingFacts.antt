@@ -1,7 +1,13 @@
 -- Facts on findings that are added to others.
-use Rattle.std.proofs.Common.{◌≡◌, ℕ, List, [], ◌∷◌, ◌++◌, ◌+◌, ◌<◌, length, get_or, take, map, Result, Ok, Err, OnOk, refl, sym, ap, ◌∙◌, append_assoc, append-nil, subst}
+use Rattle.std.proofs.Common.{◌≡◌, ℕ, List, [], ◌∷◌, ◌++◌, ◌+◌, ◌<◌, length, get_or, take, map, Result, Ok, Err, OnOk, refl, sym, ap, ◌∙◌, append_assoc, append-nil, subst, arith}
 use Rattle.std.specs.Prelude.{codes, slice_get, Some}
-use Rattle.std.proofs.lemmas.List.{map_more}
+use Rattle.std.specs.List.{All}
+use Rattle.std.proofs.lemmas.List.{map_more, take_more}
+use Rattle.std.proofs.lemmas.List.Elements.{All-get_or}
+use Rattle.bib_text.specs.declared.spanned.Spanned.{Spanned}
+use Rattle.bib_syntax.specs.Views.{entry_reading_of}
+use Rattle.bib_syntax.specs.declared.raw.RawEntry.{RawEntry}
+use Rattle.bib_findings.proofs.ListFacts.{get_mapped, more}
 use Rattle.bib_enums.specs.declared.type_error.TypeError.{TypeError}
 use Rattle.bib_entry.specs.Reports.{AreMalformed, missing_of, superfluous_of}
 use Rattle.bib_entry.specs.declared.entry.Entry.{Entry}
@@ -9,7 +15,12 @@ use Rattle.bib_entry_types.specs.Requirements.{Names}
 use Rattle.bib_syntax.specs.Reading.{EntryReading}
 use Rattle.bib_findings.specs.Adding.{Adds}
 use Rattle.bib_findings.specs.Entries.{AreOfEach, AreOfReport, field_finding, malformed_finding, report_findings}
-use Rattle.bib_findings.specs.Findings.{AreOfEntry}
+use Rattle.bib_findings.specs.Findings.{AreFindingsIn, AreOfEntry, AreSortedByPlace}
+use Rattle.bib_findings.specs.Errors.{block_finding, error_finding}
+use Rattle.bib_syntax.specs.declared.raw.ParseError.{ParseError}
+use Rattle.bib_syntax.specs.declared.raw.recovery.SkippedBlock.{SkippedBlock}
+use Rattle.std.specs.Global.{Global}
+use Rattle.std.specs.Prelude.{IfOk, Vec}
 use Rattle.bib_findings.specs.Names.{AreOfUnknown}
 use Rattle.bib_findings.specs.declared.codes.Code.TheVariants.{MissingField, SuperfluousField}
 use Rattle.bib_findings.specs.declared.finding.Finding.{Finding}
@@ -76,3 +87,44 @@ each_next Are said indices entries old mid new index one entry before there more
   are = each_more Are said indices entries before.added index one entry more.added before.are there more.are;
   new_is = more.new_is ∙ ap (λ l. l ++ more.added) before.new_is ∙ append_assoc old before.added more.added;
 }
+
+-- before any entry nothing is added
+pub each_none : (Are : EntryReading → Entry → List Finding → Type 0) (said : List EntryReading) (old : List Finding) → Adds (AreOfEach Are said [] []) old old
+each_none Are said old = record { added = []; are = AreOfEach.none; new_is = sym (append-nil old) }
+
+-- the findings of the entry at an index are added
+pub each_at : (Are : EntryReading → Entry → List Finding → Type 0) (said : List (Spanned RawEntry)) (origins : List ℕ) (entries : List Entry) (index : ℕ) (one : Spanned RawEntry) (entry : Entry) (old mid new : List Finding)
+    → All (λ i. i < length said) origins → length origins ≡ length entries → index < length entries → one ≡ get_or said (get_or origins index 0) one → entry ≡ get_or entries index entry
+    → Adds (AreOfEach Are (map entry_reading_of said) (take index origins) (take index entries)) old mid → Adds (Are (entry_reading_of one) entry) mid new
+    → Adds (AreOfEach Are (map entry_reading_of said) (take (index + 1) origins) (take (index + 1) entries)) old new
+each_at Are said origins entries index one entry old mid new there same within one_is entry_is before added =
+    let inside : index < length origins = omega (arith, same) in
+    let origin : ℕ = get_or origins index 0 in
+    let here : slice_get (map entry_reading_of said) origin ≡ Some (entry_reading_of one) =
+    get_mapped entry_reading_of said origin one (All-get_or (λ i. i < length said) origins index 0 inside there) ∙ ap (λ e. Some (entry_reading_of e)) (sym one_is) in
+    let P : List ℕ → List Entry → Type 0 = λ is es. Adds (AreOfEach Are (map entry_reading_of said) is es) old new in
+    subst (λ is. P is (take (index + 1) entries)) (sym (take_more origins index 0 inside))
+    (subst (λ es. P (take index origins ++ origin ∷ []) es) (sym (more entries index entry within entry_is))
+    (each_next Are (map entry_reading_of said) (take index origins) (take index entries) old mid new origin (entry_reading_of one) entry before here added))
+
+-- findings that are known are added
+pub added_known : (Are : List Finding → Type 0) (known old new : List Finding) → Are known → new ≡ old ++ known → Adds Are old new
+added_known Are known old new are is = record { added = known; are = are; new_is = is }
+
+-- four lists that are added one after another to none
+pub added_in_order : (none one two three new a b c d : List Finding) → none ≡ [] → one ≡ none ++ a → two ≡ one ++ b → three ≡ two ++ c → new ≡ three ++ d
+    → new ≡ a ++ (b ++ (c ++ d))
+added_in_order none one two three new a b c d empty first second third fourth =
+    let start : one ≡ a = first ∙ ap (λ l. l ++ a) empty in
+    added_thrice one two three new b c d second third fourth ∙ ap (λ l. l ++ (b ++ (c ++ d))) start
+
+-- all findings, once they are sorted
+pub sorted_are : {E : Type 0} (skipped : List SkippedBlock) (errors : List ParseError) (said : List EntryReading) (origins : List ℕ) (entries : List Entry) (between of_entries all : List Finding) (r : Result (Vec Finding Global) E)
+    → AreOfEach AreOfEntry said origins entries of_entries → all ≡ map block_finding skipped ++ (map error_finding errors ++ (of_entries ++ between))
+    → IfOk r (λ sorted. AreSortedByPlace all sorted.items) → IfOk r (λ found. AreFindingsIn skipped errors said origins entries between found.items)
+sorted_are skipped errors said origins entries between of_entries all (Ok found) reports are sorted = record {
+  of_entries = of_entries;
+  reports = reports;
+  sorted = subst (λ l. AreSortedByPlace l found.items) are sorted;
+}
+sorted_are skipped errors said origins entries between of_entries all (Err e) reports are sorted = tt

@@ -1,12 +1,18 @@
 -- Meaning: words of public contracts.
 -- All that is wrong in a file: the findings of what recovery reports, and those of each entry that it keeps.
-use Rattle.std.specs.Prelude.{◌≡◌, List, ◌++◌}
+use Rattle.std.specs.Prelude.{◌≡◌, ℕ, List, ◌++◌, map}
 use Rattle.std.specs.List.Sorted.{IsPermutation, IsSortedByKey, IsStableByKey}
 use Rattle.std.specs.Ordering.{nat_cmp}
 use Rattle.bib_entry.specs.declared.entry.Entry.{Entry}
 use Rattle.bib_syntax.specs.Reading.{EntryReading}
-use Rattle.bib_findings.specs.Entries.{AreOfReport}
+use Rattle.bib_syntax.specs.declared.raw.ParseError.{ParseError}
+use Rattle.bib_syntax.specs.declared.raw.recovery.SkippedBlock.{SkippedBlock}
+use Rattle.bib_maps.specs.Sorted.{ByText}
+use Rattle.bib_findings.specs.Duplicates.{duplicates, entries_at}
+use Rattle.bib_findings.specs.Entries.{AreOfEach, AreOfReport}
+use Rattle.bib_findings.specs.Errors.{block_finding, error_finding}
 use Rattle.bib_findings.specs.Names.{AreOfUnknown}
+use Rattle.bib_findings.specs.References.{AreReferences}
 use Rattle.bib_findings.specs.declared.finding.Finding.{Finding}
 
 -- the findings of an entry, which the file says so: those of the report on it, and those of fields whose names aren't known
@@ -22,3 +28,16 @@ pub record AreSortedByPlace (all found : List Finding) : Type 0 where
   pub same : IsPermutation all found
   pub sorted : IsSortedByKey (λ f. f.span.start) nat_cmp found
   pub stable : IsStableByKey (λ f. f.span.start) nat_cmp all found
+
+-- findings between entries: of the keys that they name and that none has, and then of those that are likely the same work
+pub record AreBetween (names : ByText ℕ) (said : List EntryReading) (origins : List ℕ) (own : List Entry) (found : List Finding) : Type 0 where
+  pub of_keys : List Finding
+  pub keys : AreOfEach (AreReferences names) said origins own of_keys
+  pub are : found ≡ of_keys ++ duplicates (entries_at said origins)
+
+-- all that is wrong in a file, in the order in which it starts: that of the blocks that are passed over, of the errors, of each
+-- entry that is kept, and between entries
+pub record AreFindingsIn (skipped : List SkippedBlock) (errors : List ParseError) (said : List EntryReading) (origins : List ℕ) (entries : List Entry) (between found : List Finding) : Type 0 where
+  pub of_entries : List Finding
+  pub reports : AreOfEach AreOfEntry said origins entries of_entries
+  pub sorted : AreSortedByPlace (map block_finding skipped ++ (map error_finding errors ++ (of_entries ++ between))) found

@@ -17,13 +17,13 @@ literal_text (literal p ∷ []) = p.text
 literal_text _ = []
 
 -- the text of a field, if there is one
-abbrev pub value_text : Option FieldReading → List ℕ
-value_text None = []
-value_text (Some f) = literal_text f.value.pieces
+abbrev pub field_literal : Option FieldReading → List ℕ
+field_literal None = []
+field_literal (Some f) = literal_text f.value.pieces
 
 -- the text of the field of this name of an entry: of two fields with one name the last
-abbrev pub text_of : EntryReading → List ℕ → List ℕ
-text_of said name = value_text (last_named said.fields name)
+abbrev pub own_literal : EntryReading → List ℕ → List ℕ
+own_literal said name = field_literal (last_named said.fields name)
 
 -- of two texts the first, unless it is empty
 abbrev pub or_else : List ℕ → List ℕ → List ℕ
@@ -38,24 +38,24 @@ abbrev pub folded : List ℕ → List ℕ
 folded text = filter (λ c. not (is_brace c)) (chars (str_to_lowercase text))
 
 -- the words among characters: what stands between white space
-abbrev pub words_of : List ℕ → List (List ℕ)
-words_of characters = filter (λ word. not (length word == 0)) (slice_split is_whitespace characters)
+abbrev pub folded_words : List ℕ → List (List ℕ)
+folded_words characters = filter (λ word. not (length word == 0)) (slice_split is_whitespace characters)
 
 -- words, a space after each
-abbrev pub spaced : List (List ℕ) → List ℕ
-spaced = flat_map (λ word. encode_utf8_all word ++ codes " ")
+abbrev pub spaced_words : List (List ℕ) → List ℕ
+spaced_words = flat_map (λ word. encode_utf8_all word ++ codes " ")
 
 -- the words of a text, a space after each
 abbrev pub plain_words : List ℕ → List ℕ
-plain_words text = spaced (words_of (folded text))
+plain_words text = spaced_words (folded_words (folded text))
 
 -- whether a word stands between people
-abbrev pub is_and : List ℕ → Bool
-is_and word = bytes_eq word (codes "and")
+abbrev pub is_between_people : List ℕ → Bool
+is_between_people word = bytes_eq word (codes "and")
 
 -- the words of the first of some people, a space after each
 abbrev pub first_person : List ℕ → List ℕ
-first_person people = spaced (take_while (λ word. not (is_and word)) (words_of (folded people)))
+first_person people = spaced_words (take_while (λ word. not (is_between_people word)) (folded_words (folded people)))
 
 -- the first four characters of a text
 abbrev pub first_four : List ℕ → List ℕ
@@ -76,15 +76,15 @@ without_prefixes text (prefix ∷ prefixes) = if starts_with nat_eq text prefix 
 
 -- the DOI of an entry
 abbrev pub doi_of : EntryReading → List ℕ
-doi_of said = without_prefixes (squeezed (text_of said (codes "doi"))) doi_prefixes
+doi_of said = without_prefixes (squeezed (own_literal said (codes "doi"))) doi_prefixes
 
 -- the ISBN of an entry, without hyphens
 abbrev pub isbn_of : EntryReading → List ℕ
-isbn_of said = encode_utf8_all (filter (λ c. not (c == char.hyphen)) (chars (squeezed (text_of said (codes "isbn")))))
+isbn_of said = encode_utf8_all (filter (λ c. not (c == char.hyphen)) (chars (squeezed (own_literal said (codes "isbn")))))
 
 -- the year of an entry: its field `year`, or else the first four characters of its date
 abbrev pub year_of : EntryReading → List ℕ
-year_of said = plain_words (or_else (text_of said (codes "year")) (first_four (text_of said (codes "date"))))
+year_of said = plain_words (or_else (own_literal said (codes "year")) (first_four (own_literal said (codes "date"))))
 
 -- a title, a first person and a year as one text, if none is empty; they hold no braces, so these stand between them
 abbrev pub work_text : List ℕ → List ℕ → List ℕ → List ℕ
@@ -94,7 +94,7 @@ work_text title person year =
 -- the title, the first person and the year of an entry
 abbrev pub work_of : EntryReading → List ℕ
 work_of said =
-    work_text (plain_words (text_of said (codes "title"))) (first_person (or_else (text_of said (codes "author")) (text_of said (codes "editor")))) (year_of said)
+    work_text (plain_words (own_literal said (codes "title"))) (first_person (or_else (own_literal said (codes "author")) (own_literal said (codes "editor")))) (year_of said)
 
 -- the identity of this kind, where there is a text
 abbrev pub identity : List ℕ → List ℕ → Names

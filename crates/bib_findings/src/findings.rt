@@ -1,18 +1,22 @@
 //! All that is wrong in a file.
 
-ghost use Rattle.std.specs.Prelude.{◌≡◌, ◌<◌, All, length, map, OnOk};
+ghost use Rattle.std.specs.Prelude.{◌≡◌, ◌<◌, All, length, map, IfOk, OnOk};
 ghost use Rattle.std.specs.BTreeMap.{get_by_text};
 ghost use Rattle.bib_syntax.specs.Views.{entry_reading_of};
 ghost use Rattle.bib_findings.specs.Adding.{Adds};
 ghost use Rattle.bib_findings.specs.Entries.{AreOfEach};
-ghost use Rattle.bib_findings.specs.Findings.{AreOfEntry};
+ghost use Rattle.bib_findings.specs.Findings.{AreBetween, AreFindingsIn, AreOfEntry, AreSortedByPlace};
 ghost use Rattle.bib_findings.specs.Met.{AreFieldNames};
 
+use crate::duplicates::add_duplicates;
 use crate::entries::add_report;
+use crate::errors::{add_blocks, add_errors};
 use crate::finding::Finding;
 use crate::names::{FieldName, add_unknown_fields};
+use crate::references::add_references;
 use bib_entry::entry::Entry;
-use bib_syntax::raw::RawEntry;
+use bib_maps::names::Names;
+use bib_syntax::raw::{ParseError, RawEntry, SkippedBlock};
 use bib_text::spanned::Spanned;
 use std::alloc::{AllocError, Global};
 use std::collections::BTreeMap;
@@ -48,8 +52,64 @@ fn add_entries(
         found.old.items found.new.items) }
 {
     let mut met = BTreeMap::new(alloc);
-    'entries: for (index, entry) in origins.iter().zip(entries) {
-        add_entry(alloc, found, &mut met, &said[*index], entry)?;
+    'entries: for index in 0..entries.len() {
+        let one = &said[origins[index]];
+        let entry = &entries[index];
+        add_entry(alloc, found, &mut met, one, entry)?;
     }
     Ok(())
+}
+
+/// What is wrong between entries: the keys that they refer to and that none has, by the fields that they have of their own,
+/// and those that are likely the same work as an earlier one. Each has its index among the entries of the file.
+pub fn between(
+    alloc: Global,
+    said: &[Spanned<RawEntry<'_>>],
+    origins: &[usize],
+    names: &Names,
+    own: &[Entry],
+) -> Result<Vec<Finding>, AllocError>
+    requires same_length { length origins.now ≡ length own.now }
+    requires there { All (λ index. index < length said.now) origins.now }
+    ensures { IfOk result (λ found. AreBetween names.now (map entry_reading_of said.now) origins.now own.now found.items) }
+{
+    let mut found = Vec::new(alloc);
+    add_references(alloc, &mut found, names, said, origins, own)?;
+    add_duplicates(alloc, &mut found, said, origins)?;
+    Ok(found)
+}
+
+// Findings in the order in which they start in the file.
+fn sorted_by_place(found: Vec<Finding>) -> Result<Vec<Finding>, AllocError>
+    ensures { IfOk result (λ sorted. AreSortedByPlace found.items sorted.items) }
+{
+    let mut found = found;
+    found.sort_by_key(|finding| finding.span.start)?;
+    Ok(found)
+}
+
+/// All that is wrong in a file, or may be, in the order of where it starts, where the file was recovered: these blocks were
+/// passed over, these are the errors of what was read, these entries are kept, each with its index among the entries of the
+/// file, and this is wrong between them. Refused only when out of memory.
+pub fn findings_in(
+    alloc: Global,
+    skipped: &[SkippedBlock],
+    errors: &[ParseError],
+    said: &[Spanned<RawEntry<'_>>],
+    origins: &[usize],
+    entries: &[Entry],
+    between: Vec<Finding>,
+) -> Result<Vec<Finding>, AllocError>
+    requires same_length { length origins.now ≡ length entries.now }
+    requires there { All (λ index. index < length said.now) origins.now }
+    ensures { IfOk result (λ found. AreFindingsIn skipped.now errors.now (map entry_reading_of said.now)
+        origins.now entries.now between.items found.items) }
+{
+    let mut between = between;
+    let mut found = Vec::new(alloc);
+    add_blocks(alloc, &mut found, skipped)?;
+    add_errors(alloc, &mut found, errors)?;
+    add_entries(alloc, &mut found, said, origins, entries)?;
+    found.append(&mut between)?;
+    sorted_by_place(found)
 }

@@ -4,7 +4,7 @@ ghost use Rattle.std.specs.Prelude.{◌≡◌, ◌++◌, ◌≤◌, length, map,
 ghost use Rattle.std.specs.List.{take_while};
 ghost use Rattle.std.specs.String.{string_bytes};
 ghost use Rattle.bib_syntax.specs.Views.{entry_reading_of, piece_of};
-ghost use Rattle.bib_findings.specs.Identities.{doi_of, first_four, first_person, folded, identities, identity, is_and, is_brace, isbn_of, literal_text, or_else, plain_words, spaced, squeezed, text_of, without_prefixes, words_of, work_of, work_text, year_of};
+ghost use Rattle.bib_findings.specs.Identities.{doi_of, first_four, first_person, folded, identities, identity, is_between_people, is_brace, isbn_of, literal_text, or_else, plain_words, spaced_words, squeezed, own_literal, without_prefixes, folded_words, work_of, work_text, year_of};
 
 use crate::places::last_named;
 use bib_syntax::raw::{RawChunk, RawEntry};
@@ -37,8 +37,8 @@ fn literal_text<'s>(pieces: &[Spanned<RawChunk<'s>>]) -> &'s str
 }
 
 // The text of the field of this name of an entry.
-fn text_of<'s>(said: &Spanned<RawEntry<'s>>, name: &str) -> &'s str
-    ensures { result.now ≡ text_of (entry_reading_of said.now) name.now }
+fn own_literal<'s>(said: &Spanned<RawEntry<'s>>, name: &str) -> &'s str
+    ensures { result.now ≡ own_literal (entry_reading_of said.now) name.now }
 {
     match last_named(said.v.fields.as_slice(), name) {
         Some(field) => literal_text(field.value.v.as_slice()),
@@ -73,8 +73,8 @@ fn folded(alloc: Global, text: &str) -> Result<Vec<char>, AllocError>
 }
 
 // The words among characters: what stands between white space.
-fn words_of<'c>(alloc: Global, characters: &'c [char]) -> Result<Vec<&'c [char]>, AllocError>
-    ensures { IfOk result (λ words. map (λ word. word.now) words.items ≡ words_of characters.now) }
+fn folded_words<'c>(alloc: Global, characters: &'c [char]) -> Result<Vec<&'c [char]>, AllocError>
+    ensures { IfOk result (λ words. map (λ word. word.now) words.items ≡ folded_words characters.now) }
 {
     characters
         .split(|c| c.is_whitespace())
@@ -93,8 +93,8 @@ fn push_characters(text: &mut String, characters: &[char]) -> Result<(), AllocEr
 }
 
 // Words, a space after each.
-fn spaced(alloc: Global, words: &[&[char]]) -> Result<String, AllocError>
-    ensures { IfOk result (λ text. string_bytes text ≡ spaced (map (λ word. word.now) words.now)) }
+fn spaced_words(alloc: Global, words: &[&[char]]) -> Result<String, AllocError>
+    ensures { IfOk result (λ text. string_bytes text ≡ spaced_words (map (λ word. word.now) words.now)) }
 {
     let mut text = String::new(alloc);
     'words: for word in words {
@@ -109,13 +109,13 @@ fn plain_words(alloc: Global, text: &str) -> Result<String, AllocError>
     ensures { IfOk result (λ plain. string_bytes plain ≡ plain_words text.now) }
 {
     let characters = folded(alloc, text)?;
-    let words = words_of(alloc, &characters)?;
-    spaced(alloc, &words)
+    let words = folded_words(alloc, &characters)?;
+    spaced_words(alloc, &words)
 }
 
 // Whether a word stands between people.
-fn is_and(word: &[char]) -> bool
-    ensures { result ≡ is_and word.now }
+fn is_between_people(word: &[char]) -> bool
+    ensures { result ≡ is_between_people word.now }
 {
     word == AND.as_slice()
 }
@@ -123,12 +123,12 @@ fn is_and(word: &[char]) -> bool
 // How many words the first of some people has.
 fn words_of_first(words: &[&[char]]) -> usize
     ensures cut { take result (map (λ word. word.now) words.now) ≡
-        take_while (λ word. not (is_and word)) (map (λ word. word.now) words.now) }
+        take_while (λ word. not (is_between_people word)) (map (λ word. word.now) words.now) }
     ensures within { result ≤ length words.now }
 {
     words
         .iter()
-        .position(|word| is_and(word))
+        .position(|word| is_between_people(word))
         .unwrap_or(words.len())
 }
 
@@ -137,9 +137,9 @@ fn first_person(alloc: Global, people: &str) -> Result<String, AllocError>
     ensures { IfOk result (λ person. string_bytes person ≡ first_person people.now) }
 {
     let characters = folded(alloc, people)?;
-    let words = words_of(alloc, &characters)?;
+    let words = folded_words(alloc, &characters)?;
     let count = words_of_first(&words);
-    spaced(alloc, &words[..count])
+    spaced_words(alloc, &words[..count])
 }
 
 // The first four characters of a text.
@@ -177,7 +177,7 @@ fn without_prefixes<'t>(text: &'t str, prefixes: &[&'static str]) -> &'t str
 fn doi(alloc: Global, said: &Spanned<RawEntry<'_>>) -> Result<String, AllocError>
     ensures { IfOk result (λ text. string_bytes text ≡ doi_of (entry_reading_of said.now)) }
 {
-    let text = squeezed(alloc, text_of(said, "doi"))?;
+    let text = squeezed(alloc, own_literal(said, "doi"))?;
     String::from_str(alloc, without_prefixes(text.as_str(), &DOI_PREFIXES))
 }
 
@@ -185,7 +185,7 @@ fn doi(alloc: Global, said: &Spanned<RawEntry<'_>>) -> Result<String, AllocError
 fn isbn(alloc: Global, said: &Spanned<RawEntry<'_>>) -> Result<String, AllocError>
     ensures { IfOk result (λ text. string_bytes text ≡ isbn_of (entry_reading_of said.now)) }
 {
-    let text = squeezed(alloc, text_of(said, "isbn"))?;
+    let text = squeezed(alloc, own_literal(said, "isbn"))?;
     text.as_str().chars().filter(|c| *c != '-').collect(alloc)
 }
 
@@ -193,8 +193,8 @@ fn isbn(alloc: Global, said: &Spanned<RawEntry<'_>>) -> Result<String, AllocErro
 fn year(alloc: Global, said: &Spanned<RawEntry<'_>>) -> Result<String, AllocError>
     ensures { IfOk result (λ text. string_bytes text ≡ year_of (entry_reading_of said.now)) }
 {
-    let of_date = first_four(alloc, text_of(said, "date"))?;
-    plain_words(alloc, or_else(text_of(said, "year"), of_date.as_str()))
+    let of_date = first_four(alloc, own_literal(said, "date"))?;
+    plain_words(alloc, or_else(own_literal(said, "year"), of_date.as_str()))
 }
 
 // A title, a first person and a year as one text, if none is empty.
@@ -211,8 +211,8 @@ fn work_text(alloc: Global, title: &str, person: &str, year: &str) -> Result<Str
 fn work(alloc: Global, said: &Spanned<RawEntry<'_>>) -> Result<String, AllocError>
     ensures { IfOk result (λ text. string_bytes text ≡ work_of (entry_reading_of said.now)) }
 {
-    let title = plain_words(alloc, text_of(said, "title"))?;
-    let people = or_else(text_of(said, "author"), text_of(said, "editor"));
+    let title = plain_words(alloc, own_literal(said, "title"))?;
+    let people = or_else(own_literal(said, "author"), own_literal(said, "editor"));
     let person = first_person(alloc, people)?;
     let year = year(alloc, said)?;
     work_text(alloc, title.as_str(), person.as_str(), year.as_str())

@@ -156,8 +156,10 @@ pub(crate) fn add_references(
     ensures { OnOk result (Adds (AreOfEach (AreReferences names.now) (map entry_reading_of said.now) origins.now own.now)
         found.old.items found.new.items) }
 {
-    'entries: for (index, entry) in origins.iter().zip(own) {
-        add_entry_references(alloc, found, names, &said[*index], entry, &REFERENCE_FIELDS)?;
+    'entries: for index in 0..own.len() {
+        let one = &said[origins[index]];
+        let entry = &own[index];
+        add_entry_references(alloc, found, names, one, entry, &REFERENCE_FIELDS)?;
     }
     Ok(())
 }

@@ -1,4 +1,4 @@
-use Rattle.std.proofs.Common.{length, map, take}
+use Rattle.std.proofs.Common.{map, take}
 use Rattle.std.specs.BTreeMap.{get_by_text}
 use Rattle.bib_syntax.specs.Views.{entry_reading_of}
 use Rattle.bib_findings.specs.Adding.{Adds}
@@ -11,5 +11,5 @@ use Rattle.bib_findings.proofs.findings.add_entries.Given as goal
 abbrev pub invariant-entries : goal.invariant-entries
 invariant-entries l = record {
   met : AreFieldNames (get_by_text l.met);
-  added : Adds (AreOfEach AreOfEntry (map entry_reading_of l.said) (take (length l.yielded) l.origins) (take (length l.yielded) l.entries)) l.initial.found.items l.found.items;
+  added : Adds (AreOfEach AreOfEntry (map entry_reading_of l.said) (take l.index l.origins) (take l.index l.entries)) l.initial.found.items l.found.items;
 }

@@ -1,4 +1,4 @@
-use Rattle.std.proofs.Common.{length, map, take}
+use Rattle.std.proofs.Common.{map, take}
 use Rattle.bib_syntax.specs.Views.{entry_reading_of}
 use Rattle.bib_findings.specs.Adding.{Adds}
 use Rattle.bib_findings.specs.Entries.{AreOfEach}
@@ -7,4 +7,4 @@ use Rattle.bib_findings.proofs.references.add_references.Given as goal
 
 -- the findings of the entries so far were added
 abbrev pub invariant-entries : goal.invariant-entries
-invariant-entries l = Adds (AreOfEach (AreReferences l.names) (map entry_reading_of l.said) (take (length l.yielded) l.origins) (take (length l.yielded) l.own)) l.initial.found.items l.found.items
+invariant-entries l = Adds (AreOfEach (AreReferences l.names) (map entry_reading_of l.said) (take l.index l.origins) (take l.index l.own)) l.initial.found.items l.found.items

@@ -2,7 +2,7 @@ use Rattle.std.proofs.Common.{rules, tests, ℕ, not, length, nat_eq, List}
 use Rattle.std.specs.Char.{is_whitespace}
 use Rattle.std.proofs.lemmas.Iterator.Consumers.{YieldsList-at, YieldsList-from_filter, map_from_collect}
 use Rattle.std.proofs.lemmas.Iterator.Splits.{YieldsList-from_slice_split}
-use Rattle.bib_findings.proofs.identities.words_of.Goals as goal
+use Rattle.bib_findings.proofs.identities.folded_words.Goals as goal
 
 pub returns : goal.returns
 returns c =

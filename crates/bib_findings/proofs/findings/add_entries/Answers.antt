@@ -1,0 +1,15 @@
+use Rattle.std.proofs.Common.{map}
+use Rattle.bib_syntax.specs.Views.{entry_reading_of}
+use Rattle.bib_findings.specs.Findings.{AreOfEntry}
+use Rattle.bib_findings.proofs.AddingFacts.{each_at, each_none}
+use Rattle.bib_findings.proofs.findings.add_entries.Goals as goal
+
+pub entries-init : goal.entries-init
+entries-init c = each_none AreOfEntry (map entry_reading_of c.args.said.now) c.args.found.now.items
+
+pub entries-preserved : goal.entries-preserved
+entries-preserved c =
+    let one = c.index-said-origins.result in
+    let entry = c.index-entries-index.result in
+    each_at AreOfEntry c.args.said.now c.args.origins.now c.args.entries.now c.entries.index one entry c.args.found.now.items c.entries.found.items c.add_entry.new.found.items
+    c.requires.there c.requires.same_length c.entries-test.true c.index-said-origins.is c.index-entries-index.is c.entries.invariant c.in_ok-add_entry.ensures
