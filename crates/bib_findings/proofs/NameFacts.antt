@@ -119,3 +119,7 @@ names_more old new name is before this updates other found_is found =
         let names : name ≡ other = (bytes_eq-Decides name other).0 same in
         subst (λ n. IsFieldName n found_is) names (subst (IsFieldName name) value this)
     of_test false differs at = before other found_is (sym (ap (λ b. cond b (Some is) (old other)) differs) ∙ at)
+
+-- no name was met
+pub names_none : (noted : List ℕ → Option FieldName) → ((name : List ℕ) → noted name ≡ None) → AreFieldNames noted
+names_none noted none name is found = absurd (let clash : None ≡ Some is = sym (none name) ∙ found in cc)
