@@ -5,6 +5,7 @@ mod commands;
 mod cuts;
 mod entries;
 mod errors;
+mod findings;
 mod inherited;
 mod raw;
 mod recovered;
@@ -40,6 +41,7 @@ fn answer_of_text(alloc: Global, call: &str, text: &str) -> Result<Option<String
         "raw field" => raw::field(alloc, text),
         "raw settled" => raw::settled(alloc, text),
         "recover" => Ok(recovered::recover(alloc, text)?),
+        "findings" => Ok(findings::findings(alloc, text)?),
         "recovered origins" => Ok(recovered::origins(alloc, text)?),
         "recovered fronts" => Ok(recovered::recovered_prefixes(alloc, text)?),
         "raw twice" => raw::twice(alloc, text),

@@ -10,7 +10,6 @@ use Rattle.std.proofs.lemmas.Bool.Decides.{nat_tests}
 use Rattle.std.proofs.lemmas.List.{take_more}
 use Rattle.std.proofs.lemmas.Str.{encodes-append}
 use Rattle.std.proofs.lemmas.Str.Pattern.{starts_text}
-use borrow.Author.Tests.{ltb-true}
 use lib.Dec.{ltb}
 use denote.Ref.{Bor}
 use Rattle.bib_findings.specs.Identities.{without_prefixes}

@@ -1,5 +1,5 @@
 -- Facts on lists that grow by one.
-use Rattle.std.proofs.Common.{◌≡◌, ℕ, Bool, ◌||◌, List, [], ◌∷◌, ◌++◌, ◌+◌, ◌<◌, length, get_or, take, map, Option, Some, None, refl, sym, ap, ◌∙◌, append_assoc, append-nil, arith, cond, suc, zero}
+use Rattle.std.proofs.Common.{◌≡◌, ℕ, Bool, ◌||◌, List, [], ◌∷◌, ◌++◌, ◌+◌, ◌<◌, length, get_or, take, map, Option, Some, None, refl, sym, ap, ◌∙◌, arith, suc, zero}
 use Rattle.std.specs.Prelude.{slice_get}
 use Rattle.std.specs.List.{cons_option, filter_map, list_any}
 use Rattle.std.proofs.lemmas.List.{take_more}

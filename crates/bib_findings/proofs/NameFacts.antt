@@ -1,6 +1,6 @@
 -- Facts on names that are near to others, and on the findings of fields whose names aren't known.
 use Rattle.std.proofs.Common.{◌≡◌, ℕ, Bool, true, false, not, List, [], ◌∷◌, ◌++◌, ◌+◌, ◌<◌, ◌≤◌, length, get_or, take, map, Option, Some, None, refl, sym, ap, ◌∙◌, append_assoc, append-nil, subst, arith, cond}
-use Rattle.std.specs.List.{All, AllZip, filter}
+use Rattle.std.specs.List.{AllZip}
 use Rattle.std.proofs.lemmas.List.{map_more}
 use Rattle.std.proofs.lemmas.List.Elements.{All-nil, All-cons, All-append, All-push, All-same, All-weaker, filter-append}
 use Rattle.std.proofs.lemmas.Slice.Eq.{bytes_eq-Decides}
@@ -12,7 +12,7 @@ use Rattle.bib_syntax.specs.Views.{field_of}
 use Rattle.bib_syntax.specs.declared.raw.Pair.{Pair}
 use Rattle.bib_findings.specs.Adding.{Adds}
 use Rattle.bib_findings.specs.Met.{AreFieldNames, IsFieldName}
-use Rattle.bib_findings.specs.Names.{AreUnknownOf, IsFirstNearest, IsNearest, IsOfUnknown, distance, is_known_field, most_edits, unknown_among}
+use Rattle.bib_findings.specs.Names.{AreUnknownOf, IsNearest, IsOfUnknown, distance, is_known_field, most_edits, unknown_among}
 use Rattle.bib_findings.specs.declared.names.FieldName.{FieldName}
 use Rattle.bib_findings.specs.declared.finding.Finding.{Finding}
 

@@ -20,7 +20,6 @@ use Rattle.bib_findings.specs.Duplicates.{duplicate_after, duplicate_finding, du
 use Rattle.bib_findings.specs.Identities.{has_any, has_identity, identities}
 use Rattle.bib_findings.specs.Seen.{HasFirst, duplicate_at, least_of, lesser, remembered}
 use Rattle.bib_findings.proofs.ListFacts.{get_mapped, given_more}
-use Rattle.bib_findings.specs.declared.finding.Finding.{Finding}
 
 pub lesser_none : (one : Option ℕ) → lesser one None ≡ one
 lesser_none None = refl
@@ -105,11 +104,14 @@ FoundFrom test items start (Some index) = (count : ℕ) × (index ≡ start + co
 found_later : {A : Type 0} (test : A → Bool) (item : A) (items : List A) (start : ℕ) (index : Option ℕ) → FoundFrom test items (start + 1) index
     → test item ≡ false → FoundFrom test (item ∷ items) start index
 found_later test item items start None none fails = ap (λ passes. cond passes (Some item) (find test items)) fails ∙ none
-found_later test item items start (Some index) later fails =
-    (suc later.0, omega (arith, later.1), record {
-      within = omega (arith, later.2.within);
-      found = ap (λ passes. cond passes (Some item) (find test items)) fails ∙ later.2.found;
-    })
+found_later test item items start (Some index) later fails = (
+  suc later.0,
+  omega (arith, later.1),
+  record {
+    within = omega (arith, later.2.within);
+    found = ap (λ passes. cond passes (Some item) (find test items)) fails ∙ later.2.found;
+  },
+)
 
 found_here : {A : Type 0} (test : A → Bool) (item : A) (items : List A) (start : ℕ) → test item ≡ true → FoundFrom test (item ∷ items) start (Some start)
 found_here test item items start passes =

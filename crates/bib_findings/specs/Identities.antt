@@ -1,7 +1,7 @@
 -- Meaning: words of public contracts.
 -- By what entries are likely the same work: the same DOI, the same ISBN, or the same title, first person and year, each
 -- as it stands in the file, but for the case of letters, braces and white space.
-use Rattle.std.specs.Prelude.{ℕ, Bool, not, ◌==◌, ◌||◌, List, [], ◌∷◌, ◌++◌, codes, chars, length, map, take, drop, filter, bytes_eq, nat_eq, encode_utf8_all, Option, Some, None, if◌then◌else◌}
+use Rattle.std.specs.Prelude.{ℕ, Bool, not, ◌==◌, ◌||◌, List, [], ◌∷◌, ◌++◌, codes, chars, length, take, drop, filter, bytes_eq, nat_eq, encode_utf8_all, Option, Some, None, if◌then◌else◌}
 use Rattle.std.specs.Char.{is_whitespace}
 use Rattle.std.specs.List.{flat_map, list_any, slice_split, starts_with, take_while}
 use Rattle.std.specs.StrCase.Lower.{str_to_lowercase}

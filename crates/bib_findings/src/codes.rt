@@ -147,22 +147,38 @@ impl Code {
     /// What it means and what to do, in some lines.
     pub fn explanation(self) -> &'static str {
         match self {
-            Self::UnreadBytes => "From this byte on the file isn't UTF-8, so all of it was read as Windows-1252. Save the file as UTF-8.",
-            Self::Syntax => "A block can't be read as an entry, a preamble, abbreviations or a comment. It is passed over, up to the next at sign that begins a line. Most often a comma, a brace or a quote is missing at the place that is reported, or before it.",
-            Self::UnreadField => "The text of a field can't be read: a brace closes what isn't open, math has one dollar sign, or a command's argument isn't closed. The field is left out. Close what is open, or write \\$ for a dollar sign.",
-            Self::UnknownAbbreviation => "A name stands without braces or quotes, and is neither defined by @string nor a month (jan to dec). It is read as text. BibTeX and Biber put nothing in its place. Write it in braces, or define it.",
-            Self::CircularAbbreviation => "The definition of an abbreviation uses the abbreviation itself, by others or at once. Fields that use it are left out. Write the text itself in one of the definitions.",
-            Self::DuplicateKey => "An earlier entry has this key, or names it in its field ids. This entry is left out. Give one of the two another key, or remove one.",
-            Self::CircularReference => "An entry refers to itself by crossref or xdata, by others or at once. It loses its references. Remove one of them.",
-            Self::UnreadDate => "An entry would inherit a date that can't be read. It inherits none. Write the date as YYYY-MM-DD, YYYY-MM or YYYY in the entry that is referred to.",
-            Self::MissingField => "BibLaTeX requires this field of an entry of this type, and the entry neither has nor inherits it.",
-            Self::SuperfluousField => "An entry of this type has no use for this field, or it contradicts another one. Remove it, or change the type of the entry.",
-            Self::MalformedField => "The field is read as text, but not as the number, range, date or word that it should be. The text after the colon says what is wrong.",
-            Self::UnknownField => "BibLaTeX's data model has no field of this name, so nothing will print it. Where a known name is nearly the same it is named. Ignore this code where other programs keep fields of their own in the file.",
-            Self::UnknownReference => "A field refers to an entry by a key that no entry of the file has, nor names in its field ids. Nothing is inherited from there. Correct the key, or add the entry.",
-            Self::LikelyDuplicate => "An earlier entry has the same DOI, the same ISBN, or the same title, first person and year. Keep one of the two, and name the key of the other in its field ids.",
-            Self::MissingEntry => "A key is cited that no entry of the files has, nor names in its field ids. Correct the key, or add the entry.",
-            Self::UnusedEntry => "No document cites this entry. Remove it if it isn't needed, or cite it.",
+            Self::UnreadBytes =>
+                "From this byte on the file isn't UTF-8, so all of it was read as Windows-1252. Save the file as UTF-8.",
+            Self::Syntax =>
+                "A block can't be read as an entry, a preamble, abbreviations or a comment. It is passed over, up to the next at sign that begins a line. Most often a comma, a brace or a quote is missing at the place that is reported, or before it.",
+            Self::UnreadField =>
+                "The text of a field can't be read: a brace closes what isn't open, math has one dollar sign, or a command's argument isn't closed. The field is left out. Close what is open, or write \\$ for a dollar sign.",
+            Self::UnknownAbbreviation =>
+                "A name stands without braces or quotes, and is neither defined by @string nor a month (jan to dec). It is read as text. BibTeX and Biber put nothing in its place. Write it in braces, or define it.",
+            Self::CircularAbbreviation =>
+                "The definition of an abbreviation uses the abbreviation itself, by others or at once. Fields that use it are left out. Write the text itself in one of the definitions.",
+            Self::DuplicateKey =>
+                "An earlier entry has this key, or names it in its field ids. This entry is left out. Give one of the two another key, or remove one.",
+            Self::CircularReference =>
+                "An entry refers to itself by crossref or xdata, by others or at once. It loses its references. Remove one of them.",
+            Self::UnreadDate =>
+                "An entry would inherit a date that can't be read. It inherits none. Write the date as YYYY-MM-DD, YYYY-MM or YYYY in the entry that is referred to.",
+            Self::MissingField =>
+                "BibLaTeX requires this field of an entry of this type, and the entry neither has nor inherits it.",
+            Self::SuperfluousField =>
+                "An entry of this type has no use for this field, or it contradicts another one. Remove it, or change the type of the entry.",
+            Self::MalformedField =>
+                "The field is read as text, but not as the number, range, date or word that it should be. The text after the colon says what is wrong.",
+            Self::UnknownField =>
+                "BibLaTeX's data model has no field of this name, so nothing will print it. Where a known name is nearly the same it is named. Ignore this code where other programs keep fields of their own in the file.",
+            Self::UnknownReference =>
+                "A field refers to an entry by a key that no entry of the file has, nor names in its field ids. Nothing is inherited from there. Correct the key, or add the entry.",
+            Self::LikelyDuplicate =>
+                "An earlier entry has the same DOI, the same ISBN, or the same title, first person and year. Keep one of the two, and name the key of the other in its field ids.",
+            Self::MissingEntry =>
+                "A key is cited that no entry of the files has, nor names in its field ids. Correct the key, or add the entry.",
+            Self::UnusedEntry =>
+                "No document cites this entry. Remove it if it isn't needed, or cite it.",
         }
     }
 }

@@ -106,7 +106,14 @@ pub(crate) fn add_report(
     ensures { OnOk result (Adds (AreOfReport (entry_reading_of said.now) entry.now) found.old.items found.new.items) }
 {
     let report = entry.verify(alloc)?;
-    add_names(alloc, found, said, Code::MissingField, "missing", &report.missing)?;
+    add_names(
+        alloc,
+        found,
+        said,
+        Code::MissingField,
+        "missing",
+        &report.missing,
+    )?;
     add_names(
         alloc,
         found,

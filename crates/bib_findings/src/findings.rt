@@ -5,7 +5,7 @@ ghost use Rattle.std.specs.BTreeMap.{get_by_text};
 ghost use Rattle.bib_syntax.specs.Views.{entry_reading_of};
 ghost use Rattle.bib_findings.specs.Adding.{Adds};
 ghost use Rattle.bib_findings.specs.Entries.{AreOfEach};
-ghost use Rattle.bib_findings.specs.Findings.{AreBetween, AreFindingsIn, AreOfEntry, AreSortedByPlace};
+ghost use Rattle.bib_findings.specs.Findings.{AreBetween, AreFindings, AreFindingsIn, AreOfEntry, AreSortedByPlace, entries_said};
 ghost use Rattle.bib_findings.specs.Met.{AreFieldNames};
 
 use crate::duplicates::add_duplicates;
@@ -15,8 +15,10 @@ use crate::finding::Finding;
 use crate::names::{FieldName, add_unknown_fields};
 use crate::references::add_references;
 use bib_entry::entry::Entry;
+use bib_file_entries::keeping::{KeptEntries, keep};
 use bib_maps::names::Names;
-use bib_syntax::raw::{ParseError, RawEntry, SkippedBlock};
+use bib_references::recovering::resolve_readable;
+use bib_syntax::raw::{ParseError, RawBibliography, RawEntry, RawRecovery, SkippedBlock};
 use bib_text::spanned::Spanned;
 use std::alloc::{AllocError, Global};
 use std::collections::BTreeMap;
@@ -71,7 +73,7 @@ pub fn between(
 ) -> Result<Vec<Finding>, AllocError>
     requires same_length { length origins.now ≡ length own.now }
     requires there { All (λ index. index < length said.now) origins.now }
-    ensures { IfOk result (λ found. AreBetween names.now (map entry_reading_of said.now) origins.now own.now found.items) }
+    ensures { IfOk result (λ found. AreBetween names.now (entries_said said.now) origins.now own.now found.items) }
 {
     let mut found = Vec::new(alloc);
     add_references(alloc, &mut found, names, said, origins, own)?;
@@ -102,7 +104,7 @@ pub fn findings_in(
 ) -> Result<Vec<Finding>, AllocError>
     requires same_length { length origins.now ≡ length entries.now }
     requires there { All (λ index. index < length said.now) origins.now }
-    ensures { IfOk result (λ found. AreFindingsIn skipped.now errors.now (map entry_reading_of said.now)
+    ensures { IfOk result (λ found. AreFindingsIn skipped.now errors.now (entries_said said.now)
         origins.now entries.now between.items found.items) }
 {
     let mut between = between;
@@ -112,4 +114,26 @@ pub fn findings_in(
     add_entries(alloc, &mut found, said, origins, entries)?;
     found.append(&mut between)?;
     sorted_by_place(found)
+}
+
+/// All that is wrong in a bibliography file, or may be, in the order of where it starts: the file is recovered, as
+/// `Bibliography::recover` does it. Spans are in bytes of the text. Refused only when out of memory.
+pub fn findings(alloc: Global, text: &str) -> Result<Vec<Finding>, AllocError>
+    ensures { IfOk result (λ found. AreFindings text.now found.items) }
+{
+    let said = RawBibliography::recover(alloc, text)?.raw.entries;
+    let RawRecovery { raw, skipped } = RawBibliography::recover(alloc, text)?;
+    let KeptEntries {
+        mut entries,
+        names,
+        spans,
+        origins,
+        mut errors,
+    } = keep(alloc, raw)?;
+    let linked = between(alloc, &said, &origins, &names, &entries)?;
+    let mut unresolved = resolve_readable(alloc, &spans, &names, &mut entries)?;
+    errors.append(&mut unresolved)?;
+    findings_in(
+        alloc, &skipped, &errors, &said, &origins, &entries, linked,
+    )
 }

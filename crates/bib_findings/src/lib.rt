@@ -1,9 +1,11 @@
 //! What is wrong in a bibliography file: each thing with a code, a place and a text.
 //!
-//! `findings` reads a file as `Bibliography::recover` does, step by step, and keeps what each step answers: the blocks that are
-//! passed over, the errors of entries and references, and then, entry by entry as it stands in the file, what the report on
-//! the entry says and what its fields are named. `codes` has the codes with what they mean, `places` where in an entry
-//! something stands, `errors`, `entries` and `names` make the findings of errors, of reports and of the names of fields.
+//! It is made of what `Bibliography::recover` does, step by step, and of what each step answers: the blocks that are passed
+//! over, the errors of entries and references, and then, entry by entry as it stands in the file, what the report on the entry
+//! says and what its fields are named. `findings::between` finds what is wrong between entries: the keys that they refer to and
+//! that none has, and entries that are likely the same work; `findings::findings_in` puts all in the order of the file. `codes`
+//! has the codes with what they mean, `places` where in an entry something stands; `errors`, `entries`, `names`, `references` and
+//! `duplicates`, over `identities`, make the findings.
 #![tactic(auto)]
 
 pub mod codes;

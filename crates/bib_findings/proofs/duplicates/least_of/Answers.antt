@@ -1,6 +1,5 @@
-use Rattle.std.proofs.Common.{◌≡◌, ap, ◌∙◌, sym, map, take}
+use Rattle.std.proofs.Common.{ap, ◌∙◌}
 use Rattle.std.specs.BTreeMap.{get_by_text}
-use Rattle.std.specs.String.{string_bytes}
 use Rattle.bib_findings.proofs.SeenFacts.{least_next}
 use Rattle.bib_findings.proofs.duplicates.least_of.Goals as goal
 

@@ -1,6 +1,5 @@
-use Rattle.std.proofs.Common.{◌≡◌, ◌++◌, IfOk, map, subst}
+use Rattle.std.proofs.Common.{map}
 use Rattle.bib_findings.specs.Errors.{block_finding, error_finding}
-use Rattle.bib_findings.specs.Findings.{AreSortedByPlace}
 use Rattle.bib_syntax.specs.Views.{entry_reading_of}
 use Rattle.bib_findings.proofs.AddingFacts.{added_in_order, sorted_are}
 use Rattle.bib_findings.proofs.findings.findings_in.Goals as goal

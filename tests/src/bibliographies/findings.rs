@@ -1,0 +1,39 @@
+//! All that is wrong in a file.
+
+use bib_file_entries::keeping::{KeptEntries, keep};
+use bib_findings::finding::Finding;
+use bib_findings::findings::{between, findings_in};
+use bib_references::recovering::resolve_readable;
+use bib_syntax::raw::{RawBibliography, RawRecovery};
+use std::alloc::{AllocError, Global};
+
+// All that is wrong in a file, step by step as `Bibliography::recover` reads it.
+fn found(alloc: Global, file: &str) -> Result<Vec<Finding>, AllocError> {
+    let RawRecovery { raw, skipped } = RawBibliography::recover(alloc, file)?;
+    let said = RawBibliography::recover(alloc, file)?.raw.entries;
+    let KeptEntries {
+        mut entries,
+        names,
+        spans,
+        origins,
+        mut errors,
+    } = keep(alloc, raw)?;
+    let between = between(alloc, &said, &origins, &names, &entries)?;
+    let mut unresolved = resolve_readable(alloc, &spans, &names, &mut entries)?;
+    errors.append(&mut unresolved)?;
+    findings_in(alloc, &skipped, &errors, &said, &origins, &entries, between)
+}
+
+/// All that is wrong in a file: each finding's place, code and message.
+pub(crate) fn findings(alloc: Global, file: &str) -> Result<String, AllocError> {
+    let mut out = String::new(alloc);
+    for finding in &found(alloc, file)? {
+        if !out.is_empty() {
+            out.push_str("; ")?;
+        }
+        let (start, end) = (finding.span.start, finding.span.end);
+        let line = format!(in alloc; "{start}-{end} {}: {}", finding.code.name(), finding.message)?;
+        out.push_str(line.as_str())?;
+    }
+    Ok(out)
+}
