@@ -133,7 +133,5 @@ pub fn findings(alloc: Global, text: &str) -> Result<Vec<Finding>, AllocError>
     let linked = between(alloc, &said, &origins, &names, &entries)?;
     let mut unresolved = resolve_readable(alloc, &spans, &names, &mut entries)?;
     errors.append(&mut unresolved)?;
-    findings_in(
-        alloc, &skipped, &errors, &said, &origins, &entries, linked,
-    )
+    findings_in(alloc, &skipped, &errors, &said, &origins, &entries, linked)
 }
