@@ -3,3 +3,4 @@ mod IdentityFacts
 mod ListFacts
 mod NameFacts
 mod SeenFacts
+mod RecoveredFacts

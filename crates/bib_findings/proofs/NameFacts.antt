@@ -1,15 +1,19 @@
 -- Facts on names that are near to others, and on the findings of fields whose names aren't known.
-use Rattle.std.proofs.Common.{◌≡◌, ℕ, true, false, not, List, [], ◌∷◌, ◌++◌, ◌+◌, ◌<◌, ◌≤◌, length, get_or, take, map, Option, Some, None, refl, sym, ap, ◌∙◌, append_assoc, append-nil, subst, arith, cond}
+use Rattle.std.proofs.Common.{◌≡◌, ℕ, Bool, true, false, not, List, [], ◌∷◌, ◌++◌, ◌+◌, ◌<◌, ◌≤◌, length, get_or, take, map, Option, Some, None, refl, sym, ap, ◌∙◌, append_assoc, append-nil, subst, arith, cond}
 use Rattle.std.specs.List.{AllZip}
 use Rattle.std.proofs.lemmas.List.{map_more}
 use Rattle.std.proofs.lemmas.List.Elements.{All-nil, All-cons, All-append, All-push, All-same, All-weaker, filter-append}
-use Rattle.std.proofs.lemmas.Slice.Zip.{all_zipped_more}
+use Rattle.std.proofs.lemmas.Slice.Eq.{bytes_eq-Decides}
+use Rattle.std.specs.Map.{update}
+use Rattle.std.specs.Prelude.{bytes_eq}
 use Rattle.bib_entry_types.specs.Requirements.{Names}
 use Rattle.bib_syntax.specs.Reading.{FieldReading}
 use Rattle.bib_syntax.specs.Views.{field_of}
 use Rattle.bib_syntax.specs.declared.raw.Pair.{Pair}
 use Rattle.bib_findings.specs.Adding.{Adds}
-use Rattle.bib_findings.specs.Names.{IsNearest, IsOfUnknown, distance, is_known_field, most_edits, unknown_among}
+use Rattle.bib_findings.specs.Met.{AreFieldNames, IsFieldName}
+use Rattle.bib_findings.specs.Names.{AreUnknownOf, IsNearest, IsOfUnknown, distance, is_known_field, most_edits, unknown_among}
+use Rattle.bib_findings.specs.declared.names.FieldName.{FieldName}
 use Rattle.bib_findings.specs.declared.finding.Finding.{Finding}
 
 -- the edits from a name to the nearest one so far, below which another is nearer
@@ -56,45 +60,66 @@ nearest_stays seen name known (Some best) least first is far = record {
   as_far = All-push (λ other. distance name best ≤ distance name other) first.after known first.as_far (omega arith);
 }
 
--- the findings of those of some fields whose names aren't known
-abbrev pub AreUnknownOf : List ℕ → List FieldReading → List Finding → Type 0
-AreUnknownOf key fields found = AllZip (IsOfUnknown key) (unknown_among fields) found
+-- what is left of one field among those whose names aren't known
+of_one : (field : FieldReading) (known : Bool) → is_known_field field.name.text ≡ known → unknown_among (field ∷ []) ≡ cond (not known) (field ∷ []) []
+of_one field known is = ap (λ known. cond (not known) (field ∷ []) []) is
 
-unknown_more : (fields : List FieldReading) (field : FieldReading) → is_known_field field.name.text ≡ false → unknown_among (fields ++ field ∷ []) ≡ unknown_among fields ++ field ∷ []
-unknown_more fields field unknown =
-    filter-append (λ f. not (is_known_field f.name.text)) fields (field ∷ [])
-    ∙ ap (λ known. unknown_among fields ++ cond (not known) (field ∷ []) []) unknown
+-- a finding is added for a field whose name isn't known
+pub unknown_alone : (key : List ℕ) (field : FieldReading) (old new : List Finding) (finding : Finding) → is_known_field field.name.text ≡ false → new ≡ old ++ finding ∷ [] → IsOfUnknown key field finding
+    → Adds (AreUnknownOf key (field ∷ [])) old new
+unknown_alone key field old new finding unknown more found = record {
+  added = finding ∷ [];
+  are = subst (λ l. AllZip (IsOfUnknown key) l (finding ∷ [])) (sym (of_one field false unknown)) (found, tt);
+  new_is = more;
+}
 
-known_more : (fields : List FieldReading) (field : FieldReading) → is_known_field field.name.text ≡ true → unknown_among (fields ++ field ∷ []) ≡ unknown_among fields
-known_more fields field known =
-    filter-append (λ f. not (is_known_field f.name.text)) fields (field ∷ [])
-    ∙ ap (λ known. unknown_among fields ++ cond (not known) (field ∷ []) []) known ∙ append-nil (unknown_among fields)
+-- nothing is added for a field whose name is known
+pub known_alone : (key : List ℕ) (field : FieldReading) (old : List Finding) → is_known_field field.name.text ≡ true → Adds (AreUnknownOf key (field ∷ [])) old old
+known_alone key field old known = record {
+  added = [];
+  are = subst (λ l. AllZip (IsOfUnknown key) l []) (sym (of_one field true known)) tt;
+  new_is = sym (append-nil old);
+}
 
--- a finding is added for one more field whose name isn't known
-pub unknown_next : (key : List ℕ) (fields : List Pair) (index : ℕ) (field : Pair) (old mid new : List Finding) (finding : Finding) → index < length fields → field ≡ get_or fields index field
-    → Adds (AreUnknownOf key (map field_of (take index fields))) old mid → is_known_field field.key.v.now ≡ false → new ≡ mid ++ finding ∷ [] → IsOfUnknown key (field_of field) finding
+zip_append : {A B : Type 0} (P : A → B → Type 0) (xs more : List A) (ys others : List B) → AllZip P xs ys → AllZip P more others → AllZip P (xs ++ more) (ys ++ others)
+zip_append P [] more [] others first second = second
+zip_append P [] more (y ∷ ys) others first second = absurd first
+zip_append P (x ∷ xs) more [] others first second = absurd first
+zip_append P (x ∷ xs) more (y ∷ ys) others first second = (first.0, zip_append P xs more ys others first.1 second)
+
+-- what is added for one more field
+pub fields_next : (key : List ℕ) (fields : List Pair) (index : ℕ) (field : Pair) (old mid new : List Finding) → index < length fields → field ≡ get_or fields index field
+    → Adds (AreUnknownOf key (map field_of (take index fields))) old mid → Adds (AreUnknownOf key (field_of field ∷ [])) mid new
     → Adds (AreUnknownOf key (map field_of (take (index + 1) fields))) old new
-unknown_next key fields index field old mid new finding within is before unknown more found =
+fields_next key fields index field old mid new within is before more =
     let so_far : List FieldReading = map field_of (take index fields) in
     let all : map field_of (take (index + 1) fields) ≡ so_far ++ field_of field ∷ [] =
     map_more field_of fields index field within ∙ ap (λ one. so_far ++ field_of one ∷ []) (sym is) in
+    let cut : unknown_among (map field_of (take (index + 1) fields)) ≡ unknown_among so_far ++ unknown_among (field_of field ∷ []) =
+    ap unknown_among all ∙ filter-append (λ f. not (is_known_field f.name.text)) so_far (field_of field ∷ []) in
     record {
-      added = before.added ++ finding ∷ [];
-      are = subst (λ l. AllZip (IsOfUnknown key) l (before.added ++ finding ∷ [])) (sym (ap unknown_among all ∙ unknown_more so_far (field_of field) unknown))
-          (all_zipped_more (IsOfUnknown key) (unknown_among so_far) before.added (field_of field) finding before.are found);
-      new_is = more ∙ ap (λ l. l ++ finding ∷ []) before.new_is ∙ append_assoc old before.added (finding ∷ []);
+      added = before.added ++ more.added;
+      are = subst (λ l. AllZip (IsOfUnknown key) l (before.added ++ more.added)) (sym cut)
+          (zip_append (IsOfUnknown key) (unknown_among so_far) (unknown_among (field_of field ∷ [])) before.added more.added before.are more.are);
+      new_is = more.new_is ∙ ap (λ l. l ++ more.added) before.new_is ∙ append_assoc old before.added more.added;
     }
 
--- nothing is added for one more field whose name is known
-pub known_next : (key : List ℕ) (fields : List Pair) (index : ℕ) (field : Pair) (old new : List Finding) → index < length fields → field ≡ get_or fields index field
-    → Adds (AreUnknownOf key (map field_of (take index fields))) old new → is_known_field field.key.v.now ≡ true
-    → Adds (AreUnknownOf key (map field_of (take (index + 1) fields))) old new
-known_next key fields index field old new within is before known =
-    let so_far : List FieldReading = map field_of (take index fields) in
-    let all : map field_of (take (index + 1) fields) ≡ so_far ++ field_of field ∷ [] =
-    map_more field_of fields index field within ∙ ap (λ one. so_far ++ field_of one ∷ []) (sym is) in
-    record {
-      added = before.added;
-      are = subst (λ l. AllZip (IsOfUnknown key) l before.added) (sym (ap unknown_among all ∙ known_more so_far (field_of field) known)) before.are;
-      new_is = before.new_is;
-    }
+-- one more name that was met is what was noted of it
+pub names_more : (old new : List ℕ → Option FieldName) (name : List ℕ) (is : FieldName) → AreFieldNames old → IsFieldName name is → ((other : List ℕ) → new other ≡ update bytes_eq old name (Some is) other)
+    → AreFieldNames new
+names_more old new name is before this updates other found_is found =
+    of_test (bytes_eq name other) refl (sym (updates other) ∙ found)
+  where
+    some_same : {A : Type 0} {x y : A} → Some x ≡ Some y → x ≡ y
+    some_same e = cc
+
+    of_test : (test : Bool) → bytes_eq name other ≡ test → cond (bytes_eq name other) (Some is) (old other) ≡ Some found_is → IsFieldName other found_is
+    of_test true same at =
+        let value : is ≡ found_is = some_same (sym (ap (λ b. cond b (Some is) (old other)) same) ∙ at) in
+        let names : name ≡ other = (bytes_eq-Decides name other).0 same in
+        subst (λ n. IsFieldName n found_is) names (subst (IsFieldName name) value this)
+    of_test false differs at = before other found_is (sym (ap (λ b. cond b (Some is) (old other)) differs) ∙ at)
+
+-- no name was met
+pub names_none : (noted : List ℕ → Option FieldName) → ((name : List ℕ) → noted name ≡ None) → AreFieldNames noted
+names_none noted none name is found = absurd (let clash : None ≡ Some is = sym (none name) ∙ found in cc)

@@ -1,10 +1,15 @@
 -- Meaning: words of public contracts.
 -- All that is wrong in a file: the findings of what recovery reports, and those of each entry that it keeps.
 use Rattle.std.specs.Prelude.{◌≡◌, ℕ, List, ◌++◌, map}
+use Rattle.std.specs.declared.ops.Range.{Range}
 use Rattle.std.specs.List.Sorted.{IsPermutation, IsSortedByKey, IsStableByKey}
 use Rattle.std.specs.Ordering.{nat_cmp}
 use Rattle.bib_entry.specs.declared.entry.Entry.{Entry}
-use Rattle.bib_syntax.specs.Reading.{EntryReading}
+use Rattle.bib_file_entries.specs.Claiming.{IsKeptSoFar}
+use Rattle.bib_file_entries.specs.Loaded.{definition_in}
+use Rattle.bib_references.specs.Recovered.{AreRecovered}
+use Rattle.bib_syntax.specs.Reading.{EntryReading, FileReading}
+use Rattle.bib_syntax.specs.Recovery.{IsRecovery}
 use Rattle.bib_syntax.specs.Views.{entry_reading_of}
 use Rattle.bib_syntax.specs.declared.raw.ParseError.{ParseError}
 use Rattle.bib_syntax.specs.declared.raw.RawEntry.{RawEntry}
@@ -48,3 +53,22 @@ pub record AreFindingsIn (skipped : List SkippedBlock) (errors : List ParseError
   pub of_entries : List Finding
   pub reports : AreOfEach AreOfEntry said origins entries of_entries
   pub sorted : AreSortedByPlace (map block_finding skipped ++ (map error_finding errors ++ (of_entries ++ between))) found
+
+-- all that is wrong in a file with this text: in what can be read of it, in the entries of that which are kept, each with what
+-- it inherits, and between these entries with their own fields
+pub record AreFindings (text : List ℕ) (found : List Finding) : Type 0 where
+  pub says : FileReading
+  pub skipped : List SkippedBlock
+  pub recovery : IsRecovery text says skipped
+  pub own : List Entry
+  pub names : ByText ℕ
+  pub places : List (Range ℕ)
+  pub origins : List ℕ
+  pub of_entries : List ParseError
+  pub kept : IsKeptSoFar (definition_in says.abbreviations) says.entries own names places origins of_entries
+  pub entries : List Entry
+  pub of_references : List ParseError
+  pub resolved : AreRecovered places names own entries of_references
+  pub between : List Finding
+  pub are_between : AreBetween names says.entries origins own between
+  pub are : AreFindingsIn skipped (of_entries ++ of_references) says.entries origins entries between found

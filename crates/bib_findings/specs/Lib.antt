@@ -5,6 +5,7 @@ pub mod Errors
 pub mod Duplicates
 pub mod Findings
 pub mod Identities
+pub mod Met
 pub mod Names
 pub mod References
 pub mod Seen

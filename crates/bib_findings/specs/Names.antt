@@ -70,6 +70,10 @@ pub record IsOfUnknown (key : List ℕ) (field : FieldReading) (found : Finding)
 abbrev pub unknown_among : List FieldReading → List FieldReading
 unknown_among all = filter (λ f. not (is_known_field f.name.text)) all
 
--- these are the findings of an entry's fields whose names aren't known, one for each in their order
+-- these are the findings of those fields, of the entry with this key, whose names aren't known, one for each in their order
+abbrev pub AreUnknownOf : List ℕ → List FieldReading → List Finding → Type 0
+AreUnknownOf key all found = AllZip (IsOfUnknown key) (unknown_among all) found
+
+-- these are the findings of an entry's fields whose names aren't known
 abbrev pub AreOfUnknown : EntryReading → List Finding → Type 0
-AreOfUnknown said found = AllZip (IsOfUnknown said.key.text) (unknown_among said.fields) found
+AreOfUnknown said found = AreUnknownOf said.key.text said.fields found

@@ -1,35 +1,43 @@
 //! All that is wrong in a file.
 
 ghost use Rattle.std.specs.Prelude.{◌≡◌, ◌<◌, All, length, map, IfOk, OnOk};
+ghost use Rattle.std.specs.BTreeMap.{get_by_text};
 ghost use Rattle.bib_syntax.specs.Views.{entry_reading_of};
 ghost use Rattle.bib_findings.specs.Adding.{Adds};
 ghost use Rattle.bib_findings.specs.Entries.{AreOfEach};
-ghost use Rattle.bib_findings.specs.Findings.{AreBetween, AreFindingsIn, AreOfEntry, AreSortedByPlace, entries_said};
+ghost use Rattle.bib_findings.specs.Findings.{AreBetween, AreFindings, AreFindingsIn, AreOfEntry, AreSortedByPlace, entries_said};
+ghost use Rattle.bib_findings.specs.Met.{AreFieldNames};
 
 use crate::duplicates::add_duplicates;
 use crate::entries::add_report;
 use crate::errors::{add_blocks, add_errors};
 use crate::finding::Finding;
-use crate::names::add_unknown_fields;
+use crate::names::{FieldName, add_unknown_fields};
 use crate::references::add_references;
 use bib_entry::entry::Entry;
+use bib_file_entries::keeping::{KeptEntries, keep};
 use bib_maps::names::Names;
-use bib_syntax::raw::{ParseError, RawEntry, SkippedBlock};
+use bib_references::recovering::resolve_readable;
+use bib_syntax::raw::{ParseError, RawBibliography, RawEntry, RawRecovery, SkippedBlock};
 use bib_text::spanned::Spanned;
 use std::alloc::{AllocError, Global};
+use std::collections::BTreeMap;
 
-// Adds what is wrong with an entry, which the file says so.
+// Adds what is wrong with an entry, which the file says so, by the names of fields that were met.
 fn add_entry(
     alloc: Global,
     found: &mut Vec<Finding>,
+    met: &mut BTreeMap<String, FieldName>,
     said: &Spanned<RawEntry<'_>>,
     entry: &Entry,
 ) -> Result<(), AllocError>
-    ensures { OnOk result (Adds (AreOfEntry (entry_reading_of said.now) entry.now)
+    requires { AreFieldNames (get_by_text met.old) }
+    ensures met { OnOk result (AreFieldNames (get_by_text met.new)) }
+    ensures added { OnOk result (Adds (AreOfEntry (entry_reading_of said.now) entry.now)
         found.old.items found.new.items) }
 {
     add_report(alloc, found, said, entry)?;
-    add_unknown_fields(alloc, found, said)
+    add_unknown_fields(alloc, found, met, said)
 }
 
 // Adds what is wrong with entries, each with its index among the entries of the file.
@@ -45,10 +53,11 @@ fn add_entries(
     ensures { OnOk result (Adds (AreOfEach AreOfEntry (map entry_reading_of said.now) origins.now entries.now)
         found.old.items found.new.items) }
 {
+    let mut met = BTreeMap::new(alloc);
     'entries: for index in 0..entries.len() {
         let one = &said[origins[index]];
         let entry = &entries[index];
-        add_entry(alloc, found, one, entry)?;
+        add_entry(alloc, found, &mut met, one, entry)?;
     }
     Ok(())
 }
@@ -105,4 +114,24 @@ pub fn findings_in(
     add_entries(alloc, &mut found, said, origins, entries)?;
     found.append(&mut between)?;
     sorted_by_place(found)
+}
+
+/// All that is wrong in a bibliography file, or may be, in the order of where it starts: the file is recovered, as
+/// `Bibliography::recover` does it. Spans are in bytes of the text. Refused only when out of memory.
+pub fn findings(alloc: Global, text: &str) -> Result<Vec<Finding>, AllocError>
+    ensures { IfOk result (λ found. AreFindings text.now found.items) }
+{
+    let said = RawBibliography::recover(alloc, text)?.raw.entries;
+    let RawRecovery { raw, skipped } = RawBibliography::recover(alloc, text)?;
+    let KeptEntries {
+        mut entries,
+        names,
+        spans,
+        origins,
+        mut errors,
+    } = keep(alloc, raw)?;
+    let linked = between(alloc, &said, &origins, &names, &entries)?;
+    let mut unresolved = resolve_readable(alloc, &spans, &names, &mut entries)?;
+    errors.append(&mut unresolved)?;
+    findings_in(alloc, &skipped, &errors, &said, &origins, &entries, linked)
 }

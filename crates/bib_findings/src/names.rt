@@ -1,13 +1,15 @@
 //! Names of fields that BibLaTeX knows.
 
-ghost use Rattle.std.specs.Prelude.{◌≡◌, IfOk, OnOk, option_copied};
+ghost use Rattle.std.specs.Prelude.{◌≡◌, ◌∷◌, [], IfOk, OnOk, option_copied};
+ghost use Rattle.std.specs.BTreeMap.{get_by_text};
 ghost use Rattle.std.specs.List.{list_any};
-ghost use Rattle.std.specs.Str.{str_eq_ignore_ascii_case};
+ghost use Rattle.std.specs.Str.{str_eq_ignore_ascii_case, str_to_ascii_lowercase};
 ghost use Rattle.std.specs.String.{string_bytes};
 ghost use Rattle.bib_entry_types.specs.Requirements.{texts};
 ghost use Rattle.bib_syntax.specs.Views.{entry_reading_of, field_of};
 ghost use Rattle.bib_findings.specs.Adding.{Adds};
-ghost use Rattle.bib_findings.specs.Names.{AreOfUnknown, IsNearest, IsOfUnknown, is_known_field, unknown_message};
+ghost use Rattle.bib_findings.specs.Met.{AreFieldNames, IsFieldName};
+ghost use Rattle.bib_findings.specs.Names.{AreOfUnknown, AreUnknownOf, IsNearest, IsOfUnknown, is_known_field, known_fields, unknown_message};
 
 use crate::codes::Code;
 use crate::finding::Finding;
@@ -15,6 +17,7 @@ use bib_syntax::raw::{Pair, RawEntry};
 use bib_text::spanned::Spanned;
 use bib_text::text::Text;
 use std::alloc::{AllocError, Global};
+use std::collections::BTreeMap;
 use strsim::levenshtein;
 
 // The fields of BibLaTeX's default data model (manual, 2.2), the names that it takes over from BibTeX, and the parts of dates.
@@ -236,14 +239,56 @@ fn unknown_message(
     }
 }
 
-// The finding of a field whose name isn't known, of the entry with this key.
-fn unknown_finding(alloc: Global, key: &str, field: &Pair<'_>) -> Result<Finding, AllocError>
-    ensures { IfOk result (IsOfUnknown key.now (field_of field.now)) }
+/// What the name of a field is.
+#[derive(Debug, Clone, Copy, PartialEq, Eq)]
+pub(crate) enum FieldName {
+    /// One that BibLaTeX knows.
+    Known,
+    /// Another, with the nearest of those that BibLaTeX knows, where one isn't too many edits away.
+    Unknown(Option<&'static str>),
+}
+
+// What a name is.
+fn look_up(alloc: Global, name: &str) -> Result<FieldName, AllocError>
+    ensures { IfOk result (IsFieldName name.now) }
 {
-    let name = field.key.v;
+    if is_known_field(name) {
+        return Ok(FieldName::Known);
+    }
     let lowercase = name.to_ascii_lowercase(alloc)?;
     let meant = nearest(alloc, &KNOWN_FIELDS, &lowercase)?;
-    let message = Text::from_string(unknown_message(alloc, key, name, meant)?);
+    Ok(FieldName::Unknown(meant))
+}
+
+// What a name is, by the names that were met, of which it is one then. A file has few names, each many times.
+fn meet(
+    alloc: Global,
+    met: &mut BTreeMap<String, FieldName>,
+    name: &str,
+) -> Result<FieldName, AllocError>
+    requires { AreFieldNames (get_by_text met.old) }
+    ensures met { OnOk result (AreFieldNames (get_by_text met.new)) }
+    ensures is { IfOk result (IsFieldName name.now) }
+{
+    if let Some(is) = met.get(name).copied() {
+        return Ok(is);
+    }
+    let is = look_up(alloc, name)?;
+    met.insert(String::from_str(alloc, name)?, is)?;
+    Ok(is)
+}
+
+// The finding of a field whose name isn't known, of the entry with this key, where this name may be meant.
+fn unknown_finding(
+    alloc: Global,
+    key: &str,
+    field: &Pair<'_>,
+    meant: Option<&'static str>,
+) -> Result<Finding, AllocError>
+    requires { IsNearest known_fields (str_to_ascii_lowercase field.now.key.v.now) (option_copied meant) }
+    ensures { IfOk result (IsOfUnknown key.now (field_of field.now)) }
+{
+    let message = Text::from_string(unknown_message(alloc, key, field.key.v, meant)?);
     Ok(Finding {
         code: Code::UnknownField,
         span: field.key.span.start..field.key.span.end,
@@ -251,18 +296,40 @@ fn unknown_finding(alloc: Global, key: &str, field: &Pair<'_>) -> Result<Finding
     })
 }
 
-// Adds a finding for each field of an entry whose name isn't known.
+// Adds a finding for a field of the entry with this key, if its name isn't known.
+fn add_if_unknown(
+    alloc: Global,
+    found: &mut Vec<Finding>,
+    met: &mut BTreeMap<String, FieldName>,
+    key: &str,
+    field: &Pair<'_>,
+) -> Result<(), AllocError>
+    requires { AreFieldNames (get_by_text met.old) }
+    ensures met { OnOk result (AreFieldNames (get_by_text met.new)) }
+    ensures added { OnOk result (Adds (AreUnknownOf key.now (field_of field.now ∷ [])) found.old.items found.new.items) }
+{
+    match meet(alloc, met, field.key.v)? {
+        FieldName::Known => Ok(()),
+        FieldName::Unknown(meant) => {
+            found.push(unknown_finding(alloc, key, field, meant)?)?;
+            Ok(())
+        }
+    }
+}
+
+// Adds a finding for each field of an entry whose name isn't known, by the names that were met.
 pub(crate) fn add_unknown_fields(
     alloc: Global,
     found: &mut Vec<Finding>,
+    met: &mut BTreeMap<String, FieldName>,
     said: &Spanned<RawEntry<'_>>,
 ) -> Result<(), AllocError>
-    ensures { OnOk result (Adds (AreOfUnknown (entry_reading_of said.now)) found.old.items found.new.items) }
+    requires { AreFieldNames (get_by_text met.old) }
+    ensures met { OnOk result (AreFieldNames (get_by_text met.new)) }
+    ensures added { OnOk result (Adds (AreOfUnknown (entry_reading_of said.now)) found.old.items found.new.items) }
 {
     'fields: for field in &said.v.fields {
-        if !is_known_field(field.key.v) {
-            found.push(unknown_finding(alloc, said.v.key.v, field)?)?;
-        }
+        add_if_unknown(alloc, found, met, said.v.key.v, field)?;
     }
     Ok(())
 }

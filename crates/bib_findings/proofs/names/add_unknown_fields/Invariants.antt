@@ -1,9 +1,14 @@
 use Rattle.std.proofs.Common.{map, take}
+use Rattle.std.specs.BTreeMap.{get_by_text}
 use Rattle.bib_syntax.specs.Views.{field_of}
 use Rattle.bib_findings.specs.Adding.{Adds}
-use Rattle.bib_findings.proofs.NameFacts.{AreUnknownOf}
+use Rattle.bib_findings.specs.Met.{AreFieldNames}
+use Rattle.bib_findings.specs.Names.{AreUnknownOf}
 use Rattle.bib_findings.proofs.names.add_unknown_fields.Given as goal
 
 -- a finding was added for each of the fields so far whose name isn't known
 abbrev pub invariant-fields : goal.invariant-fields
-invariant-fields l = Adds (AreUnknownOf l.said.v.key.v.now (map field_of (take l.field-index l.said.v.fields.items))) l.initial.found.items l.found.items
+invariant-fields l = record {
+  met : AreFieldNames (get_by_text l.met);
+  added : Adds (AreUnknownOf l.said.v.key.v.now (map field_of (take l.field-index l.said.v.fields.items))) l.initial.found.items l.found.items;
+}
