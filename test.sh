@@ -16,4 +16,7 @@ cat "$said"
 if [ -x crates/bib/out/bib ]; then
     bash crates/bib/runs.sh crates/bib/out/bib || status=1
 fi
+if [ -x crates/bibkit/out/bibkit ]; then
+    bash crates/bibkit/runs.sh crates/bibkit/out/bibkit docs/GUIDE.md || status=1
+fi
 exit "$status"
