@@ -293,10 +293,11 @@ for kind, block in re.findall(r"^```(\S*)\n(.*?)^```$", open(guide, encoding="ut
     for command, want in re.findall(r"^\$ (.*)\n((?:(?!\$ ).*\n)*)", block, re.M):
         ran += 1
         path = folder + ":" + os.environ["PATH"]
-        made = subprocess.run(["bash", "-c", command], cwd=folder, env={**os.environ, "PATH": path}, capture_output=True, text=True)
-        if made.stdout + made.stderr != want:
+        made = subprocess.run(["bash", "-c", command], cwd=folder, env={**os.environ, "PATH": path}, stdout=subprocess.PIPE,
+                              stderr=subprocess.STDOUT, text=True)
+        if made.stdout != want:
             failed += 1
-            print("failed: $ " + command + "\n" + made.stdout + made.stderr)
+            print("failed: $ " + command + "\n" + made.stdout)
 shutil.rmtree(folder)
 print(f"sessions: {ran} commands, {failed} failed")
 sys.exit(failed > 0 or ran == 0)
