@@ -7,7 +7,7 @@ program="$top/crates/bibkit/out/bibkit"
 if [ -x "$program" ] && [ -z "$(find "$top"/crates/bib*/src -name '*.rt' -newer "$program" -print -quit)" ]; then
     exec "$program" "$@"
 fi
-echo 'bibkit: not proved yet, so this runs unproved, in about a minute; ./prove.py bibkit proves and builds it' >&2
+echo 'bibkit: not proved yet, so this runs unproved, in some two minutes; ./prove.py bibkit proves and builds it' >&2
 words=()
 files=()
 for word in "$@"; do
