@@ -4,7 +4,7 @@ use Rattle.bib_syntax.specs.Views.{entry_reading_of}
 use Rattle.bib_findings.specs.Duplicates.{duplicate_after, duplicates, entries_at}
 use Rattle.bib_findings.specs.Seen.{HasFirst}
 use Rattle.bib_findings.proofs.SeenFacts.{duplicates_more, entries_next}
-use Rattle.bib_findings.proofs.duplicates.add_duplicates.Goals as goal
+use Rattle.bib_findings.proofs.duplicates.add_duplicates_among.Goals as goal
 
 pub origins-preserved : goal.origins-preserved
 origins-preserved c =
