@@ -1,5 +1,5 @@
 -- Facts on marks: entries that share an identity share a mark.
-use Rattle.std.proofs.Common.{◌≡◌, ℕ, Bool, true, false, not, List, [], ◌∷◌, ◌++◌, ◌+◌, ◌<◌, ◌≤◌, ◌==◌, ◌&&◌, ◌||◌, length, map, Option, Some, None, refl, sym, ap, ◌∙◌, append_assoc, append-nil, subst, arith, cond, suc, zero, nat_eq, get_or, inl, inr, take, Result, Ok, Err, OnOk}
+use Rattle.std.proofs.Common.{◌≡◌, ℕ, Bool, true, false, not, List, [], ◌∷◌, ◌++◌, ◌+◌, ◌<◌, ◌≤◌, ◌==◌, ◌&&◌, ◌||◌, length, map, Option, Some, None, refl, sym, ap, ◌∙◌, append_assoc, append-nil, subst, arith, cond, suc, zero, nat_eq, get_or, inl, inr, take, Result, Ok, Err, OnOk, IfOk}
 use mathlib.Core.Logic.{◌⊎◌, ⊎_elim}
 use Rattle.std.specs.Prelude.{bytes_eq, codes, count_by, find, is_some, nat_lt, slice_get, unwrap_or}
 use Rattle.std.specs.List.{All, cons_option, filter, flat_map, list_any}
@@ -10,11 +10,14 @@ use Rattle.std.specs.Hash.FoldHasher.{finish, initial, write}
 use Rattle.std.proofs.lemmas.Bool.Decides.{nat_tests}
 use Rattle.std.proofs.lemmas.Grind.{flat_map-append}
 use Rattle.std.proofs.lemmas.List.Elements.{All-cons, All-head, All-nil, All-tail}
-use Rattle.std.proofs.lemmas.List.{take_more}
+use Rattle.std.proofs.lemmas.List.{length-map, length-take-le, take_more}
 use Rattle.std.proofs.lemmas.List.Folds.{list_any-append}
 use Rattle.std.proofs.lemmas.List.Sums.{sum_by-append, sum_by-cons, take_while-cons}
 use Rattle.std.proofs.lemmas.Slice.Eq.{bytes_eq-Decides}
 use Rattle.bib_syntax.specs.Reading.{EntryReading}
+use Rattle.bib_syntax.specs.Views.{entry_reading_of}
+use Rattle.bib_syntax.specs.declared.raw.RawEntry.{RawEntry}
+use Rattle.bib_text.specs.declared.spanned.Spanned.{Spanned}
 use Rattle.bib_text.specs.Characters as char
 use Rattle.bib_findings.specs.Duplicates.{duplicate_after, duplicate_finding, duplicates, duplicates_after, entries_at}
 use Rattle.bib_findings.specs.Identities.{doi_of, has_any, has_identity, identities, identity, isbn_of, title_of, work_of, work_text}
@@ -438,3 +441,34 @@ pub noted_next : (met new : BTreeMap ℕ Bool) (all : List Marks) (index : ℕ) 
 noted_next met new all index other within adds noted =
     subst (AreMetMarks new) (sym (ap (flat_map listed) (take_more all index other within) ∙ flat_map-append listed (take index all) (get_or all index other ∷ [])
     ∙ ap (λ l. flat_map listed (take index all) ++ l) (append-nil (listed (get_or all index other))))) (adds (flat_map listed (take index all)) noted)
+
+-- as many entries as indices
+pub as_many_entries : (said : List EntryReading) (indices : List ℕ) → All (λ index. index < length said) indices → length (entries_at said indices) ≡ length indices
+as_many_entries said [] there = refl
+as_many_entries said (index ∷ indices) there =
+    let one = one_there said index (All-head (λ i. i < length said) index indices there) in
+    ap (λ o. length (cons_option o (entries_at said indices))) one.1 ∙ ap suc (as_many_entries said indices (All-tail (λ i. i < length said) index indices there))
+
+-- what holds of a result, of which more follows
+pub on_result : {A E : Type 0} {P Q : A → Type 0} (r : Result A E) → ((a : A) → P a → Q a) → IfOk r P → IfOk r Q
+on_result (Ok a) more holds = more a holds
+on_result (Err e) more holds = tt
+
+-- indices in range of readings
+pub in_range : (said : List (Spanned RawEntry)) (indices : List ℕ) → All (λ index. index < length said) indices → All (λ index. index < length (map entry_reading_of said)) indices
+in_range said indices there = subst (λ n. All (λ index. index < n) indices) (sym (length-map said entry_reading_of)) there
+
+-- one more index, whether it is chosen or not
+pub chosen_next : (met : BTreeMap ℕ Bool) (all : List Marks) (indices found new : List ℕ) (index : ℕ) (other : Marks) (d : ℕ) (shared : Bool) → length all ≡ length indices → index < length indices
+    → ((listed : List ℕ) → AreMetMarks met listed → shared ≡ has_repeated listed (get_or all index other)) → new ≡ found ++ cond shared (get_or indices index d ∷ []) []
+    → ((listed : List ℕ) → AreMetMarks met listed → found ≡ chosen listed (take index all) (take index indices))
+    → (listed : List ℕ) → AreMetMarks met listed → new ≡ chosen listed (take (index + 1) all) (take (index + 1) indices)
+chosen_next met all indices found new index other d shared same within says next so_far listed noted =
+    next ∙ ap (λ l. l ++ cond shared (get_or indices index d ∷ []) []) (so_far listed noted)
+    ∙ ap (λ b. chosen listed (take index all) (take index indices) ++ cond b (get_or indices index d ∷ []) []) (says listed noted)
+    ∙ sym (chosen_more listed (take index all) (take index indices) (get_or all index other) (get_or indices index d) (taken all index (let le : index ≤ length all = omega (arith, same, within) in le) ∙ sym (taken indices index (let le : index ≤ length indices = omega (arith, within) in le))))
+    ∙ ap (λ l. chosen listed l (take index indices ++ get_or indices index d ∷ [])) (sym (take_more all index other (let below : index < length all = omega (arith, same, within) in below)))
+    ∙ ap (chosen listed (take (index + 1) all)) (sym (take_more indices index d within))
+  where
+    taken : {A : Type 0} (items : List A) (count : ℕ) → count ≤ length items → length (take count items) ≡ count
+    taken items count le = length-take-le count items le

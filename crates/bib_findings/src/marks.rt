@@ -51,7 +51,7 @@ fn mark(kind: &str, text: &str) -> Option<u64>
 }
 
 // The marks of an entry.
-fn marks(alloc: Global, said: &Spanned<RawEntry<'_>>) -> Result<Marks, AllocError>
+fn marks_of(alloc: Global, said: &Spanned<RawEntry<'_>>) -> Result<Marks, AllocError>
     ensures { IfOk result (λ marks. marks ≡ marks_of (entry_reading_of said.now)) }
 {
     let doi = doi(alloc, said)?;
@@ -70,13 +70,13 @@ fn all_marks(
     said: &[Spanned<RawEntry<'_>>],
     origins: &[usize],
 ) -> Result<Vec<Marks>, AllocError>
-    requires there { All (λ index. index < length said.now) origins.now }
+    requires { All (λ index. index < length said.now) origins.now }
     ensures { IfOk result (λ all. all.items ≡ map marks_of (entries_at (map entry_reading_of said.now) origins.now)) }
 {
     let mut all = Vec::with_capacity(alloc, origins.len())?;
     'origins: for index in 0..origins.len() {
         let one = &said[origins[index]];
-        all.push(marks(alloc, one)?)?;
+        all.push(marks_of(alloc, one)?)?;
     }
     Ok(all)
 }
