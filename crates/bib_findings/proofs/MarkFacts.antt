@@ -77,8 +77,8 @@ kind_of test said is =
     let works = identity (codes "work ") (work_of said) in
     ⊎_elim (λ p. let it = in_identity test (codes "doi ") (doi_of said) p in is_doi it.0 it.1)
     (λ q. ⊎_elim (λ p. let it = in_identity test (codes "isbn ") (isbn_of said) p in is_isbn it.0 it.1)
-      (λ p. let it = in_identity test (codes "work ") (work_of said) p in is_work it.0 it.1)
-      (either (list_any test isbns) (list_any test works) (sym (list_any-append test isbns works) ∙ q)))
+    (λ p. let it = in_identity test (codes "work ") (work_of said) p in is_work it.0 it.1)
+    (either (list_any test isbns) (list_any test works) (sym (list_any-append test isbns works) ∙ q)))
     (either (list_any test dois) (list_any test (isbns ++ works)) (sym (list_any-append test dois (isbns ++ works)) ∙ is))
 
 -- what stands after the first letters of a text

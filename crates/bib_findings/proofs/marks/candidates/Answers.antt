@@ -31,5 +31,5 @@ returns-clause-found c =
     let met : AreMetMarks c.in_ok-met.met (listed_all entries) = subst (AreMetMarks c.in_ok-met.met) (ap (flat_map listed) (c.deref.ensures.value ∙ c.in_ok-all.ensures) ∙ listed_marks entries) c.in_ok-met.ensures in
     on_result c.chosen.result
     (λ found is. ap (entries_at said) (is (listed_all entries) met ∙ ap (λ marks. chosen (listed_all entries) marks c.args.origins.now) all)
-      ∙ chosen_entries (listed_all entries) said c.args.origins.now (in_range c.args.said.now c.args.origins.now c.requires))
+    ∙ chosen_entries (listed_all entries) said c.args.origins.now (in_range c.args.said.now c.args.origins.now c.requires))
     c.chosen.ensures
