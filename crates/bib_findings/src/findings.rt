@@ -121,8 +121,8 @@ pub fn findings_in(
 pub fn findings(alloc: Global, text: &str) -> Result<Vec<Finding>, AllocError>
     ensures { IfOk result (λ found. AreFindings text.now found.items) }
 {
+    let said = RawBibliography::recover(alloc, text)?.raw.entries;
     let RawRecovery { raw, skipped } = RawBibliography::recover(alloc, text)?;
-    let said = raw.entries.clone()?;
     let KeptEntries {
         mut entries,
         names,
