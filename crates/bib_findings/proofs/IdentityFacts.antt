@@ -1,16 +1,12 @@
 -- Facts on the texts by which entries are likely the same work.
-use Rattle.std.proofs.Common.{◌≡◌, ℕ, Bool, true, false, not, List, [], ◌∷◌, ◌++◌, ◌+◌, ◌<◌, ◌≤◌, length, get_or, take, drop, map, Option, Some, None, refl, sym, ap, ◌∙◌, append_assoc, append-nil, subst, arith, cond, suc, nat_eq}
-use Rattle.std.specs.Prelude.{encode_utf8, encode_utf8_all, unwrap_or, reverse, option_map}
+use Rattle.std.proofs.Common.{◌≡◌, ℕ, Bool, true, false, List, [], ◌∷◌, ◌+◌, ◌<◌, length, get_or, drop, map, Option, Some, None, refl, sym, ap, ◌∙◌, subst, arith, cond, suc, nat_eq}
+use Rattle.std.specs.Prelude.{reverse, option_map}
 use mathlib.Core.List.{reverse_aux}
-use Rattle.std.specs.List.{find, position_or_len, prefix_len, starts_with}
+use Rattle.std.specs.List.{find, starts_with}
 use Rattle.std.specs.Str.Pattern.{FindsTextPrefix, StripsPrefix}
 use Rattle.std.specs.Str.{IsCharBoundary}
 use Rattle.std.proofs.Math.Seq.{drop-cons}
-use Rattle.std.proofs.lemmas.Bool.Decides.{nat_tests}
-use Rattle.std.proofs.lemmas.List.{take_more}
-use Rattle.std.proofs.lemmas.Str.{encodes-append}
 use Rattle.std.proofs.lemmas.Str.Pattern.{starts_text}
-use lib.Dec.{ltb}
 use denote.Ref.{Bor}
 use Rattle.bib_findings.specs.Identities.{without_prefixes}
 

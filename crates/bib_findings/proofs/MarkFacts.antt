@@ -1,5 +1,5 @@
 -- Facts on marks: entries that share an identity share a mark.
-use Rattle.std.proofs.Common.{◌≡◌, ℕ, Bool, true, false, not, List, [], ◌∷◌, ◌++◌, ◌+◌, ◌<◌, ◌≤◌, ◌==◌, ◌&&◌, ◌||◌, length, map, Option, Some, None, refl, sym, ap, ◌∙◌, append_assoc, append-nil, subst, arith, cond, suc, zero, nat_eq, get_or, inl, inr, take, Result, Ok, Err, OnOk, IfOk}
+use Rattle.std.proofs.Common.{◌≡◌, ℕ, Bool, true, false, not, List, [], ◌∷◌, ◌++◌, ◌+◌, ◌<◌, ◌≤◌, ◌==◌, ◌||◌, length, map, Some, None, refl, sym, ap, ◌∙◌, append_assoc, append-nil, subst, arith, cond, suc, zero, nat_eq, get_or, inl, inr, take, Result, Ok, Err, OnOk, IfOk}
 use mathlib.Core.Logic.{◌⊎◌, ⊎_elim}
 use Rattle.std.specs.Prelude.{bytes_eq, codes, count_by, find, is_some, nat_lt, slice_get, unwrap_or}
 use Rattle.std.specs.List.{All, cons_option, filter, flat_map, list_any}

@@ -1,6 +1,6 @@
 -- Facts on the words of characters, as they are written one after another.
-use Rattle.std.proofs.Common.{◌≡◌, ℕ, Bool, true, false, not, List, [], ◌∷◌, ◌++◌, ◌+◌, ◌<◌, ◌≤◌, ◌==◌, ◌&&◌, length, get_or, drop, map, refl, sym, ap, ◌∙◌, append_assoc, append-nil, length-append, subst, arith, cond, suc, nat_eq}
-use Rattle.std.specs.Prelude.{IsUtf8, bytes_eq, chars, codes, encode_utf8, encode_utf8_all}
+use Rattle.std.proofs.Common.{◌≡◌, ℕ, Bool, true, false, not, List, [], ◌∷◌, ◌++◌, ◌+◌, ◌<◌, ◌≤◌, ◌==◌, ◌&&◌, length, get_or, drop, refl, sym, ap, ◌∙◌, append_assoc, append-nil, length-append, arith, cond, suc}
+use Rattle.std.specs.Prelude.{IsUtf8, bytes_eq, codes, encode_utf8, encode_utf8_all}
 use Rattle.std.specs.Bool.{one_answer}
 use Rattle.std.specs.Char.{is_whitespace}
 use Rattle.std.specs.List.{filter, onto_first, slice_split, take_while}
@@ -12,7 +12,7 @@ use Rattle.std.proofs.lemmas.Bool.Decides.{nat_tests}
 use Rattle.std.proofs.lemmas.Slice.Eq.{bytes_eq-Decides}
 use Rattle.std.proofs.lemmas.Str.{encodes-append, length-encode, len_utf8_bounds}
 use Rattle.bib_text.proofs.TextFacts.{chars_whole}
-use Rattle.bib_findings.specs.Identities.{folded_words, is_between_people, is_brace, spaced_words}
+use Rattle.bib_findings.specs.Identities.{is_brace, spaced_words}
 use Rattle.bib_findings.specs.Words.{ends_before, spaced_word, words_text}
 
 -- characters but for braces

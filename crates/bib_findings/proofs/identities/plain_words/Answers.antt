@@ -1,4 +1,4 @@
-use Rattle.std.proofs.Common.{◌≡◌, ap, sym, ◌∙◌, subst, IfOk, false}
+use Rattle.std.proofs.Common.{◌≡◌, ap, ◌∙◌, subst, IfOk, false}
 use Rattle.std.specs.Prelude.{string_bytes}
 use Rattle.bib_findings.specs.Identities.{folded, folded_words, spaced_words}
 use Rattle.bib_findings.specs.Words.{without_braces, words_text}

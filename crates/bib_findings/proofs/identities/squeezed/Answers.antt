@@ -1,9 +1,9 @@
-use Rattle.std.proofs.Common.{◌≡◌, rules, tests, ℕ, List, not, ◌&&◌, ap, sym, ◌∙◌}
+use Rattle.std.proofs.Common.{◌≡◌, rules, tests, not, ◌&&◌, ap, sym, ◌∙◌}
 use Rattle.std.specs.Prelude.{chars, encode_utf8_all, filter, string_bytes}
 use Rattle.std.specs.Char.{is_whitespace}
 use Rattle.std.proofs.lemmas.List.Elements.{filter_from_retain}
 use Rattle.bib_text.proofs.TextFacts.{chars_whole}
-use Rattle.bib_findings.specs.Identities.{folded, is_brace}
+use Rattle.bib_findings.specs.Identities.{is_brace}
 use Rattle.bib_findings.proofs.WordFacts.{filter_both}
 use Rattle.bib_findings.proofs.identities.squeezed.Goals as goal
 

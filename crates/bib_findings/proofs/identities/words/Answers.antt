@@ -1,10 +1,10 @@
-use Rattle.std.proofs.Common.{◌≡◌, ◌<◌, ◌+◌, ℕ, List, ◌++◌, ◌∷◌, [], ap, sym, ◌∙◌, length, get_or, subst, true, false}
-use Rattle.std.proofs.lemmas.List.{length_push, map-id}
+use Rattle.std.proofs.Common.{◌≡◌, ◌+◌, ap, sym, ◌∙◌, length, subst, true, false}
+use Rattle.std.proofs.lemmas.List.{length_push}
 use Rattle.std.proofs.lemmas.Iterator.{YieldsList-from_chars}
 use Rattle.std.proofs.lemmas.Iterator.Consumers.{YieldsList-end, YieldsList-turn}
 use Rattle.std.specs.Prelude.{IsUtf8, chars, string_bytes}
-use Rattle.bib_findings.specs.Words.{ends_before, spaced_word, words_text}
-use Rattle.bib_findings.proofs.WordFacts.{AreWordsLeft, kept, words_brace, words_last, words_letter, words_space, words_stop, words_stop_last}
+use Rattle.bib_findings.specs.Words.{ends_before}
+use Rattle.bib_findings.proofs.WordFacts.{AreWordsLeft, words_brace, words_last, words_letter, words_space, words_stop, words_stop_last}
 use Rattle.bib_findings.proofs.identities.words.Goals.{then-not-ends_before+in_ok-end_word-2, else-not-ends_before}
 use Rattle.bib_findings.proofs.identities.words.Goals as goal
 

@@ -1,4 +1,4 @@
-use Rattle.std.proofs.Common.{◌≡◌, length}
+use Rattle.std.proofs.Common.{length}
 use Rattle.std.specs.Prelude.{chars, string_bytes}
 use Rattle.bib_findings.proofs.WordFacts.{AreWordsLeft}
 use Rattle.bib_findings.proofs.identities.words.Given as goal

@@ -1,10 +1,10 @@
-use Rattle.std.proofs.Common.{◌≡◌, ◌<◌, List, ℕ, IfOk, ap, sym, ◌∙◌, map, length, subst}
+use Rattle.std.proofs.Common.{◌≡◌, ◌<◌, List, ap, sym, ◌∙◌, map, length, subst}
 use Rattle.std.proofs.lemmas.List.{length-map}
 use Rattle.std.specs.List.{All, flat_map}
 use Rattle.bib_syntax.specs.Reading.{EntryReading}
 use Rattle.bib_syntax.specs.Views.{entry_reading_of}
 use Rattle.bib_findings.specs.Duplicates.{entries_at}
-use Rattle.bib_findings.specs.Marks.{AreMetMarks, chosen, listed, listed_all, marks_of, may_share}
+use Rattle.bib_findings.specs.Marks.{AreMetMarks, chosen, listed, listed_all, marks_of}
 use Rattle.bib_findings.proofs.MarkFacts.{as_many_entries, chosen_entries, chosen_within, in_range, listed_marks, on_result}
 use Rattle.bib_findings.proofs.marks.candidates.Goals as goal
 

@@ -1,4 +1,4 @@
-use Rattle.std.proofs.Common.{◌≡◌, ◌++◌, ap, sym, ◌∙◌, subst, append-nil}
+use Rattle.std.proofs.Common.{◌++◌, sym, subst}
 use Rattle.std.specs.Option.{option_to_list}
 use Rattle.bib_findings.specs.Marks.{AreMetMarks}
 use Rattle.bib_findings.proofs.MarkFacts.{noted_more}

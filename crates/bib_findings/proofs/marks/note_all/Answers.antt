@@ -1,6 +1,4 @@
-use Rattle.std.proofs.Common.{◌≡◌, ◌++◌, ℕ, List, OnOk, ap, sym, ◌∙◌, subst, append_assoc}
 use Rattle.std.specs.Option.{option_to_list}
-use Rattle.bib_findings.specs.Marks.{AreMetMarks}
 use Rattle.bib_findings.proofs.MarkFacts.{noted_all}
 use Rattle.bib_findings.proofs.marks.note_all.Goals as goal
 
