@@ -1,7 +1,7 @@
 //! The file of a project's settings.
 
-use crate::settings::{Color, Format, Settings};
 use bib_findings::codes::Code;
+use bibkit_core::settings::{Color, Format, Settings};
 use std::alloc::{AllocError, AllocFailed, Global};
 use std::fs;
 use std::io::ErrorKind;
