@@ -172,6 +172,13 @@ run 'cited entries of a document that is not there' 2 '' cited no.aux two.bib
 # what a document cites
 run 'a key that no file has' 1 $'paper.aux:3:1: error: no file has an entry "z" [missing-entry]\nerrors: 1, warnings: 0\n' lint --ignore missing-field --cited paper.aux two.bib
 run 'an entry that is never cited' 1 $'two.bib:1:7: warning: a: never cited [unused-entry]\npaper.aux:3:1: error: no file has an entry "z" [missing-entry]\nerrors: 1, warnings: 1\n' lint --ignore missing-field --cited paper.aux --unused two.bib
+printf '@collection{d, title={B}, editor={E}, year={2000}}\n@incollection{c, crossref={d}}\n' >parent.bib
+printf '\\citation{c}\n' >child.aux
+run 'an entry to which a cited one refers' 1 $'parent.bib:1:13: warning: d: never cited [unused-entry]\nerrors: 0, warnings: 1\n' lint --only unused-entry --cited child.aux --unused parent.bib
+printf '\\citation{biblatex-control}\n' >control.aux
+printf '@Control{biblatex-control,\n  options = {3.10:0},\n}\n' >control-blx.bib
+run 'the entry of BibLaTeX' 1 $'control.aux:1:1: error: no file has an entry "biblatex-control" [missing-entry]\nerrors: 1, warnings: 0\n' lint --only missing-entry --cited control.aux two.bib
+run 'the entry of BibLaTeX, and its file' 0 $'errors: 0, warnings: 0\n' lint --only missing-entry --cited control.aux two.bib control-blx.bib
 run 'a document that is not there' 2 '' lint --cited no.aux two.bib
 
 # statistics
