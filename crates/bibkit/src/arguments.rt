@@ -120,15 +120,26 @@ fn words_of<'a>(
     Ok(Words { asked, names })
 }
 
-/// What a command line asks for. Its first word is the program's name. The error is what is printed in place of an answer: the
-/// help that was asked for, or what is wrong with the words.
-pub fn read<'a>(alloc: Global, words: &'a [String]) -> Result<Words<'a>, Error> {
-    let matches = command(alloc)?.try_get_matches_from(words)?;
+// What a command line asks for, by what it matches.
+fn given<'a>(alloc: Global, matches: &ArgMatches<'a>) -> Result<Words<'a>, AllocError> {
     match matches.subcommand() {
-        Some((name, inner)) => Ok(words_of(alloc, name, inner)?),
+        Some((name, inner)) => words_of(alloc, name, inner),
         None => Ok(Words {
             asked: Asked::Other(Request::Entries(Excerpts::Keys)),
             names: Vec::new(alloc),
         }),
     }
+}
+
+// What the words of a command line match. The first of them is the program's name.
+fn matches<'a>(alloc: Global, words: &'a [String]) -> Result<ArgMatches<'a>, Error> {
+    command(alloc)?.try_get_matches_from(words)
+}
+
+/// What a command line asks for. Its first word is the program's name. The error is what is printed in place of an answer: the
+/// help that was asked for, or what is wrong with the words.
+pub fn read<'a>(alloc: Global, words: &'a [String]) -> Result<Words<'a>, Error> {
+    let matches = matches(alloc, words)?;
+    let words = given(alloc, &matches)?;
+    Ok(words)
 }
