@@ -41,6 +41,7 @@ struct Row {
     arguments: &'static [Argument],
 }
 
+// What stands at the end of the help of `lint`.
 const LINT_HELP: &str = "\
 Findings are lines FILE:LINE:COLUMN: error|warning: TEXT [CODE]. Settings that are the same for a whole project stand in a file
 bibkit.toml in the folder of the first file, or one above it: ignore, only, color and format.
@@ -51,6 +52,7 @@ Example:
 Status: 0 nothing found, 1 something found, 2 wrong usage, a file that can't be read or an output that can't be written,
 3 out of memory";
 
+// What `lint` takes.
 const LINT: [Argument; 7] = [
     Argument {
         name: "only",
@@ -89,12 +91,14 @@ const LINT: [Argument; 7] = [
     },
 ];
 
+// What `get` takes.
 const GET: [Argument; 1] = [Argument {
     name: "KEYS",
     takes: Takes::Texts,
     help: "Keys, separated by commas",
 }];
 
+// What `grep` takes.
 const GREP: [Argument; 2] = [
     Argument {
         name: "FIELD",
@@ -108,12 +112,14 @@ const GREP: [Argument; 2] = [
     },
 ];
 
+// What `cited` takes.
 const CITED: [Argument; 1] = [Argument {
     name: "DOCUMENT",
     takes: Takes::Text,
     help: "The .aux or .bcf file that LaTeX wrote for the document",
 }];
 
+// The commands, in the order of help.
 static COMMANDS: [Row; 6] = [
     Row {
         name: "lint",
