@@ -1,6 +1,6 @@
 -- Meaning: words of public contracts.
 -- Settings of a command line and of a project's file, and what is asked for by them.
-use Rattle.std.specs.Prelude.{ℕ, Bool, true, false, List, [], ◌∷◌, Option, Some, bytes_eq, codes, find}
+use Rattle.std.specs.Prelude.{ℕ, Bool, true, false, List, [], ◌∷◌, Option, Some, None, bytes_eq, codes, find}
 use Rattle.std.specs.Global.{Vec}
 use Rattle.std.specs.Option.{option_map_or, option_or}
 use Rattle.bib_findings.specs.declared.codes.Code.{Code}
@@ -38,6 +38,10 @@ all_formats = Text ∷ Json ∷ []
 -- what this word says of how findings are printed
 abbrev pub format_named : List ℕ → Option Format
 format_named name = find (λ format. bytes_eq (format_name format) name) all_formats
+
+-- nothing is set
+abbrev pub no_settings : Settings
+no_settings = record { only = None; ignored = None; color = None; format = None }
 
 -- the settings of a command line, and where it doesn't set one that of a project; a list of the command line stands in the place
 -- of the project's, and isn't joined with it

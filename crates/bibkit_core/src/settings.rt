@@ -3,7 +3,7 @@
 ghost use Rattle.std.specs.Prelude.{◌≡◌, bytes_eq, find, map};
 ghost use Rattle.bib_findings.specs.Codes.{all_codes, code_name};
 ghost use Rattle.bibkit_core.specs.Settings.{all_colors, all_formats, color_name, color_named, format_name, format_named};
-ghost use Rattle.bibkit_core.specs.Settings.{is_colored, listed_codes, over, style_of};
+ghost use Rattle.bibkit_core.specs.Settings.{is_colored, listed_codes, no_settings, over, style_of};
 
 use crate::request::{Cited, Lint, Style};
 use crate::selection::Selection;
@@ -113,7 +113,9 @@ pub struct Settings {
 
 impl Settings {
     /// Nothing is set.
-    pub fn none() -> Self {
+    pub fn none() -> Self
+        ensures { result ≡ no_settings }
+    {
         Settings {
             only: None,
             ignored: None,
