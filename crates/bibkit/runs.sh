@@ -4,6 +4,7 @@
 set -u
 export LC_ALL=C
 program=$(realpath "$1")
+completions=$(realpath "$(dirname "$0")/../../completions")
 shift
 guides=()
 for guide in "$@"; do guides+=("$(realpath "$guide")"); done
@@ -52,6 +53,16 @@ run_messages() {
     count "$name" $? "$status" "$want"
 }
 
+# the same, for the beginning of what it prints, up to the length of what is wanted
+run_start() {
+    local name=$1 status=$2 want=$3
+    shift 3
+    "$program" "$@" <input >results 2>messages
+    local ended=$?
+    head -c ${#want} results >output
+    count "$name" $ended "$status" "$want"
+}
+
 # whether what the program printed last has this text
 prints() { grep -qF -- "$1" output; }
 messages_have() { grep -qF -- "$1" messages; }
@@ -65,14 +76,27 @@ one.bib:1:10: warning: test: missing journaltitle [missing-field]
 one.bib:1:10: warning: test: missing year [missing-field]
 '
 
-# help, versions, usage
+# help, versions, usage: as the manual page and the guide say
 run 'the version' 0 $'bibkit 0.1.0\n' --version
-run 'help' 0 "$("$program" help)"$'\n' --help
-holds 'help names the commands' prints lint
+run 'the version, in short' 0 $'bibkit 0.1.0\n' -V
+for word in help --help -h; do
+    run_start "$word" 0 $'Check and search bibliography files\n\nUsage: bibkit <COMMAND>\n' "$word"
+    for command in lint keys get grep cited stats; do
+        holds "$word names $command" grep -qE "^  $command +[A-Z]" results
+    done
+done
+run_start 'help of lint' 0 $'Report what is wrong in files, by place\n\nUsage: bibkit lint [OPTIONS] [FILE]...\n' lint --help
+for option in '--only <CODES>' '--ignore <CODES>' '--explain <CODE>' '--format <FORMAT>' '--cited <DOCUMENT>' '--unused' '--color <WHEN>'; do
+    holds "help of lint names $option" grep -qE "^      $option +[A-Z]" results
+done
+run_start 'help of keys' 0 $'Print the key of each entry\n\nUsage: bibkit keys [FILE]...\n' keys --help
+run_start 'help of get' 0 $'Print the entries with these keys, as they stand in the files\n\nUsage: bibkit get <KEYS> [FILE]...\n' get --help
+run_start 'help of grep' 0 $'Print the entries in whose field a text stands, as they stand in the files\n\nUsage: bibkit grep <FIELD> <TEXT> [FILE]...\n' grep --help
+run_start 'help of cited' 0 $'Print the entries that a document cites, as they stand in the files\n\nUsage: bibkit cited <DOCUMENT> [FILE]...\n' cited --help
+run_start 'help of stats' 0 $'Count entries by type and year, fields by name, and findings by code\n\nUsage: bibkit stats [FILE]...\n' stats --help
 for command in lint keys get grep cited stats; do
     "$program" $command --help >output
     holds "help of $command has an example" prints "  bibkit $command"
-    holds "help of $command has a usage" prints "Usage: bibkit $command"
 done
 run 'no command' 2 ''
 holds 'no command: usage is a message' messages_have 'Usage: bibkit'
@@ -113,12 +137,16 @@ printf '@misc{a, title={A}}\n' >'a "b" \ c.bib'
 printf '@misc{q"\\, author={B}}\n' >'a "b" \ c.bib'
 "$program" lint --format json 'a "b" \ c.bib' >output
 holds 'quotes and backslashes in JSON' python3 -c 'import json, sys; found = json.load(open("output")); sys.exit(found[0]["file"] != "a \"b\" \\ c.bib")'
-run 'what a code means' 0 "$("$program" lint --explain syntax)"$'\n' lint --explain syntax no-file.bib
-holds 'what a code means begins with its name' prints 'syntax (error): '
-for code in unread-bytes syntax unread-field unknown-abbreviation circular-abbreviation duplicate-key circular-reference unread-date missing-field superfluous-field malformed-field unknown-field unknown-reference likely-duplicate missing-entry unused-entry; do
-    "$program" lint --explain $code >output
-    holds "the meaning of $code" prints "$code ("
+# what codes mean, each with its severity by the guide's table of codes; no file is read
+for code in unread-bytes syntax unread-field circular-abbreviation duplicate-key circular-reference missing-entry; do
+    run_start "the meaning of $code" 0 "$code (error): " lint --explain $code no-file.bib
 done
+for code in unknown-abbreviation unread-date missing-field superfluous-field malformed-field unknown-field unknown-reference likely-duplicate unused-entry; do
+    run_start "the meaning of $code" 0 "$code (warning): " lint --explain $code no-file.bib
+done
+run 'the whole meaning of a code' 0 'superfluous-field (warning): An entry of this type has no use for this field, or it contradicts another one. Remove it, or change the type of the entry.
+' lint --explain superfluous-field
+run 'a meaning of no code' 2 '' lint --explain no-code
 
 # bytes that are not UTF-8
 printf '@misc{a, title={\xe9t\xe9}}\n' >latin.bib
@@ -144,6 +172,13 @@ run 'cited entries of a document that is not there' 2 '' cited no.aux two.bib
 # what a document cites
 run 'a key that no file has' 1 $'paper.aux:3:1: error: no file has an entry "z" [missing-entry]\nerrors: 1, warnings: 0\n' lint --ignore missing-field --cited paper.aux two.bib
 run 'an entry that is never cited' 1 $'two.bib:1:7: warning: a: never cited [unused-entry]\npaper.aux:3:1: error: no file has an entry "z" [missing-entry]\nerrors: 1, warnings: 1\n' lint --ignore missing-field --cited paper.aux --unused two.bib
+printf '@collection{d, title={B}, editor={E}, year={2000}}\n@incollection{c, crossref={d}}\n' >parent.bib
+printf '\\citation{c}\n' >child.aux
+run 'an entry to which a cited one refers' 1 $'parent.bib:1:13: warning: d: never cited [unused-entry]\nerrors: 0, warnings: 1\n' lint --only unused-entry --cited child.aux --unused parent.bib
+printf '\\citation{biblatex-control}\n' >control.aux
+printf '@Control{biblatex-control,\n  options = {3.10:0},\n}\n' >control-blx.bib
+run 'the entry of BibLaTeX' 1 $'control.aux:1:1: error: no file has an entry "biblatex-control" [missing-entry]\nerrors: 1, warnings: 0\n' lint --only missing-entry --cited control.aux two.bib
+run 'the entry of BibLaTeX, and its file' 0 $'errors: 0, warnings: 0\n' lint --only missing-entry --cited control.aux two.bib control-blx.bib
 run 'a document that is not there' 2 '' lint --cited no.aux two.bib
 
 # statistics
@@ -217,6 +252,13 @@ holds 'the command line wins over settings' prints 'missing title'
 printf 'format = "json"\nonly = ["syntax"]\ncolor = "always"\n' >project/deep/bibkit.toml
 run 'nearer settings' 0 $'[\n]\n' lint project/deep/er/one.bib
 run 'a format of the command line' 0 $'errors: 0, warnings: 0\n' lint --format text project/deep/er/one.bib
+run 'codes of the command line, in the place of those of settings' 1 '[
+{"file":"project/deep/er/one.bib","line":1,"column":10,"severity":"warning","code":"missing-field","message":"test: missing title"},
+{"file":"project/deep/er/one.bib","line":1,"column":10,"severity":"warning","code":"missing-field","message":"test: missing journaltitle"},
+{"file":"project/deep/er/one.bib","line":1,"column":10,"severity":"warning","code":"missing-field","message":"test: missing year"}
+]
+' lint --only missing-field project/deep/er/one.bib
+run 'codes that are left out of those of settings' 0 $'[\n]\n' lint --ignore missing-field project/deep/er/one.bib
 printf 'only = ["no-code"]\n' >project/bibkit.toml
 run 'a wrong code in settings' 2 '' lint project/one.bib
 holds 'its file is named' messages_have "project/bibkit.toml: only has to be a list of codes"
@@ -228,7 +270,7 @@ run 'settings that are no TOML' 2 '' lint project/one.bib
 printf '\xff' >project/bibkit.toml
 run 'settings that are not UTF-8' 2 '' lint project/one.bib
 run 'other commands read no settings' 0 $'test\n' keys project/one.bib
-run 'meanings read no settings' 0 "$("$program" lint --explain syntax)"$'\n' lint --explain syntax project/one.bib
+run_start 'meanings read no settings' 0 'syntax (error): ' lint --explain syntax project/one.bib
 
 # colours, on no terminal
 bold=$'\e[1m' plain=$'\e[0m' yellow=$'\e[1;33m' red=$'\e[1;31m' green=$'\e[1;32m'
@@ -238,6 +280,16 @@ want="${bold}broken.bib:3:1:$plain ${red}error:$plain expected comma [syntax]
 errors: 1, warnings: 0
 "
 run 'colours' 1 "$want" lint --only syntax --color always broken.bib
+frame="  @article{test, author={A}}
+           $green^$plain
+"
+want_settings="${bold}project/deep/er/one.bib:1:10:$plain ${yellow}warning:$plain test: missing title [missing-field]
+$frame${bold}project/deep/er/one.bib:1:10:$plain ${yellow}warning:$plain test: missing journaltitle [missing-field]
+$frame${bold}project/deep/er/one.bib:1:10:$plain ${yellow}warning:$plain test: missing year [missing-field]
+${frame}errors: 0, warnings: 3
+"
+run 'colours of settings' 1 "$want_settings" lint --format text --only missing-field project/deep/er/one.bib
+run 'no colours of the command line' 1 "${lines_of_one//one.bib/project/deep/er/one.bib}"$'errors: 0, warnings: 3\n' lint --format text --only missing-field --color never project/deep/er/one.bib
 run 'no colours' 1 $'broken.bib:3:1: error: expected comma [syntax]\nerrors: 1, warnings: 0\n' lint --only syntax --color never broken.bib
 printf '@misc{a,\n\tt\x1b[31m\xc3\xa9itle={x}, nofield={1}, author={B}}\n' >frame.bib
 "$program" lint --color always --only unknown-field frame.bib >output
@@ -278,6 +330,81 @@ head -c 67108864 /dev/zero >zeros.bib
 holds 'no memory for a file' [ $? = 3 ]
 holds 'no memory is reported' messages_have 'bibkit: out of memory'
 rm zeros.bib
+
+# completions, in the shells that are there: each row is a line, and what its last word can be
+completed() {
+    if printf %s "$3" | cmp -s - output; then
+        passed=$((passed + 1))
+    else
+        failed=$((failed + 1))
+        echo "failed: completions of $1 for $2"
+        diff <(printf %s "$3") output | head -5
+    fi
+}
+in_bash() {
+    local line=$1 want=$2
+    (
+        source "$completions/bibkit.bash"
+        read -ra COMP_WORDS <<<"$line"
+        [[ $line == *' ' ]] && COMP_WORDS+=('')
+        COMP_CWORD=$((${#COMP_WORDS[@]} - 1))
+        COMPREPLY=()
+        _bibkit
+        printf '%s\n' "${COMPREPLY[@]}"
+    ) >output
+    completed bash "$line" "$want"
+}
+in_fish() {
+    HOME=$files fish -N -c "source $completions/bibkit.fish; complete -C '$1'" </dev/null 2>&1 | cut -f 1 >output
+    completed fish "$1" "$2"
+}
+# in zsh a line is typed, each `>` in it as a tab, and then run: what is compared are the words that it ended up as
+in_zsh() {
+    rm -f output
+    timeout 60 zsh -f type.zsh "${1//>/$'\t'}" </dev/null >/dev/null 2>&1
+    completed zsh "$1" "$2"
+}
+touch references.bib
+in_bash 'bibkit li' $'lint\n'
+in_bash 'bibkit lint --on' $'--only\n'
+in_bash 'bibkit lint --only syntax,dup' $'syntax,duplicate-key\n'
+in_bash 'bibkit lint --format j' $'json\n'
+in_bash 'bibkit lint --color ne' $'never\n'
+in_bash 'bibkit keys refe' $'references.bib\n'
+if command -v fish >/dev/null; then
+    in_fish 'bibkit li' $'lint\n'
+    in_fish 'bibkit lint --on' $'--only\n'
+    in_fish 'bibkit lint --only syn' $'syntax\n'
+    in_fish 'bibkit lint --format j' $'json\n'
+    in_fish 'bibkit lint --color ne' $'never\n'
+    in_fish 'bibkit keys refe' $'references.bib\n'
+else
+    left_out=$((left_out + 6))
+fi
+if command -v zsh >/dev/null; then
+    mkdir zsh
+    cat >zsh/.zshrc <<ZSH
+fpath=($completions \$fpath)
+autoload -Uz compinit
+compinit -u -D
+bibkit() { print -r -- bibkit "\$@" >output; exit }
+ZSH
+    cat >type.zsh <<'ZSH'
+zmodload zsh/zpty
+export ZDOTDIR=$PWD/zsh TERM=dumb
+zpty shell zsh -i
+zpty -n -w shell $1$'\n'
+while zpty -r shell line; do :; done
+ZSH
+    in_zsh 'bibkit li>' $'bibkit lint\n'
+    in_zsh 'bibkit lint --on>' $'bibkit lint --only\n'
+    in_zsh 'bibkit lint --only syntax,dup>' $'bibkit lint --only syntax,duplicate-key\n'
+    in_zsh 'bibkit lint --format j>' $'bibkit lint --format json\n'
+    in_zsh 'bibkit lint --color ne>' $'bibkit lint --color never\n'
+    in_zsh 'bibkit keys refe>' $'bibkit keys references.bib\n'
+else
+    left_out=$((left_out + 6))
+fi
 
 # the sessions of guides: a block is one session in a folder of its own; `$ COMMAND` and the lines that it prints
 cat >sessions.py <<'PY'

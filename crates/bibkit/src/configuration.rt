@@ -1,7 +1,7 @@
 //! The file of a project's settings.
 
-use crate::settings::{Color, Format, Settings};
 use bib_findings::codes::Code;
+use bibkit_core::settings::{Color, Format, Settings};
 use std::alloc::{AllocError, AllocFailed, Global};
 use std::fs;
 use std::io::ErrorKind;
@@ -135,6 +135,19 @@ fn settings_at<R: Files + AllocGlobal>(
     }
 }
 
+// The settings of the file `bibkit.toml` of a folder, and none where it has no such file.
+fn settings_in<R: Files + AllocGlobal>(
+    rt: &R,
+    folder: Path<'_>,
+) -> Result<Option<Settings>, ConfigurationError> {
+    let path = folder.join(rt.alloc(), "bibkit.toml")?;
+    let name = path.to_string_lossy();
+    match settings_at(rt, name) {
+        Ok(settings) => Ok(settings),
+        Err(error) => Err(error.of_file(rt.alloc(), name)?),
+    }
+}
+
 /// The settings of the project that a file belongs to: those of `bibkit.toml` in its folder, or in the nearest one above it that
 /// has one.
 pub fn project_settings<R: Files + AllocGlobal>(
@@ -145,12 +158,8 @@ pub fn project_settings<R: Files + AllocGlobal>(
         return Ok(Settings::none());
     };
     'folders: for folder in start.ancestors() {
-        let path = folder.join(rt.alloc(), "bibkit.toml")?;
-        let name = path.to_string_lossy();
-        match settings_at(rt, name) {
-            Ok(Some(settings)) => return Ok(settings),
-            Ok(None) => {}
-            Err(error) => return Err(error.of_file(rt.alloc(), name)?),
+        if let Some(settings) = settings_in(rt, folder)? {
+            return Ok(settings);
         }
     }
     Ok(Settings::none())

@@ -2,9 +2,9 @@
 #![tactic(auto)]
 
 mod arguments;
+mod commands;
 mod configuration;
 mod files;
-mod settings;
 mod start;
 mod streams;
 

@@ -3,13 +3,10 @@
 use crate::arguments::{Asked, Words, read};
 use crate::configuration::{ConfigurationError, project_settings};
 use crate::files::SystemFiles;
-use crate::settings::{Color, Format, Settings};
 use crate::streams::Output;
-use bibkit_core::request::{Call, Cited, Lint, Request, Style};
+use bibkit_core::request::{Call, Request};
 use bibkit_core::run::run;
-use bibkit_core::selection::Selection;
 use clap::error::ErrorKind;
-use std::alloc::Global;
 use std::io::IsTerminal;
 use std::{env, io};
 
@@ -36,11 +33,6 @@ fn out_of_memory(rt: &HostRuntime) -> u8 {
     3
 }
 
-// Whether the output and the messages are a terminal.
-fn is_terminal(rt: &HostRuntime) -> bool {
-    rt.stdout().is_terminal() && rt.stderr().is_terminal()
-}
-
 // Whether the user asks programs for no colours.
 fn refuses_color(rt: &HostRuntime) -> bool {
     match env::var(rt, "NO_COLOR") {
@@ -49,35 +41,9 @@ fn refuses_color(rt: &HostRuntime) -> bool {
     }
 }
 
-// Whether colours are printed.
-fn is_colored(rt: &HostRuntime, color: Color) -> bool {
-    match color {
-        Color::Always => true,
-        Color::Never => false,
-        Color::Auto => is_terminal(rt) && !refuses_color(rt),
-    }
-}
-
-// How findings are printed.
-fn style(rt: &HostRuntime, settings: &Settings) -> Style {
-    match settings.format {
-        Some(Format::Json) => Style::Json,
-        _ if is_colored(rt, settings.color.unwrap_or(Color::Auto)) => Style::Colored,
-        _ => Style::Plain,
-    }
-}
-
-// What `lint` is asked for by settings.
-fn lint<'a>(rt: &HostRuntime, settings: Settings, cited: Option<Cited<'a>>) -> Lint<'a> {
-    let style = style(rt, &settings);
-    Lint {
-        selection: Selection {
-            only: settings.only.unwrap_or(Vec::new(rt.alloc())),
-            ignored: settings.ignored.unwrap_or(Vec::new(rt.alloc())),
-        },
-        style,
-        cited,
-    }
+// Whether colours are shown: the output and the messages are a terminal, and the user doesn't ask for none.
+fn are_colors_shown(rt: &HostRuntime) -> bool {
+    rt.stdout().is_terminal() && rt.stderr().is_terminal() && !refuses_color(rt)
 }
 
 // What is asked for, with the settings of the project that its first file belongs to.
@@ -91,7 +57,11 @@ fn request<'a>(
         Asked::Lint { settings, cited } => {
             let name = names.first().copied().unwrap_or("-");
             let project = project_settings(rt, name)?;
-            Ok(Request::Lint(lint(rt, settings.or(project), cited)))
+            Ok(Request::Lint(
+                settings
+                    .over(project)
+                    .lint(rt.alloc(), are_colors_shown(rt), cited),
+            ))
         }
     }
 }

@@ -4,5 +4,6 @@ pub mod Asked
 pub mod Linted
 pub mod Printed
 pub mod Running
+pub mod Settings
 pub mod Steps
 pub mod Tasks

@@ -2,8 +2,9 @@
 //!
 //! `request` says what can be asked for, `files` what files are read from. A command is a `task`, which says what is printed of
 //! each file: `linting` of findings, `entries` of entries, `counting` of counts; `run` reads file after file, and prints it.
-//! `selection` says which findings are asked for, `lint` prints them, each as a line (`lines`, with colours `frames`) or as an
-//! object of JSON (`objects`), and counts them (`tally`). `cited` compares what a document cites with the entries of files.
+//! `settings` says what is asked for by a command line and by a project's file, `selection` which findings are; `lint` prints
+//! them, each as a line (`lines`, with colours `frames`) or as an object of JSON (`objects`), and counts them (`tally`). `cited`
+//! compares what a document cites with the entries of files.
 #![tactic(auto)]
 
 mod cited;
@@ -21,6 +22,7 @@ mod objects;
 pub mod request;
 pub mod run;
 pub mod selection;
+pub mod settings;
 mod tables;
 mod tally;
 mod task;
