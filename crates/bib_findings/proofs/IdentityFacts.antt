@@ -1,52 +1,14 @@
 -- Facts on the texts by which entries are likely the same work.
-use Rattle.std.proofs.Common.{◌≡◌, ℕ, Bool, true, false, not, List, [], ◌∷◌, ◌++◌, ◌+◌, ◌<◌, ◌≤◌, length, get_or, take, drop, map, Option, Some, None, refl, sym, ap, ◌∙◌, append_assoc, append-nil, subst, arith, cond, suc, nat_eq}
-use Rattle.std.specs.Prelude.{encode_utf8, encode_utf8_all, unwrap_or, reverse, option_map}
+use Rattle.std.proofs.Common.{◌≡◌, ℕ, Bool, true, false, List, [], ◌∷◌, ◌+◌, ◌<◌, length, get_or, drop, map, Option, Some, None, refl, sym, ap, ◌∙◌, subst, arith, cond, suc, nat_eq}
+use Rattle.std.specs.Prelude.{reverse, option_map}
 use mathlib.Core.List.{reverse_aux}
-use Rattle.std.specs.List.{find, position_or_len, prefix_len, starts_with}
+use Rattle.std.specs.List.{find, starts_with}
 use Rattle.std.specs.Str.Pattern.{FindsTextPrefix, StripsPrefix}
 use Rattle.std.specs.Str.{IsCharBoundary}
 use Rattle.std.proofs.Math.Seq.{drop-cons}
-use Rattle.std.proofs.lemmas.Bool.Decides.{nat_tests}
-use Rattle.std.proofs.lemmas.List.{take_more}
-use Rattle.std.proofs.lemmas.Str.{encodes-append}
 use Rattle.std.proofs.lemmas.Str.Pattern.{starts_text}
-use lib.Dec.{ltb}
 use denote.Ref.{Bor}
 use Rattle.bib_findings.specs.Identities.{without_prefixes}
-
--- one more character is added
-pub pushed_next : (characters : List ℕ) (index c : ℕ) (start before after : List ℕ) → index < length characters → c ≡ get_or characters index c
-    → before ≡ start ++ encode_utf8_all (take index characters) → after ≡ before ++ encode_utf8 c → after ≡ start ++ encode_utf8_all (take (index + 1) characters)
-pushed_next characters index c start before after within is so_far more =
-    let seen : List ℕ = take index characters in
-    more ∙ ap (λ l. l ++ encode_utf8 c) so_far ∙ append_assoc start (encode_utf8_all seen) (encode_utf8 c)
-    ∙ ap (λ l. start ++ (encode_utf8_all seen ++ l)) (sym (append-nil (encode_utf8 c)))
-    ∙ ap (λ l. start ++ l) (sym (encodes-append seen (c ∷ [])))
-    ∙ ap (λ l. start ++ encode_utf8_all l) (ap (λ d. seen ++ d ∷ []) is ∙ sym (take_more characters index c within))
-
-prefix_le : {A : Type 0} (p : A → Bool) (items : List A) → prefix_len p items ≤ length items
-prefix_le p [] = omega arith
-prefix_le p (item ∷ items) =
-    elim (p item) as (λ passes. cond passes (1 + prefix_len p items) 0 ≤ suc (length items)) [ true ↦ omega (arith, prefix_le p items) | false ↦ omega arith ]
-
-at_or_end_by : (k l : ℕ) (below : Bool) → ltb k l ≡ below → k ≤ l → unwrap_or (cond below (Some k) None) l ≡ k
-at_or_end_by k l true is le = refl
-at_or_end_by k l false is le = grind (arith, nat_tests)
-
--- the index of the first item that passes, or else the end, is how many pass before it
-pub cut_at : {A : Type 0} (test : A → Bool) (items : List A) (first : Option ℕ) (count : ℕ)
-    → first ≡ cond (ltb (position_or_len test items) (length items)) (Some (position_or_len test items)) None → count ≡ unwrap_or first (length items)
-    → count ≡ position_or_len test items
-cut_at test items first count at is =
-    is ∙ ap (λ o. unwrap_or o (length items)) at ∙ at_or_end_by (position_or_len test items) (length items) (ltb (position_or_len test items) (length items)) refl (prefix_le (λ item. not (test item)) items)
-
-pub cut_within : {A : Type 0} (test : A → Bool) (items : List A) (count : ℕ) → count ≡ position_or_len test items → count ≤ length items
-cut_within test items count is = omega (arith, is, prefix_le (λ item. not (test item)) items)
-
--- how many pass before the first that doesn't, of mapped items
-pub prefix_of_map : {A B : Type 0} (f : A → B) (p : B → Bool) (items : List A) → prefix_len p (map f items) ≡ prefix_len (λ item. p (f item)) items
-prefix_of_map f p [] = refl
-prefix_of_map f p (item ∷ items) = ap (λ n. cond (p (f item)) (1 + n) 0) (prefix_of_map f p items)
 
 -- the first of mapped items that passes
 pub find_of_map : {A B : Type 0} (f : A → B) (p : B → Bool) (items : List A) → find p (map f items) ≡ option_map f (find (λ item. p (f item)) items)

@@ -1,5 +1,5 @@
 -- Facts on what is kept of a file that is recovered.
-use Rattle.std.proofs.Common.{◌≡◌, ℕ, ◌+◌, ◌<◌, suc, List, [], ◌∷◌, length, map, refl, sym, ap, ◌∙◌, subst, Result, Ok, Err, IfOk}
+use Rattle.std.proofs.Common.{◌≡◌, ℕ, ◌<◌, suc, List, [], ◌∷◌, length, refl, sym, ap, ◌∙◌, subst, Result, Ok, Err, IfOk}
 use Rattle.std.specs.List.{All, AllZip}
 use Rattle.std.specs.declared.ops.Range.{Range}
 use Rattle.std.proofs.lemmas.List.{length-map}

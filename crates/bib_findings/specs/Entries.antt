@@ -1,6 +1,6 @@
 -- Meaning: words of public contracts.
 -- Where the fields of an entry stand in the file, and the findings of the report on an entry.
-use Rattle.std.specs.Prelude.{◌≡◌, ℕ, List, [], ◌∷◌, ◌++◌, codes, map, reverse, slice_get, Option, Some, None}
+use Rattle.std.specs.Prelude.{◌≡◌, ℕ, List, [], ◌∷◌, ◌++◌, bytes_eq, codes, if◌then◌else◌, map, reverse, slice_get, Option, Some, None}
 use Rattle.std.specs.List.{find}
 use Rattle.std.specs.Str.{str_eq_ignore_ascii_case}
 use Rattle.std.specs.declared.ops.Range.{Range}
@@ -31,6 +31,16 @@ range_or other (Some f) = part_range f.name
 abbrev pub field_place : EntryReading → List ℕ → Range ℕ
 field_place said name = range_or (part_range said.key) (last_named said.fields name)
 
+-- the field that gives the year of the date of this name, by its parts
+abbrev pub year_name : List ℕ → List ℕ
+year_name name =
+    if bytes_eq name (codes "date") then codes "year" else if bytes_eq name (codes "eventdate") then codes "eventyear"
+    else if bytes_eq name (codes "origdate") then codes "origyear" else if bytes_eq name (codes "urldate") then codes "urlyear" else name
+
+-- where a field that isn't read stands: where it is given by its parts, its year
+abbrev pub malformed_place : EntryReading → List ℕ → Range ℕ
+malformed_place said name = range_or (field_place said (year_name name)) (last_named said.fields name)
+
 -- what is said of a field of the entry with this key: what is wrong, and the field's name
 abbrev pub field_message : List ℕ → List ℕ → List ℕ → List ℕ
 field_message key wrong name = key ++ (codes ": " ++ (wrong ++ (codes " " ++ name)))
@@ -42,7 +52,7 @@ field_finding said c wrong name = finding_at c (field_place said name) (field_me
 -- the finding of a field that isn't read as a value of its type, with the kind of its error
 abbrev pub malformed_finding : EntryReading → List ℕ × TypeError → Finding
 malformed_finding said e =
-    finding_at code.MalformedField (field_place said e.0) (field_message said.key.text (codes "malformed") (e.0 ++ (codes ": " ++ type_kind_text e.1.kind)))
+    finding_at code.MalformedField (malformed_place said e.0) (field_message said.key.text (codes "malformed") (e.0 ++ (codes ": " ++ type_kind_text e.1.kind)))
 
 -- the findings of a report: of the fields that the entry lacks, of those that it must not have, and of those that aren't read
 abbrev pub report_findings : EntryReading → Entry → List (List ℕ × TypeError) → List Finding

@@ -86,6 +86,10 @@ isbn_of said = encode_utf8_all (filter (λ c. not (c == char.hyphen)) (chars (sq
 abbrev pub year_of : EntryReading → List ℕ
 year_of said = plain_words (or_else (own_literal said (codes "year")) (first_four (own_literal said (codes "date"))))
 
+-- the words of the title of an entry, a space after each
+abbrev pub title_of : EntryReading → List ℕ
+title_of said = plain_words (own_literal said (codes "title"))
+
 -- a title, a first person and a year as one text, if none is empty; they hold no braces, so these stand between them
 abbrev pub work_text : List ℕ → List ℕ → List ℕ → List ℕ
 work_text title person year =
@@ -94,7 +98,7 @@ work_text title person year =
 -- the title, the first person and the year of an entry
 abbrev pub work_of : EntryReading → List ℕ
 work_of said =
-    work_text (plain_words (own_literal said (codes "title"))) (first_person (or_else (own_literal said (codes "author")) (own_literal said (codes "editor")))) (year_of said)
+    work_text (title_of said) (first_person (or_else (own_literal said (codes "author")) (own_literal said (codes "editor")))) (year_of said)
 
 -- the identity of this kind, where there is a text
 abbrev pub identity : List ℕ → List ℕ → Names

@@ -5,7 +5,9 @@ pub mod Errors
 pub mod Duplicates
 pub mod Findings
 pub mod Identities
+pub mod Marks
 pub mod Met
 pub mod Names
 pub mod References
 pub mod Seen
+pub mod Words

@@ -11,6 +11,7 @@ ghost use Rattle.bib_findings.specs.Seen.{HasFirst, duplicate_at, least_of, less
 use crate::codes::Code;
 use crate::finding::Finding;
 use crate::identities::identities;
+use crate::marks::candidates;
 use bib_syntax::raw::RawEntry;
 use bib_text::spanned::Spanned;
 use bib_text::text::Text;
@@ -122,8 +123,9 @@ fn add_duplicate(
     add_if_first(alloc, found, said, earlier, one, first)
 }
 
-// Adds a finding for each entry that is likely the same as one before it. Each has its index among the entries of the file.
-pub(crate) fn add_duplicates(
+// Adds a finding for each of these entries that is likely the same as one before it. Each has its index among the entries of
+// the file.
+fn add_duplicates_among(
     alloc: Global,
     found: &mut Vec<Finding>,
     said: &[Spanned<RawEntry<'_>>],
@@ -139,4 +141,19 @@ pub(crate) fn add_duplicates(
         add_duplicate(alloc, found, &mut seen, said, &origins[..index], one)?;
     }
     Ok(())
+}
+
+/// Adds a finding for each entry that is likely the same as one before it. Each has its index among the entries of the file.
+pub(crate) fn add_duplicates(
+    alloc: Global,
+    found: &mut Vec<Finding>,
+    said: &[Spanned<RawEntry<'_>>],
+    origins: &[usize],
+) -> Result<(), AllocError>
+    requires { All (λ index. index < length said.now) origins.now }
+    ensures { OnOk result (found.new.items ≡ found.old.items ++
+        duplicates (entries_at (map entry_reading_of said.now) origins.now)) }
+{
+    let candidates = candidates(alloc, said, origins)?;
+    add_duplicates_among(alloc, found, said, &candidates)
 }

@@ -9,7 +9,7 @@ ghost use Rattle.bib_findings.specs.Entries.{AreOfReport, field_finding, field_m
 
 use crate::codes::Code;
 use crate::finding::Finding;
-use crate::places::field_place;
+use crate::places::{field_place, malformed_place};
 use bib_entry::entry::Entry;
 use bib_enums::type_error::TypeError;
 use bib_syntax::raw::RawEntry;
@@ -75,7 +75,7 @@ fn malformed_finding(
     let message = Text::from_string(field_message(alloc, said.v.key.v, "malformed", &what)?);
     Ok(Finding {
         code: Code::MalformedField,
-        span: field_place(said, name),
+        span: malformed_place(said, name),
         message,
     })
 }

@@ -1,10 +1,10 @@
 //! By what entries are likely the same work: a DOI, an ISBN, or a title with its first person and its year.
 
-ghost use Rattle.std.specs.Prelude.{◌≡◌, ◌++◌, ◌≤◌, length, map, not, take, IfOk, OnOk, encode_utf8_all};
-ghost use Rattle.std.specs.List.{take_while};
+ghost use Rattle.std.specs.Prelude.{◌≡◌, ◌++◌, map, IfOk, OnOk, [], encode_utf8_all};
 ghost use Rattle.std.specs.String.{string_bytes};
 ghost use Rattle.bib_syntax.specs.Views.{entry_reading_of, piece_of};
-ghost use Rattle.bib_findings.specs.Identities.{doi_of, first_four, first_person, folded, identities, identity, is_between_people, is_brace, isbn_of, literal_text, or_else, plain_words, spaced_words, squeezed, own_literal, without_prefixes, folded_words, work_of, work_text, year_of};
+ghost use Rattle.bib_findings.specs.Identities.{doi_of, first_four, first_person, identities, identity, is_brace, isbn_of, literal_text, or_else, plain_words, squeezed, own_literal, title_of, without_prefixes, work_of, work_text, year_of};
+ghost use Rattle.bib_findings.specs.Words.{ends_before, spaced_word, without_braces, words_text};
 
 use crate::places::last_named;
 use bib_syntax::raw::{RawChunk, RawEntry};
@@ -19,9 +19,6 @@ static DOI_PREFIXES: [&str; 5] = [
     "http://dx.doi.org/",
     "doi:",
 ];
-
-// The word between people.
-static AND: [char; 3] = ['a', 'n', 'd'];
 
 // The text of a value that is one text in braces, in quotes, or a number; else no text.
 fn literal_text<'s>(pieces: &[Spanned<RawChunk<'s>>]) -> &'s str
@@ -60,46 +57,48 @@ fn is_brace(c: char) -> bool
     c == '{' || c == '}'
 }
 
-// The characters of a text in lowercase, but for braces.
-fn folded(alloc: Global, text: &str) -> Result<Vec<char>, AllocError>
-    ensures { IfOk result (λ characters. characters.items ≡ folded text.now) }
+// Appends a word and a space after it, where there is one, which is none then.
+fn end_word(text: &mut String, word: &mut String) -> Result<(), AllocError>
+    ensures text { OnOk result (string_bytes text.new ≡ string_bytes text.old ++ spaced_word (string_bytes word.old)) }
+    ensures none { OnOk result (string_bytes word.new ≡ []) }
 {
-    let lowercase = text.to_lowercase(alloc)?;
-    lowercase
-        .as_str()
-        .chars()
-        .filter(|c| !is_brace(*c))
-        .collect(alloc)
-}
-
-// The words among characters: what stands between white space.
-fn folded_words<'c>(alloc: Global, characters: &'c [char]) -> Result<Vec<&'c [char]>, AllocError>
-    ensures { IfOk result (λ words. map (λ word. word.now) words.items ≡ folded_words characters.now) }
-{
-    characters
-        .split(|c| c.is_whitespace())
-        .filter(|word| !word.is_empty())
-        .collect(alloc)
-}
-
-// Adds characters to a text.
-fn push_characters(text: &mut String, characters: &[char]) -> Result<(), AllocError>
-    ensures { OnOk result (string_bytes text.new ≡ string_bytes text.old ++ encode_utf8_all characters.now) }
-{
-    'characters: for c in characters {
-        text.push(*c)?;
+    if word.is_empty() {
+        return Ok(());
     }
+    text.push_str(word)?;
+    text.push(' ')?;
+    word.clear();
     Ok(())
 }
 
-// Words, a space after each.
-fn spaced_words(alloc: Global, words: &[&[char]]) -> Result<String, AllocError>
-    ensures { IfOk result (λ text. string_bytes text ≡ spaced_words (map (λ word. word.now) words.now)) }
+// Whether the words end before this one: where people are told apart, it stands between them.
+fn ends_before(is_first: bool, word: &str) -> bool
+    ensures { result ≡ ends_before is_first word.now }
 {
-    let mut text = String::new(alloc);
-    'words: for word in words {
-        push_characters(&mut text, word)?;
-        text.push(' ')?;
+    is_first && word == "and"
+}
+
+// The words of a text that is in lowercase, without braces, a space after each: all of them, or those of the first person.
+fn words(alloc: Global, lowercase: &str, is_first: bool) -> Result<String, AllocError>
+    ensures { IfOk result (λ text. string_bytes text ≡ words_text is_first (without_braces lowercase.now)) }
+{
+    let mut text = String::with_capacity(alloc, lowercase.len())?;
+    let mut word = String::new(alloc);
+    'characters: for c in lowercase.chars() {
+        if is_brace(c) {
+            continue 'characters;
+        }
+        if !c.is_whitespace() {
+            word.push(c)?;
+            continue 'characters;
+        }
+        if ends_before(is_first, &word) {
+            return Ok(text);
+        }
+        end_word(&mut text, &mut word)?;
+    }
+    if !ends_before(is_first, &word) {
+        end_word(&mut text, &mut word)?;
     }
     Ok(text)
 }
@@ -108,38 +107,16 @@ fn spaced_words(alloc: Global, words: &[&[char]]) -> Result<String, AllocError>
 fn plain_words(alloc: Global, text: &str) -> Result<String, AllocError>
     ensures { IfOk result (λ plain. string_bytes plain ≡ plain_words text.now) }
 {
-    let characters = folded(alloc, text)?;
-    let words = folded_words(alloc, &characters)?;
-    spaced_words(alloc, &words)
-}
-
-// Whether a word stands between people.
-fn is_between_people(word: &[char]) -> bool
-    ensures { result ≡ is_between_people word.now }
-{
-    word == AND.as_slice()
-}
-
-// How many words the first of some people has.
-fn words_of_first(words: &[&[char]]) -> usize
-    ensures cut { take result (map (λ word. word.now) words.now) ≡
-        take_while (λ word. not (is_between_people word)) (map (λ word. word.now) words.now) }
-    ensures within { result ≤ length words.now }
-{
-    words
-        .iter()
-        .position(|word| is_between_people(word))
-        .unwrap_or(words.len())
+    let lowercase = text.to_lowercase(alloc)?;
+    words(alloc, &lowercase, false)
 }
 
 // The words of the first person, a space after each.
 fn first_person(alloc: Global, people: &str) -> Result<String, AllocError>
     ensures { IfOk result (λ person. string_bytes person ≡ first_person people.now) }
 {
-    let characters = folded(alloc, people)?;
-    let words = folded_words(alloc, &characters)?;
-    let count = words_of_first(&words);
-    spaced_words(alloc, &words[..count])
+    let lowercase = people.to_lowercase(alloc)?;
+    words(alloc, &lowercase, true)
 }
 
 // The first four characters of a text.
@@ -153,12 +130,9 @@ fn first_four(alloc: Global, text: &str) -> Result<String, AllocError>
 fn squeezed(alloc: Global, text: &str) -> Result<String, AllocError>
     ensures { IfOk result (λ found. string_bytes found ≡ squeezed text.now) }
 {
-    let characters = folded(alloc, text)?;
-    characters
-        .iter()
-        .copied()
-        .filter(|c| !c.is_whitespace())
-        .collect(alloc)
+    let mut text = text.to_lowercase(alloc)?;
+    text.retain(|c| !is_brace(c) && !c.is_whitespace());
+    Ok(text)
 }
 
 // A text without the first of these prefixes that it begins with.
@@ -173,16 +147,16 @@ fn without_prefixes<'t>(text: &'t str, prefixes: &[&'static str]) -> &'t str
     text
 }
 
-// The DOI of an entry.
-fn doi(alloc: Global, said: &Spanned<RawEntry<'_>>) -> Result<String, AllocError>
+/// The DOI of an entry.
+pub(crate) fn doi(alloc: Global, said: &Spanned<RawEntry<'_>>) -> Result<String, AllocError>
     ensures { IfOk result (λ text. string_bytes text ≡ doi_of (entry_reading_of said.now)) }
 {
     let text = squeezed(alloc, own_literal(said, "doi"))?;
     String::from_str(alloc, without_prefixes(text.as_str(), &DOI_PREFIXES))
 }
 
-// The ISBN of an entry.
-fn isbn(alloc: Global, said: &Spanned<RawEntry<'_>>) -> Result<String, AllocError>
+/// The ISBN of an entry.
+pub(crate) fn isbn(alloc: Global, said: &Spanned<RawEntry<'_>>) -> Result<String, AllocError>
     ensures { IfOk result (λ text. string_bytes text ≡ isbn_of (entry_reading_of said.now)) }
 {
     let text = squeezed(alloc, own_literal(said, "isbn"))?;
@@ -207,11 +181,18 @@ fn work_text(alloc: Global, title: &str, person: &str, year: &str) -> Result<Str
     format!(in alloc; "{title}{{{person}{{{year}")
 }
 
+/// The words of the title of an entry, a space after each.
+pub(crate) fn title(alloc: Global, said: &Spanned<RawEntry<'_>>) -> Result<String, AllocError>
+    ensures { IfOk result (λ text. string_bytes text ≡ title_of (entry_reading_of said.now)) }
+{
+    plain_words(alloc, own_literal(said, "title"))
+}
+
 // The title, the first person and the year of an entry.
 fn work(alloc: Global, said: &Spanned<RawEntry<'_>>) -> Result<String, AllocError>
     ensures { IfOk result (λ text. string_bytes text ≡ work_of (entry_reading_of said.now)) }
 {
-    let title = plain_words(alloc, own_literal(said, "title"))?;
+    let title = title(alloc, said)?;
     let people = or_else(own_literal(said, "author"), own_literal(said, "editor"));
     let person = first_person(alloc, people)?;
     let year = year(alloc, said)?;

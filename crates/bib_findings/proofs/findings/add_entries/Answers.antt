@@ -1,8 +1,7 @@
-use Rattle.std.proofs.Common.{◌≡◌, List, ℕ, None, Some, map, sym, ◌∙◌, rules}
+use Rattle.std.proofs.Common.{map, rules}
 use Rattle.std.specs.BTreeMap.{get_by_text}
 use Rattle.bib_syntax.specs.Views.{entry_reading_of}
 use Rattle.bib_findings.specs.Findings.{AreOfEntry}
-use Rattle.bib_findings.specs.Met.{AreFieldNames}
 use Rattle.bib_findings.proofs.AddingFacts.{each_at, each_none}
 use Rattle.bib_findings.proofs.NameFacts.{names_none}
 use Rattle.bib_findings.proofs.findings.add_entries.Goals as goal

@@ -1,4 +1,4 @@
-use Rattle.std.proofs.Common.{◌≡◌, ◌<◌, map, take, length, get_or, ap, ◌∙◌, subst}
+use Rattle.std.proofs.Common.{◌≡◌, ◌<◌, length, get_or, ap, ◌∙◌, subst}
 use Rattle.bib_findings.proofs.NameFacts.{fields_next}
 use Rattle.bib_findings.proofs.names.add_unknown_fields.Goals as goal
 

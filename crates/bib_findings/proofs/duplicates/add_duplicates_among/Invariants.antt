@@ -3,7 +3,7 @@ use Rattle.std.specs.BTreeMap.{get_by_text}
 use Rattle.bib_syntax.specs.Views.{entry_reading_of}
 use Rattle.bib_findings.specs.Duplicates.{duplicates, entries_at}
 use Rattle.bib_findings.specs.Seen.{HasFirst}
-use Rattle.bib_findings.proofs.duplicates.add_duplicates.Given as goal
+use Rattle.bib_findings.proofs.duplicates.add_duplicates_among.Given as goal
 
 -- the entries so far were compared with those before them, and their identities are remembered
 abbrev pub invariant-origins : goal.invariant-origins
