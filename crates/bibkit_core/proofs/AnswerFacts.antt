@@ -1,45 +1,104 @@
--- What is printed for a request, by what its task prints.
-use Rattle.std.proofs.Common.{◌≡◌, ℕ, List, Bor}
-use Rattle.std.specs.Prelude.{Option, Some, None}
-use Rattle.std.specs.Io.KnownBytes.{Appends}
+-- What is printed for a request, by what its task prints, and why a run ends.
+use Rattle.std.proofs.Common.{◌≡◌, ◌≤◌, ◌&&◌, ℕ, List, Bor, Bool, true, false, not, refl, sym, subst, ◌∙◌, arith}
+use Rattle.std.specs.Prelude.{Option, Some, None, IfSome, if◌then◌else◌}
+use Rattle.bib_excerpts.specs.declared.citations.Citations.{Citations}
+use Rattle.bib_excerpts.specs.declared.request.CitedKeys.{CitedKeys}
 use Rattle.bib_excerpts.specs.declared.request.Request.{Request as Excerpts}
+use Rattle.bib_excerpts.specs.declared.request.Request.TheVariants as excerpts
 use Rattle.bib_findings.specs.declared.codes.Code.{Code}
-use Rattle.bibkit_core.specs.Answered.{IsCallAnswer, meaning_text}
-use Rattle.bibkit_core.specs.Steps.{HasAnswer, HasCallAnswer, HasCompared, IsFileRead}
-use Rattle.bibkit_core.specs.Tasks.{BeginsEntries, BeginsLinting, entries_begins, entries_ends, entries_prints, linting_begins, linting_ends, linting_prints}
-use Rattle.bibkit_core.specs.declared.entries.Entries.{Entries}
-use Rattle.bibkit_core.specs.declared.linting.Linting.{Linting}
+use Rattle.bibkit_core.specs.Answered.{AsksForCited, CantReadDocument, HasFailed, IsCallAnswer}
+use Rattle.bibkit_core.specs.Compared.{AreCitedBy, ReadsDocument}
+use Rattle.bibkit_core.specs.Outcomes.{HasPrinted}
+use Rattle.bibkit_core.specs.Printed.{is_none}
+use Rattle.bibkit_core.specs.Running.{IsTaskPrinted}
+use Rattle.bibkit_core.specs.Steps.{AreComparedPrinted, AreEntriesPrinted, AreFindingsPrinted, HasNoText, HasStopped, IsMeaningPrinted, ReadsText}
+use Rattle.bibkit_core.specs.Tasks.{entries_status, is_search, lint_status}
 use Rattle.bibkit_core.specs.declared.request.Cited.{Cited}
 use Rattle.bibkit_core.specs.declared.request.Lint.{Lint}
+use Rattle.bibkit_core.specs.declared.request.Request.{Request}
 use Rattle.bibkit_core.specs.declared.request.Request.TheVariants as request
+use Rattle.bibkit_core.specs.declared.tally.Tally.{Tally}
+use Rattle.bibkit_core.specs.declared.run.Stop.{Stop}
+use Rattle.bibkit_core.specs.declared.run.Stop.TheVariants.{Refused, NoDocument, OutOfMemory}
 
-pub findings_answered : {F : Type 0} {reads : F → List ℕ → Option (List ℕ) → F → Type 0} {files : F} {names : List (List ℕ)} {lint : Lint} {k k' : Option (List ℕ)} {status : ℕ} → lint.cited ≡ None
-    → (task : Linting) × BeginsLinting lint task × HasAnswer reads linting_begins linting_prints linting_ends files task names k k' status
-    → HasCallAnswer reads files names (request.Lint lint) k k' status
-findings_answered none (task, begins, has) = record { text = has.text; answer = IsCallAnswer.findings task none begins has.answer; printed = has.printed }
+-- what is printed, as an answer to a request
+pub findings_answer : {F : Type 0} {reads : F → List ℕ → Option (List ℕ) → F → Type 0} {files : F} {names : List (List ℕ)} {lint : Lint} → lint.cited ≡ None → (text : List ℕ) (status : Option ℕ)
+    → AreFindingsPrinted reads lint files names text status → IsCallAnswer reads files names (request.Lint lint) text status
+findings_answer none text status are = IsCallAnswer.findings are.task none are.begins are.printed
 
-pub compared_answered : {F : Type 0} {reads : F → List ℕ → Option (List ℕ) → F → Type 0} {files : F} {names : List (List ℕ)} {lint : Lint} {k k' : Option (List ℕ)} {status : ℕ} (cited : Cited) → lint.cited ≡ Some cited
-    → HasCompared reads lint cited.name.now files names k k' status → HasCallAnswer reads files names (request.Lint lint) k k' status
-compared_answered cited some has = record {
-  text = has.answer.text;
-  answer = IsCallAnswer.compared has.task cited has.document.bytes has.files' some has.document.read has.begins has.answer.answer;
-  printed = has.answer.printed;
-}
+pub compared_answer : {F : Type 0} {reads : F → List ℕ → Option (List ℕ) → F → Type 0} {files : F} {names : List (List ℕ)} {lint : Lint} (cited : Cited) → lint.cited ≡ Some cited → (text : List ℕ) (status : Option ℕ)
+    → AreComparedPrinted reads lint cited files names text status → IsCallAnswer reads files names (request.Lint lint) text status
+compared_answer cited some text status are = IsCallAnswer.compared cited are.found are.document are.files' some are.read are.printed
 
-pub entries_answered : {F : Type 0} {reads : F → List ℕ → Option (List ℕ) → F → Type 0} {files : F} {names : List (List ℕ)} {asked : Excerpts} {k k' : Option (List ℕ)} {status : ℕ}
-    → (task : Entries) × BeginsEntries asked task × HasAnswer reads entries_begins entries_prints entries_ends files task names k k' status
-    → HasCallAnswer reads files names (request.Entries asked) k k' status
-entries_answered (task, begins, has) = record { text = has.text; answer = IsCallAnswer.entries task begins has.answer; printed = has.printed }
+pub entries_answer : {F : Type 0} {reads : F → List ℕ → Option (List ℕ) → F → Type 0} {files : F} {names : List (List ℕ)} {asked : Excerpts} (text : List ℕ) (status : Option ℕ)
+    → AreEntriesPrinted reads asked files names text status → IsCallAnswer reads files names (request.Entries asked) text status
+entries_answer text status are = IsCallAnswer.entries are.task are.begins are.printed
 
-pub cited_answered : {F : Type 0} {reads : F → List ℕ → Option (List ℕ) → F → Type 0} {files files' : F} {names : List (List ℕ)} (document : Bor (List ℕ)) (asked : Excerpts) {k k' : Option (List ℕ)} {status : ℕ}
-    → IsFileRead reads files document.now files' → (task : Entries) × BeginsEntries asked task × HasAnswer reads entries_begins entries_prints entries_ends files' task names k k' status
-    → HasCallAnswer reads files names (request.Cited document) k k' status
-cited_answered {files' = files'} document asked read (task, begins, has) = record { text = has.text; answer = IsCallAnswer.cited asked task read.bytes files' read.read begins has.answer; printed = has.printed }
+pub cited_answer : {F : Type 0} {reads : F → List ℕ → Option (List ℕ) → F → Type 0} {files files' : F} {names : List (List ℕ)} (name : Bor (List ℕ)) (found : Citations) (document : List ℕ) (asked : CitedKeys)
+    → ReadsDocument reads files name.now files' document found → AsksForCited found asked → (text : List ℕ) (status : Option ℕ)
+    → AreEntriesPrinted reads (excerpts.Cited asked) files' names text status → IsCallAnswer reads files names (request.Cited name) text status
+cited_answer {files' = files'} name found document asked read asks text status are = IsCallAnswer.cited found document files' asked are.task read asks are.begins are.printed
 
-pub meaning_answered : {F : Type 0} {reads : F → List ℕ → Option (List ℕ) → F → Type 0} {files : F} {names : List (List ℕ)} {c : Code} {k k' : Option (List ℕ)} {status : ℕ}
-    → (text : List ℕ) × Appends k k' (meaning_text c text) × (status ≡ 0) → HasCallAnswer reads files names (request.Explain c) k k' status
-meaning_answered {c = c} (text, printed, done) = rw done (record { text = meaning_text c text; answer = IsCallAnswer.meaning text; printed = printed })
+pub meaning_answer : {F : Type 0} {reads : F → List ℕ → Option (List ℕ) → F → Type 0} {files : F} {names : List (List ℕ)} {c : Code} (text : List ℕ) (status : Option ℕ)
+    → IsMeaningPrinted c text status → IsCallAnswer reads files names (request.Explain c) text status
+meaning_answer text status IsMeaningPrinted.nothing = IsCallAnswer.no_meaning
+meaning_answer text status (IsMeaningPrinted.all meaning) = IsCallAnswer.meaning meaning
 
-pub counts_answered : {F T : Type 0} {reads : F → List ℕ → Option (List ℕ) → F → Type 0} {begins : T → List ℕ} {prints : T → List ℕ → List ℕ → List ℕ → T → Type 0} {ends : T → List ℕ → ℕ → Type 0} {files : F} {task : T}
-    {names : List (List ℕ)} {k k' : Option (List ℕ)} {status : ℕ} → HasAnswer reads begins prints ends files task names k k' status → HasCallAnswer reads files names request.Stats k k' status
-counts_answered has = record { text = has.text; answer = IsCallAnswer.counts; printed = has.printed }
+-- a text that is read is that of the document with these citations
+pub document_read : {F : Type 0} {reads : F → List ℕ → Option (List ℕ) → F → Type 0} {files files' : F} {name text : List ℕ} {found : Citations} (document : List ℕ) → document ≡ text → ReadsText reads files name files' text
+    → AreCitedBy name document found → ReadsDocument reads files name files' document found
+document_read document same read cited = record { bytes = read.bytes; decoded = read.decoded; read = read.read; of_bytes = read.of_bytes; text_is = same ∙ read.text_is; cited = cited }
+
+-- a run that ends where there is no text of the document
+pub stopped_without_text : {F K : Type 0} (reads : F → List ℕ → Option (List ℕ) → F → Type 0) {taken : K → Option (List ℕ)} {refusals : K → ℕ} {hands_over : K → List ℕ → Bool → K → Type 0} {P : List ℕ → Option ℕ → Type 0} {Unread : Type 0}
+    (files files' : F) (name : List ℕ) (k : K) (stop : Stop) → (reads files name None files' → Unread) → HasNoText reads files name files' stop → HasStopped taken refusals hands_over P Unread k k stop
+stopped_without_text reads files files' name k Refused so none = absurd none
+stopped_without_text reads files files' name k NoDocument so none = HasStopped.no_document (so none) refl
+stopped_without_text reads files files' name k OutOfMemory so none = HasStopped.no_memory refl
+
+-- what is known where a run ends so
+pub refused_failed : {F K : Type 0} {reads : F → List ℕ → Option (List ℕ) → F → Type 0} {taken : K → Option (List ℕ)} {refusals : K → ℕ} {hands_over : K → List ℕ → Bool → K → Type 0} {files : F} {names : List (List ℕ)}
+    {asked : Request} {old new : K} → HasStopped taken refusals hands_over (IsCallAnswer reads files names asked) (CantReadDocument reads files asked) old new Refused
+    → HasFailed reads taken refusals hands_over files names asked old new
+refused_failed (HasStopped.refused text prints after) = HasFailed.refused text prints after
+
+pub unread_failed : {F K : Type 0} {reads : F → List ℕ → Option (List ℕ) → F → Type 0} {taken : K → Option (List ℕ)} {refusals : K → ℕ} {hands_over : K → List ℕ → Bool → K → Type 0} {files : F} {names : List (List ℕ)}
+    {asked : Request} {old new : K} → HasStopped taken refusals hands_over (IsCallAnswer reads files names asked) (CantReadDocument reads files asked) old new NoDocument
+    → HasFailed reads taken refusals hands_over files names asked old new
+unread_failed (HasStopped.no_document unread same) = HasFailed.no_document unread same
+
+pub memory_same : {K : Type 0} {taken : K → Option (List ℕ)} {refusals : K → ℕ} {hands_over : K → List ℕ → Bool → K → Type 0} {P : List ℕ → Option ℕ → Type 0} {Unread : Type 0} {old new : K}
+    → HasStopped taken refusals hands_over P Unread old new OutOfMemory → refusals new ≡ refusals old
+memory_same (HasStopped.no_memory same) = same
+
+-- a status of a task that can be read is less than two, so one of all files is at most two
+bounded_if : (b : Bool) (status : ℕ) → status ≤ 2 → (if b then status else 2) ≤ 2
+bounded_if true status bound = bound
+bounded_if false status bound = omega arith
+
+lint_bounded : (tally : Tally) → lint_status tally ≤ 2
+lint_bounded tally = elim (is_none tally) as (λ b. (if b then 0 else 1) ≤ 2) [ true ↦ omega arith | false ↦ omega arith ]
+
+entries_bounded : (asked : Excerpts) (is_found : Bool) → entries_status asked is_found ≤ 2
+entries_bounded asked is_found = elim (is_search asked && not is_found) as (λ b. (if b then 1 else 0) ≤ 2) [ true ↦ omega arith | false ↦ omega arith ]
+
+task_bounded : {F T : Type 0} {reads : F → List ℕ → Option (List ℕ) → F → Type 0} {begins : T → List ℕ} {prints : T → List ℕ → List ℕ → List ℕ → T → Type 0} {ends : T → List ℕ → ℕ → Type 0} {files : F} {task : T} {names : List (List ℕ)} {text : List ℕ} {status : Option ℕ}
+    → ((t : T) (last : List ℕ) (s : ℕ) → ends t last s → s ≤ 2) → IsTaskPrinted reads begins prints ends files task names text status → IfSome status (λ s. s ≤ 2)
+task_bounded bound IsTaskPrinted.nothing = tt
+task_bounded bound (IsTaskPrinted.first done rest parts run) = tt
+task_bounded bound (IsTaskPrinted.all answer) =
+    subst (λ s. s ≤ 2) (sym answer.status_is) (bounded_if answer.are_read answer.end_status (bound answer.task' answer.last answer.end_status answer.ended))
+
+call_bounded : {F : Type 0} {reads : F → List ℕ → Option (List ℕ) → F → Type 0} {files : F} {names : List (List ℕ)} {asked : Request} {text : List ℕ} {status : Option ℕ} → IsCallAnswer reads files names asked text status → IfSome status (λ s. s ≤ 2)
+call_bounded (IsCallAnswer.findings task none begins printed) = task_bounded (λ t last s e. subst (λ n. n ≤ 2) (sym e.1) (lint_bounded t.tally)) printed
+call_bounded (IsCallAnswer.compared cited found document files' some read printed) = task_bounded (λ t last s e. subst (λ n. n ≤ 2) (sym e.status_is) (lint_bounded e.after)) printed
+call_bounded (IsCallAnswer.meaning text) = omega arith
+call_bounded IsCallAnswer.no_meaning = tt
+call_bounded (IsCallAnswer.entries task begins printed) = task_bounded (λ t last s e. subst (λ n. n ≤ 2) (sym e.1) (entries_bounded t.request.now t.is_found)) printed
+call_bounded (IsCallAnswer.cited found document files' asked task read asks begins printed) = task_bounded (λ t last s e. subst (λ n. n ≤ 2) (sym e.1) (entries_bounded t.request.now t.is_found)) printed
+call_bounded (IsCallAnswer.counts printed) = task_bounded (λ t last s e. subst (λ n. n ≤ 2) (sym e.done) (omega arith)) printed
+
+-- a status of what is printed to its end is at most two
+pub printed_bound : {F K : Type 0} {reads : F → List ℕ → Option (List ℕ) → F → Type 0} {files : F} {names : List (List ℕ)} {asked : Request} {taken : K → Option (List ℕ)} {old new : K} {status : ℕ}
+    → HasPrinted taken (IsCallAnswer reads files names asked) old new status → status ≤ 2
+printed_bound has = call_bounded has.prints

@@ -1,3 +1,6 @@
 pub mod AnswerFacts
+pub mod ComparedFacts
+pub mod CountFacts
 pub mod FindingFacts
 pub mod RunFacts
+pub mod TableFacts

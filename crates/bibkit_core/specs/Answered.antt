@@ -1,13 +1,18 @@
 -- Meaning: words of public contracts.
 -- What is printed for a request on files, and the status.
-use Rattle.std.specs.Prelude.{◌≡◌, ℕ, List, ◌++◌, codes, Option, Some, None}
+use Rattle.std.specs.Prelude.{◌≡◌, ℕ, List, [], ◌++◌, codes, map, Bool, Option, Some, None}
 use Rattle.std.specs.Borrow.{Bor}
+use Rattle.bib_excerpts.specs.declared.citations.Citations.{Citations}
+use Rattle.bib_excerpts.specs.declared.request.CitedKeys.{CitedKeys}
 use Rattle.bib_excerpts.specs.declared.request.Request.{Request as Excerpts}
+use Rattle.bib_excerpts.specs.declared.request.Request.TheVariants as excerpts
 use Rattle.bib_findings.specs.Codes.{code_name, severity_name, severity_of}
 use Rattle.bib_findings.specs.declared.codes.Code.{Code}
-use Rattle.bibkit_core.specs.Running.{IsTaskAnswer}
-use Rattle.bibkit_core.specs.Tasks.{BeginsEntries, BeginsLinting, comparing_begins, comparing_ends, comparing_prints, entries_begins, entries_ends, entries_prints, linting_begins, linting_ends, linting_prints}
-use Rattle.bibkit_core.specs.declared.comparing.Comparing.{Comparing}
+use Rattle.bibkit_core.specs.Compared.{EndsCompared, PrintsCompared, ReadsDocument, cited_keys, compared_begins, none_compared}
+use Rattle.bibkit_core.specs.Outcomes.{HasPrinted, IsRefusedAfter}
+use Rattle.bibkit_core.specs.Running.{IsTaskPrinted}
+use Rattle.bibkit_core.specs.Stats.{EndsCounted, PrintsCounted, counted_begins, none_counted}
+use Rattle.bibkit_core.specs.Tasks.{BeginsEntries, BeginsLinting, entries_begins, entries_ends, entries_prints, linting_begins, linting_ends, linting_prints}
 use Rattle.bibkit_core.specs.declared.entries.Entries.{Entries}
 use Rattle.bibkit_core.specs.declared.linting.Linting.{Linting}
 use Rattle.bibkit_core.specs.declared.request.Cited.{Cited}
@@ -19,16 +24,47 @@ use Rattle.bibkit_core.specs.declared.request.Request.TheVariants as request
 abbrev pub meaning_text : Code → List ℕ → List ℕ
 meaning_text c meaning = code_name c ++ (codes " (" ++ (severity_name (severity_of c) ++ (codes "): " ++ (meaning ++ codes "\n"))))
 
--- what is printed for a request on the files of these names, and the status; `reads` says what a read of a file gives, from which
--- state to which. Of counts nothing is said
-pub data IsCallAnswer {F : Type 0} (reads : F → List ℕ → Option (List ℕ) → F → Type 0) (files : F) (names : List (List ℕ)) : Request → List ℕ → ℕ → Type 0 where
-  findings : {lint : Lint} {text : List ℕ} {status : ℕ} (task : Linting) → lint.cited ≡ None → BeginsLinting lint task
-      → IsTaskAnswer reads linting_begins linting_prints linting_ends files task names text status → IsCallAnswer reads files names (request.Lint lint) text status
-  compared : {lint : Lint} {text : List ℕ} {status : ℕ} (task : Comparing) (cited : Cited) (bytes : List ℕ) (files' : F) → lint.cited ≡ Some cited → reads files cited.name.now (Some bytes) files'
-      → BeginsLinting lint task.linting → IsTaskAnswer reads comparing_begins comparing_prints comparing_ends files' task names text status → IsCallAnswer reads files names (request.Lint lint) text status
-  meaning : {c : Code} (text : List ℕ) → IsCallAnswer reads files names (request.Explain c) (meaning_text c text) 0
-  entries : {asked : Excerpts} {text : List ℕ} {status : ℕ} (task : Entries) → BeginsEntries asked task
-      → IsTaskAnswer reads entries_begins entries_prints entries_ends files task names text status → IsCallAnswer reads files names (request.Entries asked) text status
-  cited : {document : Bor (List ℕ)} {text : List ℕ} {status : ℕ} (asked : Excerpts) (task : Entries) (bytes : List ℕ) (files' : F) → reads files document.now (Some bytes) files' → BeginsEntries asked task
-      → IsTaskAnswer reads entries_begins entries_prints entries_ends files' task names text status → IsCallAnswer reads files names (request.Cited document) text status
-  counts : {text : List ℕ} {status : ℕ} → IsCallAnswer reads files names request.Stats text status
+-- the citations of a document, as its entries are asked for
+pub record AsksForCited (found : Citations) (asked : CitedKeys) : Type 0 where
+  pub keys : map (λ key. key.now) asked.keys.items ≡ cited_keys found
+  pub all : asked.all ≡ found.all
+
+-- what is printed for a request on the files of these names, and the status, where it is all that is printed; `reads` says what a
+-- read of a file gives, from which state to which
+pub data IsCallAnswer {F : Type 0} (reads : F → List ℕ → Option (List ℕ) → F → Type 0) (files : F) (names : List (List ℕ)) : Request → List ℕ → Option ℕ → Type 0 where
+  findings : {lint : Lint} {text : List ℕ} {status : Option ℕ} (task : Linting) → lint.cited ≡ None → BeginsLinting lint task
+      → IsTaskPrinted reads linting_begins linting_prints linting_ends files task names text status → IsCallAnswer reads files names (request.Lint lint) text status
+  compared : {lint : Lint} {text : List ℕ} {status : Option ℕ} (cited : Cited) (found : Citations) (document : List ℕ) (files' : F) → lint.cited ≡ Some cited
+      → ReadsDocument reads files cited.name.now files' document found
+      → IsTaskPrinted reads (compared_begins lint) (PrintsCompared lint cited.has_unused found) (EndsCompared lint cited.name.now document found) files' none_compared names text status
+      → IsCallAnswer reads files names (request.Lint lint) text status
+  meaning : {c : Code} (text : List ℕ) → IsCallAnswer reads files names (request.Explain c) (meaning_text c text) (Some 0)
+  no_meaning : {c : Code} → IsCallAnswer reads files names (request.Explain c) [] None
+  entries : {asked : Excerpts} {text : List ℕ} {status : Option ℕ} (task : Entries) → BeginsEntries asked task
+      → IsTaskPrinted reads entries_begins entries_prints entries_ends files task names text status → IsCallAnswer reads files names (request.Entries asked) text status
+  cited : {name : Bor (List ℕ)} {text : List ℕ} {status : Option ℕ} (found : Citations) (document : List ℕ) (files' : F) (asked : CitedKeys) (task : Entries)
+      → ReadsDocument reads files name.now files' document found → AsksForCited found asked → BeginsEntries (excerpts.Cited asked) task
+      → IsTaskPrinted reads entries_begins entries_prints entries_ends files' task names text status → IsCallAnswer reads files names (request.Cited name) text status
+  counts : {text : List ℕ} {status : Option ℕ} → IsTaskPrinted reads counted_begins PrintsCounted EndsCounted files none_counted names text status
+      → IsCallAnswer reads files names request.Stats text status
+
+-- a request is on the document whose file has this name
+pub data IsOnDocument : Request → List ℕ → Type 0 where
+  compared : {lint : Lint} {cited : Cited} → lint.cited ≡ Some cited → IsOnDocument (request.Lint lint) cited.name.now
+  cited : {name : Bor (List ℕ)} → IsOnDocument (request.Cited name) name.now
+
+-- the file of the document of a request can't be read
+pub record CantReadDocument {F : Type 0} (reads : F → List ℕ → Option (List ℕ) → F → Type 0) (files : F) (request : Request) : Type 0 where
+  pub name : List ℕ
+  pub files' : F
+  pub document : IsOnDocument request name
+  pub unread : reads files name None files'
+
+-- why the status is 2: a file can't be read, and all is printed of the others; or the file of a document can't be read, and nothing is
+-- printed; or the output takes a first part of what is printed, and refuses the text after it
+pub data HasFailed {F K : Type 0} (reads : F → List ℕ → Option (List ℕ) → F → Type 0) (taken : K → Option (List ℕ)) (refusals : K → ℕ) (hands_over : K → List ℕ → Bool → K → Type 0) (files : F) (names : List (List ℕ))
+    (request : Request) (old new : K) : Type 0 where
+  unread : HasPrinted taken (IsCallAnswer reads files names request) old new 2 → refusals new ≡ refusals old → HasFailed reads taken refusals hands_over files names request old new
+  no_document : CantReadDocument reads files request → new ≡ old → HasFailed reads taken refusals hands_over files names request old new
+  refused : (text : List ℕ) → IsCallAnswer reads files names request text None → IsRefusedAfter taken refusals hands_over text old new
+      → HasFailed reads taken refusals hands_over files names request old new

@@ -1,9 +1,15 @@
 pub mod Adding
 pub mod Answered
 pub mod Asked
+pub mod Compared
 pub mod Linted
+pub mod Marks
+pub mod Outcomes
 pub mod Printed
 pub mod Running
 pub mod Settings
+pub mod Stats
 pub mod Steps
+pub mod Tables
 pub mod Tasks
+pub mod Totals

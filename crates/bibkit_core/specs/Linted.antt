@@ -1,15 +1,13 @@
 -- Meaning: words of public contracts.
 -- What is printed of the findings of a file.
-use Rattle.std.specs.Prelude.{◌≡◌, ℕ, Bool, true, false, List, [], ◌∷◌, ◌++◌, Option, Some, None, codes, fold, string_bytes}
+use Rattle.std.specs.Prelude.{◌≡◌, ℕ, Bool, false, List, [], ◌∷◌, ◌++◌, Option, Some, None, codes, fold, string_bytes}
 use Rattle.bib_lines.specs.Positions.{position_at}
-use Rattle.bib_lines.specs.declared.positions.Position.{Position}
 use Rattle.bib_findings.specs.Codes.{severity_of}
 use Rattle.bib_encoding.specs.declared.decoding.Decoded.{Decoded}
 use Rattle.bib_findings.specs.Findings.{AreFindings}
 use Rattle.bib_findings.specs.declared.codes.Code.TheVariants.{UnreadBytes}
 use Rattle.bib_findings.specs.declared.finding.Finding.{Finding}
 use Rattle.bibkit_core.specs.Asked.{asked}
-use Rattle.bibkit_core.specs.declared.lint.Printed.{Printed}
 use Rattle.bibkit_core.specs.declared.request.Lint.{Lint}
 use Rattle.bibkit_core.specs.declared.request.Style.{Style}
 use Rattle.bibkit_core.specs.declared.tally.Tally.{Tally}

@@ -1,6 +1,11 @@
 -- Meaning: words of public contracts.
 -- What is printed of files, one after another.
-use Rattle.std.specs.Prelude.{◌≡◌, ℕ, Bool, true, false, ◌&&◌, if◌then◌else◌, List, [], ◌∷◌, ◌++◌, Option, Some, None}
+use Rattle.std.specs.Prelude.{◌≡◌, ℕ, Bool, true, false, ◌&&◌, if◌then◌else◌, List, [], ◌∷◌, ◌++◌, map, Option, Some, None}
+use Rattle.std.specs.Borrow.{Bor}
+
+-- names as the code has them
+abbrev pub names_given : List (Bor (List ℕ)) → List (List ℕ)
+names_given names = map (λ name. name.now) names
 
 -- what is printed of a file, and whether it could be read: what the task prints of its bytes, and nothing where it has none
 pub data IsStep {F T : Type 0} (reads : F → List ℕ → Option (List ℕ) → F → Type 0) (prints : T → List ℕ → List ℕ → List ℕ → T → Type 0)
@@ -31,3 +36,12 @@ pub record IsTaskAnswer {F T : Type 0} (reads : F → List ℕ → Option (List 
   pub ended : ends task' last end_status
   pub text_is : text ≡ begins task ++ (texts ++ last)
   pub status_is : status ≡ (if are_read then end_status else 2)
+
+-- what is printed for a command so far: nothing, or what is printed before the files and of some first of them, where no status is
+-- given; or all, with the status
+pub data IsTaskPrinted {F T : Type 0} (reads : F → List ℕ → Option (List ℕ) → F → Type 0) (begins : T → List ℕ) (prints : T → List ℕ → List ℕ → List ℕ → T → Type 0)
+    (ends : T → List ℕ → ℕ → Type 0) (files : F) (task : T) (names : List (List ℕ)) : List ℕ → Option ℕ → Type 0 where
+  nothing : IsTaskPrinted reads begins prints ends files task names [] None
+  first : {texts : List ℕ} {are_read : Bool} {files' : F} {task' : T} (done rest : List (List ℕ)) → names ≡ done ++ rest → AreRun reads prints files task done texts are_read files' task'
+      → IsTaskPrinted reads begins prints ends files task names (begins task ++ texts) None
+  all : {text : List ℕ} {status : ℕ} → IsTaskAnswer reads begins prints ends files task names text status → IsTaskPrinted reads begins prints ends files task names text (Some status)

@@ -1,13 +1,22 @@
 -- Machinery: words of private contracts.
 -- What is done with files, and what the output takes.
-use Rattle.std.specs.Prelude.{ℕ, Bool, List, Option, Some}
+use Rattle.std.specs.Prelude.{◌≡◌, ⊤, ℕ, Bool, List, [], ◌++◌, Option, Some, None, string_bytes}
 use Rattle.std.specs.Io.KnownBytes.{Appends}
-use Rattle.bibkit_core.specs.Answered.{IsCallAnswer}
-use Rattle.bibkit_core.specs.Running.{AreRun, IsStep, IsTaskAnswer}
-use Rattle.bibkit_core.specs.Tasks.{BeginsLinting, comparing_begins, comparing_ends, comparing_prints}
-use Rattle.bibkit_core.specs.declared.comparing.Comparing.{Comparing}
+use Rattle.bib_encoding.specs.declared.decoding.Decoded.{Decoded}
+use Rattle.bib_excerpts.specs.declared.citations.Citations.{Citations}
+use Rattle.bib_excerpts.specs.declared.request.Request.{Request}
+use Rattle.bib_findings.specs.declared.codes.Code.{Code}
+use Rattle.bibkit_core.specs.Answered.{meaning_text}
+use Rattle.bibkit_core.specs.Compared.{EndsCompared, PrintsCompared, ReadsDocument, compared_begins, none_compared}
+use Rattle.bibkit_core.specs.Outcomes.{IsRefusedAfter}
+use Rattle.bibkit_core.specs.Running.{AreRun, IsStep, IsTaskPrinted}
+use Rattle.bibkit_core.specs.Tasks.{AreDecoded, BeginsEntries, BeginsLinting, entries_begins, entries_ends, entries_prints, linting_begins, linting_ends, linting_prints}
+use Rattle.bibkit_core.specs.declared.entries.Entries.{Entries}
+use Rattle.bibkit_core.specs.declared.linting.Linting.{Linting}
+use Rattle.bibkit_core.specs.declared.request.Cited.{Cited}
 use Rattle.bibkit_core.specs.declared.request.Lint.{Lint}
-use Rattle.bibkit_core.specs.declared.request.Request.{Request}
+use Rattle.bibkit_core.specs.declared.run.Stop.{Stop}
+use Rattle.bibkit_core.specs.declared.run.Stop.TheVariants.{Refused, NoDocument, OutOfMemory}
 
 -- the output takes what is printed of a file
 pub record HasStep {F T : Type 0} (reads : F → List ℕ → Option (List ℕ) → F → Type 0) (prints : T → List ℕ → List ℕ → List ℕ → T → Type 0)
@@ -23,30 +32,64 @@ pub record HasRun {F T : Type 0} (reads : F → List ℕ → Option (List ℕ) �
   pub run : AreRun reads prints files task names text are_read files' task'
   pub printed : Appends taken taken' text
 
--- the output takes what is printed for a command
-pub record HasAnswer {F T : Type 0} (reads : F → List ℕ → Option (List ℕ) → F → Type 0) (begins : T → List ℕ) (prints : T → List ℕ → List ℕ → List ℕ → T → Type 0)
-    (ends : T → List ℕ → ℕ → Type 0) (files : F) (task : T) (names : List (List ℕ)) (taken taken' : Option (List ℕ)) (status : ℕ) : Type 0 where
-  pub text : List ℕ
-  pub answer : IsTaskAnswer reads begins prints ends files task names text status
-  pub printed : Appends taken taken' text
+-- why a run ends before its answer is whole, and what the output has taken then; `Unread` says that the file of a document can't
+-- be read
+pub data HasStopped {K : Type 0} (taken : K → Option (List ℕ)) (refusals : K → ℕ) (hands_over : K → List ℕ → Bool → K → Type 0) (Prints : List ℕ → Option ℕ → Type 0) (Unread : Type 0) (old new : K)
+    : Stop → Type 0 where
+  refused : (text : List ℕ) → Prints text None → IsRefusedAfter taken refusals hands_over text old new → HasStopped taken refusals hands_over Prints Unread old new Refused
+  no_document : Unread → new ≡ old → HasStopped taken refusals hands_over Prints Unread old new NoDocument
+  no_memory : refusals new ≡ refusals old → HasStopped taken refusals hands_over Prints Unread old new OutOfMemory
 
--- the output takes what is printed for a request
-pub record HasCallAnswer {F : Type 0} (reads : F → List ℕ → Option (List ℕ) → F → Type 0) (files : F) (names : List (List ℕ)) (request : Request) (taken taken' : Option (List ℕ))
-    (status : ℕ) : Type 0 where
-  pub text : List ℕ
-  pub answer : IsCallAnswer reads files names request text status
-  pub printed : Appends taken taken' text
+-- nothing is printed
+abbrev pub IsNothing : List ℕ → Option ℕ → Type 0
+IsNothing text status = text ≡ []
 
--- a file of this name is read
-pub record IsFileRead {F : Type 0} (reads : F → List ℕ → Option (List ℕ) → F → Type 0) (files : F) (name : List ℕ) (files' : F) : Type 0 where
-  pub bytes : List ℕ
-  pub read : reads files name (Some bytes) files'
-
--- the output takes findings, with those of what the document of this file cites
-pub record HasCompared {F : Type 0} (reads : F → List ℕ → Option (List ℕ) → F → Type 0) (lint : Lint) (name : List ℕ) (files : F) (names : List (List ℕ)) (taken taken' : Option (List ℕ))
-    (status : ℕ) : Type 0 where
+-- some first files are printed
+pub record AreFirst {F T : Type 0} (reads : F → List ℕ → Option (List ℕ) → F → Type 0) (prints : T → List ℕ → List ℕ → List ℕ → T → Type 0) (files : F) (task : T) (names : List (List ℕ))
+    (text : List ℕ) (status : Option ℕ) : Type 0 where
+  pub done : List (List ℕ)
+  pub rest : List (List ℕ)
+  pub are_read : Bool
   pub files' : F
-  pub task : Comparing
-  pub document : IsFileRead reads files name files'
-  pub begins : BeginsLinting lint task.linting
-  pub answer : HasAnswer reads comparing_begins comparing_prints comparing_ends files' task names taken taken' status
+  pub task' : T
+  pub parts : names ≡ done ++ rest
+  pub run : AreRun reads prints files task done text are_read files' task'
+
+-- why the text of a document can't be had: its file can't be read
+abbrev pub HasNoText : {F : Type 0} → (F → List ℕ → Option (List ℕ) → F → Type 0) → F → List ℕ → F → Stop → Type 0
+HasNoText reads files name files' NoDocument = reads files name None files'
+HasNoText reads files name files' OutOfMemory = ⊤
+HasNoText reads files name files' Refused = ⊥
+
+-- the file of a document is read as a text
+pub record ReadsText {F : Type 0} (reads : F → List ℕ → Option (List ℕ) → F → Type 0) (files : F) (name : List ℕ) (files' : F) (text : List ℕ) : Type 0 where
+  pub bytes : List ℕ
+  pub decoded : Decoded
+  pub read : reads files name (Some bytes) files'
+  pub of_bytes : AreDecoded bytes decoded
+  pub text_is : text ≡ string_bytes decoded.text
+
+-- what is printed of findings alone
+pub record AreFindingsPrinted {F : Type 0} (reads : F → List ℕ → Option (List ℕ) → F → Type 0) (lint : Lint) (files : F) (names : List (List ℕ)) (text : List ℕ) (status : Option ℕ) : Type 0 where
+  pub task : Linting
+  pub begins : BeginsLinting lint task
+  pub printed : IsTaskPrinted reads linting_begins linting_prints linting_ends files task names text status
+
+-- what is printed of findings and of what a document cites
+pub record AreComparedPrinted {F : Type 0} (reads : F → List ℕ → Option (List ℕ) → F → Type 0) (lint : Lint) (cited : Cited) (files : F) (names : List (List ℕ)) (text : List ℕ) (status : Option ℕ) : Type 0 where
+  pub found : Citations
+  pub document : List ℕ
+  pub files' : F
+  pub read : ReadsDocument reads files cited.name.now files' document found
+  pub printed : IsTaskPrinted reads (compared_begins lint) (PrintsCompared lint cited.has_unused found) (EndsCompared lint cited.name.now document found) files' none_compared names text status
+
+-- what is printed of entries
+pub record AreEntriesPrinted {F : Type 0} (reads : F → List ℕ → Option (List ℕ) → F → Type 0) (asked : Request) (files : F) (names : List (List ℕ)) (text : List ℕ) (status : Option ℕ) : Type 0 where
+  pub task : Entries
+  pub begins : BeginsEntries asked task
+  pub printed : IsTaskPrinted reads entries_begins entries_prints entries_ends files task names text status
+
+-- what is printed of what a code means
+pub data IsMeaningPrinted (c : Code) : List ℕ → Option ℕ → Type 0 where
+  nothing : IsMeaningPrinted c [] None
+  all : (text : List ℕ) → IsMeaningPrinted c (meaning_text c text) (Some 0)

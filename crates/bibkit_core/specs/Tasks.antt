@@ -1,17 +1,14 @@
 -- Meaning: words of public contracts.
 -- What is printed of files for a command, and the status.
-use Rattle.std.specs.Prelude.{◌≡◌, ◌==◌, ◌&&◌, ◌||◌, ℕ, length, Bool, true, false, not, if◌then◌else◌, List, [], ◌++◌, codes, MatchOption, string_bytes}
+use Rattle.std.specs.Prelude.{◌≡◌, ◌==◌, ◌&&◌, ◌||◌, ℕ, length, Bool, true, false, not, if◌then◌else◌, List, [], codes, MatchOption, string_bytes}
 use Rattle.std.specs.Str.{IsUtf8}
 use Rattle.bib_encoding.specs.Encoding.{without_byte_order_mark, windows_1252_text, IsFirstInvalid}
 use Rattle.bib_encoding.specs.declared.decoding.Decoded.{Decoded}
 use Rattle.bib_excerpts.specs.Answers.{IsTextAnswer}
 use Rattle.bib_excerpts.specs.declared.request.Request.{Request}
 use Rattle.bib_excerpts.specs.declared.request.Request.TheVariants.{Keys}
-use Rattle.bib_findings.specs.declared.finding.Finding.{Finding}
-use Rattle.bibkit_core.specs.Asked.{asked}
-use Rattle.bibkit_core.specs.Linted.{ArePrinted, IsPrintedFile}
+use Rattle.bibkit_core.specs.Linted.{IsPrintedFile}
 use Rattle.bibkit_core.specs.Printed.{counts_line, is_none}
-use Rattle.bibkit_core.specs.declared.comparing.Comparing.{Comparing}
 use Rattle.bibkit_core.specs.declared.entries.Entries.{Entries}
 use Rattle.bibkit_core.specs.declared.linting.Linting.{Linting}
 use Rattle.bibkit_core.specs.declared.request.Lint.{Lint}
@@ -47,29 +44,6 @@ pub record PrintsFindings (lint : Lint) (name bytes : List ℕ) (before : Tally)
   pub of_bytes : AreDecoded bytes decoded
   pub printed : IsPrintedFile lint name bytes decoded before text after
 
--- the same, with further findings of the file's text: entries that a document doesn't cite
-pub record PrintsCompared (lint : Lint) (name bytes : List ℕ) (before : Tally) (text : List ℕ) (after : Tally) : Type 0 where
-  pub first : List ℕ
-  pub second : List ℕ
-  pub between : Tally
-  pub decoded : Decoded
-  pub unused : List Finding
-  pub found : PrintsFindings lint name bytes before first between
-  pub of_bytes : AreDecoded bytes decoded
-  pub more : ArePrinted lint.style name (string_bytes decoded.text) (asked lint.selection unused) between second after
-  pub is : text ≡ first ++ second
-
--- what is printed after all files: findings of a document, and then what stands after findings
-pub record EndsCompared (lint : Lint) (before : Tally) (text : List ℕ) (status : ℕ) : Type 0 where
-  pub first : List ℕ
-  pub name : List ℕ
-  pub bytes : List ℕ
-  pub missing : List Finding
-  pub after : Tally
-  pub more : ArePrinted lint.style name bytes (asked lint.selection missing) before first after
-  pub is : text ≡ first ++ closing lint.style after
-  pub status_is : status ≡ lint_status after
-
 -- what is printed of a file's entries
 pub record PrintsEntries (request : Request) (bytes text : List ℕ) : Type 0 where
   pub decoded : Decoded
@@ -102,19 +76,6 @@ linting_prints old name bytes text new = (new.lint.now ≡ old.lint.now) × Prin
 -- what it prints after files, and its status
 abbrev pub linting_ends : Linting → List ℕ → ℕ → Type 0
 linting_ends task text status = (text ≡ closing task.lint.now.style task.tally) × (status ≡ lint_status task.tally)
-
--- what the task prints before files that compares them with what a document cites
-abbrev pub comparing_begins : Comparing → List ℕ
-comparing_begins task = opening task.linting.lint.now.style
-
--- what that task prints of a file
-abbrev pub comparing_prints : Comparing → List ℕ → List ℕ → List ℕ → Comparing → Type 0
-comparing_prints old name bytes text new =
-    (new.linting.lint.now ≡ old.linting.lint.now) × PrintsCompared old.linting.lint.now name bytes old.linting.tally text new.linting.tally
-
--- what that task prints after files, and its status
-abbrev pub comparing_ends : Comparing → List ℕ → ℕ → Type 0
-comparing_ends task text status = EndsCompared task.linting.lint.now task.linting.tally text status
 
 -- the task of printing entries, before any is found
 pub record BeginsEntries (request : Request) (task : Entries) : Type 0 where

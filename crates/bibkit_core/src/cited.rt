@@ -1,5 +1,11 @@
 //! What a document cites, compared with the entries of files.
 
+ghost use Rattle.std.specs.Prelude.{◌≡◌, ◌&&◌, ◌||◌, not, [], ◌∷◌, ◌++◌, codes, eqb, if◌then◌else◌, map, IfOk, OnOk};
+ghost use Rattle.std.specs.List.{ends_with};
+ghost use Rattle.bib_syntax.specs.Views.{part_of};
+ghost use Rattle.bibkit_core.specs.Compared.{AreCitedBy, cited_keys, missing_finding, unused_finding};
+ghost use Rattle.bibkit_core.specs.Marks.{AreKnownWith, AreUncited, AreUnused, BeginsDocument, IsSameDocument, either_mark, unmarked_findings};
+
 use crate::lint::Origin;
 use bib_excerpts::citations::{Citation, Citations, in_aux, in_bcf};
 use bib_excerpts::known::{known, uncited};
@@ -19,9 +25,18 @@ pub struct Document<'t> {
     known: Vec<bool>,
 }
 
+// Whether a file of this name is a control file of Biber.
+fn is_control_file(name: &str) -> bool
+    ensures { result ≡ ends_with eqb name.now (codes ".bcf") }
+{
+    name.ends_with(".bcf")
+}
+
 /// What a document cites, by the file of this name: a control file of Biber, or else an .aux file.
-pub fn citations(alloc: Global, name: &str, text: &str) -> Result<Citations, AllocError> {
-    if name.ends_with(".bcf") {
+pub fn citations(alloc: Global, name: &str, text: &str) -> Result<Citations, AllocError>
+    ensures { IfOk result (AreCitedBy name.now text.now) }
+{
+    if is_control_file(name) {
         in_bcf(alloc, text)
     } else {
         in_aux(alloc, text)
@@ -29,7 +44,9 @@ pub fn citations(alloc: Global, name: &str, text: &str) -> Result<Citations, All
 }
 
 /// The keys of citations.
-pub fn keys(alloc: Global, citations: &Citations) -> Result<Vec<&str>, AllocError> {
+pub fn keys(alloc: Global, citations: &Citations) -> Result<Vec<&str>, AllocError>
+    ensures { IfOk result (λ keys. map (λ key. key.now) keys.items ≡ cited_keys citations.now) }
+{
     let mut keys = Vec::new(alloc);
     'citations: for citation in &citations.keys {
         keys.push(citation.key.as_str())?;
@@ -37,17 +54,28 @@ pub fn keys(alloc: Global, citations: &Citations) -> Result<Vec<&str>, AllocErro
     Ok(keys)
 }
 
+// Whether one of both holds.
+fn is_either(one: bool, other: bool) -> bool
+    ensures { result ≡ (one || other) }
+{
+    one || other
+}
+
 // What holds at either.
-fn either(alloc: Global, first: &[bool], second: &[bool]) -> Result<Vec<bool>, AllocError> {
+fn either(alloc: Global, first: &[bool], second: &[bool]) -> Result<Vec<bool>, AllocError>
+    ensures { IfOk result (λ marks. marks.items ≡ either_mark first.now second.now) }
+{
     let mut marks = Vec::new(alloc);
     'marks: for (one, other) in first.iter().zip(second) {
-        marks.push(*one || *other)?;
+        marks.push(is_either(*one, *other))?;
     }
     Ok(marks)
 }
 
 // The finding of a citation that no file has an entry for.
-fn missing_entry(alloc: Global, citation: &Citation) -> Result<Finding, AllocError> {
+fn missing_entry(alloc: Global, citation: &Citation) -> Result<Finding, AllocError>
+    ensures { IfOk result (λ finding. finding ≡ missing_finding citation.now) }
+{
     let message = format!(in alloc; "no file has an entry \"{}\"", citation.key.as_str())?;
     Ok(Finding {
         code: Code::MissingEntry,
@@ -57,7 +85,9 @@ fn missing_entry(alloc: Global, citation: &Citation) -> Result<Finding, AllocErr
 }
 
 // The finding of an entry that the document doesn't cite.
-fn unused_entry(alloc: Global, key: &Spanned<&str>) -> Result<Finding, AllocError> {
+fn unused_entry(alloc: Global, key: &Spanned<&str>) -> Result<Finding, AllocError>
+    ensures { IfOk result (λ finding. finding ≡ unused_finding (part_of key.now)) }
+{
     let message = format!(in alloc; "{}: never cited", key.v)?;
     Ok(Finding {
         code: Code::UnusedEntry,
@@ -67,10 +97,43 @@ fn unused_entry(alloc: Global, key: &Spanned<&str>) -> Result<Finding, AllocErro
 }
 
 // The findings of entries that the document doesn't cite.
-fn unused_entries(alloc: Global, keys: &[Spanned<&str>]) -> Result<Vec<Finding>, AllocError> {
+fn unused_entries(alloc: Global, keys: &[Spanned<&str>]) -> Result<Vec<Finding>, AllocError>
+    ensures { IfOk result (λ found. found.items ≡ map unused_finding (map part_of keys.now)) }
+{
     let mut found = Vec::new(alloc);
     'keys: for key in keys {
         found.push(unused_entry(alloc, key)?)?;
+    }
+    Ok(found)
+}
+
+// Adds the finding of a citation, unless a file has an entry for it.
+fn push_unless_known(
+    alloc: Global,
+    found: &mut Vec<Finding>,
+    citation: &Citation,
+    is_known: bool,
+) -> Result<(), AllocError>
+    ensures { OnOk result (found.new.items ≡ found.old.items ++ (if is_known then [] else missing_finding citation.now ∷ [])) }
+{
+    if is_known {
+        return Ok(());
+    }
+    found.push(missing_entry(alloc, citation)?)?;
+    Ok(())
+}
+
+// The findings of the citations without a mark.
+fn unmarked(
+    alloc: Global,
+    citations: &[Citation],
+    known: &[bool],
+) -> Result<Vec<Finding>, AllocError>
+    ensures { IfOk result (λ found. found.items ≡ unmarked_findings citations.now known.now) }
+{
+    let mut found = Vec::new(alloc);
+    'citations: for (citation, is_known) in citations.iter().zip(known) {
+        push_unless_known(alloc, &mut found, citation, *is_known)?;
     }
     Ok(found)
 }
@@ -82,7 +145,9 @@ impl<'t> Document<'t> {
         name: &'t str,
         text: &'t str,
         has_unused: bool,
-    ) -> Result<Self, AllocError> {
+    ) -> Result<Self, AllocError>
+        ensures { IfOk result (BeginsDocument name.now text.now has_unused) }
+    {
         let citations = citations(alloc, name, text)?;
         let known = vec![in alloc; false; citations.keys.len()]?;
         Ok(Document {
@@ -95,7 +160,10 @@ impl<'t> Document<'t> {
     }
 
     /// The file of the document.
-    pub fn origin(&self) -> Origin<'t> {
+    pub fn origin(&self) -> Origin<'t>
+        ensures name { result.name.now ≡ self.now.name.now }
+        ensures bytes { result.bytes.now ≡ self.now.text.now }
+    {
         Origin {
             name: self.name,
             bytes: self.text.as_bytes(),
@@ -104,35 +172,57 @@ impl<'t> Document<'t> {
 
     /// Notes which citations have entries in a file, and answers which of its entries the document doesn't cite, where these are
     /// asked for.
-    pub fn compare(&mut self, alloc: Global, text: &str) -> Result<Vec<Finding>, AllocError> {
+    pub fn compare(&mut self, alloc: Global, text: &str) -> Result<Vec<Finding>, AllocError>
+        ensures same { OnOk result (IsSameDocument self.old self.new) }
+        ensures known { OnOk result (AreKnownWith text.now self.old self.new.known.items) }
+        ensures unused { IfOk result (λ found. AreUnused self.old text.now found.items) }
+    {
+        let unused = self.unused(alloc, text)?;
         self.known = self.known_with(alloc, text)?;
-        self.unused(alloc, text)
+        Ok(unused)
     }
 
     // Which citations have entries in the files so far, and this one.
-    fn known_with(&self, alloc: Global, text: &str) -> Result<Vec<bool>, AllocError> {
+    fn known_with(&self, alloc: Global, text: &str) -> Result<Vec<bool>, AllocError>
+        ensures { IfOk result (λ known. AreKnownWith text.now self.now known.items) }
+    {
         let keys = keys(alloc, &self.citations)?;
         let here = known(alloc, text, &keys)?;
         either(alloc, &self.known, &here)
     }
 
-    // The entries of a file that the document doesn't cite, where these are asked for.
-    fn unused(&self, alloc: Global, text: &str) -> Result<Vec<Finding>, AllocError> {
-        if !self.has_unused || self.citations.all {
-            return Ok(Vec::new(alloc));
-        }
+    // Whether the entries are asked for that the document doesn't cite, and may be there.
+    fn asks_for_unused(&self) -> bool
+        ensures { result ≡ (self.now.has_unused && not self.now.citations.all) }
+    {
+        self.has_unused && !self.citations.all
+    }
+
+    // The entries of a file that the document doesn't cite.
+    fn uncited_entries(&self, alloc: Global, text: &str) -> Result<Vec<Finding>, AllocError>
+        ensures { IfOk result (λ found. AreUncited text.now (cited_keys self.now.citations) found.items) }
+    {
         let keys = keys(alloc, &self.citations)?;
-        unused_entries(alloc, &uncited(alloc, text, &keys)?)
+        let uncited = uncited(alloc, text, &keys)?;
+        let found = unused_entries(alloc, &uncited)?;
+        Ok(found)
+    }
+
+    // The entries of a file that the document doesn't cite, where these are asked for.
+    fn unused(&self, alloc: Global, text: &str) -> Result<Vec<Finding>, AllocError>
+        ensures { IfOk result (λ found. AreUnused self.now text.now found.items) }
+    {
+        if self.asks_for_unused() {
+            self.uncited_entries(alloc, text)
+        } else {
+            Ok(Vec::new(alloc))
+        }
     }
 
     /// The citations that no file has an entry for.
-    pub fn missing(&self, alloc: Global) -> Result<Vec<Finding>, AllocError> {
-        let mut found = Vec::new(alloc);
-        'citations: for (citation, is_known) in self.citations.keys.iter().zip(&self.known) {
-            if !*is_known {
-                found.push(missing_entry(alloc, citation)?)?;
-            }
-        }
-        Ok(found)
+    pub fn missing(&self, alloc: Global) -> Result<Vec<Finding>, AllocError>
+        ensures { IfOk result (λ found. found.items ≡ unmarked_findings self.now.citations.keys.items self.now.known.items) }
+    {
+        unmarked(alloc, &self.citations.keys, &self.known)
     }
 }

@@ -1,6 +1,8 @@
 //! What is wrong in files, and what a document cites, as a task.
 
-ghost use Rattle.bibkit_core.specs.Tasks.{BeginsLinting, comparing_begins, comparing_ends, comparing_prints};
+ghost use Rattle.std.specs.Prelude.{◌≡◌};
+ghost use Rattle.bibkit_core.specs.Marks.{EndsComparing, PrintsComparing, comparing_begins};
+ghost use Rattle.bibkit_core.specs.Tasks.{BeginsLinting};
 
 use crate::cited::Document;
 use crate::decoding::decoded;
@@ -20,7 +22,8 @@ pub struct Comparing<'r, 'a> {
 impl<'r, 'a> Comparing<'r, 'a> {
     /// These findings, of which none is printed yet.
     pub fn new(lint: &'r Lint<'a>, document: Document<'r>) -> Self
-        ensures { BeginsLinting lint.now result.linting }
+        ensures linting { BeginsLinting lint.now result.linting }
+        ensures document { result.document ≡ document.entry }
     {
         Comparing {
             linting: Linting::new(lint),
@@ -32,9 +35,9 @@ impl<'r, 'a> Comparing<'r, 'a> {
 impl<'r, 'a> Task for Comparing<'r, 'a> {
     ghost begins = { comparing_begins };
 
-    ghost prints = { comparing_prints };
+    ghost prints = { PrintsComparing };
 
-    ghost ends = { comparing_ends };
+    ghost ends = { EndsComparing };
 
     fn begin(&self) -> &'static str {
         self.linting.begin()

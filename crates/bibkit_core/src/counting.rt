@@ -1,12 +1,23 @@
 //! How many there are of what, as a task.
 
-ghost use Rattle.std.specs.Prelude.{◌≡◌, []};
+ghost use Rattle.std.specs.Prelude.{◌≡◌, [], ◌∷◌, ◌++◌, ℕ, List, map, IfOk, OnOk};
+ghost use Rattle.std.specs.Char.{is_ascii_digit};
+ghost use Rattle.std.specs.List.{list_all};
+ghost use Rattle.std.specs.Option.{option_map};
+ghost use Rattle.std.specs.Str.{str_to_ascii_lowercase};
+ghost use Rattle.std.specs.String.{string_bytes};
+ghost use Rattle.bib_findings.specs.Entries.{last_named};
+ghost use Rattle.bib_syntax.specs.Views.{entry_reading_of, field_of, piece_of};
+ghost use Rattle.bibkit_core.specs.Stats as spec;
+ghost use Rattle.bibkit_core.specs.Stats.{none_counted};
+ghost use Rattle.bibkit_core.specs.Totals.{AddsEntries, AddsFindings, AddsNames, AddsTextEntries, AddsTextFindings, AreCountsOf, EndsCounting, PrintsCounting};
 
 use crate::decoding::decoded;
 use crate::tables::Counts;
 use crate::task::{End, Task};
+use bib_findings::finding::Finding;
 use bib_findings::findings::findings;
-use biblatex::{Pair, RawBibliography, RawChunk, RawEntry};
+use biblatex::{Pair, RawBibliography, RawChunk, RawEntry, Spanned};
 use std::alloc::{AllocError, Global};
 
 /// What is counted.
@@ -19,9 +30,143 @@ pub struct Counting {
     findings: Counts,
 }
 
+// A name in lowercase.
+fn lowercase(alloc: Global, name: &str) -> Result<String, AllocError>
+    ensures { IfOk result (λ lowered. string_bytes lowered ≡ str_to_ascii_lowercase name.now) }
+{
+    name.to_ascii_lowercase(alloc)
+}
+
+// The last field of this name, in any ASCII case.
+fn last_named<'f, 's>(fields: &'f [Pair<'s>], name: &str) -> Option<&'f Pair<'s>>
+    ensures { option_map (λ f. field_of f.now) result ≡ last_named (map field_of fields.now) name.now }
+{
+    fields
+        .iter()
+        .rev()
+        .find(|field| field.key.v.eq_ignore_ascii_case(name))
+}
+
+// The text of an element, without the white space around it; none where it is an abbreviation.
+fn literal_text<'s>(piece: &Spanned<RawChunk<'s>>) -> Option<&'s str>
+    ensures { option_map (λ text. text.now) result ≡ spec.trimmed_literal (piece_of piece.now) }
+{
+    match piece.v {
+        RawChunk::Normal(text) => Some(text.trim()),
+        RawChunk::Abbreviation(_) => None,
+    }
+}
+
+// The text that elements of a value begin with.
+fn first_text<'s>(pieces: &[Spanned<RawChunk<'s>>]) -> Option<&'s str>
+    ensures { option_map (λ text. text.now) result ≡ spec.first_text (map piece_of pieces.now) }
+{
+    match pieces {
+        [] => None,
+        [first, ..] => literal_text(first),
+    }
+}
+
+// The text that the value of the last field of this name begins with.
+fn text_of_last<'s>(fields: &[Pair<'s>], name: &str) -> Option<&'s str>
+    ensures { option_map (λ text. text.now) result ≡ spec.text_of_last (map field_of fields.now) name.now }
+{
+    match last_named(fields, name) {
+        Some(field) => first_text(&field.value.v),
+        None => None,
+    }
+}
+
+// The text that a date begins with, or else a year.
+fn date_text<'s>(fields: &[Pair<'s>]) -> Option<&'s str>
+    ensures { option_map (λ text. text.now) result ≡ spec.text_of_date (map field_of fields.now) }
+{
+    match text_of_last(fields, "date") {
+        Some(text) => Some(text),
+        None => text_of_last(fields, "year"),
+    }
+}
+
+// What stands before a hyphen.
+fn before_hyphen(text: &str) -> &str
+    ensures { result.now ≡ spec.before_hyphen text.now }
+{
+    match text.split_once('-') {
+        Some((before, _)) => before,
+        None => text,
+    }
+}
+
+// What stands before a slash.
+fn before_slash(text: &str) -> &str
+    ensures { result.now ≡ spec.before_slash text.now }
+{
+    match text.split_once('/') {
+        Some((before, _)) => before,
+        None => text,
+    }
+}
+
+// Whether all bytes of a text are digits.
+fn are_digits(text: &str) -> bool
+    ensures { result ≡ list_all is_ascii_digit text.now }
+{
+    text.as_bytes().iter().all(|byte| byte.is_ascii_digit())
+}
+
+// Whether a text is made of digits.
+fn is_number(text: &str) -> bool
+    ensures { result ≡ spec.is_number text.now }
+{
+    !text.is_empty() && are_digits(text)
+}
+
+// The year with which a text begins.
+fn leading_year(text: &str) -> Option<&str>
+    ensures { option_map (λ year. year.now) result ≡ spec.leading_year text.now }
+{
+    let year = before_slash(before_hyphen(text));
+    if is_number(year) { Some(year) } else { None }
+}
+
+// The year of an entry with these fields: that with which its date begins, or else its year.
+fn year_of<'s>(fields: &[Pair<'s>]) -> Option<&'s str>
+    ensures { option_map (λ year. year.now) result ≡ spec.year_in (map field_of fields.now) }
+{
+    match date_text(fields) {
+        Some(text) => leading_year(text),
+        None => None,
+    }
+}
+
+// Counts the names of fields.
+fn count_fields(alloc: Global, counts: &mut Counts, fields: &[Pair<'_>]) -> Result<(), AllocError>
+    ensures { OnOk result (AddsNames (spec.lowercase_names (map field_of fields.now)) counts.old counts.new) }
+{
+    'fields: for field in fields {
+        counts.add(lowercase(alloc, field.key.v)?)?;
+    }
+    Ok(())
+}
+
+// Counts the year of an entry with these fields, where it has one.
+fn count_year(alloc: Global, counts: &mut Counts, fields: &[Pair<'_>]) -> Result<(), AllocError>
+    ensures { OnOk result (AddsNames (spec.years_in (map field_of fields.now)) counts.old counts.new) }
+{
+    match year_of(fields) {
+        Some(year) => {
+            counts.add(String::from_str(alloc, year)?)?;
+            Ok(())
+        }
+        None => Ok(()),
+    }
+}
+
 impl Counting {
     /// Nothing counted yet.
-    pub fn new(alloc: Global) -> Self {
+    pub fn new(alloc: Global) -> Self
+        ensures { AreCountsOf none_counted result }
+    {
         Counting {
             entries: 0,
             types: Counts::new(alloc),
@@ -32,72 +177,66 @@ impl Counting {
     }
 
     // Counts an entry.
-    fn add_entry(&mut self, alloc: Global, entry: &RawEntry<'_>) -> Result<(), AllocError> {
+    fn add_entry(&mut self, alloc: Global, entry: &Spanned<RawEntry<'_>>) -> Result<(), AllocError>
+        ensures { OnOk result (AddsEntries (entry_reading_of entry.now ∷ []) self.old self.new) }
+    {
         self.entries = self.entries.saturating_add(1);
-        self.types.add(lowercase(alloc, entry.kind.v)?)?;
-        'fields: for field in &entry.fields {
-            self.fields.add(lowercase(alloc, field.key.v)?)?;
-        }
-        if let Some(year) = year_of(&entry.fields) {
-            self.years.add(String::from_str(alloc, year)?)?;
+        self.types.add(lowercase(alloc, entry.v.kind.v)?)?;
+        count_fields(alloc, &mut self.fields, &entry.v.fields)?;
+        count_year(alloc, &mut self.years, &entry.v.fields)?;
+        Ok(())
+    }
+
+    // Counts entries.
+    fn add_entries(
+        &mut self,
+        alloc: Global,
+        entries: &[Spanned<RawEntry<'_>>],
+    ) -> Result<(), AllocError>
+        ensures { OnOk result (AddsEntries (map entry_reading_of entries.now) self.old self.new) }
+    {
+        'entries: for entry in entries {
+            self.add_entry(alloc, entry)?;
         }
         Ok(())
     }
 
     // Counts the entries of a text.
-    fn add_entries(&mut self, alloc: Global, text: &str) -> Result<(), AllocError> {
+    fn add_text(&mut self, alloc: Global, text: &str) -> Result<(), AllocError>
+        ensures { OnOk result (AddsTextEntries text.now self.old self.new) }
+    {
         let said = RawBibliography::recover(alloc, text)?;
-        'entries: for entry in &said.raw.entries {
-            self.add_entry(alloc, &entry.v)?;
-        }
+        self.add_entries(alloc, &said.raw.entries)?;
         Ok(())
     }
 
-    // Counts the findings of a text.
-    fn add_findings(&mut self, alloc: Global, text: &str) -> Result<(), AllocError> {
-        'findings: for finding in &findings(alloc, text)? {
+    // Counts findings.
+    fn add_found(&mut self, alloc: Global, found: &[Finding]) -> Result<(), AllocError>
+        ensures { OnOk result (AddsFindings found.now self.old self.new) }
+    {
+        'findings: for finding in found {
             self.findings
                 .add(String::from_str(alloc, finding.code.name())?)?;
         }
         Ok(())
     }
-}
 
-// A name in lowercase.
-fn lowercase(alloc: Global, name: &str) -> Result<String, AllocError> {
-    name.to_ascii_lowercase(alloc)
-}
-
-// The text that the value of a field begins with.
-fn value_of<'s>(fields: &[Pair<'s>], name: &str) -> Option<&'s str> {
-    let field = fields
-        .iter()
-        .rev()
-        .find(|field| field.key.v.eq_ignore_ascii_case(name))?;
-    match field.value.v.first()?.v {
-        RawChunk::Normal(text) => Some(text.trim()),
-        RawChunk::Abbreviation(_) => None,
-    }
-}
-
-// The year of an entry with these fields: that with which its date begins, or else its year.
-fn year_of<'s>(fields: &[Pair<'s>]) -> Option<&'s str> {
-    let text = value_of(fields, "date").or(value_of(fields, "year"))?;
-    let year = text.split(['-', '/']).next()?;
-    if !year.is_empty() && year.bytes().all(|byte| byte.is_ascii_digit()) {
-        Some(year)
-    } else {
-        None
+    // Counts the findings of a text.
+    fn add_findings(&mut self, alloc: Global, text: &str) -> Result<(), AllocError>
+        ensures { OnOk result (AddsTextFindings text.now self.old self.new) }
+    {
+        let found = findings(alloc, text)?;
+        self.add_found(alloc, &found)?;
+        Ok(())
     }
 }
 
 impl Task for Counting {
     ghost begins = { λ task. [] };
 
-    // Of counts nothing is said.
-    ghost prints = { λ old name bytes text new. text ≡ [] };
+    ghost prints = { PrintsCounting };
 
-    ghost ends = { λ task text status. status ≡ 0 };
+    ghost ends = { EndsCounting };
 
     fn begin(&self) -> &'static str {
         ""
@@ -105,7 +244,7 @@ impl Task for Counting {
 
     fn file(&mut self, alloc: Global, _name: &str, bytes: &[u8]) -> Result<String, AllocError> {
         let decoded = decoded(alloc, bytes)?;
-        self.add_entries(alloc, decoded.text.as_str())?;
+        self.add_text(alloc, decoded.text.as_str())?;
         self.add_findings(alloc, decoded.text.as_str())?;
         Ok(String::new(alloc))
     }

@@ -1,10 +1,13 @@
 //! The engine of the program.
 
-ghost use Rattle.std.specs.Prelude.{◌≡◌, ◌<◌, ◌&&◌, ℕ, List, map, IfOk, OnOk, option_map, if◌then◌else◌};
+ghost use Rattle.std.specs.Prelude.{◌≡◌, ◌≢◌, ◌<◌, ◌≤◌, ◌&&◌, ℕ, List, IfErr, IfOk, OnOk, option_map, if◌then◌else◌};
+ghost use Rattle.std.specs.String.{string_bytes};
 ghost use Rattle.std.specs.Io.KnownBytes.{Appends};
-ghost use Rattle.bibkit_core.specs.Answered.{meaning_text};
-ghost use Rattle.bibkit_core.specs.Steps.{HasAnswer, HasCallAnswer, HasCompared, HasRun, HasStep, IsFileRead};
-ghost use Rattle.bibkit_core.specs.Tasks.{BeginsEntries, BeginsLinting, entries_begins, entries_ends, entries_prints, linting_begins, linting_ends, linting_prints};
+ghost use Rattle.bibkit_core.specs.Answered.{CantReadDocument, HasFailed, IsCallAnswer};
+ghost use Rattle.bibkit_core.specs.Outcomes.{HasPrinted};
+ghost use Rattle.bibkit_core.specs.Running.{IsTaskPrinted, names_given};
+ghost use Rattle.bibkit_core.specs.Steps.{AreComparedPrinted, AreEntriesPrinted, AreFindingsPrinted, AreFirst, HasNoText, HasRun, HasStep, HasStopped, IsMeaningPrinted, IsNothing, ReadsText};
+ghost use Rattle.bibkit_core.specs.declared.run.Stop.TheVariants.{OutOfMemory};
 
 use crate::cited::{Document, citations, keys};
 use crate::comparing::Comparing;
@@ -33,6 +36,8 @@ enum Stop {
 }
 
 impl From<AllocError> for Stop {
+    ghost from_gives = { λ _ stop. stop ≡ OutOfMemory };
+
     fn from(_error: AllocError) -> Self {
         Stop::OutOfMemory
     }
@@ -40,7 +45,9 @@ impl From<AllocError> for Stop {
 
 // Prints a text.
 fn print<K: Sink>(output: &mut K, text: &str) -> Result<(), Stop>
-    ensures { OnOk result (Appends (K.taken output.old) (K.taken output.new) text.now) }
+    ensures printed { OnOk result (Appends (K.taken output.old) (K.taken output.new) text.now) }
+    ensures same { OnOk result (K.refusals output.new ≡ K.refusals output.old) }
+    ensures stopped { IfErr result (HasStopped K.taken K.refusals K.hands_over IsNothing ⊥ output.old output.new) }
 {
     if output.write_str(text) {
         Ok(())
@@ -77,8 +84,10 @@ fn run_file<T: Task, F: Files, K: Sink, M: Sink>(
     output: &mut K,
     messages: &mut Messages<M>,
 ) -> Result<bool, Stop>
-    ensures { IfOk result (λ is_read. HasStep F.reads T.prints files.old task.old (K.taken output.old) name.now is_read
+    ensures printed { IfOk result (λ is_read. HasStep F.reads T.prints files.old task.old (K.taken output.old) name.now is_read
         files.new task.new (K.taken output.new)) }
+    ensures same { OnOk result (K.refusals output.new ≡ K.refusals output.old) }
+    ensures stopped { IfErr result (HasStopped K.taken K.refusals K.hands_over IsNothing ⊥ output.old output.new) }
 {
     messages.begin(alloc, name)?;
     let Some(bytes) = bytes_of(alloc, name, files, messages)? else {
@@ -106,8 +115,11 @@ fn run_files<T: Task, F: Files, K: Sink, M: Sink>(
     output: &mut K,
     messages: &mut Messages<M>,
 ) -> Result<bool, Stop>
-    ensures { IfOk result (λ are_read. HasRun F.reads T.prints files.old task.old (K.taken output.old)
-        (map (λ name. name.now) names.now) are_read files.new task.new (K.taken output.new)) }
+    ensures printed { IfOk result (λ are_read. HasRun F.reads T.prints files.old task.old (K.taken output.old)
+        (names_given names.now) are_read files.new task.new (K.taken output.new)) }
+    ensures same { OnOk result (K.refusals output.new ≡ K.refusals output.old) }
+    ensures stopped { IfErr result (HasStopped K.taken K.refusals K.hands_over
+        (AreFirst F.reads T.prints files.old task.old (names_given names.now)) ⊥ output.old output.new) }
 {
     let mut are_read = true;
     'names: for name in names {
@@ -133,8 +145,11 @@ fn run_task<T: Task, F: Files, K: Sink, M: Sink>(
     output: &mut K,
     messages: &mut Messages<M>,
 ) -> Result<u8, Stop>
-    ensures { IfOk result (λ status. HasAnswer F.reads T.begins T.prints T.ends files.old task.old
-        (map (λ name. name.now) names.now) (K.taken output.old) (K.taken output.new) status) }
+    ensures printed { IfOk result (HasPrinted K.taken (IsTaskPrinted F.reads T.begins T.prints T.ends files.old task.old
+        (names_given names.now)) output.old output.new) }
+    ensures same { OnOk result (K.refusals output.new ≡ K.refusals output.old) }
+    ensures stopped { IfErr result (HasStopped K.taken K.refusals K.hands_over
+        (IsTaskPrinted F.reads T.begins T.prints T.ends files.old task.old (names_given names.now)) ⊥ output.old output.new) }
 {
     print(output, task.begin())?;
     let are_read = run_files(alloc, names, task, files, output, messages)?;
@@ -150,7 +165,8 @@ fn document_text<F: Files, M: Sink>(
     files: &mut F,
     messages: &mut Messages<M>,
 ) -> Result<String, Stop>
-    ensures { IfOk result (λ _. IsFileRead F.reads files.old name.now files.new) }
+    ensures read { IfOk result (λ text. ReadsText F.reads files.old name.now files.new (string_bytes text)) }
+    ensures unread { IfErr result (HasNoText F.reads files.old name.now files.new) }
 {
     let Some(bytes) = bytes_of(alloc, name, files, messages)? else {
         return Err(Stop::NoDocument);
@@ -168,8 +184,12 @@ fn run_findings<F: Files, K: Sink, M: Sink>(
     output: &mut K,
     messages: &mut Messages<M>,
 ) -> Result<u8, Stop>
-    ensures { IfOk result (λ status. (task : Linting) × BeginsLinting lint.now task × HasAnswer F.reads linting_begins linting_prints
-        linting_ends files.old task (map (λ name. name.now) names.now) (K.taken output.old) (K.taken output.new) status) }
+    ensures printed { IfOk result (HasPrinted K.taken
+        (AreFindingsPrinted F.reads lint.now files.old (names_given names.now)) output.old output.new) }
+    ensures same { OnOk result (K.refusals output.new ≡ K.refusals output.old) }
+    ensures stopped { IfErr result (HasStopped K.taken K.refusals K.hands_over
+        (AreFindingsPrinted F.reads lint.now files.old (names_given names.now))
+        ⊥ output.old output.new) }
 {
     let mut task = Linting::new(lint);
     let status = run_task(alloc, names, &mut task, files, output, messages)?;
@@ -186,8 +206,12 @@ fn run_compared<F: Files, K: Sink, M: Sink>(
     output: &mut K,
     messages: &mut Messages<M>,
 ) -> Result<u8, Stop>
-    ensures { IfOk result (λ status. HasCompared F.reads lint.now cited.entry.name.now files.old (map (λ name. name.now) names.now)
-        (K.taken output.old) (K.taken output.new) status) }
+    ensures printed { IfOk result (HasPrinted K.taken
+        (AreComparedPrinted F.reads lint.now cited.entry files.old (names_given names.now)) output.old output.new) }
+    ensures same { OnOk result (K.refusals output.new ≡ K.refusals output.old) }
+    ensures stopped { IfErr result (HasStopped K.taken K.refusals K.hands_over
+        (AreComparedPrinted F.reads lint.now cited.entry files.old (names_given names.now))
+        ((files' : F) × F.reads files.old cited.entry.name.now None files') output.old output.new) }
 {
     let text = document_text(alloc, cited.name, files, messages)?;
     let document = Document::new(alloc, cited.name, text.as_str(), cited.has_unused)?;
@@ -205,8 +229,12 @@ fn run_lint<F: Files, K: Sink, M: Sink>(
     output: &mut K,
     messages: &mut Messages<M>,
 ) -> Result<u8, Stop>
-    ensures { IfOk result (HasCallAnswer F.reads files.old (map (λ name. name.now) names.now) (Request.Lint lint.now)
-        (K.taken output.old) (K.taken output.new)) }
+    ensures printed { IfOk result (HasPrinted K.taken
+        (IsCallAnswer F.reads files.old (names_given names.now) (Request.Lint lint.now)) output.old output.new) }
+    ensures same { OnOk result (K.refusals output.new ≡ K.refusals output.old) }
+    ensures stopped { IfErr result (HasStopped K.taken K.refusals K.hands_over
+        (IsCallAnswer F.reads files.old (names_given names.now) (Request.Lint lint.now))
+        (CantReadDocument F.reads files.old (Request.Lint lint.now)) output.old output.new) }
 {
     match lint.cited {
         None => {
@@ -229,8 +257,12 @@ fn run_entries<F: Files, K: Sink, M: Sink>(
     output: &mut K,
     messages: &mut Messages<M>,
 ) -> Result<u8, Stop>
-    ensures { IfOk result (λ status. (task : Entries) × BeginsEntries request.now task × HasAnswer F.reads entries_begins
-        entries_prints entries_ends files.old task (map (λ name. name.now) names.now) (K.taken output.old) (K.taken output.new) status) }
+    ensures printed { IfOk result (HasPrinted K.taken
+        (AreEntriesPrinted F.reads request.now files.old (names_given names.now)) output.old output.new) }
+    ensures same { OnOk result (K.refusals output.new ≡ K.refusals output.old) }
+    ensures stopped { IfErr result (HasStopped K.taken K.refusals K.hands_over
+        (AreEntriesPrinted F.reads request.now files.old (names_given names.now))
+        ⊥ output.old output.new) }
 {
     let mut task = Entries::new(request);
     let status = run_task(alloc, names, &mut task, files, output, messages)?;
@@ -246,8 +278,12 @@ fn run_cited<F: Files, K: Sink, M: Sink>(
     output: &mut K,
     messages: &mut Messages<M>,
 ) -> Result<u8, Stop>
-    ensures { IfOk result (HasCallAnswer F.reads files.old (map (λ name. name.now) names.now) (Request.Cited document.entry)
-        (K.taken output.old) (K.taken output.new)) }
+    ensures printed { IfOk result (HasPrinted K.taken
+        (IsCallAnswer F.reads files.old (names_given names.now) (Request.Cited document.entry)) output.old output.new) }
+    ensures same { OnOk result (K.refusals output.new ≡ K.refusals output.old) }
+    ensures stopped { IfErr result (HasStopped K.taken K.refusals K.hands_over
+        (IsCallAnswer F.reads files.old (names_given names.now) (Request.Cited document.entry))
+        (CantReadDocument F.reads files.old (Request.Cited document.entry)) output.old output.new) }
 {
     let text = document_text(alloc, document, files, messages)?;
     let citations = citations(alloc, document, text.as_str())?;
@@ -267,8 +303,12 @@ fn run_counts<F: Files, K: Sink, M: Sink>(
     output: &mut K,
     messages: &mut Messages<M>,
 ) -> Result<u8, Stop>
-    ensures { IfOk result (HasCallAnswer F.reads files.old (map (λ name. name.now) names.now) Request.Stats
-        (K.taken output.old) (K.taken output.new)) }
+    ensures printed { IfOk result (HasPrinted K.taken
+        (IsCallAnswer F.reads files.old (names_given names.now) Request.Stats) output.old output.new) }
+    ensures same { OnOk result (K.refusals output.new ≡ K.refusals output.old) }
+    ensures stopped { IfErr result (HasStopped K.taken K.refusals K.hands_over
+        (IsCallAnswer F.reads files.old (names_given names.now) Request.Stats)
+        ⊥ output.old output.new) }
 {
     let mut task = Counting::new(alloc);
     let status = run_task(alloc, names, &mut task, files, output, messages)?;
@@ -277,8 +317,12 @@ fn run_counts<F: Files, K: Sink, M: Sink>(
 
 // Prints what a code means.
 fn explain<K: Sink>(alloc: Global, code: Code, output: &mut K) -> Result<u8, Stop>
-    ensures { IfOk result (λ status. (text : List ℕ) × Appends (K.taken output.old) (K.taken output.new) (meaning_text code text)
-        × (status ≡ 0)) }
+    ensures printed { IfOk result (HasPrinted K.taken
+        (IsMeaningPrinted code) output.old output.new) }
+    ensures same { OnOk result (K.refusals output.new ≡ K.refusals output.old) }
+    ensures stopped { IfErr result (HasStopped K.taken K.refusals K.hands_over
+        (IsMeaningPrinted code)
+        ⊥ output.old output.new) }
 {
     let text = format!(in alloc;
         "{} ({}): {}\n",
@@ -299,8 +343,12 @@ fn answer<F: Files, K: Sink, M: Sink>(
     output: &mut K,
     messages: &mut Messages<M>,
 ) -> Result<u8, Stop>
-    ensures { IfOk result (HasCallAnswer F.reads files.old (map (λ name. name.now) names.now) request.now
-        (K.taken output.old) (K.taken output.new)) }
+    ensures printed { IfOk result (HasPrinted K.taken
+        (IsCallAnswer F.reads files.old (names_given names.now) request.now) output.old output.new) }
+    ensures same { OnOk result (K.refusals output.new ≡ K.refusals output.old) }
+    ensures stopped { IfErr result (HasStopped K.taken K.refusals K.hands_over
+        (IsCallAnswer F.reads files.old (names_given names.now) request.now)
+        (CantReadDocument F.reads files.old request.now) output.old output.new) }
 {
     match request {
         Request::Lint(lint) => {
@@ -335,8 +383,12 @@ pub fn run<F: Files, K: Sink, M: Sink + Drop>(
     output: &mut K,
     messages: M,
 ) -> u8
-    ensures { result < 2 → HasCallAnswer F.reads files.old (map (λ name. name.now) call.now.names.items) call.now.request
-        (K.taken output.old) (K.taken output.new) result }
+    ensures status { result ≤ 3 }
+    ensures printed { result < 2 → HasPrinted K.taken (IsCallAnswer F.reads files.old
+        (names_given call.now.names.items) call.now.request) output.old output.new result }
+    ensures failed { result ≡ 2 → HasFailed F.reads K.taken K.refusals K.hands_over files.old
+        (names_given call.now.names.items) call.now.request output.old output.new }
+    ensures refused { K.refusals output.new ≢ K.refusals output.old → result ≡ 2 }
 {
     let mut messages = Messages::new(messages, call.has_progress, call.names.len());
     match answer(

@@ -1,5 +1,13 @@
 //! Counts, in tables.
 
+ghost use Rattle.std.specs.Prelude.{◌≡◌, ◌++◌, ◌∷◌, [], ℕ, List, length, unwrap_or, IfOk, OnOk};
+ghost use Rattle.std.specs.BTreeMap.{get_by_text};
+ghost use Rattle.std.specs.List.{flat_map};
+ghost use Rattle.std.specs.Str.{chars};
+ghost use Rattle.std.specs.String.{string_bytes};
+ghost use Rattle.bibkit_core.specs.Totals.{AddsNames, AreCounted};
+ghost use Rattle.bibkit_core.specs.Tables.{AreByCount, AreByName, padding, row_line, table_text, widest};
+
 use std::alloc::{AllocError, Global};
 use std::collections::BTreeMap;
 
@@ -18,23 +26,36 @@ struct Row<'c> {
 
 impl Counts {
     /// Nothing counted.
-    pub fn new(alloc: Global) -> Self {
+    pub fn new(alloc: Global) -> Self
+        ensures { AreCounted [] result }
+    {
         Counts {
             counts: BTreeMap::new(alloc),
         }
     }
 
+    // How often a name was counted.
+    fn count(&self, name: &str) -> u64
+        ensures { result ≡ unwrap_or (get_by_text self.now.counts name.now) 0 }
+    {
+        self.counts.get(name).copied().unwrap_or(0)
+    }
+
     /// Counts a name once more.
-    pub fn add(&mut self, name: String) -> Result<(), AllocError> {
-        let count = self.counts.entry(name)?.or_insert(0);
-        *count = count.saturating_add(1);
+    pub fn add(&mut self, name: String) -> Result<(), AllocError>
+        ensures { OnOk result (AddsNames (string_bytes name ∷ []) self.old self.new) }
+    {
+        let count = self.count(name.as_str());
+        self.counts.insert(name, count.saturating_add(1))?;
         Ok(())
     }
 
     // The rows by name.
-    fn rows(&self, alloc: Global) -> Result<Vec<Row<'_>>, AllocError> {
+    fn rows(&self, alloc: Global) -> Result<Vec<Row<'_>>, AllocError>
+        ensures { IfOk result (λ rows. (names : List (List ℕ)) → AreCounted names self.now → AreByName names rows.items) }
+    {
         let mut rows = Vec::new(alloc);
-        'counts: for (name, count) in &self.counts {
+        'counts: for (name, count) in self.counts.iter() {
             rows.push(Row {
                 name: name.as_str(),
                 count: *count,
@@ -49,8 +70,13 @@ impl Counts {
         alloc: Global,
         text: &mut String,
         title: &str,
-    ) -> Result<(), AllocError> {
-        push_table(alloc, text, title, &self.rows(alloc)?)
+    ) -> Result<(), AllocError>
+        ensures { OnOk result ((names : List (List ℕ)) → AreCounted names self.now → (rows : List Row) × AreByName names rows ×
+            (string_bytes text.new ≡ string_bytes text.old ++ table_text title.now rows)) }
+    {
+        let rows = self.rows(alloc)?;
+        push_table(alloc, text, title, &rows)?;
+        Ok(())
     }
 
     /// Appends a table with this title: the rows by count, the greatest first, and those with one count by name.
@@ -59,59 +85,91 @@ impl Counts {
         alloc: Global,
         text: &mut String,
         title: &str,
-    ) -> Result<(), AllocError> {
-        let mut rows = self.rows(alloc)?;
-        rows.as_mut_slice()
-            .sort_by_key(alloc, |row| u64::MAX - row.count)?;
-        push_table(alloc, text, title, &rows)
+    ) -> Result<(), AllocError>
+        ensures { OnOk result ((names : List (List ℕ)) → AreCounted names self.now → (rows : List Row) × AreByCount names rows ×
+            (string_bytes text.new ≡ string_bytes text.old ++ table_text title.now rows)) }
+    {
+        let rows = by_count(self.rows(alloc)?)?;
+        push_table(alloc, text, title, &rows)?;
+        Ok(())
     }
 }
 
+// Rows by count, the greatest first; those with one count stay in the order that they had.
+fn by_count(rows: Vec<Row<'_>>) -> Result<Vec<Row<'_>>, AllocError>
+    ensures { IfOk result (λ sorted. (names : List (List ℕ)) → AreByName names rows.entry.items → AreByCount names sorted.items) }
+{
+    let mut rows = rows;
+    rows.sort_by_key(|row| u64::MAX - row.count)?;
+    Ok(rows)
+}
+
+// How many characters a text has.
+fn characters(text: &str) -> usize
+    ensures { result ≡ length (chars text.now) }
+{
+    text.chars().count()
+}
+
 // How many characters the longest name has.
-fn width(rows: &[Row<'_>]) -> usize {
-    rows.iter()
-        .map(|row| row.name.chars().count())
-        .max()
-        .unwrap_or(0)
+fn width(rows: &[Row<'_>]) -> usize
+    ensures { result ≡ widest rows.now }
+{
+    let mut width = 0;
+    'rows: for row in rows {
+        width = characters(row.name).max(width);
+    }
+    width
 }
 
 // Appends spaces after a text, up to a width.
-fn push_spaces(text: &mut String, written: usize, width: usize) -> Result<(), AllocError> {
-    'spaces: for _ in written..width {
+fn push_spaces(text: &mut String, written: usize, width: usize) -> Result<(), AllocError>
+    ensures { OnOk result (string_bytes text.new ≡ string_bytes text.old ++ padding written width) }
+{
+    'spaces: for _column in written..width {
         text.push(' ')?;
     }
     Ok(())
 }
 
 // Appends a row: its name, and its count under the others.
-fn push_row(
-    alloc: Global,
-    text: &mut String,
-    row: &Row<'_>,
-    width: usize,
-) -> Result<(), AllocError> {
+fn push_row(alloc: Global, text: &mut String, row: &Row<'_>, width: usize) -> Result<(), AllocError>
+    ensures { OnOk result (string_bytes text.new ≡ string_bytes text.old ++ row_line width row.now) }
+{
+    let count = format!(in alloc; "{}", row.count)?;
     text.push_str("  ")?;
     text.push_str(row.name)?;
-    push_spaces(text, row.name.chars().count(), width)?;
-    let count = format!(in alloc; " {:>8}\n", row.count)?;
-    text.push_str(&count)
+    push_spaces(text, characters(row.name), width)?;
+    text.push(' ')?;
+    push_spaces(text, count.len(), 8)?;
+    text.push_str(&count)?;
+    text.push('\n')?;
+    Ok(())
 }
 
-// Appends a table, after an empty line where it isn't the first.
+// Appends rows.
+fn push_rows(alloc: Global, text: &mut String, rows: &[Row<'_>]) -> Result<(), AllocError>
+    ensures { OnOk result (string_bytes text.new ≡ string_bytes text.old ++ flat_map (row_line (widest rows.now)) rows.now) }
+{
+    let width = width(rows);
+    'rows: for row in rows {
+        push_row(alloc, text, row, width)?;
+    }
+    Ok(())
+}
+
+// Appends a table, after an empty line.
 fn push_table(
     alloc: Global,
     text: &mut String,
     title: &str,
     rows: &[Row<'_>],
-) -> Result<(), AllocError> {
-    if !text.is_empty() {
-        text.push('\n')?;
-    }
+) -> Result<(), AllocError>
+    ensures { OnOk result (string_bytes text.new ≡ string_bytes text.old ++ table_text title.now rows.now) }
+{
+    text.push('\n')?;
     text.push_str(title)?;
     text.push('\n')?;
-    let width = width(rows);
-    'rows: for row in rows {
-        push_row(alloc, text, row, width)?;
-    }
+    push_rows(alloc, text, rows)?;
     Ok(())
 }

@@ -1,5 +1,3 @@
-use Rattle.std.proofs.Common.{sym, subst}
-use Rattle.bibkit_core.specs.Linted.{IsPrintedFile}
 use Rattle.bibkit_core.proofs.FindingFacts.{added_alone}
 use Rattle.bibkit_core.proofs.linting.LintingTask.file.Goals as goal
 

@@ -1,0 +1,20 @@
+-- Meaning: words of public contracts.
+-- What an output has taken when a run ends. What may be printed is a fact of a text and a status, where there is none of a text
+-- that more follows.
+use Rattle.std.specs.Prelude.{◌≡◌, ℕ, ◌-◌, ◌<◌, ◌^◌, Bool, false, List, Option, Some}
+use Rattle.std.specs.Io.KnownBytes.{Appends}
+
+-- the output takes what is printed, to its end
+pub record HasPrinted {K : Type 0} (taken : K → Option (List ℕ)) (Prints : List ℕ → Option ℕ → Type 0) (old new : K) (status : ℕ) : Type 0 where
+  pub text : List ℕ
+  pub prints : Prints text (Some status)
+  pub printed : Appends (taken old) (taken new) text
+
+-- the output takes a text, and then refuses the next one that it is handed
+pub record IsRefusedAfter {K : Type 0} (taken : K → Option (List ℕ)) (refusals : K → ℕ) (hands_over : K → List ℕ → Bool → K → Type 0) (text : List ℕ) (old new : K) : Type 0 where
+  pub between : K
+  pub refused : List ℕ
+  pub printed : Appends (taken old) (taken between) text
+  pub same : refusals between ≡ refusals old
+  pub handed : hands_over between refused false new
+  pub counted : refusals between < 2 ^ 64 - 1 → refusals between < refusals new
