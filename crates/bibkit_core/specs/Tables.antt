@@ -8,6 +8,7 @@ use Rattle.std.specs.List.Sorted.{IsPermutation, IsSortedByKey, IsStableByKey, I
 use Rattle.std.specs.Map.{lookup}
 use Rattle.std.specs.Ordering.{nat_cmp}
 use Rattle.std.specs.Str.{chars}
+use Rattle.bib_text.specs.Characters as char
 use Rattle.bibkit_core.specs.declared.tables.Row.{Row}
 
 -- how often a name was met: none where it wasn't; a count stops at its greatest value
@@ -42,7 +43,7 @@ widest rows = fold (λ width row. max (length (chars row.name.now)) width) 0 row
 
 -- the spaces that so many characters lack to a width
 abbrev pub padding : ℕ → ℕ → List ℕ
-padding written width = replicate (width - written) 32
+padding written width = replicate (width - written) char.space
 
 -- the line of a row: its name, filled up to a width, and its count, at the right of eight characters
 abbrev pub row_line : ℕ → Row → List ℕ
