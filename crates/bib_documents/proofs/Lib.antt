@@ -1,0 +1,4 @@
+pub mod BoundaryFacts
+pub mod EditFacts
+pub mod GrammarFacts
+pub mod ZoneFacts
