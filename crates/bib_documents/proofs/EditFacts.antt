@@ -1,7 +1,7 @@
 -- What stands before the stretch that an edit changes, and what stands after it, stands in the edited text.
 use Rattle.std.proofs.Common.{◌≡◌, ℕ, ◌+◌, ◌-◌, ◌<◌, ◌≤◌, Bool, true, false, List, ◌++◌, length, take, drop, refl, sym, ap, ◌∙◌, subst, arith, length-append, length-drop, append_assoc}
 use Rattle.std.specs.Prelude.{nat_lt}
-use Rattle.std.proofs.lemmas.List.{take_at, drop_at, length-take-le, drop_all}
+use Rattle.std.proofs.lemmas.List.{take_all, take_at, drop_at, length-take-le}
 use Rattle.std.proofs.lemmas.Bool.Decides.{nat_tests}
 use Rattle.bib_text.specs.Places.{Place, place, CharAt}
 use Rattle.bib_text.proofs.PlaceFacts.{char_left}
@@ -54,13 +54,32 @@ zone_before edit text fits =
       cut = λ {u} {v} {c} same char below. omega (arith, not_over (edited edit text) edit.start fits.border same char (omega arith));
     }
 
-pub zone_after : (edit : Edit) (text : List ℕ) → Fits edit text → Zone (after_frame edit text)
-zone_after edit text fits =
-    let within : edit.start ≤ length text = omega (arith, fits.ordered, fits.within) in
+pub zone_after : (edit : Edit) (text : List ℕ) → edit.start ≤ edit.end → edit.end ≤ length text → Zone (after_frame edit text)
+zone_after edit text ordered within =
+    let before : edit.start ≤ length text = omega arith in
     record {
       moves = λ n from below. moved_after edit n from;
-      same = ap (take (length text + 1 - edit.end)) (sym (rest edit.start edit.end edit.bytes text within));
+      same = ap (take (length text + 1 - edit.end)) (sym (rest edit.start edit.end edit.bytes text before));
       cut = λ {u} {v} {c} same char below.
           let sizes : length u.text ≡ length (edited edit text) = ap length same in
-          omega (arith, char_left char, char.next, length-edited edit text fits.ordered fits.within);
+          omega (arith, char_left char, char.next, length-edited edit text ordered within);
+    }
+
+-- the new bytes, in the new text
+abbrev pub bytes_frame : Edit → List ℕ → Frame
+bytes_frame edit text = record { old = edit.bytes; new = edited edit text; move = λ n. n + edit.start; from = 0; to = edit.start; end = length edit.bytes }
+
+middle : (start end : ℕ) (bytes text : List ℕ) → start ≤ length text → drop start (take start text ++ bytes ++ drop end text) ≡ bytes ++ drop end text
+middle start end bytes text within =
+    ap (drop start) (append_assoc (take start text) bytes (drop end text)) ∙ drop_at (take start text) (bytes ++ drop end text) start (length-take-le start text within)
+
+pub zone_bytes : (edit : Edit) (text : List ℕ) → edit.start ≤ length text → Border (place (edited edit text) (edit.start + length edit.bytes)) → Zone (bytes_frame edit text)
+zone_bytes edit text within border =
+    let size : length edit.bytes - 0 ≡ length edit.bytes = omega arith in
+    let whole : take (length edit.bytes) edit.bytes ≡ take (length edit.bytes) (drop edit.start (edited edit text)) =
+    take_all (length edit.bytes) edit.bytes (omega arith) ∙ sym (ap (take (length edit.bytes)) (middle edit.start edit.end edit.bytes text within) ∙ take_at edit.bytes (drop edit.end text) (length edit.bytes) refl) in
+    record {
+      moves = λ n from below. omega arith;
+      same = ap (λ n. take n edit.bytes) size ∙ whole ∙ ap (λ n. take n (drop edit.start (edited edit text))) (sym size);
+      cut = λ {u} {v} {c} same char below. omega (arith, not_over (edited edit text) (edit.start + length edit.bytes) border same char (omega arith));
     }

@@ -112,7 +112,7 @@ char_back {f} {u} {w} {c} z iu below char =
 pub stops_there : {f : Frame} {u : Place} (test : ℕ → Bool) → Zone f → Inside f u → u.at < f.end → Stops test u → Stops test (there f u)
 stops_there test z iu below stops c w char = stops c _ (char_back z iu below char)
 
-pub run_there : {f : Frame} {u v : Place} {test : ℕ → Bool} → Zone f → Inside f u → Inside f v → Run test u v → Run test (there f u) (there f v)
+pub run_there : {f : Frame} {test : ℕ → Bool} {u v : Place} → Zone f → Inside f u → Inside f v → Run test u v → Run test (there f u) (there f v)
 run_there z iu iv stop = stop
 run_there z iu iv (step char passes rest) =
     let iw = inside_between z iu iv (ahead_char char) (ahead_run rest) in

@@ -1,4 +1,2 @@
-//! A bibliography file's text with its raw reading as one value, and edits that change one stretch of the text.
+//! A bibliography text with its raw reading as one value, and edits that change one stretch of the text.
 #![tactic(auto)]
-
-pub mod document;

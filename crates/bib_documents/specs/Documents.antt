@@ -1,0 +1,94 @@
+-- Meaning: words of public contracts.
+-- A bibliography's text with what it says, and what an edit makes of the two.
+use Rattle.std.specs.Prelude.{◌≡◌, ℕ, suc, ◌+◌, Bool, if◌then◌else◌, List, [], ◌∷◌, ◌++◌, length, map, Option, Some, None, bytes_eq, position, slice_get, slice_set}
+use Rattle.std.specs.Str.{trim_end}
+use Rattle.bib_text.specs.Places.{place, between}
+use Rattle.bib_text.specs.Characters as char
+use Rattle.bib_syntax.specs.Grammar.{Braced, IsRawReading, is_word}
+use Rattle.bib_syntax.specs.Reading.{Part, part, FieldReading, EntryReading, FileReading}
+use Rattle.bib_syntax.specs.Reading.Piece.{literal}
+use Rattle.bib_documents.specs.Edits.{Edit, edited, moved, moved_field, moved_entry, moved_file}
+
+-- a text, and what it says
+pub record Document : Type 0 where
+  pub text : List ℕ
+  pub says : FileReading
+
+-- the text says so
+abbrev pub IsRead : Document → Type 0
+IsRead d = IsRawReading d.text d.says
+
+-- whether an entry has this key
+abbrev pub has_key : List ℕ → EntryReading → Bool
+has_key key e = bytes_eq e.key.text key
+
+-- whether a field has this name, in any ASCII case
+abbrev pub has_name : List ℕ → FieldReading → Bool
+has_name name f = is_word f.name.text name
+
+-- the index after one, if there is one
+abbrev pub next_index : Option ℕ → Option ℕ
+next_index (Some i) = Some (suc i)
+next_index None = None
+
+-- an index after the first, or else the first if a test is passed
+abbrev pub or_first : Bool → Option ℕ → Option ℕ
+or_first passes (Some i) = Some (suc i)
+or_first passes None = if passes then Some 0 else None
+
+-- the last index at which a test is passed
+abbrev pub last_position : {A : Type 0} → (A → Bool) → List A → Option ℕ
+last_position test [] = None
+last_position test (x ∷ xs) = or_first (test x) (last_position test xs)
+
+-- the first entry with a key, and its index
+pub record HasEntry (d : Document) (key : List ℕ) (k : ℕ) (e : EntryReading) : Type 0 where
+  pub first : position (has_key key) d.says.entries ≡ Some k
+  pub here : slice_get d.says.entries k ≡ Some e
+
+-- the last field of an entry with a name, which is the one that counts, and its index
+pub record HasField (e : EntryReading) (name : List ℕ) (j : ℕ) (f : FieldReading) : Type 0 where
+  pub last : last_position (has_name name) e.fields ≡ Some j
+  pub here : slice_get e.fields j ≡ Some f
+
+-- a text between two braces
+abbrev pub in_braces : List ℕ → List ℕ
+in_braces text = char.open_brace ∷ (text ++ char.close_brace ∷ [])
+
+-- a text can stand between two braces: with them it is one braced text
+abbrev pub CanStandInBraces : List ℕ → Type 0
+CanStandInBraces text = (p : Part) × Braced (place (in_braces text) 0) p (place (in_braces text) (length (in_braces text)))
+
+-- what stands from a value's start to its end
+abbrev pub value_text : List ℕ → FieldReading → List ℕ
+value_text text f = between (place text f.value.start) (place text f.value.end)
+
+-- another value in the place of a field's, up to the white space after it
+abbrev pub value_edit : List ℕ → FieldReading → List ℕ → Edit
+value_edit text f value = record { start = f.value.start; end = f.value.start + length (trim_end (value_text text f)); bytes = in_braces value }
+
+-- a part of a text that is this text
+abbrev pub part_at : ℕ → List ℕ → Part
+part_at start text = record { text = text; start = start; end = start + length text }
+
+-- a field with a text in braces as its value, which begins where the value did
+abbrev pub with_value : List ℕ → FieldReading → FieldReading
+with_value value f = record f { value = record f.value { pieces = literal (part_at (f.value.start + 1) value) ∷ [] } }
+
+-- an edit in one entry: what the text says, with other places and another entry in the place of this one
+abbrev pub entry_edited : Document → Edit → ℕ → EntryReading → Document
+entry_edited d edit k e = record {
+  text = edited edit d.text;
+  says = record (moved_file (moved edit) d.says) { entries = slice_set (map (moved_entry (moved edit)) d.says.entries) k e };
+}
+
+-- an edit in one field of an entry
+abbrev pub field_edited : Document → Edit → ℕ → EntryReading → ℕ → FieldReading → Document
+field_edited d edit k e j f =
+    entry_edited d edit k (record (moved_entry (moved edit) e) { fields = slice_set (map (moved_field (moved edit)) e.fields) j f })
+
+-- a field of an entry with another value
+abbrev pub value_changed : Document → ℕ → EntryReading → ℕ → FieldReading → List ℕ → Document
+value_changed d k e j f value =
+    let edit = value_edit d.text f value in
+    field_edited d edit k e j (with_value value (moved_field (moved edit) f))
