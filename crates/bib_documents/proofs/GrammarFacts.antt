@@ -24,8 +24,8 @@ use Rattle.bib_documents.specs.Edits.{moved_part, moved_piece, moved_field, move
 use Rattle.bib_documents.proofs.ZoneFacts.{Frame, Zone, Inside, there, inside, inside_between, char_there, char_back, stops_there, run_there, longest_there, parts_there, between_there, part_there, end_there}
 
 -- a place before the end of the zone
-pub below_between : {f : Frame} {v w : Place} → Ahead w v → v.at < f.end → w.at < f.end
-below_between {f} {v} {w} ahead below = omega (arith, ahead.at)
+pub below_between : (f : Frame) {v w : Place} → Ahead w v → v.at < f.end → w.at < f.end
+below_between f {v} {w} ahead below = omega (arith, ahead.at)
 
 -- a place where a character of the zone stands
 pub below_char : {f : Frame} {u v : Place} {c : ℕ} → Inside f v → CharAt u c v → u.at < f.end
@@ -49,13 +49,13 @@ pub number_there : {f : Frame} {u v : Place} → Zone f → Inside f u → Insid
 number_there z iu iv below (number.whole char digit digits ends) =
     let a = inside_between z iu iv (ahead_char char) (ahead_run digits.run) in
     number.whole (char_there z iu a char) digit (longest_there z a iv below digits) (stops_there (λ d. d == 46) z iv below ends)
-number_there {f} z iu iv below (number.broken char digit digits point more ends) =
-    let to_point = ahead_then (ahead_char point) (ahead_run more.run) in
+number_there {f} z iu iv below (number.broken char digit digits point others ends) =
+    let to_point = ahead_then (ahead_char point) (ahead_run others.run) in
     let a = inside_between z iu iv (ahead_char char) (ahead_then (ahead_run digits.run) to_point) in
     let b = inside_between z a iv (ahead_run digits.run) to_point in
-    let c = inside_between z b iv (ahead_char point) (ahead_run more.run) in
+    let c = inside_between z b iv (ahead_char point) (ahead_run others.run) in
     number.broken (char_there z iu a char) digit (longest_there z a b (below_char c point) digits) (char_there z b c point)
-    (longest_there z c iv below more) (stops_there (λ d. d == 46) z iv below ends)
+    (longest_there z c iv below others) (stops_there (λ d. d == 46) z iv below ends)
 
 pub quoted_parts_there : {f : Frame} {u v : Place} → Zone f → Inside f u → Inside f v → QuotedParts u v → QuotedParts (there f u) (there f v)
 quoted_parts_there z iu iv quotes.none = quotes.none
@@ -100,7 +100,7 @@ pub element_there : {f : Frame} {u v : Place} {e : Piece} → Zone f → Inside 
 element_there {f} {u} {v} z iu iv below (element.number n) =
     subst (λ p. Element longest (there f u) (literal p) (there f v)) (part_there z iu iv (ahead_number n)) (element.number (number_there z iu iv below n))
 element_there {f} {u} {v} z iu iv below (element.named none i) =
-    element.named (no_digit_there z iu (below_between {f} (ahead_identifier i) below) none) (identifier_there z iu iv below i)
+    element.named (no_digit_there z iu (below_between f (ahead_identifier i) below) none) (identifier_there z iu iv below i)
 element_there z iu iv below (element.braced b) = element.braced (braced_there z iu iv b)
 element_there z iu iv below (element.quoted q) = element.quoted (quoted_there z iu iv q)
 
@@ -108,16 +108,16 @@ pub elements_there : {f : Frame} {u v : Place} {es : List Piece} → Zone f → 
     → Elements longest (there f u) (map (moved_piece f.move) es) (there f v)
 elements_there {f} z iu iv below (elements.last e white ends) =
     let a = inside_between z iu iv (ahead_element e) (ahead_run white.run) in
-    elements.last (element_there z iu a (below_between {f} (ahead_run white.run) below) e) (longest_there z a iv below white) (stops_there (λ c. c == 35) z iv below ends)
+    elements.last (element_there z iu a (below_between f (ahead_run white.run) below) e) (longest_there z a iv below white) (stops_there (λ c. c == 35) z iv below ends)
 elements_there {f} z iu iv below (elements.more e white sign white' rest) =
     let from_sign = ahead_then (ahead_char sign) (ahead_then (ahead_run white'.run) (ahead_elements rest)) in
     let a = inside_between z iu iv (ahead_element e) (ahead_then (ahead_run white.run) from_sign) in
     let b = inside_between z a iv (ahead_run white.run) from_sign in
     let c = inside_between z b iv (ahead_char sign) (ahead_then (ahead_run white'.run) (ahead_elements rest)) in
     let d = inside_between z c iv (ahead_run white'.run) (ahead_elements rest) in
-    elements.more (element_there z iu a (below_between {f} (ahead_then (ahead_run white.run) from_sign) below) e)
+    elements.more (element_there z iu a (below_between f (ahead_then (ahead_run white.run) from_sign) below) e)
     (longest_there z a b (below_char c sign) white) (char_there z b c sign)
-    (longest_there z c d (below_between {f} (ahead_elements rest) below) white') (elements_there z d iv below rest)
+    (longest_there z c d (below_between f (ahead_elements rest) below) white') (elements_there z d iv below rest)
 
 pub field_there : {f : Frame} {u v : Place} {r : FieldReading} → Zone f → Inside f u → Inside f v → v.at < f.end → Field longest u r v → Field longest (there f u) (moved_field f.move r) (there f v)
 field_there {f} {u} {v} z iu iv below field =
@@ -132,10 +132,10 @@ field_there {f} {u} {v} z iu iv below field =
       before_sign = there f field.before_sign;
       after_sign = there f field.after_sign;
       value_start = there f field.value_start;
-      name = identifier_there z iu a (below_between {f} (ahead_then (ahead_run field.white.run) from_sign) below) field.name;
+      name = identifier_there z iu a (below_between f (ahead_then (ahead_run field.white.run) from_sign) below) field.name;
       white = longest_there z a b (below_char c field.sign) field.white;
       sign = char_there z b c field.sign;
-      white' = longest_there z c d (below_between {f} from_value below) field.white';
+      white' = longest_there z c d (below_between f from_value below) field.white';
       elements = elements_there z d iv below field.elements;
       starts = ap f.move field.starts;
       ends = ap f.move field.ends;
@@ -153,22 +153,22 @@ gap_there {f} z iu iv below (gap.line_comment white m white') =
     let from_sign = ahead_then (ahead_line_comment m) from_line_end in
     let a = inside_between z iu iv (ahead_run white.run) from_sign in
     let b = inside_between z a iv (ahead_line_comment m) from_line_end in
-    gap.line_comment (longest_there z iu a (below_between {f} from_sign below) white) (line_comment_there z a b (below_between {f} from_line_end below) m) (longest_there z b iv below white')
+    gap.line_comment (longest_there z iu a (below_between f from_sign below) white) (line_comment_there z a b (below_between f from_line_end below) m) (longest_there z b iv below white')
 
 pub fields_there : {f : Frame} {u v : Place} {rs : List FieldReading} → Zone f → Inside f u → Inside f v → v.at < f.end → Fields longest u rs v
     → Fields longest (there f u) (map (moved_field f.move) rs) (there f v)
 fields_there z iu iv below (fields.none white) = fields.none (longest_there z iu iv below white)
 fields_there {f} z iu iv below (fields.last field g) =
     let a = inside_between z iu iv (ahead_field field) (ahead_gap g) in
-    fields.last (field_there z iu a (below_between {f} (ahead_gap g) below) field) (gap_there z a iv below g)
+    fields.last (field_there z iu a (below_between f (ahead_gap g) below) field) (gap_there z a iv below g)
 fields_there {f} z iu iv below (fields.more field g comma h rest) =
     let from_comma = ahead_then (ahead_char comma) (ahead_then (ahead_gap h) (ahead_fields rest)) in
     let a = inside_between z iu iv (ahead_field field) (ahead_then (ahead_gap g) from_comma) in
     let b = inside_between z a iv (ahead_gap g) from_comma in
     let c = inside_between z b iv (ahead_char comma) (ahead_then (ahead_gap h) (ahead_fields rest)) in
     let d = inside_between z c iv (ahead_gap h) (ahead_fields rest) in
-    fields.more (field_there z iu a (below_between {f} (ahead_then (ahead_gap g) from_comma) below) field) (gap_there z a b (below_char c comma) g)
-    (char_there z b c comma) (gap_there z c d (below_between {f} (ahead_fields rest) below) h) (fields_there z d iv below rest)
+    fields.more (field_there z iu a (below_between f (ahead_then (ahead_gap g) from_comma) below) field) (gap_there z a b (below_char c comma) g)
+    (char_there z b c comma) (gap_there z c d (below_between f (ahead_fields rest) below) h) (fields_there z d iv below rest)
 
 pub head_there : {f : Frame} {u v : Place} {kind : Part} → Zone f → Inside f u → Inside f v → v.at < f.end → Head longest u kind v → Head longest (there f u) (moved_part f.move kind) (there f v)
 head_there {f} z iu iv below h =
@@ -185,7 +185,7 @@ head_there {f} z iu iv below h =
       after_brace = there f h.after_brace;
       brace = h.brace;
       sign = char_there z iu a h.sign;
-      name = identifier_there z a b (below_between {f} (ahead_then (ahead_run h.white.run) from_brace) below) h.name;
+      name = identifier_there z a b (below_between f (ahead_then (ahead_run h.white.run) from_brace) below) h.name;
       white = longest_there z b c (below_char d h.opens) h.white;
       opens = char_there z c d h.opens;
       is_brace = h.is_brace;
@@ -227,8 +227,8 @@ body_there {f} {start} {u} {v} {kind} z iu iv (body.entry {z = brace} {fs = fs} 
     let below_comma = below_char c comma in
     subst (λ p. Body longest (there f start) (moved_part f.move kind) BlockKind.entry (there f u) (says_entry p (moved_part f.move kind) (map (moved_field f.move) fs) (f.move start.at) (f.move brace.at)) (there f v))
     (part_there z iu a (ahead_run key.run))
-    (body.entry (there f key_end) (longest_there z iu a (below_between {f} (ahead_run white.run) below_comma) key) (longest_there z a b below_comma white) (char_there z b c comma)
-    (gap_there z c d (below_between {f} (ahead_fields list) below_brace) g) (fields_there z d e below_brace list) (char_there z e iv closes))
+    (body.entry (there f key_end) (longest_there z iu a (below_between f (ahead_run white.run) below_comma) key) (longest_there z a b below_comma white) (char_there z b c comma)
+    (gap_there z c d (below_between f (ahead_fields list) below_brace) g) (fields_there z d e below_brace list) (char_there z e iv closes))
 
 pub block_there : {f : Frame} {u v : Place} {says : FileReading} → Zone f → Inside f u → Inside f v → Block longest u says v → Block longest (there f u) (moved_file f.move says) (there f v)
 block_there {f} z iu iv b =
@@ -236,11 +236,11 @@ block_there {f} z iu iv b =
     record { inside = there f b.inside; kind = moved_part f.move b.kind; head = head_there z iu a (before_brace iv b.body) b.head; body = body_there z a iv b.body }
   where
     before_brace : {f : Frame} {start u v : Place} {kind : Part} {k : BlockKind} {says : FileReading} → Inside f v → Body longest start kind k u says v → u.at < f.end
-    before_brace {f} iv (body.comment brace chars closes) = below_between {f} (ahead_run chars.run) (below_char iv closes)
-    before_brace {f} iv (body.preamble quoted white closes is_brace) = below_between {f} (ahead_then (ahead_quoted quoted) (ahead_run white.run)) (below_char iv closes)
-    before_brace {f} iv (body.strings fs closes) = below_between {f} (ahead_fields fs) (below_char iv closes)
+    before_brace {f} iv (body.comment brace chars closes) = below_between f (ahead_run chars.run) (below_char iv closes)
+    before_brace {f} iv (body.preamble quoted white closes is_brace) = below_between f (ahead_then (ahead_quoted quoted) (ahead_run white.run)) (below_char iv closes)
+    before_brace {f} iv (body.strings fs closes) = below_between f (ahead_fields fs) (below_char iv closes)
     before_brace {f} iv (body.entry key_end key white comma g list closes) =
-        below_between {f} (ahead_then (ahead_run key.run) (ahead_then (ahead_run white.run) (ahead_then (ahead_char comma) (ahead_then (ahead_gap g) (ahead_fields list))))) (below_char iv closes)
+        below_between f (ahead_then (ahead_run key.run) (ahead_then (ahead_run white.run) (ahead_then (ahead_char comma) (ahead_then (ahead_gap g) (ahead_fields list))))) (below_char iv closes)
 
 -- what two stretches say one after the other, moved
 pub moved-then : (move : ℕ → ℕ) (first rest : FileReading) → moved_file move (then first rest) ≡ then (moved_file move first) (moved_file move rest)

@@ -1,9 +1,9 @@
 -- A file that is cut round an entry, and an entry's fields that are cut round one of them, in an edited text.
-use Rattle.std.proofs.Common.{◌≡◌, ⊥, ℕ, ◌+◌, ◌<◌, ◌≤◌, Bool, true, false, List, [], ◌∷◌, ◌++◌, length, map, refl, sym, ap, ◌∙◌, subst, arith, inl, inr, Some, length-map}
+use Rattle.std.proofs.Common.{◌≡◌, ℕ, ◌+◌, ◌<◌, ◌≤◌, Bool, true, false, List, [], ◌∷◌, ◌++◌, length, map, refl, sym, ap, ◌∙◌, subst, arith, inl, inr, Some}
 use Rattle.std.specs.Prelude.{◌==◌, not, slice_get, slice_set}
 use Rattle.std.specs.Char.{len_utf8}
 use Rattle.std.proofs.lemmas.Bool.{cases_lt}
-use Rattle.std.proofs.lemmas.List.{map-append, set_at}
+use Rattle.std.proofs.lemmas.List.{length-map, map-append, set_at}
 use Rattle.std.proofs.lemmas.Str.{len_utf8_bounds}
 use Rattle.bib_text.specs.Places.{Place, place, CharAt, Run, Stops, AtEnd}
 use Rattle.bib_text.specs.Places.Run.{stop, step}
@@ -25,14 +25,14 @@ use Rattle.bib_documents.proofs.SplitFacts.{FieldsBefore, FieldsAfter, FileBefor
 pub fields_before_there : {f : Frame} {u v : Place} {fs : List FieldReading} → Zone f → Inside f u → Inside f v → v.at < f.end → FieldsBefore u fs v
     → FieldsBefore (there f u) (map (moved_field f.move) fs) (there f v)
 fields_before_there z iu iv below FieldsBefore.none = FieldsBefore.none
-fields_before_there {f} z iu iv below (FieldsBefore.more field gap comma gap' more) =
-    let from_comma = ahead_then (ahead_char comma) (ahead_then (ahead_gap gap') (ahead_fields_before more)) in
+fields_before_there {f} z iu iv below (FieldsBefore.more field gap comma gap' others) =
+    let from_comma = ahead_then (ahead_char comma) (ahead_then (ahead_gap gap') (ahead_fields_before others)) in
     let a = inside_between z iu iv (ahead_field field) (ahead_then (ahead_gap gap) from_comma) in
     let b = inside_between z a iv (ahead_gap gap) from_comma in
-    let c = inside_between z b iv (ahead_char comma) (ahead_then (ahead_gap gap') (ahead_fields_before more)) in
-    let d = inside_between z c iv (ahead_gap gap') (ahead_fields_before more) in
-    FieldsBefore.more (field_there z iu a (below_between {f} (ahead_then (ahead_gap gap) from_comma) below) field) (gap_there z a b (below_char c comma) gap)
-    (char_there z b c comma) (gap_there z c d (below_between {f} (ahead_fields_before more) below) gap') (fields_before_there z d iv below more)
+    let c = inside_between z b iv (ahead_char comma) (ahead_then (ahead_gap gap') (ahead_fields_before others)) in
+    let d = inside_between z c iv (ahead_gap gap') (ahead_fields_before others) in
+    FieldsBefore.more (field_there z iu a (below_between f (ahead_then (ahead_gap gap) from_comma) below) field) (gap_there z a b (below_char c comma) gap)
+    (char_there z b c comma) (gap_there z c d (below_between f (ahead_fields_before others) below) gap') (fields_before_there z d iv below others)
 
 pub fields_after_there : {f : Frame} {u v : Place} {fs : List FieldReading} → Zone f → Inside f u → Inside f v → v.at < f.end → FieldsAfter u fs v
     → FieldsAfter (there f u) (map (moved_field f.move) fs) (there f v)
@@ -42,7 +42,7 @@ fields_after_there {f} z iu iv below (FieldsAfter.more gap comma gap' rest) =
     let b = inside_between z iu iv (ahead_gap gap) from_comma in
     let c = inside_between z b iv (ahead_char comma) (ahead_then (ahead_gap gap') (ahead_fields rest)) in
     let d = inside_between z c iv (ahead_gap gap') (ahead_fields rest) in
-    FieldsAfter.more (gap_there z iu b (below_char c comma) gap) (char_there z b c comma) (gap_there z c d (below_between {f} (ahead_fields rest) below) gap') (fields_there z d iv below rest)
+    FieldsAfter.more (gap_there z iu b (below_char c comma) gap) (char_there z b c comma) (gap_there z c d (below_between f (ahead_fields rest) below) gap') (fields_there z d iv below rest)
 
 -- ---- a file up to an at sign
 
@@ -58,16 +58,16 @@ comment_before {u} {v} {w} m ahead x sign =
 
 pub file_before_there : {f : Frame} {u v x : Place} {says : FileReading} → Zone f → Inside f u → Inside f v → CharAt v 64 x → FileBefore u says v → FileBefore (there f u) (moved_file f.move says) (there f v)
 file_before_there z iu iv sign FileBefore.none = FileBefore.none
-file_before_there z iu iv sign (FileBefore.skipped char passes more) =
-    let a = inside_between z iu iv (ahead_char char) (ahead_file_before more) in
-    FileBefore.skipped (char_there z iu a char) passes (file_before_there z a iv sign more)
-file_before_there {f} z iu iv sign (FileBefore.line_comment m more) =
-    let a = inside_between z iu iv (ahead_line_comment m) (ahead_file_before more) in
-    let before = comment_before m (ahead_file_before more) _ sign in
-    FileBefore.line_comment (line_comment_there z iu a (omega (arith, before, iv.end)) m) (file_before_there z a iv sign more)
-file_before_there {f} {u} {v} z iu iv sign (FileBefore.block {first = first} {rest = rest} b more) =
-    let a = inside_between z iu iv (ahead_block b) (ahead_file_before more) in
-    subst (λ says. FileBefore (there f u) says (there f v)) (sym (moved-then f.move first rest)) (FileBefore.block (block_there z iu a b) (file_before_there z a iv sign more))
+file_before_there z iu iv sign (FileBefore.skipped char passes others) =
+    let a = inside_between z iu iv (ahead_char char) (ahead_file_before others) in
+    FileBefore.skipped (char_there z iu a char) passes (file_before_there z a iv sign others)
+file_before_there {f} z iu iv sign (FileBefore.line_comment m others) =
+    let a = inside_between z iu iv (ahead_line_comment m) (ahead_file_before others) in
+    let before = comment_before m (ahead_file_before others) _ sign in
+    FileBefore.line_comment (line_comment_there z iu a (omega (arith, before, iv.end)) m) (file_before_there z a iv sign others)
+file_before_there {f} {u} {v} z iu iv sign (FileBefore.block {first = first} {rest = rest} b others) =
+    let a = inside_between z iu iv (ahead_block b) (ahead_file_before others) in
+    subst (λ says. FileBefore (there f u) says (there f v)) (sym (moved-then f.move first rest)) (FileBefore.block (block_there z iu a b) (file_before_there z a iv sign others))
 
 -- ---- a file to its end
 

@@ -78,7 +78,7 @@ block_of {u} {v} {e} b = record {
       (entry_found e.kind e.key e.start e.end (sym b.starts) b.ends b.key_is b.key b.white b.comma b.gap b.fields b.closes);
 }
 
--- a block says one entry or none
+-- a block says one entry or no_entry
 one_entry : {start u v : Place} {kind : Part} {k : BlockKind} {says : FileReading} → Body longest start kind k u says v → (says.entries ≡ []) ⊎ ((e : EntryReading) × (says ≡ entry_alone e))
 one_entry (body.comment brace chars closes) = inl refl
 one_entry (body.preamble quoted white closes is_brace) = inl refl
@@ -117,28 +117,28 @@ split_fields {u} {v} zero f (fields.more {v = end} {f = g} {fs = fs} field gap c
     let same : g ≡ f = cc in
     record { start = u; end = end; before = []; following = fs; first = FieldsBefore.none; field = subst (λ x. Field longest u x end) same field; rest = FieldsAfter.more gap comma gap' rest; whole = ap (λ x. x ∷ fs) same; index = refl }
 split_fields {u} {v} (suc j) f (fields.more {f = g} field gap comma gap' rest) found =
-    let more = split_fields j f rest found in
+    let others = split_fields j f rest found in
     record {
-      start = more.start;
-      end = more.end;
-      before = g ∷ more.before;
-      following = more.following;
-      first = FieldsBefore.more field gap comma gap' more.first;
-      field = more.field;
-      rest = more.rest;
-      whole = ap (λ xs. g ∷ xs) more.whole;
-      index = ap suc more.index;
+      start = others.start;
+      end = others.end;
+      before = g ∷ others.before;
+      following = others.following;
+      first = FieldsBefore.more field gap comma gap' others.first;
+      field = others.field;
+      rest = others.rest;
+      whole = ap (λ xs. g ∷ xs) others.whole;
+      index = ap suc others.index;
     }
 
 pub joined_fields : {u a b v : Place} {before following : List FieldReading} {f : FieldReading} → FieldsBefore u before a → Field longest a f b → FieldsAfter b following v → Fields longest u (before ++ f ∷ following) v
 joined_fields FieldsBefore.none field (FieldsAfter.last gap) = fields.last field gap
 joined_fields FieldsBefore.none field (FieldsAfter.more gap comma gap' rest) = fields.more field gap comma gap' rest
-joined_fields (FieldsBefore.more field gap comma gap' more) here rest = fields.more field gap comma gap' (joined_fields more here rest)
+joined_fields (FieldsBefore.more field gap comma gap' others) here rest = fields.more field gap comma gap' (joined_fields others here rest)
 
 pub ahead_fields_before : {u v : Place} {fs : List FieldReading} → FieldsBefore u fs v → Ahead u v
 ahead_fields_before {u} FieldsBefore.none = ahead_here u
-ahead_fields_before (FieldsBefore.more field gap comma gap' more) =
-    ahead_then (ahead_field field) (ahead_then (ahead_gap gap) (ahead_then (ahead_char comma) (ahead_then (ahead_gap gap') (ahead_fields_before more))))
+ahead_fields_before (FieldsBefore.more field gap comma gap' others) =
+    ahead_then (ahead_field field) (ahead_then (ahead_gap gap) (ahead_then (ahead_char comma) (ahead_then (ahead_gap gap') (ahead_fields_before others))))
 
 pub ahead_fields_after : {u v : Place} {fs : List FieldReading} → FieldsAfter u fs v → Ahead u v
 ahead_fields_after (FieldsAfter.last gap) = ahead_gap gap
@@ -165,29 +165,29 @@ pub record EntrySplit (u : Place) (says : FileReading) (e : EntryReading) (k : �
 
 -- after a block that says no entry, and after one that says another
 after_none : {u v : Place} {first rest : FileReading} {e : EntryReading} {k : ℕ} → Block longest u first v → first.entries ≡ [] → EntrySplit v rest e k → EntrySplit u (then first rest) e k
-after_none {u} {v} {first} {rest} {e} {k} b none more = record {
-  start = more.start;
-  end = more.end;
-  before = then first more.before;
-  following = more.following;
-  first = FileBefore.block b more.first;
-  block = more.block;
-  rest = more.rest;
-  whole = ap (then first) more.whole ∙ sym (then-then first more.before (then (entry_alone e) more.following));
-  index = ap (λ es. length (es ++ more.before.entries)) none ∙ more.index;
+after_none {u} {v} {first} {rest} {e} {k} b no_entry others = record {
+  start = others.start;
+  end = others.end;
+  before = then first others.before;
+  following = others.following;
+  first = FileBefore.block b others.first;
+  block = others.block;
+  rest = others.rest;
+  whole = ap (then first) others.whole ∙ sym (then-then first others.before (then (entry_alone e) others.following));
+  index = ap (λ es. length (es ++ others.before.entries)) no_entry ∙ others.index;
 }
 
 after_other : {u v : Place} {first rest : FileReading} {e other : EntryReading} {k : ℕ} → Block longest u first v → first ≡ entry_alone other → EntrySplit v rest e k → EntrySplit u (then first rest) e (suc k)
-after_other {u} {v} {first} {rest} {e} {other} {k} b one more = record {
-  start = more.start;
-  end = more.end;
-  before = then first more.before;
-  following = more.following;
-  first = FileBefore.block b more.first;
-  block = more.block;
-  rest = more.rest;
-  whole = ap (then first) more.whole ∙ sym (then-then first more.before (then (entry_alone e) more.following));
-  index = ap (λ r. length (r.entries ++ more.before.entries)) one ∙ ap suc more.index;
+after_other {u} {v} {first} {rest} {e} {other} {k} b one others = record {
+  start = others.start;
+  end = others.end;
+  before = then first others.before;
+  following = others.following;
+  first = FileBefore.block b others.first;
+  block = others.block;
+  rest = others.rest;
+  whole = ap (then first) others.whole ∙ sym (then-then first others.before (then (entry_alone e) others.following));
+  index = ap (λ r. length (r.entries ++ others.before.entries)) one ∙ ap suc others.index;
 }
 
 at_entry : {u v : Place} {first rest : FileReading} {e other : EntryReading} → Block longest u first v → first ≡ entry_alone other → other ≡ e → File longest v rest → EntrySplit u (then first rest) e zero
@@ -209,33 +209,33 @@ get_after xs ys zs k e same found = subst (λ l. slice_get (l ++ ys) k ≡ Some 
 pub split_file : {u : Place} {says : FileReading} (k : ℕ) (e : EntryReading) → File longest u says → slice_get says.entries k ≡ Some e → EntrySplit u says e k
 split_file k e (file.end end) found = absurd (cc)
 split_file k e (file.skipped char passes x) found =
-    let more = split_file k e x found in
-    record { start = more.start; end = more.end; before = more.before; following = more.following; first = FileBefore.skipped char passes more.first; block = more.block; rest = more.rest; whole = more.whole; index = more.index }
+    let others = split_file k e x found in
+    record { start = others.start; end = others.end; before = others.before; following = others.following; first = FileBefore.skipped char passes others.first; block = others.block; rest = others.rest; whole = others.whole; index = others.index }
 split_file k e (file.line_comment m x) found =
-    let more = split_file k e x found in
-    record { start = more.start; end = more.end; before = more.before; following = more.following; first = FileBefore.line_comment m more.first; block = more.block; rest = more.rest; whole = more.whole; index = more.index }
+    let others = split_file k e x found in
+    record { start = others.start; end = others.end; before = others.before; following = others.following; first = FileBefore.line_comment m others.first; block = others.block; rest = others.rest; whole = others.whole; index = others.index }
 split_file zero e (file.block {first = first} {rest = rest} b x) found =
     elim (one_entry b.body) [
-      | inl none ↦ after_none b none (split_file zero e x (get_after first.entries rest.entries [] zero e none found))
+      | inl no_entry ↦ after_none b no_entry (split_file zero e x (get_after first.entries rest.entries [] zero e no_entry found))
       | inr one ↦
         let here : Some one.0 ≡ Some e = get_after first.entries rest.entries (one.0 ∷ []) zero e (ap (λ r. r.entries) one.1) found in
         at_entry b one.1 (cc) x
     ]
 split_file (suc k) e (file.block {first = first} {rest = rest} b x) found =
     elim (one_entry b.body) [
-      | inl none ↦ after_none b none (split_file (suc k) e x (get_after first.entries rest.entries [] (suc k) e none found))
+      | inl no_entry ↦ after_none b no_entry (split_file (suc k) e x (get_after first.entries rest.entries [] (suc k) e no_entry found))
       | inr one ↦ after_other b one.1 (split_file k e x (get_after first.entries rest.entries (one.0 ∷ []) (suc k) e (ap (λ r. r.entries) one.1) found))
     ]
 
 pub joined_file : {u v : Place} {before rest : FileReading} → FileBefore u before v → File longest v rest → File longest u (then before rest)
 joined_file FileBefore.none x = x
-joined_file (FileBefore.skipped char passes more) x = file.skipped char passes (joined_file more x)
-joined_file (FileBefore.line_comment m more) x = file.line_comment m (joined_file more x)
-joined_file {u} {v} {before} {rest} (FileBefore.block {first = first} {rest = more_says} b more) x =
-    subst (λ r. File longest u r) (sym (then-then first more_says rest)) (file.block b (joined_file more x))
+joined_file (FileBefore.skipped char passes others) x = file.skipped char passes (joined_file others x)
+joined_file (FileBefore.line_comment m others) x = file.line_comment m (joined_file others x)
+joined_file {u} {v} {before} {rest} (FileBefore.block {first = first} {rest = more_says} b others) x =
+    subst (λ r. File longest u r) (sym (then-then first more_says rest)) (file.block b (joined_file others x))
 
 pub ahead_file_before : {u v : Place} {says : FileReading} → FileBefore u says v → Ahead u v
 ahead_file_before {u} FileBefore.none = ahead_here u
-ahead_file_before (FileBefore.skipped char passes more) = ahead_then (ahead_char char) (ahead_file_before more)
-ahead_file_before (FileBefore.line_comment m more) = ahead_then (ahead_line_comment m) (ahead_file_before more)
-ahead_file_before (FileBefore.block b more) = ahead_then (ahead_block b) (ahead_file_before more)
+ahead_file_before (FileBefore.skipped char passes others) = ahead_then (ahead_char char) (ahead_file_before others)
+ahead_file_before (FileBefore.line_comment m others) = ahead_then (ahead_line_comment m) (ahead_file_before others)
+ahead_file_before (FileBefore.block b others) = ahead_then (ahead_block b) (ahead_file_before others)

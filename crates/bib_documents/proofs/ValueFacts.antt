@@ -1,5 +1,5 @@
 -- A field with another value in braces.
-use Rattle.std.proofs.Common.{◌≡◌, ⊥, inr, ℕ, ◌+◌, ◌-◌, ◌<◌, ◌≤◌, Bool, true, false, List, [], ◌∷◌, ◌++◌, length, take, drop, map, refl, sym, ap, ◌∙◌, subst, arith, Some, length-append}
+use Rattle.std.proofs.Common.{◌≡◌, inr, ℕ, ◌+◌, ◌-◌, ◌<◌, ◌≤◌, Bool, true, false, List, [], ◌∷◌, ◌++◌, length, take, drop, map, refl, sym, ap, ◌∙◌, subst, arith, Some, length-append}
 use Rattle.std.specs.Prelude.{◌==◌, slice_get, slice_set}
 use Rattle.std.specs.Char.{is_whitespace, is_ascii_digit, len_utf8}
 use Rattle.std.proofs.lemmas.Bool.Decides.{nat_tests}
@@ -47,8 +47,8 @@ digit_dark c digit = grind (arith, nat_tests)
 
 element_opens : {u v : Place} {e : Piece} → Element longest u e v → Opens u v
 element_opens (element.number (number.whole {c = c} char digit digits ends)) = record { char = c; next = _; here = char; dark = digit_dark c digit; ahead = ahead_run digits.run }
-element_opens (element.number (number.broken {c = c} char digit digits point more ends)) =
-    record { char = c; next = _; here = char; dark = digit_dark c digit; ahead = ahead_then (ahead_run digits.run) (ahead_then (ahead_char point) (ahead_run more.run)) }
+element_opens (element.number (number.broken {c = c} char digit digits point others ends)) =
+    record { char = c; next = _; here = char; dark = digit_dark c digit; ahead = ahead_then (ahead_run digits.run) (ahead_then (ahead_char point) (ahead_run others.run)) }
 element_opens (element.named none i) = record { char = i.first; next = i.second; here = i.here; dark = start_not_white i.first i.starts; ahead = ahead_run i.rest.run }
 element_opens (element.braced b) = record { char = 123; next = b.inside; here = b.opens; dark = refl; ahead = ahead_then (ahead_parts b.parts) (ahead_char b.closes) }
 element_opens (element.quoted q) = record { char = 34; next = q.inside; here = q.opens; dark = refl; ahead = ahead_then (ahead_quoted_parts q.parts) (ahead_char q.closes) }
