@@ -1,2 +1,5 @@
-//! A bibliography text with its raw reading as one value, and edits that change one stretch of the text.
+//! A bibliography file's text with its raw reading as one value, and edits that change one stretch of the text.
 #![tactic(auto)]
+
+pub mod document;
+pub mod errors;
