@@ -3,6 +3,7 @@ pub mod EditFacts
 pub mod EntryFacts
 pub mod GrammarFacts
 pub mod MovedFacts
+pub mod PositionFacts
 pub mod SplitFacts
 pub mod ValueFacts
 pub mod ZoneFacts

@@ -1,6 +1,6 @@
 -- Meaning: words of public contracts.
 -- A bibliography's text with what it says, and what an edit makes of the two.
-use Rattle.std.specs.Prelude.{◌≡◌, ℕ, suc, ◌+◌, Bool, if◌then◌else◌, List, [], ◌∷◌, ◌++◌, length, map, Option, Some, None, bytes_eq, position, slice_get, slice_set}
+use Rattle.std.specs.Prelude.{◌≡◌, ℕ, suc, ◌+◌, Bool, if◌then◌else◌, List, [], ◌∷◌, ◌++◌, length, map, Option, Some, None, bytes_eq, slice_get, slice_set}
 use Rattle.std.specs.Str.{trim_end}
 use Rattle.bib_text.specs.Places.{place, between}
 use Rattle.bib_text.specs.Characters as char
@@ -31,6 +31,11 @@ abbrev pub next_index : Option ℕ → Option ℕ
 next_index (Some i) = Some (suc i)
 next_index None = None
 
+-- the first index at which a test is passed
+abbrev pub first_position : {A : Type 0} → (A → Bool) → List A → Option ℕ
+first_position test [] = None
+first_position test (x ∷ xs) = if test x then Some 0 else next_index (first_position test xs)
+
 -- an index after the first, or else the first if a test is passed
 abbrev pub or_first : Bool → Option ℕ → Option ℕ
 or_first passes (Some i) = Some (suc i)
@@ -43,7 +48,7 @@ last_position test (x ∷ xs) = or_first (test x) (last_position test xs)
 
 -- the first entry with a key, and its index
 pub record HasEntry (d : Document) (key : List ℕ) (k : ℕ) (e : EntryReading) : Type 0 where
-  pub first : position (has_key key) d.says.entries ≡ Some k
+  pub first : first_position (has_key key) d.says.entries ≡ Some k
   pub here : slice_get d.says.entries k ≡ Some e
 
 -- the last field of an entry with a name, which is the one that counts, and its index

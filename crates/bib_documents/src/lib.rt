@@ -2,4 +2,7 @@
 #![tactic(auto)]
 
 pub mod document;
+mod braces;
+mod editing;
 pub mod errors;
+mod lookup;
