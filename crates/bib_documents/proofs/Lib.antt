@@ -5,5 +5,6 @@ pub mod GrammarFacts
 pub mod MovedFacts
 pub mod PositionFacts
 pub mod SplitFacts
+pub mod TrimFacts
 pub mod ValueFacts
 pub mod ZoneFacts

@@ -1,5 +1,6 @@
 -- The first and the last index at which a test is passed, as a list is gone through.
 use Rattle.std.proofs.Common.{◌≡◌, ℕ, zero, suc, ◌+◌, ◌<◌, Bool, true, false, cond, List, [], ◌∷◌, ◌++◌, length, map, take, drop, get_or, refl, sym, ap, ◌∙◌, arith, Option, Some, None}
+use Rattle.std.specs.Prelude.{slice_get}
 use Rattle.std.proofs.lemmas.List.{take_more, drop_more, take-append-drop, map-append, length-map, length-take-le}
 use Rattle.bib_documents.specs.Documents.{first_position, last_position, next_index, or_first}
 
@@ -49,3 +50,9 @@ module _ {A B : Type 0} (view : A → B) (test : B → Bool) (xs : List A) (i : 
       let whole : xs ≡ take i xs ++ x ∷ drop (i + 1) xs = sym (take-append-drop i xs) ∙ ap (λ ys. take i xs ++ ys) (drop_more xs i x within ∙ ap (λ y. y ∷ drop (i + 1) xs) (sym is)) in
       ap (first_position test) (ap (map view) whole ∙ map-append view (take i xs) (x ∷ drop (i + 1) xs))
       ∙ first-here test (map view (take i xs)) (map view (drop (i + 1) xs)) (view x) none passes ∙ ap Some size
+
+-- what is seen of an element that stands in a list
+pub slice_get-map : {A B : Type 0} (view : A → B) (xs : List A) (k : ℕ) (x : A) → k < length xs → x ≡ get_or xs k x → slice_get (map view xs) k ≡ Some (view x)
+slice_get-map view [] k x within is = absurd (omega arith)
+slice_get-map view (y ∷ ys) zero x within is = ap (λ z. Some (view z)) (sym is)
+slice_get-map view (y ∷ ys) (suc k) x within is = slice_get-map view ys k x (omega arith) is

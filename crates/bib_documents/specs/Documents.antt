@@ -1,12 +1,12 @@
 -- Meaning: words of public contracts.
 -- A bibliography's text with what it says, and what an edit makes of the two.
-use Rattle.std.specs.Prelude.{◌≡◌, ℕ, suc, ◌+◌, Bool, if◌then◌else◌, List, [], ◌∷◌, ◌++◌, length, map, Option, Some, None, bytes_eq, slice_get, slice_set}
+use Rattle.std.specs.Prelude.{◌≡◌, ℕ, suc, ◌+◌, Bool, true, false, if◌then◌else◌, List, [], ◌∷◌, ◌++◌, length, map, Option, Some, None, bytes_eq, slice_get, slice_set}
 use Rattle.std.specs.Str.{trim_end}
 use Rattle.bib_text.specs.Places.{place, between}
 use Rattle.bib_text.specs.Characters as char
 use Rattle.bib_syntax.specs.Grammar.{Braced, IsRawReading, is_word}
-use Rattle.bib_syntax.specs.Reading.{Part, part, FieldReading, EntryReading, FileReading}
-use Rattle.bib_syntax.specs.Reading.Piece.{literal}
+use Rattle.bib_syntax.specs.Reading.{Part, Piece, FieldReading, EntryReading, FileReading}
+use Rattle.bib_syntax.specs.Reading.Piece.{literal, abbreviation}
 use Rattle.bib_documents.specs.Edits.{Edit, edited, moved, moved_field, moved_entry, moved_file}
 
 -- a text, and what it says
@@ -97,3 +97,23 @@ abbrev pub value_changed : Document → ℕ → EntryReading → ℕ → FieldRe
 value_changed d k e j f value =
     let edit = value_edit d.text f value in
     field_edited d edit k e j (with_value value (moved_field (moved edit) f))
+
+-- whether a value is this text, alone
+abbrev pub is_value : List ℕ → List Piece → Bool
+is_value value [] = false
+is_value value (abbreviation p ∷ rest) = false
+is_value value (literal p ∷ []) = bytes_eq p.text value
+is_value value (literal p ∷ other ∷ rest) = false
+
+-- what comes of setting a field of an entry: nothing changes where that is its value already, and else the value is exchanged
+pub data FieldSet (d : Document) (key name value : List ℕ) : Document → Type 0 where
+  same : {k j : ℕ} {e : EntryReading} {f : FieldReading} → HasEntry d key k e → HasField e name j f → is_value value f.value.pieces ≡ true → FieldSet d key name value d
+  changed : {k j : ℕ} {e : EntryReading} {f : FieldReading} → HasEntry d key k e → HasField e name j f → is_value value f.value.pieces ≡ false
+      → FieldSet d key name value (value_changed d k e j f value)
+
+-- a text is what comes of an edit, and is read so
+pub record IsEdited (Outcome : Document → Type 0) (text : List ℕ) : Type 0 where
+  pub document : Document
+  pub outcome : Outcome document
+  pub is : text ≡ document.text
+  pub read : IsRead document

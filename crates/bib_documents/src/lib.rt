@@ -6,3 +6,5 @@ mod braces;
 mod editing;
 pub mod errors;
 mod lookup;
+mod setting;
+mod values;

@@ -1,7 +1,0 @@
-use Rattle.std.proofs.Common.{◌≡◌, map, take}
-use Rattle.bib_syntax.specs.Views.{field_of}
-use Rattle.bib_documents.specs.Documents.{last_position, has_name}
-use Rattle.bib_documents.proofs.lookup.last_field.Given as goal
-
-abbrev pub invariant-fields : goal.invariant-fields
-invariant-fields l = l.last ≡ last_position (has_name l.name) (map field_of (take l.index l.fields))
