@@ -1,10 +1,12 @@
 -- What stands before the stretch that an edit changes, and what stands after it, stands in the edited text.
-use Rattle.std.proofs.Common.{◌≡◌, ℕ, ◌+◌, ◌-◌, ◌<◌, ◌≤◌, Bool, true, false, List, ◌++◌, length, take, drop, refl, sym, ap, ◌∙◌, subst, arith, length-append, length-drop, append_assoc}
+use Rattle.std.proofs.Common.{◌≡◌, ℕ, ◌+◌, ◌-◌, ◌<◌, ◌≤◌, Bool, true, false, List, ◌∷◌, ◌++◌, length, take, drop, refl, sym, ap, ◌∙◌, subst, arith, length-append, length-drop, append_assoc}
 use Rattle.std.specs.Prelude.{nat_lt}
-use Rattle.std.proofs.lemmas.List.{take_all, take_at, drop_at, length-take-le}
+use Rattle.std.specs.Char.{len_utf8}
+use Rattle.std.proofs.lemmas.List.{take_all, take_at, drop_at, drop-drop, length-take-le}
+use Rattle.std.proofs.lemmas.Str.{encode_ascii, len_utf8_ascii}
 use Rattle.std.proofs.lemmas.Bool.Decides.{nat_tests}
 use Rattle.bib_text.specs.Places.{Place, place, CharAt}
-use Rattle.bib_text.proofs.PlaceFacts.{char_left}
+use Rattle.bib_text.proofs.PlaceFacts.{char_here, char_left}
 use Rattle.bib_documents.specs.Edits.{Edit, edited, moved}
 use Rattle.bib_documents.proofs.BoundaryFacts.{Border, not_over}
 use Rattle.bib_documents.proofs.ZoneFacts.{Frame, Zone}
@@ -65,21 +67,37 @@ zone_after edit text ordered within =
           omega (arith, char_left char, char.next, length-edited edit text ordered within);
     }
 
--- the new bytes, in the new text
-abbrev pub bytes_frame : Edit → List ℕ → Frame
-bytes_frame edit text = record { old = edit.bytes; new = edited edit text; move = λ n. n + edit.start; from = 0; to = edit.start; end = length edit.bytes }
+-- ---- a text that stands in another
 
-middle : (start end : ℕ) (bytes text : List ℕ) → start ≤ length text → drop start (take start text ++ bytes ++ drop end text) ≡ bytes ++ drop end text
-middle start end bytes text within =
-    ap (drop start) (append_assoc (take start text) bytes (drop end text)) ∙ drop_at (take start text) (bytes ++ drop end text) start (length-take-le start text within)
+abbrev pub piece_frame : List ℕ → List ℕ → ℕ → Frame
+piece_frame piece whole at = record { old = piece; new = whole; move = λ n. n + at; from = 0; to = at; end = length piece }
 
-pub zone_bytes : (edit : Edit) (text : List ℕ) → edit.start ≤ length text → Border (place (edited edit text) (edit.start + length edit.bytes)) → Zone (bytes_frame edit text)
-zone_bytes edit text within border =
-    let size : length edit.bytes - 0 ≡ length edit.bytes = omega arith in
-    let whole : take (length edit.bytes) edit.bytes ≡ take (length edit.bytes) (drop edit.start (edited edit text)) =
-    take_all (length edit.bytes) edit.bytes (omega arith) ∙ sym (ap (take (length edit.bytes)) (middle edit.start edit.end edit.bytes text within) ∙ take_at edit.bytes (drop edit.end text) (length edit.bytes) refl) in
+pub zone_piece : (piece whole rest : List ℕ) (at : ℕ) → drop at whole ≡ piece ++ rest → Border (place whole (at + length piece)) → Zone (piece_frame piece whole at)
+zone_piece piece whole rest at here border =
+    let size : length piece - 0 ≡ length piece = omega arith in
+    let same : take (length piece) piece ≡ take (length piece) (drop at whole) =
+    take_all (length piece) piece (omega arith) ∙ sym (ap (take (length piece)) here ∙ take_at piece rest (length piece) refl) in
     record {
       moves = λ n from below. omega arith;
-      same = ap (λ n. take n edit.bytes) size ∙ whole ∙ ap (λ n. take n (drop edit.start (edited edit text))) (sym size);
-      cut = λ {u} {v} {c} same char below. omega (arith, not_over (edited edit text) (edit.start + length edit.bytes) border same char (omega arith));
+      same = ap (λ n. take n piece) size ∙ same ∙ ap (λ n. take n (drop at whole)) (sym size);
+      cut = λ {u} {v} {c} same_text char below. omega (arith, not_over whole (at + length piece) border same_text char (omega arith));
     }
+
+-- the new bytes, in the new text
+pub new_bytes : (edit : Edit) (text : List ℕ) → edit.start ≤ length text → drop edit.start (edited edit text) ≡ edit.bytes ++ drop edit.end text
+new_bytes edit text within =
+    ap (drop edit.start) (append_assoc (take edit.start text) edit.bytes (drop edit.end text)) ∙ drop_at (take edit.start text) (edit.bytes ++ drop edit.end text) edit.start (length-take-le edit.start text within)
+
+-- ---- texts that are known
+
+-- a character of ASCII, and what stands after it
+pub ascii_stands : (text rest : List ℕ) (at c : ℕ) → c < 128 → drop at text ≡ c ∷ rest → CharAt (place text at) c (place text (at + 1))
+ascii_stands text rest at c small here =
+    let width : len_utf8 c ≡ 1 = len_utf8_ascii c small in
+    subst (λ n. CharAt (place text at) c (place text (at + n))) width (char_here text rest at c (here ∙ ap (λ xs. xs ++ rest) (sym (encode_ascii c small))))
+
+pub rest_stands : (text rest : List ℕ) (at c : ℕ) → drop at text ≡ c ∷ rest → drop (at + 1) text ≡ rest
+rest_stands text rest at c here = sym (drop-drop 1 at text) ∙ ap (drop 1) here
+
+pub text_stands : (text part rest : List ℕ) (at : ℕ) → drop at text ≡ part ++ rest → drop (at + length part) text ≡ rest
+text_stands text part rest at here = sym (drop-drop (length part) at text) ∙ ap (drop (length part)) here ∙ drop_at part rest (length part) refl

@@ -1,3 +1,4 @@
+pub mod AddedFacts
 pub mod BoundaryFacts
 pub mod EditFacts
 pub mod EntryFacts

@@ -22,7 +22,7 @@ use Rattle.bib_syntax.proofs.LawFacts.{start_not_white}
 use Rattle.bib_documents.specs.Edits.{Edit, edited, moved, moved_part, moved_field}
 use Rattle.bib_documents.specs.Documents.{Document, IsRead, CanStandInBraces, in_braces, part_at, value_edit, with_value, value_changed}
 use Rattle.bib_documents.proofs.BoundaryFacts.{Border}
-use Rattle.bib_documents.proofs.EditFacts.{Fits, before_frame, after_frame, bytes_frame, moved_before, moved_after, zone_before, zone_after, zone_bytes}
+use Rattle.bib_documents.proofs.EditFacts.{Fits, before_frame, after_frame, piece_frame, moved_before, moved_after, zone_before, zone_after, zone_piece, new_bytes}
 use Rattle.bib_documents.proofs.ZoneFacts.{Zone, Inside, there, inside, inside_between, char_there, run_there, longest_there, stops_there}
 use Rattle.bib_documents.proofs.GrammarFacts.{below_between, below_char, identifier_there, braced_there}
 use Rattle.bib_documents.proofs.SplitFacts.{EntrySplit, FieldSplit, FieldsAfter, ahead_file_before, ahead_fields_before, ahead_fields_after, split_file, split_fields}
@@ -117,21 +117,30 @@ moved_inner value start at is =
     let last : length value + 1 + start ≡ at + 1 + length value = omega arith in
     ap (λ t. build t (1 + start) (length value + 1 + start)) (inner_text value) ∙ ap (λ n. build value n (length value + 1 + start)) first ∙ ap (build value (at + 1)) last
 
+-- a text in braces, where it stands
+pub braced_stands : (whole rest value : List ℕ) (at : ℕ) → CanStandInBraces value → drop at whole ≡ in_braces value ++ rest → Border (place whole (at + length (in_braces value)))
+    → Braced (place whole at) (part_at (at + 1) value) (place whole (at + length (in_braces value)))
+braced_stands whole rest value at can here border =
+    let piece : List ℕ = in_braces value in
+    let z = zone_piece piece whole rest at here border in
+    let first : Inside (piece_frame piece whole at) (place piece 0) = record { text = refl; start = omega arith; end = omega arith; moved = omega arith } in
+    let last : Inside (piece_frame piece whole at) (place piece (length piece)) = record { text = refl; start = omega arith; end = omega arith; moved = omega arith } in
+    let said : moved_part (λ n. n + at) can.0 ≡ part_at (at + 1) value = ap (moved_part (λ n. n + at)) (braced_part value can.1) ∙ moved_inner value at at refl in
+    let from : 0 + at ≡ at = omega arith in
+    let to : length piece + at ≡ at + length piece = omega arith in
+    subst (λ n. Braced (place whole n) (part_at (at + 1) value) (place whole (at + length piece))) from
+    (subst (λ n. Braced (place whole (0 + at)) (part_at (at + 1) value) (place whole n)) to
+    (subst (λ p. Braced (place whole (0 + at)) p (place whole (length piece + at))) said (braced_there z first last can.1)))
+
 -- the text in braces that comes in the place of a value, in the new text
 new_braced : (edit : Edit) (text value : List ℕ) → edit.bytes ≡ in_braces value → edit.start ≤ length text → CanStandInBraces value → Border (place (edited edit text) (edit.start + length edit.bytes))
     → (at end : ℕ) → at ≡ edit.start → end ≡ edit.start + length edit.bytes → Braced (place (edited edit text) at) (part_at (at + 1) value) (place (edited edit text) end)
 new_braced edit text value bytes within can border at end is_at is_end =
-    let z = zone_bytes edit text within border in
-    let stands : Braced (place edit.bytes 0) can.0 (place edit.bytes (length edit.bytes)) = subst (λ t. Braced (place t 0) can.0 (place t (length t))) (sym bytes) can.1 in
-    let first : Inside (bytes_frame edit text) (place edit.bytes 0) = record { text = refl; start = omega arith; end = omega arith; moved = omega arith } in
-    let last : Inside (bytes_frame edit text) (place edit.bytes (length edit.bytes)) = record { text = refl; start = omega arith; end = omega arith; moved = omega arith } in
-    let there' = braced_there z first last stands in
-    let said : moved_part (λ n. n + edit.start) can.0 ≡ part_at (at + 1) value = ap (moved_part (λ n. n + edit.start)) (braced_part value can.1) ∙ moved_inner value edit.start at is_at in
-    let from : 0 + edit.start ≡ at = omega arith in
-    let to : length edit.bytes + edit.start ≡ end = omega arith in
-    subst (λ n. Braced (place (edited edit text) n) (part_at (at + 1) value) (place (edited edit text) end)) from
-    (subst (λ n. Braced (place (edited edit text) (0 + edit.start)) (part_at (at + 1) value) (place (edited edit text) n)) to
-    (subst (λ p. Braced (place (edited edit text) (0 + edit.start)) p (place (edited edit text) (length edit.bytes + edit.start))) said there'))
+    let whole : List ℕ = edited edit text in
+    let size : end ≡ at + length (in_braces value) = omega (arith, ap length bytes) in
+    let here : drop at whole ≡ in_braces value ++ drop edit.end text = ap (λ n. drop n whole) is_at ∙ new_bytes edit text within ∙ ap (λ xs. xs ++ drop edit.end text) bytes in
+    let border' : Border (place whole (at + length (in_braces value))) = subst (λ n. Border (place whole n)) (sym is_end ∙ size) border in
+    subst (λ n. Braced (place whole at) (part_at (at + 1) value) (place whole n)) (sym size) (braced_stands whole (drop edit.end text) value at can here border')
 
 -- the field, where the places of its old value are known
 record ValueStretch (edit : Edit) (text value : List ℕ) (f : FieldReading) (u v : Place) : Type 0 where

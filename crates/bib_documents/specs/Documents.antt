@@ -1,12 +1,15 @@
 -- Meaning: words of public contracts.
 -- A bibliography's text with what it says, and what an edit makes of the two.
-use Rattle.std.specs.Prelude.{◌≡◌, ℕ, suc, ◌+◌, Bool, true, false, if◌then◌else◌, List, [], ◌∷◌, ◌++◌, length, map, Option, Some, None, bytes_eq, slice_get, slice_set}
+use Rattle.std.specs.Prelude.{◌≡◌, ℕ, suc, ◌+◌, Bool, true, false, if◌then◌else◌, List, [], ◌∷◌, ◌++◌, length, map, Option, Some, None, bytes_eq, slice_get, slice_set, codes, ⊤}
+use Rattle.std.specs.Char.{is_whitespace}
 use Rattle.std.specs.Str.{trim_end}
-use Rattle.bib_text.specs.Places.{place, between}
+use Rattle.bib_text.specs.Places.{CharAt, Longest, Place, between, place}
 use Rattle.bib_text.specs.Characters as char
-use Rattle.bib_syntax.specs.Grammar.{Braced, IsRawReading, is_word}
+use Rattle.bib_syntax.specs.Grammar.{Braced, Identifier, IsRawReading, is_word, longest}
 use Rattle.bib_syntax.specs.Reading.{Part, Piece, FieldReading, EntryReading, FileReading}
 use Rattle.bib_syntax.specs.Reading.Piece.{literal, abbreviation}
+use Rattle.bib_documents.specs.declared.errors.EditError.{EditError}
+use Rattle.bib_documents.specs.declared.errors.EditError.TheVariants.{UnknownKey, KeyIsThere, NotAKey, NotAName, NotInBraces, OutOfMemory}
 use Rattle.bib_documents.specs.Edits.{Edit, edited, moved, moved_field, moved_entry, moved_file}
 
 -- a text, and what it says
@@ -105,11 +108,54 @@ is_value value (abbreviation p ∷ rest) = false
 is_value value (literal p ∷ []) = bytes_eq p.text value
 is_value value (literal p ∷ other ∷ rest) = false
 
--- what comes of setting a field of an entry: nothing changes where that is its value already, and else the value is exchanged
+-- a text can be a field's name: it is an identifier
+abbrev pub CanBeName : List ℕ → Type 0
+CanBeName text = (p : Part) × Identifier longest (place text 0) p (place text (length text))
+
+-- this is the place after the comma that stands after an entry's key
+pub record IsAfterComma (text : List ℕ) (e : EntryReading) (at : ℕ) : Type 0 where
+  pub before : Place
+  pub white : Longest is_whitespace (place text e.key.end) before
+  pub comma : CharAt before char.comma (place text at)
+
+-- a line with a field, and the comma after it
+abbrev pub field_line : List ℕ → List ℕ → List ℕ
+field_line name value = codes "\n  " ++ name ++ codes " = " ++ in_braces value ++ codes ","
+
+-- a field in a line that is added at a place
+abbrev pub field_at : ℕ → List ℕ → List ℕ → FieldReading
+field_at at name value = record {
+  name = part_at (at + 3) name;
+  value = record {
+    pieces = literal (part_at (at + 3 + length name + 4) value) ∷ [];
+    start = at + 3 + length name + 3;
+    end = at + 3 + length name + 3 + length (in_braces value);
+  };
+}
+
+-- an entry with one more field, before the others, in a line of its own
+abbrev pub field_added : Document → ℕ → EntryReading → ℕ → List ℕ → List ℕ → Document
+field_added d k e at name value =
+    let edit : Edit = record { start = at; end = at; bytes = field_line name value } in
+    entry_edited d edit k (record (moved_entry (moved edit) e) { fields = field_at at name value ∷ map (moved_field (moved edit)) e.fields })
+
+-- what comes of setting a field of an entry: nothing changes where that is its value already, else the value is exchanged,
+-- and a field that isn't there is added
 pub data FieldSet (d : Document) (key name value : List ℕ) : Document → Type 0 where
   same : {k j : ℕ} {e : EntryReading} {f : FieldReading} → HasEntry d key k e → HasField e name j f → is_value value f.value.pieces ≡ true → FieldSet d key name value d
   changed : {k j : ℕ} {e : EntryReading} {f : FieldReading} → HasEntry d key k e → HasField e name j f → is_value value f.value.pieces ≡ false
       → FieldSet d key name value (value_changed d k e j f value)
+  added : {k at : ℕ} {e : EntryReading} → HasEntry d key k e → last_position (has_name name) e.fields ≡ None → IsAfterComma d.text e at
+      → FieldSet d key name value (field_added d k e at name value)
+
+-- why setting a field is refused
+abbrev pub SetIsRefused : Document → List ℕ → List ℕ → List ℕ → EditError → Type 0
+SetIsRefused d key name value UnknownKey = first_position (has_key key) d.says.entries ≡ None
+SetIsRefused d key name value KeyIsThere = ⊥
+SetIsRefused d key name value NotAKey = ⊥
+SetIsRefused d key name value NotAName = CanBeName name → ⊥
+SetIsRefused d key name value NotInBraces = CanStandInBraces value → ⊥
+SetIsRefused d key name value OutOfMemory = ⊤
 
 -- a text is what comes of an edit, and is read so
 pub record IsEdited (Outcome : Document → Type 0) (text : List ℕ) : Type 0 where
