@@ -135,3 +135,73 @@ line_read whole rest name value at can_name can_value stands =
       comma = subst (λ n. CharAt (place whole n3) 44 (place whole n)) (sym size) comma;
       feed = feed;
     }
+
+-- the place after the comma after an entry's key
+after_comma_is : (text : List ℕ) (e : EntryReading) (at : ℕ) {u v : Place} → (b : EntryBlock u e v) → u.text ≡ text → IsAfterComma text e at → b.after_comma ≡ place text at
+after_comma_is text e at {u} {v} b same is =
+    let to_key = ahead_then (ahead_head b.head) (ahead_run b.key.run) in
+    let end : e.key.end ≡ b.key_end.at = ap (λ p. p.end) b.key_is in
+    let here : place text e.key.end ≡ b.key_end = same_place {u = place text e.key.end} {v = b.key_end} (sym (to_key.text ∙ same)) end in
+    let before : is.before ≡ b.before_comma = longest_same is.white (subst (λ p. Longest is_whitespace p b.before_comma) (sym here) b.white) in
+    (same_char b.comma (subst (λ p. CharAt p 44 (place text at)) before is.comma)).1
+
+pub field_added_read : (d : Document) (k : ℕ) (e : EntryReading) (at : ℕ) (name value : List ℕ) → IsRead d → slice_get d.says.entries k ≡ Some e → IsAfterComma d.text e at → CanBeName name → CanStandInBraces value
+    → IsRead (field_added d k e at name value)
+field_added_read d k e at name value read here is can_name can_value =
+    let s = split_file k e read here in
+    let b = s.block in
+    let edit : Edit = record { start = at; end = at; bytes = field_line name value } in
+    let move = moved edit in
+    let to_start = ahead_file_before s.first in
+    let to_key = ahead_head b.head in
+    let at_key = ahead_then to_start to_key in
+    let at_before = ahead_then at_key (ahead_then (ahead_run b.key.run) (ahead_run b.white.run)) in
+    let at_comma = ahead_then at_before (ahead_char b.comma) in
+    let to_fields = ahead_gap b.gap in
+    let to_brace = ahead_then to_fields (ahead_fields b.fields) in
+    let to_close = ahead_then to_brace (ahead_char b.closes) in
+    let place_is : b.after_comma ≡ place d.text at = after_comma_is d.text e at b to_start.text is in
+    let at_is : b.after_comma.at ≡ at = ap (λ p. p.at) place_is in
+    let closing_within = char_within b.closes in
+    let within : at ≤ length d.text = omega (arith, at_is, to_close.at, closing_within, ap length to_close.text, ap length at_comma.text) in
+    let stands : drop at (edited edit d.text) ≡ field_line name value ++ drop at d.text = new_bytes edit d.text within in
+    let line = line_read (edited edit d.text) (drop at d.text) name value at can_name can_value stands in
+    let fits : Fits edit d.text = record { ordered = omega arith; within = within; border = inr (10, place (edited edit d.text) (at + 1), line.feed) } in
+    let z1 = zone_before edit d.text fits in
+    let z2 = zone_after edit d.text fits.ordered fits.within in
+    let before_at : b.before_comma.at < at = omega (arith, b.comma.next, at_is) in
+    let iu : Inside (before_frame edit d.text) s.start = before_stretch edit d.text fits to_start.text (omega (arith, to_key.at, (ahead_run b.key.run).at, (ahead_run b.white.run).at)) in
+    let iw : Inside (before_frame edit d.text) b.before_comma = before_stretch edit d.text fits at_before.text before_at in
+    let ia = inside_between z1 iu iw to_key (ahead_then (ahead_run b.key.run) (ahead_run b.white.run)) in
+    let ib = inside_between z1 ia iw (ahead_run b.key.run) (ahead_run b.white.run) in
+    let jc : Inside (after_frame edit d.text) b.after_comma = after_stretch edit d.text fits at_comma.text (omega (arith, at_is)) (omega (arith, to_close.at, closing_within, ap length to_close.text)) in
+    let jf : Inside (after_frame edit d.text) b.fields_start = after_stretch edit d.text fits (ahead_then at_comma to_fields).text (omega (arith, at_is, to_fields.at)) (omega (arith, (ahead_fields b.fields).at, (ahead_char b.closes).at, closing_within, ap length (ahead_then (ahead_fields b.fields) (ahead_char b.closes)).text)) in
+    let jb : Inside (after_frame edit d.text) b.brace = after_stretch edit d.text fits (ahead_then at_comma to_brace).text (omega (arith, at_is, to_brace.at)) (omega (arith, (ahead_char b.closes).at, closing_within, ap length b.closes.same)) in
+    let jd : Inside (after_frame edit d.text) s.end = after_stretch edit d.text fits (ahead_then at_comma to_close).text (omega (arith, at_is, to_close.at)) closing_within in
+    let last_char : CharAt (goes edit d.text b.before_comma) 44 (place (edited edit d.text) (move b.before_comma.at + 1)) = char_there_last z1 iw (omega (arith, at_is)) b.comma in
+    let comma_end : move b.before_comma.at + 1 ≡ at = omega (arith, moved_before edit b.before_comma.at before_at, b.comma.next, at_is) in
+    let comma : CharAt (goes edit d.text b.before_comma) 44 (place (edited edit d.text) at) = subst (λ n. CharAt (goes edit d.text b.before_comma) 44 (place (edited edit d.text) n)) comma_end last_char in
+    let end_is : move b.after_comma.at ≡ at + length (field_line name value) = omega (arith, moved_after edit b.after_comma.at (omega (arith, at_is)), at_is) in
+    let others : Gap longest (place (edited edit d.text) (at + length (field_line name value))) (goes edit d.text b.fields_start) =
+    subst (λ n. Gap longest (place (edited edit d.text) n) (goes edit d.text b.fields_start)) end_is (gap_there z2 jc jf (omega (arith, (ahead_fields b.fields).at, below_char jd b.closes)) b.gap) in
+    let e' : EntryReading = record (moved_entry move e) { fields = field_at at name value ∷ map (moved_field move) e.fields } in
+    let block : EntryBlock (goes edit d.text s.start) e' (goes edit d.text s.end) = record {
+      inside = goes edit d.text b.inside;
+      key_end = goes edit d.text b.key_end;
+      before_comma = goes edit d.text b.before_comma;
+      after_comma = place (edited edit d.text) at;
+      fields_start = place (edited edit d.text) (at + 3);
+      brace = goes edit d.text b.brace;
+      head = head_there z1 iu ia (omega (arith, (ahead_run b.key.run).at, (ahead_run b.white.run).at)) b.head;
+      is_entry = b.is_entry;
+      key = longest_there z1 ia ib (omega (arith, (ahead_run b.white.run).at)) b.key;
+      white = longest_there z1 ib iw before_at b.white;
+      comma = comma;
+      gap = line.white;
+      fields = Fields.more line.field line.gap line.comma others (fields_there z2 jf jb (below_char jd b.closes) b.fields);
+      closes = char_there z2 jb jd b.closes;
+      key_is = ap (moved_part move) b.key_is ∙ sym (part_there z1 ia ib (ahead_run b.key.run));
+      starts = ap move b.starts;
+      ends = ap move b.ends;
+    } in
+    entry_edited_read d edit k e e' fits s (omega (arith, to_key.at, (ahead_run b.key.run).at, (ahead_run b.white.run).at)) (omega (arith, at_is, to_close.at)) (block_of block)

@@ -19,9 +19,11 @@ use Rattle.bib_syntax.specs.Grammar.{Gap as gap}
 use Rattle.bib_syntax.proofs.FieldFacts.{ahead_identifier, ahead_parts, ahead_quoted_parts, ahead_elements, ahead_field, ahead_gap}
 use Rattle.bib_syntax.proofs.FileFacts.{ahead_head}
 use Rattle.bib_syntax.proofs.LawFacts.{start_not_white}
+use Rattle.bib_documents.specs.Placed.{IsPlaced}
+use Rattle.std.specs.Str.{IsCharBoundary}
 use Rattle.bib_documents.specs.Edits.{Edit, edited, moved, moved_part, moved_field}
 use Rattle.bib_documents.specs.Documents.{Document, IsRead, CanStandInBraces, in_braces, part_at, value_edit, with_value, value_changed}
-use Rattle.bib_documents.proofs.BoundaryFacts.{Border}
+use Rattle.bib_documents.proofs.BoundaryFacts.{Border, char_boundary}
 use Rattle.bib_documents.proofs.EditFacts.{Fits, before_frame, after_frame, piece_frame, moved_before, moved_after, zone_before, zone_after, zone_piece, new_bytes}
 use Rattle.bib_documents.proofs.ZoneFacts.{Zone, Inside, there, inside, inside_between, char_there, run_there, longest_there, stops_there}
 use Rattle.bib_documents.proofs.GrammarFacts.{below_between, below_char, identifier_there, braced_there}
@@ -265,3 +267,20 @@ value_changed_read d k e j f value read here there' can white =
     name_before {u} {v} {f} field =
         let rest = ahead_then (ahead_run field.name.rest.run) (ahead_then (ahead_run field.white.run) (ahead_then (ahead_char field.sign) (ahead_run field.white'.run))) in
         omega (arith, rest.at, field.name.here.next, (len_utf8_bounds field.name.first).0)
+
+-- where a value may be cut out of its text
+pub field_placed : (d : Document) (k : ℕ) (e : EntryReading) (j : ℕ) (f : FieldReading) → IsRead d → slice_get d.says.entries k ≡ Some e → slice_get e.fields j ≡ Some f → IsPlaced d.text f
+field_placed d k e j f read here there' =
+    let s = split_file k e read here in
+    let g = split_fields j f s.block.fields there' in
+    let to_field = ahead_then (ahead_file_before s.first) (ahead_then (ahead_head s.block.head) (ahead_then (ahead_run s.block.key.run) (ahead_then (ahead_run s.block.white.run) (ahead_then (ahead_char s.block.comma) (ahead_then (ahead_gap s.block.gap) (ahead_fields_before g.first)))))) in
+    let to_value = ahead_then (ahead_identifier g.field.name) (ahead_then (ahead_run g.field.white.run) (ahead_then (ahead_char g.field.sign) (ahead_run g.field.white'.run))) in
+    let over = ahead_elements g.field.elements in
+    let value_text = (ahead_then to_field to_value).text in
+    let opens = elements_opens g.field.elements in
+    let closes = after_stands g.rest s.block.closes in
+    record {
+      ordered = omega (arith, g.field.starts, g.field.ends, over.at);
+      start = subst (λ n. IsCharBoundary d.text n) (sym g.field.starts) (subst (λ t. IsCharBoundary t g.field.value_start.at) value_text (char_boundary opens.here));
+      end = subst (λ n. IsCharBoundary d.text n) (sym g.field.ends) (subst (λ t. IsCharBoundary t g.end.at) (over.text ∙ value_text) (char_boundary closes.here));
+    }
