@@ -1,11 +1,29 @@
 -- Machinery: words of private contracts.
 -- Where the parts of a document may be cut out of its text.
-use Rattle.std.specs.Prelude.{ℕ, ◌≤◌, List}
+use Rattle.std.specs.Prelude.{ℕ, ◌≤◌, List, ⊤}
 use Rattle.std.specs.Str.{IsCharBoundary}
-use Rattle.bib_syntax.specs.Reading.{FieldReading}
+use Rattle.bib_syntax.specs.Reading.{EntryReading, FieldReading}
+use Rattle.bib_documents.specs.Documents.{CanBeName, CanStandInBraces, IsAfterComma}
+use Rattle.bib_documents.specs.declared.errors.EditError.{EditError}
+use Rattle.bib_documents.specs.declared.errors.EditError.TheVariants.{UnknownKey, KeyIsThere, NotAKey, NotAName, NotInBraces, OutOfMemory}
 
 -- where the value of a field may be cut out of a text
 pub record IsPlaced (text : List ℕ) (f : FieldReading) : Type 0 where
   pub ordered : f.value.start ≤ f.value.end
   pub start : IsCharBoundary text f.value.start
   pub end : IsCharBoundary text f.value.end
+
+-- where the comma after an entry's key stands in a text
+pub record HasComma (text : List ℕ) (e : EntryReading) : Type 0 where
+  pub key_end : IsCharBoundary text e.key.end
+  pub at : ℕ
+  pub is : IsAfterComma text e at
+
+-- why a field with this name and value isn't added
+abbrev pub AddIsRefused : List ℕ → List ℕ → EditError → Type 0
+AddIsRefused name value UnknownKey = ⊥
+AddIsRefused name value KeyIsThere = ⊥
+AddIsRefused name value NotAKey = ⊥
+AddIsRefused name value NotAName = CanBeName name → ⊥
+AddIsRefused name value NotInBraces = CanStandInBraces value → ⊥
+AddIsRefused name value OutOfMemory = ⊤

@@ -1,12 +1,17 @@
 //! A bibliography file's text with its raw reading.
 
 ghost use Rattle.std.specs.Prelude.{◌≡◌, ◌⊎◌, IfOk, IfErr, OnOk};
+ghost use Rattle.std.specs.String.{string_bytes};
 ghost use Rattle.bib_syntax.specs.Errors.{Refuses, out_of_memory};
 ghost use Rattle.bib_syntax.specs.Grammar.{IsFile, IsRawReading};
 ghost use Rattle.bib_syntax.specs.SyntaxErrors.{IsReported};
 ghost use Rattle.bib_syntax.specs.Views.{file_of};
-ghost use Rattle.bib_documents.specs.Documents.{Document, IsRead};
+ghost use Rattle.bib_documents.specs.Documents.{Document, FieldSet, IsEdited, IsRead, SetIsRefused};
 
+use crate::adding::with_field;
+use crate::errors::EditError;
+use crate::lookup::{entry_with, field_with};
+use crate::setting::set_value;
 use bib_syntax::raw::{ParseError, RawBibliography};
 use std::alloc::Global;
 use std::marker::Model;
@@ -55,5 +60,26 @@ impl<'s> RawDocument<'s> {
         ensures { file_of result.now ≡ self.now.says }
     {
         &self.raw
+    }
+
+    /// The text with a field of an entry set to a text in braces: the last field with the name of the first entry with the key. As
+    /// it is where that is the field's value already; a field that isn't there is added before the others.
+    pub fn set_field(
+        &self,
+        alloc: Global,
+        key: &str,
+        name: &str,
+        value: &str,
+    ) -> Result<String, EditError>
+        ensures set { IfOk result (λ new. IsEdited (FieldSet self.now key.now name.now value.now) (string_bytes new)) }
+        ensures refused { IfErr result (SetIsRefused self.now key.now name.now value.now) }
+    {
+        match entry_with(&self.raw.entries, key) {
+            Some(entry) => match field_with(&entry.v.fields, name) {
+                Some(field) => set_value(alloc, self.text, field, value),
+                None => with_field(alloc, self.text, entry, name, value),
+            },
+            None => Err(EditError::UnknownKey),
+        }
     }
 }

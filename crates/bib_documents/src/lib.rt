@@ -2,9 +2,11 @@
 #![tactic(auto)]
 
 pub mod document;
+mod adding;
 mod braces;
 mod editing;
 pub mod errors;
 mod lookup;
+mod names;
 mod setting;
 mod values;
