@@ -5,6 +5,7 @@ pub mod EntryFacts
 pub mod GrammarFacts
 pub mod MovedFacts
 pub mod PositionFacts
+pub mod SetFacts
 pub mod SplitFacts
 pub mod TrimFacts
 pub mod ValueFacts

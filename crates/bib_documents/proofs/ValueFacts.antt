@@ -40,9 +40,9 @@ elements_stop (elements.more e white sign white' rest) = elements_stop rest
 
 -- it begins with a character that is no white space
 record Opens (u v : Place) : Type 0 where
-  char : ℕ
-  next : Place
-  here : CharAt u char next
+  pub char : ℕ
+  pub next : Place
+  pub here : CharAt u char next
   dark : is_whitespace char ≡ false
   ahead : Ahead next v
 
@@ -79,12 +79,12 @@ dark_run (step first white rest) char dark = absurd (test_clash _ white (subst (
 -- ---- what stands after a value
 
 -- a character stands here
-record Stands (u : Place) : Type 0 where
-  char : ℕ
-  next : Place
-  here : CharAt u char next
+pub record Stands (u : Place) : Type 0 where
+  pub char : ℕ
+  pub next : Place
+  pub here : CharAt u char next
 
-run_stands : {test : ℕ → Bool} {u v w : Place} {c : ℕ} → Run test u v → CharAt v c w → Stands u
+pub run_stands : {test : ℕ → Bool} {u v w : Place} {c : ℕ} → Run test u v → CharAt v c w → Stands u
 run_stands stop char = record { char = _; next = _; here = char }
 run_stands (step first passes rest) char = record { char = _; next = _; here = first }
 
