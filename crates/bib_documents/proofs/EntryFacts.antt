@@ -33,7 +33,7 @@ after_stretch edit text {u} fits same past within =
     inside (zone_after edit text fits.ordered fits.within) same past (omega arith)
 
 -- all that an entry is
-ahead_entry : {u v : Place} {e : EntryReading} → EntryBlock u e v → Ahead u v
+pub ahead_entry : {u v : Place} {e : EntryReading} → EntryBlock u e v → Ahead u v
 ahead_entry b =
     ahead_then (ahead_head b.head) (ahead_then (ahead_run b.key.run) (ahead_then (ahead_run b.white.run) (ahead_then (ahead_char b.comma) (ahead_then (ahead_gap b.gap) (ahead_then (ahead_fields b.fields) (ahead_char b.closes))))))
 

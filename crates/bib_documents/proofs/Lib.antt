@@ -5,6 +5,7 @@ pub mod EntryFacts
 pub mod GrammarFacts
 pub mod MovedFacts
 pub mod PositionFacts
+pub mod RemovedFacts
 pub mod SetFacts
 pub mod SplitFacts
 pub mod TrimFacts

@@ -77,7 +77,7 @@ char_within {u} {v} {c} char =
     let size : length v.text ≡ length u.text = ap length char.same in
     omega (arith, char_left char, char.next)
 
-run_within : {test : ℕ → Bool} {u v : Place} → Run test u v → u.at ≤ length u.text → v.at ≤ length v.text
+pub run_within : {test : ℕ → Bool} {u v : Place} → Run test u v → u.at ≤ length u.text → v.at ≤ length v.text
 run_within stop within = within
 run_within (step char passes rest) within = run_within rest (char_within char)
 

@@ -2,6 +2,7 @@
 -- A bibliography's text with what it says, and what an edit makes of the two.
 use Rattle.std.specs.Prelude.{◌≡◌, ℕ, suc, ◌+◌, Bool, true, false, if◌then◌else◌, List, [], ◌∷◌, ◌++◌, length, map, Option, Some, None, bytes_eq, slice_get, slice_set, codes, ⊤}
 use Rattle.std.specs.Char.{is_whitespace}
+use Rattle.std.specs.List.{remove}
 use Rattle.std.specs.Str.{trim_end}
 use Rattle.bib_text.specs.Places.{CharAt, Longest, Place, between, place}
 use Rattle.bib_text.specs.Characters as char
@@ -156,6 +157,28 @@ SetIsRefused d key name value NotAKey = ⊥
 SetIsRefused d key name value NotAName = CanBeName name → ⊥
 SetIsRefused d key name value NotInBraces = CanStandInBraces value → ⊥
 SetIsRefused d key name value OutOfMemory = ⊤
+
+-- an entry taken out, from its at sign up to a place after it
+abbrev pub entry_removed : Document → ℕ → EntryReading → ℕ → Document
+entry_removed d k e at =
+    let edit : Edit = record { start = e.start; end = at; bytes = [] } in
+    record {
+      text = edited edit d.text;
+      says = record (moved_file (moved edit) d.says) { entries = remove (map (moved_entry (moved edit)) d.says.entries) k };
+    }
+
+-- what comes of removing an entry: it is taken out with the white space after it
+pub data EntryRemoved (d : Document) (key : List ℕ) : Document → Type 0 where
+  removed : {k at : ℕ} {e : EntryReading} → HasEntry d key k e → Longest is_whitespace (place d.text (e.end + 1)) (place d.text at) → EntryRemoved d key (entry_removed d k e at)
+
+-- why removing an entry is refused
+abbrev pub RemoveIsRefused : Document → List ℕ → EditError → Type 0
+RemoveIsRefused d key UnknownKey = first_position (has_key key) d.says.entries ≡ None
+RemoveIsRefused d key KeyIsThere = ⊥
+RemoveIsRefused d key NotAKey = ⊥
+RemoveIsRefused d key NotAName = ⊥
+RemoveIsRefused d key NotInBraces = ⊥
+RemoveIsRefused d key OutOfMemory = ⊤
 
 -- a text is what comes of an edit, and is read so
 pub record IsEdited (Outcome : Document → Type 0) (text : List ℕ) : Type 0 where

@@ -1,6 +1,6 @@
 -- Machinery: words of private contracts.
 -- Where the parts of a document may be cut out of its text.
-use Rattle.std.specs.Prelude.{ℕ, ◌≤◌, List, ⊤}
+use Rattle.std.specs.Prelude.{ℕ, ◌+◌, ◌<◌, ◌≤◌, List, length, ⊤}
 use Rattle.std.specs.Str.{IsCharBoundary}
 use Rattle.bib_syntax.specs.Reading.{EntryReading, FieldReading}
 use Rattle.bib_documents.specs.Documents.{CanBeName, CanStandInBraces, IsAfterComma}
@@ -12,6 +12,13 @@ pub record IsPlaced (text : List ℕ) (f : FieldReading) : Type 0 where
   pub ordered : f.value.start ≤ f.value.end
   pub start : IsCharBoundary text f.value.start
   pub end : IsCharBoundary text f.value.end
+
+-- where an entry may be cut out of a text
+pub record IsEntryPlaced (text : List ℕ) (e : EntryReading) : Type 0 where
+  pub ordered : e.start ≤ e.end
+  pub within : e.end < length text
+  pub start : IsCharBoundary text e.start
+  pub end : IsCharBoundary text (e.end + 1)
 
 -- where the comma after an entry's key stands in a text
 pub record HasComma (text : List ℕ) (e : EntryReading) : Type 0 where

@@ -6,11 +6,12 @@ ghost use Rattle.bib_syntax.specs.Errors.{Refuses, out_of_memory};
 ghost use Rattle.bib_syntax.specs.Grammar.{IsFile, IsRawReading};
 ghost use Rattle.bib_syntax.specs.SyntaxErrors.{IsReported};
 ghost use Rattle.bib_syntax.specs.Views.{file_of};
-ghost use Rattle.bib_documents.specs.Documents.{Document, FieldSet, IsEdited, IsRead, SetIsRefused};
+ghost use Rattle.bib_documents.specs.Documents.{Document, EntryRemoved, FieldSet, IsEdited, IsRead, RemoveIsRefused, SetIsRefused};
 
 use crate::adding::with_field;
 use crate::errors::EditError;
 use crate::lookup::{entry_with, field_with};
+use crate::removing::without_entry;
 use crate::setting::set_value;
 use bib_syntax::raw::{ParseError, RawBibliography};
 use std::alloc::Global;
@@ -79,6 +80,17 @@ impl<'s> RawDocument<'s> {
                 Some(field) => set_value(alloc, self.text, field, value),
                 None => with_field(alloc, self.text, entry, name, value),
             },
+            None => Err(EditError::UnknownKey),
+        }
+    }
+
+    /// The text without the first entry with a key, and without the white space after it.
+    pub fn remove_entry(&self, alloc: Global, key: &str) -> Result<String, EditError>
+        ensures removed { IfOk result (λ new. IsEdited (EntryRemoved self.now key.now) (string_bytes new)) }
+        ensures refused { IfErr result (RemoveIsRefused self.now key.now) }
+    {
+        match entry_with(&self.raw.entries, key) {
+            Some(entry) => Ok(without_entry(alloc, self.text, entry)?),
             None => Err(EditError::UnknownKey),
         }
     }

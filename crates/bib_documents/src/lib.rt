@@ -8,5 +8,6 @@ mod editing;
 pub mod errors;
 mod lookup;
 mod names;
+mod removing;
 mod setting;
 mod values;
