@@ -15,8 +15,8 @@ use Rattle.bib_syntax.specs.Grammar.{Element, Elements, Field, Fields, Gap, Iden
 use Rattle.bib_syntax.proofs.FieldFacts.{ahead_gap, ahead_fields}
 use Rattle.bib_syntax.proofs.FileFacts.{ahead_head}
 use Rattle.bib_syntax.proofs.LawFacts.{start_not_white}
-use Rattle.bib_documents.specs.Edits.{Edit, edited, moved, moved_part, moved_field, moved_entry}
-use Rattle.bib_documents.specs.Documents.{CanBeName, CanStandInBraces, Document, IsAfterComma, IsRead, field_added, field_at, field_line, in_braces, part_at}
+use Rattle.bib_documents.specs.Edits.{Edit, edited, moved_place, moved_part, moved_field, moved_entry}
+use Rattle.bib_documents.specs.Documents.{CanBeName, CanStandInBraces, Document, IsAfterComma, IsDocument, field_added, field_at, added_line, in_braces, text_at}
 use Rattle.bib_documents.proofs.EditFacts.{Fits, before_frame, after_frame, piece_frame, moved_before, moved_after, zone_before, zone_after, zone_piece, new_bytes, ascii_stands, rest_stands, text_stands}
 use Rattle.bib_documents.proofs.ZoneFacts.{Zone, Inside, there, inside, inside_between, char_there, char_there_last, longest_there, part_there, run_there}
 use Rattle.bib_documents.proofs.GrammarFacts.{below_char, gap_there, fields_there, head_there}
@@ -26,7 +26,7 @@ use Rattle.bib_documents.proofs.EntryFacts.{goes, before_stretch, after_stretch,
 use Rattle.bib_documents.proofs.ValueFacts.{braced_stands}
 
 -- a name, where it stands
-name_stands : (whole rest name : List ℕ) (at : ℕ) → CanBeName name → drop at whole ≡ name ++ (32 ∷ rest) → Identifier longest (place whole at) (part_at at name) (place whole (at + length name))
+name_stands : (whole rest name : List ℕ) (at : ℕ) → CanBeName name → drop at whole ≡ name ++ (32 ∷ rest) → Identifier longest (place whole at) (text_at at name) (place whole (at + length name))
 name_stands whole rest name at can here =
     let following : CharAt (place whole (at + length name)) 32 (place whole (at + length name + 1)) = ascii_stands whole rest (at + length name) 32 (omega arith) (text_stands whole name (32 ∷ rest) at here) in
     let z = zone_piece name whole (32 ∷ rest) at here (inr (32, place whole (at + length name + 1), following)) in
@@ -50,7 +50,7 @@ name_stands whole rest name at can here =
     }
 
 -- a line with a field, byte for byte
-line_stands : (name value rest : List ℕ) → field_line name value ++ rest ≡ 10 ∷ 32 ∷ 32 ∷ (name ++ (32 ∷ 61 ∷ 32 ∷ (in_braces value ++ (44 ∷ rest))))
+line_stands : (name value rest : List ℕ) → added_line name value ++ rest ≡ 10 ∷ 32 ∷ 32 ∷ (name ++ (32 ∷ 61 ∷ 32 ∷ (in_braces value ++ (44 ∷ rest))))
 line_stands name value rest =
     let feed : List ℕ = codes "\n  " in
     let sign : List ℕ = codes " = " in
@@ -65,7 +65,7 @@ record LineRead (whole name value : List ℕ) (at : ℕ) : Type 0 where
   white : Gap longest (place whole at) (place whole (at + 3))
   field : Field longest (place whole (at + 3)) (field_at at name value) (place whole (at + 3 + length name + 3 + length (in_braces value)))
   gap : Gap longest (place whole (at + 3 + length name + 3 + length (in_braces value))) (place whole (at + 3 + length name + 3 + length (in_braces value)))
-  comma : CharAt (place whole (at + 3 + length name + 3 + length (in_braces value))) 44 (place whole (at + length (field_line name value)))
+  comma : CharAt (place whole (at + 3 + length name + 3 + length (in_braces value))) 44 (place whole (at + length (added_line name value)))
   feed : CharAt (place whole at) 10 (place whole (at + 1))
 
 one_white : {u v w : Place} {d : ℕ} → CharAt u 32 v → CharAt v d w → is_whitespace d ≡ false → Longest is_whitespace u v
@@ -74,19 +74,19 @@ one_white space char dark = record { run = step space refl stop; stops = stops_a
 start_no_percent : (c : ℕ) → is_id_start c ≡ true → (c == 37) ≡ false
 start_no_percent c starts = ne_eqb c 37 (λ same. test_clash (is_id_start 37) (subst (λ x. is_id_start x ≡ true) same starts) refl)
 
-line_size : (name value : List ℕ) → length (field_line name value) ≡ 3 + length name + 3 + length (in_braces value) + 1
+line_size : (name value : List ℕ) → length (added_line name value) ≡ 3 + length name + 3 + length (in_braces value) + 1
 line_size name value =
     let feed : List ℕ = codes "\n  " in
     let sign : List ℕ = codes " = " in
     let comma : List ℕ = codes "," in
     omega (arith, length-append (feed ++ name ++ sign ++ in_braces value) comma, length-append (feed ++ name ++ sign) (in_braces value), length-append (feed ++ name) sign, length-append feed name)
 
-line_read : (whole rest name value : List ℕ) (at : ℕ) → CanBeName name → CanStandInBraces value → drop at whole ≡ field_line name value ++ rest → LineRead whole name value at
+line_read : (whole rest name value : List ℕ) (at : ℕ) → CanBeName name → CanStandInBraces value → drop at whole ≡ added_line name value ++ rest → LineRead whole name value at
 line_read whole rest name value at can_name can_value stands =
     let n1 : ℕ = at + 3 + length name in
     let n2 : ℕ = n1 + 3 in
     let n3 : ℕ = n2 + length (in_braces value) in
-    let size : at + length (field_line name value) ≡ n3 + 1 = omega (arith, line_size name value) in
+    let size : at + length (added_line name value) ≡ n3 + 1 = omega (arith, line_size name value) in
     let after_value : List ℕ = 44 ∷ rest in
     let from_value : List ℕ = in_braces value ++ after_value in
     let from_sign : List ℕ = 61 ∷ 32 ∷ from_value in
@@ -109,11 +109,11 @@ line_read whole rest name value at can_name can_value stands =
     let space' : CharAt (place whole (n1 + 1 + 1)) 32 (place whole n2) =
     let sum : n1 + 1 + 1 + 1 ≡ n2 = omega arith in subst (λ n. CharAt (place whole (n1 + 1 + 1)) 32 (place whole n)) sum (ascii_stands whole from_value (n1 + 1 + 1) 32 (omega arith) s6) in
     let comma : CharAt (place whole n3) 44 (place whole (n3 + 1)) = ascii_stands whole rest n3 44 (omega arith) s8 in
-    let name_read : Identifier longest (place whole (at + 3)) (part_at (at + 3) name) (place whole n1) = name_stands whole from_sign name (at + 3) can_name s3 in
+    let name_read : Identifier longest (place whole (at + 3)) (text_at (at + 3) name) (place whole n1) = name_stands whole from_sign name (at + 3) can_name s3 in
     let braced = braced_stands whole (44 ∷ rest) value n2 can_value s7 (inr (44, place whole (n3 + 1), comma)) in
     let inner : n2 + 1 ≡ at + 3 + length name + 4 = omega arith in
-    let element : Element longest (place whole n2) (literal (part_at (at + 3 + length name + 4) value)) (place whole n3) =
-    subst (λ n. Element longest (place whole n2) (literal (part_at n value)) (place whole n3)) inner (Element.braced braced) in
+    let element : Element longest (place whole n2) (literal (text_at (at + 3 + length name + 4) value)) (place whole n3) =
+    subst (λ n. Element longest (place whole n2) (literal (text_at n value)) (place whole n3)) inner (Element.braced braced) in
     let none : Longest is_whitespace (place whole n3) (place whole n3) = record { run = stop; stops = stops_at is_whitespace comma refl } in
     record {
       white = Gap.white (record { run = step feed refl (step blank refl (step blank' refl stop)); stops = stops_at is_whitespace name_read.here (start_not_white name_read.first name_read.starts) })
@@ -145,13 +145,13 @@ after_comma_is text e at {u} {v} b same is =
     let before : is.before ≡ b.before_comma = longest_same is.white (subst (λ p. Longest is_whitespace p b.before_comma) (sym here) b.white) in
     (same_char b.comma (subst (λ p. CharAt p 44 (place text at)) before is.comma)).1
 
-pub field_added_read : (d : Document) (k : ℕ) (e : EntryReading) (at : ℕ) (name value : List ℕ) → IsRead d → slice_get d.says.entries k ≡ Some e → IsAfterComma d.text e at → CanBeName name → CanStandInBraces value
-    → IsRead (field_added d k e at name value)
+pub field_added_read : (d : Document) (k : ℕ) (e : EntryReading) (at : ℕ) (name value : List ℕ) → IsDocument d → slice_get d.says.entries k ≡ Some e → IsAfterComma d.text e at → CanBeName name → CanStandInBraces value
+    → IsDocument (field_added d k e at name value)
 field_added_read d k e at name value read here is can_name can_value =
     let s = split_file k e read here in
     let b = s.block in
-    let edit : Edit = record { start = at; end = at; bytes = field_line name value } in
-    let move = moved edit in
+    let edit : Edit = record { start = at; end = at; bytes = added_line name value } in
+    let move = moved_place edit in
     let to_start = ahead_file_before s.first in
     let to_key = ahead_head b.head in
     let at_key = ahead_then to_start to_key in
@@ -164,7 +164,7 @@ field_added_read d k e at name value read here is can_name can_value =
     let at_is : b.after_comma.at ≡ at = ap (λ p. p.at) place_is in
     let closing_within = char_within b.closes in
     let within : at ≤ length d.text = omega (arith, at_is, to_close.at, closing_within, ap length to_close.text, ap length at_comma.text) in
-    let stands : drop at (edited edit d.text) ≡ field_line name value ++ drop at d.text = new_bytes edit d.text within in
+    let stands : drop at (edited edit d.text) ≡ added_line name value ++ drop at d.text = new_bytes edit d.text within in
     let line = line_read (edited edit d.text) (drop at d.text) name value at can_name can_value stands in
     let fits : Fits edit d.text = record { ordered = omega arith; within = within; border = inr (10, place (edited edit d.text) (at + 1), line.feed) } in
     let z1 = zone_before edit d.text fits in
@@ -181,8 +181,8 @@ field_added_read d k e at name value read here is can_name can_value =
     let last_char : CharAt (goes edit d.text b.before_comma) 44 (place (edited edit d.text) (move b.before_comma.at + 1)) = char_there_last z1 iw (omega (arith, at_is)) b.comma in
     let comma_end : move b.before_comma.at + 1 ≡ at = omega (arith, moved_before edit b.before_comma.at before_at, b.comma.next, at_is) in
     let comma : CharAt (goes edit d.text b.before_comma) 44 (place (edited edit d.text) at) = subst (λ n. CharAt (goes edit d.text b.before_comma) 44 (place (edited edit d.text) n)) comma_end last_char in
-    let end_is : move b.after_comma.at ≡ at + length (field_line name value) = omega (arith, moved_after edit b.after_comma.at (omega (arith, at_is)), at_is) in
-    let others : Gap longest (place (edited edit d.text) (at + length (field_line name value))) (goes edit d.text b.fields_start) =
+    let end_is : move b.after_comma.at ≡ at + length (added_line name value) = omega (arith, moved_after edit b.after_comma.at (omega (arith, at_is)), at_is) in
+    let others : Gap longest (place (edited edit d.text) (at + length (added_line name value))) (goes edit d.text b.fields_start) =
     subst (λ n. Gap longest (place (edited edit d.text) n) (goes edit d.text b.fields_start)) end_is (gap_there z2 jc jf (omega (arith, (ahead_fields b.fields).at, below_char jd b.closes)) b.gap) in
     let e' : EntryReading = record (moved_entry move e) { fields = field_at at name value ∷ map (moved_field move) e.fields } in
     let block : EntryBlock (goes edit d.text s.start) e' (goes edit d.text s.end) = record {

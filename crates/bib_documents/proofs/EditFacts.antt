@@ -7,7 +7,7 @@ use Rattle.std.proofs.lemmas.Str.{encode_ascii, len_utf8_ascii}
 use Rattle.std.proofs.lemmas.Bool.Decides.{nat_tests}
 use Rattle.bib_text.specs.Places.{Place, place, CharAt}
 use Rattle.bib_text.proofs.PlaceFacts.{char_here, char_left}
-use Rattle.bib_documents.specs.Edits.{Edit, edited, moved}
+use Rattle.bib_documents.specs.Edits.{Edit, edited, moved_place}
 use Rattle.bib_documents.proofs.BoundaryFacts.{Border, not_over}
 use Rattle.bib_documents.proofs.ZoneFacts.{Frame, Zone}
 
@@ -18,15 +18,15 @@ pub record Fits (edit : Edit) (text : List ℕ) : Type 0 where
   pub border : Border (place (edited edit text) edit.start)
 
 abbrev pub before_frame : Edit → List ℕ → Frame
-before_frame edit text = record { old = text; new = edited edit text; move = moved edit; from = 0; to = 0; end = edit.start }
+before_frame edit text = record { old = text; new = edited edit text; move = moved_place edit; from = 0; to = 0; end = edit.start }
 
 abbrev pub after_frame : Edit → List ℕ → Frame
-after_frame edit text = record { old = text; new = edited edit text; move = moved edit; from = edit.end; to = edit.start + length edit.bytes; end = length text + 1 }
+after_frame edit text = record { old = text; new = edited edit text; move = moved_place edit; from = edit.end; to = edit.start + length edit.bytes; end = length text + 1 }
 
-pub moved_before : (edit : Edit) (at : ℕ) → at < edit.end → moved edit at ≡ at
+pub moved_before : (edit : Edit) (at : ℕ) → at < edit.end → moved_place edit at ≡ at
 moved_before edit at before = grind (arith, nat_tests)
 
-pub moved_after : (edit : Edit) (at : ℕ) → edit.end ≤ at → moved edit at + edit.end ≡ at + (edit.start + length edit.bytes)
+pub moved_after : (edit : Edit) (at : ℕ) → edit.end ≤ at → moved_place edit at + edit.end ≡ at + (edit.start + length edit.bytes)
 moved_after edit at past = grind (arith, nat_tests)
 
 -- the new text, from its start and from after the new bytes

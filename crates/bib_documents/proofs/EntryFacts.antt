@@ -11,8 +11,8 @@ use Rattle.bib_syntax.specs.Grammar.{Field, Fields, Block, File, longest}
 use Rattle.bib_syntax.specs.Grammar.{File as file}
 use Rattle.bib_syntax.proofs.FieldFacts.{ahead_field, ahead_gap, ahead_fields}
 use Rattle.bib_syntax.proofs.FileFacts.{ahead_head}
-use Rattle.bib_documents.specs.Edits.{Edit, edited, moved, moved_part, moved_field, moved_entry, moved_file}
-use Rattle.bib_documents.specs.Documents.{Document, IsRead, entry_edited, field_edited}
+use Rattle.bib_documents.specs.Edits.{Edit, edited, moved_place, moved_part, moved_field, moved_entry, moved_file}
+use Rattle.bib_documents.specs.Documents.{Document, IsDocument, entry_edited, field_edited}
 use Rattle.bib_documents.proofs.EditFacts.{Fits, before_frame, after_frame, moved_before, length-edited, zone_before, zone_after}
 use Rattle.bib_documents.proofs.ZoneFacts.{Zone, Inside, there, inside, inside_between, char_there, longest_there, part_there}
 use Rattle.bib_documents.proofs.GrammarFacts.{below_char, below_between, gap_there, head_there}
@@ -21,7 +21,7 @@ use Rattle.bib_documents.proofs.MovedFacts.{char_within, exchanged, fields_befor
 
 -- where a place of a text goes in an edit
 abbrev pub goes : Edit → List ℕ → Place → Place
-goes edit text u = place (edited edit text) (moved edit u.at)
+goes edit text u = place (edited edit text) (moved_place edit u.at)
 
 -- a place before the stretch, and one after it
 pub before_stretch : (edit : Edit) (text : List ℕ) {u : Place} → Fits edit text → u.text ≡ text → u.at < edit.start → Inside (before_frame edit text) u
@@ -39,7 +39,7 @@ ahead_entry b =
 
 -- a text with another entry in the place of one, where the stretch lies in it
 pub entry_edited_read : (d : Document) (edit : Edit) (k : ℕ) (e e' : EntryReading) → Fits edit d.text → (s : EntrySplit (place d.text 0) d.says e k) → s.start.at < edit.start → edit.end ≤ s.end.at
-    → Block longest (goes edit d.text s.start) (entry_alone e') (goes edit d.text s.end) → IsRead (entry_edited d edit k e')
+    → Block longest (goes edit d.text s.start) (entry_alone e') (goes edit d.text s.end) → IsDocument (entry_edited d edit k e')
 entry_edited_read d edit k e e' fits s before past block =
     let to_start = ahead_file_before s.first in
     let to_end = ahead_then to_start (ahead_entry s.block) in
@@ -51,19 +51,19 @@ entry_edited_read d edit k e e' fits s before past block =
     let sizes : length d.text + (edit.start + length edit.bytes) ≡ length (edited edit d.text) + edit.end = sym (length-edited edit d.text fits.ordered fits.within) in
     let rest = file_there z2 refl sizes end s.rest in
     let whole = joined_file (file_before_there z1 first start s.block.head.sign s.first) (file.block block rest) in
-    let zero : moved edit 0 ≡ 0 = moved_before edit 0 (omega (arith, fits.ordered)) in
-    let said = says_exchanged (moved edit) s.before s.following e e' k s.index in
-    let named = ap (λ says. let r : FileReading = record (moved_file (moved edit) says) { entries = slice_set (map (moved_entry (moved edit)) says.entries) k e' } in r) (sym s.whole) in
+    let zero : moved_place edit 0 ≡ 0 = moved_before edit 0 (omega (arith, fits.ordered)) in
+    let said = says_exchanged (moved_place edit) s.before s.following e e' k s.index in
+    let named = ap (λ says. let r : FileReading = record (moved_file (moved_place edit) says) { entries = slice_set (map (moved_entry (moved_place edit)) says.entries) k e' } in r) (sym s.whole) in
     subst (λ n. File longest (place (edited edit d.text) n) (entry_edited d edit k e').says) zero
     (subst (λ says. File longest (goes edit d.text (place d.text 0)) says) (said ∙ named) whole)
 
 -- an entry with another field in the place of one, where the stretch lies in it
 pub field_edited_read : (d : Document) (edit : Edit) (k : ℕ) (e : EntryReading) (j : ℕ) (f f' : FieldReading) → Fits edit d.text
     → (s : EntrySplit (place d.text 0) d.says e k) → (g : FieldSplit s.block.fields_start e.fields f j s.block.brace) → g.start.at < edit.start → edit.end ≤ g.end.at
-    → Field longest (goes edit d.text g.start) f' (goes edit d.text g.end) → IsRead (field_edited d edit k e j f')
+    → Field longest (goes edit d.text g.start) f' (goes edit d.text g.end) → IsDocument (field_edited d edit k e j f')
 field_edited_read d edit k e j f f' fits s g before past field =
     let b = s.block in
-    let move = moved edit in
+    let move = moved_place edit in
     let z1 = zone_before edit d.text fits in
     let z2 = zone_after edit d.text fits.ordered fits.within in
     let to_start = ahead_file_before s.first in

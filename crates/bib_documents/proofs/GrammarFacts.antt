@@ -1,11 +1,12 @@
 -- What the rules of the file grammar read in a zone that two texts share, in the one and in the other.
-use Rattle.std.proofs.Common.{◌≡◌, ℕ, ◌+◌, ◌<◌, ◌≤◌, Bool, true, List, [], ◌∷◌, ◌++◌, length, map, refl, sym, ap, ◌∙◌, subst, arith}
+use Rattle.std.proofs.Common.{◌≡◌, ℕ, ◌+◌, ◌<◌, ◌≤◌, Bool, true, false, List, [], ◌∷◌, ◌++◌, length, map, refl, sym, ap, ◌∙◌, subst, arith, inl, inr}
 use Rattle.std.specs.Prelude.{◌==◌, not}
 use Rattle.std.specs.Char.{is_whitespace, len_utf8}
+use Rattle.std.proofs.lemmas.Bool.{cases_lt, not_from_false}
 use Rattle.std.proofs.lemmas.List.{map-append}
 use Rattle.std.proofs.lemmas.Str.{len_utf8_bounds}
-use Rattle.bib_text.specs.Places.{Place, CharAt, Longest, AtEnd, between}
-use Rattle.bib_text.proofs.PlaceFacts.{Ahead, ahead_here, ahead_then, ahead_char, ahead_run}
+use Rattle.bib_text.specs.Places.{Place, CharAt, Longest, Stops, AtEnd, between}
+use Rattle.bib_text.proofs.PlaceFacts.{Ahead, ahead_here, ahead_then, ahead_char, ahead_run, same_place, test_clash}
 use Rattle.bib_syntax.specs.Reading.{Part, part, Piece, FieldReading, EntryReading, FileReading, empty_reading, then}
 use Rattle.bib_syntax.specs.Reading.Piece.{literal}
 use Rattle.bib_syntax.specs.Grammar.{Identifier, Number, QuotedParts, Quoted, Braced, NoDigit, Element, Elements, Field, LineComment, Gap, Fields, BlockKind, Head, Body, Block, File, longest}
@@ -146,6 +147,28 @@ line_comment_there {f} z iu iv below m =
     let a = inside_between z iu iv (ahead_char m.sign) (ahead_run m.line.run) in
     record { inside = there f m.inside; sign = char_there z iu a m.sign; line = longest_there z a iv below m.line }
 
+-- the line feed after a line comment stands before another character
+pub line_before : {u v w x : Place} {c : ℕ} → LineComment u v → Ahead v w → CharAt w c x → (c == 10) ≡ false → v.at < w.at
+line_before {u} {v} {w} {x} {c} m ahead char other =
+    elim (cases_lt v.at w.at) [
+      | inl before ↦ before
+      | inr past ↦
+        let same : w ≡ v = same_place ahead.text (omega (arith, ahead.at)) in
+        absurd (test_clash (not (c == 10)) (not_from_false (c == 10) other) (m.line.stops c x (subst (λ p. CharAt p c x) same char)))
+    ]
+
+-- a gap, where what stands after it in both texts is known
+pub gap_until : {f : Frame} {u v x : Place} {c : ℕ} → Zone f → Inside f u → Inside f v → CharAt v c x → (c == 10) ≡ false → Stops is_whitespace (there f v) → Stops (λ d. d == 37) (there f v) → Gap longest u v → Gap longest (there f u) (there f v)
+gap_until z iu iv char other white_stops stops (gap.white white ends) = gap.white (record { run = run_there z iu iv white.run; stops = white_stops }) stops
+gap_until {f} z iu iv char other white_stops stops (gap.line_comment white m white') =
+    let from_line_end = ahead_run white'.run in
+    let from_sign = ahead_then (ahead_line_comment m) from_line_end in
+    let a = inside_between z iu iv (ahead_run white.run) from_sign in
+    let b = inside_between z a iv (ahead_line_comment m) from_line_end in
+    let before = line_before m from_line_end char other in
+    let c = inside_between z a b (ahead_char m.sign) (ahead_run m.line.run) in
+    gap.line_comment (longest_there z iu a (below_char c m.sign) white) (line_comment_there z a b (omega (arith, before, iv.end)) m) (record { run = run_there z b iv white'.run; stops = white_stops })
+
 pub gap_there : {f : Frame} {u v : Place} → Zone f → Inside f u → Inside f v → v.at < f.end → Gap longest u v → Gap longest (there f u) (there f v)
 gap_there z iu iv below (gap.white white ends) = gap.white (longest_there z iu iv below white) (stops_there (λ c. c == 37) z iv below ends)
 gap_there {f} z iu iv below (gap.line_comment white m white') =
@@ -170,8 +193,9 @@ fields_there {f} z iu iv below (fields.more field g comma h rest) =
     fields.more (field_there z iu a (below_between f (ahead_then (ahead_gap g) from_comma) below) field) (gap_there z a b (below_char c comma) g)
     (char_there z b c comma) (gap_there z c d (below_between f (ahead_fields rest) below) h) (fields_there z d iv below rest)
 
-pub head_there : {f : Frame} {u v : Place} {kind : Part} → Zone f → Inside f u → Inside f v → v.at < f.end → Head longest u kind v → Head longest (there f u) (moved_part f.move kind) (there f v)
-head_there {f} z iu iv below h =
+-- a head, where what stands after it in the second text is known
+pub head_until : {f : Frame} {u v : Place} {kind : Part} → Zone f → Inside f u → Inside f v → Stops is_whitespace (there f v) → Head longest u kind v → Head longest (there f u) (moved_part f.move kind) (there f v)
+head_until {f} z iu iv stops h =
     let from_brace = ahead_then (ahead_char h.opens) (ahead_run h.white'.run) in
     let from_name = ahead_then (ahead_identifier h.name) (ahead_then (ahead_run h.white.run) from_brace) in
     let a = inside_between z iu iv (ahead_char h.sign) from_name in
@@ -185,12 +209,15 @@ head_there {f} z iu iv below h =
       after_brace = there f h.after_brace;
       brace = h.brace;
       sign = char_there z iu a h.sign;
-      name = identifier_there z a b (below_between f (ahead_then (ahead_run h.white.run) from_brace) below) h.name;
+      name = identifier_there z a b (below_between f (ahead_run h.white.run) (below_char d h.opens)) h.name;
       white = longest_there z b c (below_char d h.opens) h.white;
       opens = char_there z c d h.opens;
       is_brace = h.is_brace;
-      white' = longest_there z d iv below h.white';
+      white' = record { run = run_there z d iv h.white'.run; stops = stops };
     }
+
+pub head_there : {f : Frame} {u v : Place} {kind : Part} → Zone f → Inside f u → Inside f v → v.at < f.end → Head longest u kind v → Head longest (there f u) (moved_part f.move kind) (there f v)
+head_there z iu iv below h = head_until z iu iv (stops_there is_whitespace z iv below h.white'.stops) h
 
 -- what a preamble says
 abbrev says_preamble : List ℕ → FileReading

@@ -6,8 +6,10 @@ pub mod GrammarFacts
 pub mod MovedFacts
 pub mod PositionFacts
 pub mod RemovedFacts
+pub mod RenamedFacts
 pub mod SetFacts
 pub mod SplitFacts
 pub mod TrimFacts
+pub mod UnsetFacts
 pub mod ValueFacts
 pub mod ZoneFacts

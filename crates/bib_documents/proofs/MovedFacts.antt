@@ -17,7 +17,7 @@ use Rattle.bib_syntax.proofs.FieldFacts.{ahead_field, ahead_gap, ahead_fields}
 use Rattle.bib_syntax.proofs.FileFacts.{ahead_block, ahead_line_comment}
 use Rattle.bib_documents.specs.Edits.{moved_field, moved_entry, moved_file}
 use Rattle.bib_documents.proofs.ZoneFacts.{Frame, Zone, Inside, there, inside, inside_between, char_there, end_there}
-use Rattle.bib_documents.proofs.GrammarFacts.{below_between, below_char, field_there, line_comment_there, gap_there, fields_there, block_there, moved-then}
+use Rattle.bib_documents.proofs.GrammarFacts.{below_between, below_char, field_there, line_before, line_comment_there, gap_there, fields_there, block_there, moved-then}
 use Rattle.bib_documents.proofs.SplitFacts.{FieldsBefore, FieldsAfter, FileBefore, ahead_fields_before, ahead_fields_after, ahead_file_before}
 
 -- ---- fields
@@ -46,16 +46,6 @@ fields_after_there {f} z iu iv below (FieldsAfter.more gap comma gap' rest) =
 
 -- ---- a file up to an at sign
 
--- a line comment does not end at an at sign
-comment_before : {u v w : Place} → LineComment u v → Ahead v w → (x : Place) → CharAt w 64 x → v.at < w.at
-comment_before {u} {v} {w} m ahead x sign =
-    elim (cases_lt v.at w.at) [
-      | inl before ↦ before
-      | inr past ↦
-        let same : w ≡ v = same_place ahead.text (omega (arith, ahead.at)) in
-        absurd (test_clash (not (64 == 10)) refl (m.line.stops 64 x (subst (λ p. CharAt p 64 x) same sign)))
-    ]
-
 pub file_before_there : {f : Frame} {u v x : Place} {says : FileReading} → Zone f → Inside f u → Inside f v → CharAt v 64 x → FileBefore u says v → FileBefore (there f u) (moved_file f.move says) (there f v)
 file_before_there z iu iv sign FileBefore.none = FileBefore.none
 file_before_there z iu iv sign (FileBefore.skipped char passes others) =
@@ -63,7 +53,7 @@ file_before_there z iu iv sign (FileBefore.skipped char passes others) =
     FileBefore.skipped (char_there z iu a char) passes (file_before_there z a iv sign others)
 file_before_there {f} z iu iv sign (FileBefore.line_comment m others) =
     let a = inside_between z iu iv (ahead_line_comment m) (ahead_file_before others) in
-    let before = comment_before m (ahead_file_before others) _ sign in
+    let before = line_before m (ahead_file_before others) sign refl in
     FileBefore.line_comment (line_comment_there z iu a (omega (arith, before, iv.end)) m) (file_before_there z a iv sign others)
 file_before_there {f} {u} {v} z iu iv sign (FileBefore.block {first = first} {rest = rest} b others) =
     let a = inside_between z iu iv (ahead_block b) (ahead_file_before others) in

@@ -16,8 +16,8 @@ use Rattle.bib_syntax.specs.Grammar.{Block, File, longest}
 use Rattle.bib_syntax.specs.Grammar.{File as file}
 use Rattle.bib_syntax.proofs.FieldFacts.{ahead_fields, ahead_gap}
 use Rattle.bib_syntax.proofs.FileFacts.{ahead_head, is_skipped, skipped_rest}
-use Rattle.bib_documents.specs.Edits.{Edit, edited, moved, moved_entry, moved_field, moved_file}
-use Rattle.bib_documents.specs.Documents.{Document, EntryRemoved, HasEntry, IsEdited, IsRead, entry_removed}
+use Rattle.bib_documents.specs.Edits.{Edit, edited, moved_place, moved_entry, moved_field, moved_file}
+use Rattle.bib_documents.specs.Documents.{Document, EntryRemoved, HasEntry, IsEdited, IsDocument, entry_removed}
 use Rattle.bib_documents.specs.Placed.{IsEntryPlaced}
 use Rattle.bib_documents.proofs.BoundaryFacts.{Border, char_boundary}
 use Rattle.bib_documents.proofs.EditFacts.{Fits, before_frame, after_frame, length-edited, moved_after, moved_before, zone_before, zone_after}
@@ -59,12 +59,12 @@ says_removed move before following e k index =
     ap (λ es. build es (map (moved_field move) before.abbreviations ++ map (moved_field move) following.abbreviations)) (sym (taken_out (moved_entry move) before.entries following.entries e k index))
     ∙ ap (build (remove (map (moved_entry move) (before.entries ++ e ∷ following.entries)) k)) (sym (map-append (moved_field move) before.abbreviations following.abbreviations))
 
-pub entry_removed_read : (d : Document) (k : ℕ) (e : EntryReading) (at : ℕ) → IsRead d → slice_get d.says.entries k ≡ Some e → Longest is_whitespace (place d.text (e.end + 1)) (place d.text at) → IsRead (entry_removed d k e at)
+pub entry_removed_read : (d : Document) (k : ℕ) (e : EntryReading) (at : ℕ) → IsDocument d → slice_get d.says.entries k ≡ Some e → Longest is_whitespace (place d.text (e.end + 1)) (place d.text at) → IsDocument (entry_removed d k e at)
 entry_removed_read d k e at read here white =
     let s = split_file k e read here in
     let b = s.block in
     let edit : Edit = record { start = e.start; end = at; bytes = [] } in
-    let move = moved edit in
+    let move = moved_place edit in
     let to_start = ahead_file_before s.first in
     let over = ahead_entry b in
     let to_end = ahead_then to_start over in
@@ -99,7 +99,7 @@ border_boundary {u} (inl end) = subst (λ n. IsCharBoundary u.text n) (sym end) 
 border_boundary (inr here) = char_boundary here.2
 
 -- where an entry may be cut out
-pub entry_placed : (d : Document) (k : ℕ) (e : EntryReading) → IsRead d → slice_get d.says.entries k ≡ Some e → IsEntryPlaced d.text e
+pub entry_placed : (d : Document) (k : ℕ) (e : EntryReading) → IsDocument d → slice_get d.says.entries k ≡ Some e → IsEntryPlaced d.text e
 entry_placed d k e read here =
     let s = split_file k e read here in
     let b = s.block in
@@ -115,7 +115,7 @@ entry_placed d k e read here =
     }
 
 -- an entry was removed
-pub entry_taken : {S : Type 0} (bytes : S → List ℕ) (d : Document) (key : List ℕ) (k : ℕ) (e : EntryReading) (new : S) → IsRead d → HasEntry d key k e
+pub entry_taken : {S : Type 0} (bytes : S → List ℕ) (d : Document) (key : List ℕ) (k : ℕ) (e : EntryReading) (new : S) → IsDocument d → HasEntry d key k e
     → (at : ℕ) × Longest is_whitespace (place d.text (e.end + 1)) (place d.text at) × (bytes new ≡ edited (record { start = e.start; end = at; bytes = [] }) d.text)
     → IsEdited (EntryRemoved d key) (bytes new)
 entry_taken bytes d key k e new read entry text = record {

@@ -8,7 +8,7 @@ use Rattle.bib_text.proofs.PlaceFacts.{ahead_run, ahead_then, same_place}
 use Rattle.bib_syntax.specs.Reading.{EntryReading, FieldReading}
 use Rattle.bib_syntax.proofs.FileFacts.{ahead_head}
 use Rattle.bib_documents.specs.Edits.{edited}
-use Rattle.bib_documents.specs.Documents.{CanBeName, CanStandInBraces, Document, FieldSet, HasEntry, HasField, IsAfterComma, IsEdited, IsRead, field_added, field_line, first_position, has_key, has_name, is_value, last_position, value_changed, value_edit}
+use Rattle.bib_documents.specs.Documents.{CanBeName, CanStandInBraces, Document, FieldSet, HasEntry, HasField, IsAfterComma, IsEdited, IsDocument, field_added, added_line, first_position, is_keyed, has_name, is_value, last_position, value_changed, value_edit}
 use Rattle.bib_documents.specs.Placed.{HasComma}
 use Rattle.bib_documents.specs.declared.errors.EditError.{EditError}
 use Rattle.bib_documents.proofs.BoundaryFacts.{char_boundary}
@@ -17,7 +17,7 @@ use Rattle.bib_documents.proofs.ValueFacts.{run_stands, value_changed_read}
 use Rattle.bib_documents.proofs.AddedFacts.{field_added_read}
 
 -- where the comma after an entry's key stands
-pub comma_known : (d : Document) (k : ℕ) (e : EntryReading) → IsRead d → slice_get d.says.entries k ≡ Some e → HasComma d.text e
+pub comma_known : (d : Document) (k : ℕ) (e : EntryReading) → IsDocument d → slice_get d.says.entries k ≡ Some e → HasComma d.text e
 comma_known d k e read here =
     let s = split_file k e read here in
     let b = s.block in
@@ -37,9 +37,9 @@ comma_known d k e read here =
     }
 
 -- the entry and the field that were looked up
-pub has_entry : (d : Document) (listed : List EntryReading) (key : List ℕ) (k : ℕ) (e : EntryReading) → listed ≡ d.says.entries → first_position (has_key key) listed ≡ Some k → slice_get listed k ≡ Some e → HasEntry d key k e
+pub has_entry : (d : Document) (listed : List EntryReading) (key : List ℕ) (k : ℕ) (e : EntryReading) → listed ≡ d.says.entries → first_position (is_keyed key) listed ≡ Some k → slice_get listed k ≡ Some e → HasEntry d key k e
 has_entry d listed key k e same first here = record {
-  first = subst (λ es. first_position (has_key key) es ≡ Some k) same first;
+  first = subst (λ es. first_position (is_keyed key) es ≡ Some k) same first;
   here = subst (λ es. slice_get es k ≡ Some e) same here;
 }
 
@@ -50,7 +50,7 @@ has_field e listed name j f same last here = record {
 }
 
 -- a value was set
-pub value_set : {S : Type 0} (bytes : S → List ℕ) (d : Document) (key name value : List ℕ) (k j : ℕ) (e : EntryReading) (f : FieldReading) (r : Result S EditError) → IsRead d → HasEntry d key k e → HasField e name j f
+pub value_set : {S : Type 0} (bytes : S → List ℕ) (d : Document) (key name value : List ℕ) (k j : ℕ) (e : EntryReading) (f : FieldReading) (r : Result S EditError) → IsDocument d → HasEntry d key k e → HasField e name j f
     → IfOk r (λ new. is_value value f.value.pieces ≡ true → bytes new ≡ d.text)
     → IfOk r (λ new. is_value value f.value.pieces ≡ false → bytes new ≡ edited (value_edit d.text f value) d.text)
     → IfOk r (λ _. is_value value f.value.pieces ≡ false → CanStandInBraces value)
@@ -69,8 +69,8 @@ value_set bytes d key name value k j e f (Ok new) read entry field stays changes
     }
 
 -- a field was added
-pub field_set : {S : Type 0} (bytes : S → List ℕ) (d : Document) (key name value : List ℕ) (k : ℕ) (e : EntryReading) (r : Result S EditError) → IsRead d → HasEntry d key k e → last_position (has_name name) e.fields ≡ None
-    → IfOk r (λ new. (at : ℕ) × IsAfterComma d.text e at × (bytes new ≡ edited (record { start = at; end = at; bytes = field_line name value }) d.text))
+pub field_set : {S : Type 0} (bytes : S → List ℕ) (d : Document) (key name value : List ℕ) (k : ℕ) (e : EntryReading) (r : Result S EditError) → IsDocument d → HasEntry d key k e → last_position (has_name name) e.fields ≡ None
+    → IfOk r (λ new. (at : ℕ) × IsAfterComma d.text e at × (bytes new ≡ edited (record { start = at; end = at; bytes = added_line name value }) d.text))
     → IfOk r (λ _. CanBeName name) → IfOk r (λ _. CanStandInBraces value)
     → IfOk r (λ new. IsEdited (FieldSet d key name value) (bytes new))
 field_set bytes d key name value k e (Err error) read entry none text can_name can_value = _

@@ -21,8 +21,8 @@ use Rattle.bib_syntax.proofs.FileFacts.{ahead_head}
 use Rattle.bib_syntax.proofs.LawFacts.{start_not_white}
 use Rattle.bib_documents.specs.Placed.{IsPlaced}
 use Rattle.std.specs.Str.{IsCharBoundary}
-use Rattle.bib_documents.specs.Edits.{Edit, edited, moved, moved_part, moved_field}
-use Rattle.bib_documents.specs.Documents.{Document, IsRead, CanStandInBraces, in_braces, part_at, value_edit, with_value, value_changed}
+use Rattle.bib_documents.specs.Edits.{Edit, edited, moved_place, moved_part, moved_field}
+use Rattle.bib_documents.specs.Documents.{Document, IsDocument, CanStandInBraces, in_braces, text_at, value_edit, with_value, value_changed}
 use Rattle.bib_documents.proofs.BoundaryFacts.{Border, char_boundary}
 use Rattle.bib_documents.proofs.EditFacts.{Fits, before_frame, after_frame, piece_frame, moved_before, moved_after, zone_before, zone_after, zone_piece, new_bytes}
 use Rattle.bib_documents.proofs.ZoneFacts.{Zone, Inside, there, inside, inside_between, char_there, run_there, longest_there, stops_there}
@@ -112,7 +112,7 @@ braced_part value b =
     b.reading ∙ ap (λ u. part u b.following) first ∙ ap (part (place (in_braces value) 1)) last
 
 -- a part of a text in braces, moved
-moved_inner : (value : List ℕ) (start at : ℕ) → at ≡ start → moved_part (λ n. n + start) (part (place (in_braces value) 1) (place (in_braces value) (length value + 1))) ≡ part_at (at + 1) value
+moved_inner : (value : List ℕ) (start at : ℕ) → at ≡ start → moved_part (λ n. n + start) (part (place (in_braces value) 1) (place (in_braces value) (length value + 1))) ≡ text_at (at + 1) value
 moved_inner value start at is =
     let build : List ℕ → ℕ → ℕ → Part = λ (t : List ℕ) (m n : ℕ). record { text = t; start = m; end = n } in
     let first : 1 + start ≡ at + 1 = omega arith in
@@ -121,28 +121,28 @@ moved_inner value start at is =
 
 -- a text in braces, where it stands
 pub braced_stands : (whole rest value : List ℕ) (at : ℕ) → CanStandInBraces value → drop at whole ≡ in_braces value ++ rest → Border (place whole (at + length (in_braces value)))
-    → Braced (place whole at) (part_at (at + 1) value) (place whole (at + length (in_braces value)))
+    → Braced (place whole at) (text_at (at + 1) value) (place whole (at + length (in_braces value)))
 braced_stands whole rest value at can here border =
     let piece : List ℕ = in_braces value in
     let z = zone_piece piece whole rest at here border in
     let first : Inside (piece_frame piece whole at) (place piece 0) = record { text = refl; start = omega arith; end = omega arith; moved = omega arith } in
     let last : Inside (piece_frame piece whole at) (place piece (length piece)) = record { text = refl; start = omega arith; end = omega arith; moved = omega arith } in
-    let said : moved_part (λ n. n + at) can.0 ≡ part_at (at + 1) value = ap (moved_part (λ n. n + at)) (braced_part value can.1) ∙ moved_inner value at at refl in
+    let said : moved_part (λ n. n + at) can.0 ≡ text_at (at + 1) value = ap (moved_part (λ n. n + at)) (braced_part value can.1) ∙ moved_inner value at at refl in
     let from : 0 + at ≡ at = omega arith in
     let to : length piece + at ≡ at + length piece = omega arith in
-    subst (λ n. Braced (place whole n) (part_at (at + 1) value) (place whole (at + length piece))) from
-    (subst (λ n. Braced (place whole (0 + at)) (part_at (at + 1) value) (place whole n)) to
+    subst (λ n. Braced (place whole n) (text_at (at + 1) value) (place whole (at + length piece))) from
+    (subst (λ n. Braced (place whole (0 + at)) (text_at (at + 1) value) (place whole n)) to
     (subst (λ p. Braced (place whole (0 + at)) p (place whole (length piece + at))) said (braced_there z first last can.1)))
 
 -- the text in braces that comes in the place of a value, in the new text
 new_braced : (edit : Edit) (text value : List ℕ) → edit.bytes ≡ in_braces value → edit.start ≤ length text → CanStandInBraces value → Border (place (edited edit text) (edit.start + length edit.bytes))
-    → (at end : ℕ) → at ≡ edit.start → end ≡ edit.start + length edit.bytes → Braced (place (edited edit text) at) (part_at (at + 1) value) (place (edited edit text) end)
+    → (at end : ℕ) → at ≡ edit.start → end ≡ edit.start + length edit.bytes → Braced (place (edited edit text) at) (text_at (at + 1) value) (place (edited edit text) end)
 new_braced edit text value bytes within can border at end is_at is_end =
     let whole : List ℕ = edited edit text in
     let size : end ≡ at + length (in_braces value) = omega (arith, ap length bytes) in
     let here : drop at whole ≡ in_braces value ++ drop edit.end text = ap (λ n. drop n whole) is_at ∙ new_bytes edit text within ∙ ap (λ xs. xs ++ drop edit.end text) bytes in
     let border' : Border (place whole (at + length (in_braces value))) = subst (λ n. Border (place whole n)) (sym is_end ∙ size) border in
-    subst (λ n. Braced (place whole at) (part_at (at + 1) value) (place whole n)) (sym size) (braced_stands whole (drop edit.end text) value at can here border')
+    subst (λ n. Braced (place whole at) (text_at (at + 1) value) (place whole n)) (sym size) (braced_stands whole (drop edit.end text) value at can here border')
 
 -- the field, where the places of its old value are known
 record ValueStretch (edit : Edit) (text value : List ℕ) (f : FieldReading) (u v : Place) : Type 0 where
@@ -164,14 +164,14 @@ fits_value edit text value f {u} {v} can s =
     let here : Inside (after_frame edit text) (place text edit.end) = inside z2 refl (omega arith) (omega arith) in
     let next : Inside (after_frame edit text) stands.next = inside z2 stands.here.same (omega (arith, (ahead_char stands.here).at)) (omega (arith, char_within stands.here, ap length stands.here.same)) in
     let char = char_there z2 here next stands.here in
-    let end : moved edit edit.end ≡ edit.start + length edit.bytes = omega (arith, moved_after edit edit.end (omega arith)) in
+    let end : moved_place edit edit.end ≡ edit.start + length edit.bytes = omega (arith, moved_after edit edit.end (omega arith)) in
     let border : Border (place (edited edit text) (edit.start + length edit.bytes)) = subst (λ n. Border (place (edited edit text) n)) end (inr (stands.char, there (after_frame edit text) stands.next, char)) in
     let braced = new_braced edit text value s.bytes (omega (arith, s.some)) can border edit.start (edit.start + length edit.bytes) refl refl in
     record { ordered = omega (arith, s.some); within = within; border = inr (123, braced.inside, braced.opens) }
 
 -- the elements in the place of a value's
 new_elements : (edit : Edit) (text value : List ℕ) (f : FieldReading) {u v : Place} → CanStandInBraces value → (s : ValueStretch edit text value f u v)
-    → Elements longest (goes edit text s.field.value_start) (literal (part_at (moved edit f.value.start + 1) value) ∷ []) (goes edit text v)
+    → Elements longest (goes edit text s.field.value_start) (literal (text_at (moved_place edit f.value.start + 1) value) ∷ []) (goes edit text v)
 new_elements edit text value f {u} {v} can s =
     let fits = fits_value edit text value f can s in
     let white = ahead_run s.white in
@@ -179,22 +179,22 @@ new_elements edit text value f {u} {v} can s =
     let following = s.following in
     let here : Inside (after_frame edit text) (place text edit.end) = inside z2 refl (omega arith) (omega (arith, fits.within)) in
     let there' : Inside (after_frame edit text) v = inside z2 white.text white.at (omega (arith, char_within following.here, (ahead_char following.here).at, ap length following.here.same, ap length white.text)) in
-    let at : ℕ = moved edit s.field.value_start.at in
-    let is_at : at ≡ edit.start = ap (moved edit) (sym s.start) ∙ moved_before edit edit.start s.some in
-    let is_end : moved edit edit.end ≡ edit.start + length edit.bytes = omega (arith, moved_after edit edit.end (omega arith)) in
+    let at : ℕ = moved_place edit s.field.value_start.at in
+    let is_at : at ≡ edit.start = ap (moved_place edit) (sym s.start) ∙ moved_before edit edit.start s.some in
+    let is_end : moved_place edit edit.end ≡ edit.start + length edit.bytes = omega (arith, moved_after edit edit.end (omega arith)) in
     let stands = run_stands s.white following.here in
     let next : Inside (after_frame edit text) stands.next = inside z2 stands.here.same (omega (arith, (ahead_char stands.here).at)) (omega (arith, char_within stands.here, ap length stands.here.same)) in
     let border : Border (place (edited edit text) (edit.start + length edit.bytes)) =
     subst (λ n. Border (place (edited edit text) n)) is_end (inr (stands.char, there (after_frame edit text) stands.next, char_there z2 here next stands.here)) in
-    let braced = new_braced edit text value s.bytes (omega (arith, fits.ordered, fits.within)) can border at (moved edit edit.end) is_at is_end in
+    let braced = new_braced edit text value s.bytes (omega (arith, fits.ordered, fits.within)) can border at (moved_place edit edit.end) is_at is_end in
     let stops = elements_stop s.field.elements in
     let below : v.at < length text + 1 = omega (arith, char_within following.here, (ahead_char following.here).at, ap length following.here.same, ap length white.text) in
     let blank : Longest is_whitespace (goes edit text (place text edit.end)) (goes edit text v) = record { run = run_there z2 here there' s.white; stops = stops_there is_whitespace z2 there' below stops.0 } in
     let all = elements.last (element.braced braced) blank (stops_there (λ c. c == 35) z2 there' below stops.1) in
-    subst (λ n. Elements longest (goes edit text s.field.value_start) (literal (part_at (moved edit n + 1) value) ∷ []) (goes edit text v)) (sym s.field.starts) all
+    subst (λ n. Elements longest (goes edit text s.field.value_start) (literal (text_at (moved_place edit n + 1) value) ∷ []) (goes edit text v)) (sym s.field.starts) all
 
 new_field : (edit : Edit) (text value : List ℕ) (f : FieldReading) {u v : Place} → CanStandInBraces value → ValueStretch edit text value f u v
-    → Field longest (goes edit text u) (with_value value (moved_field (moved edit) f)) (goes edit text v)
+    → Field longest (goes edit text u) (with_value value (moved_field (moved_place edit) f)) (goes edit text v)
 new_field edit text value f {u} {v} can s =
     let fits = fits_value edit text value f can s in
     let z1 = zone_before edit text fits in
@@ -220,8 +220,8 @@ new_field edit text value f {u} {v} can s =
       sign = char_there z1 ib ic field.sign;
       white' = record { run = run_there z1 ic iv field.white'.run; stops = stops_at is_whitespace opens.here opens.dark };
       elements = value_elements;
-      starts = ap (moved edit) field.starts;
-      ends = ap (moved edit) field.ends;
+      starts = ap (moved_place edit) field.starts;
+      ends = ap (moved_place edit) field.ends;
     }
 
 -- ---- a text with another value of a field
@@ -238,8 +238,8 @@ value_some {edit_end} {text} {u} {v} all same ordered white =
         absurd (omega (arith, ap (λ p. p.at) none, opens.ahead.at, opens.here.next, (len_utf8_bounds opens.char).0))
     ]
 
-pub value_changed_read : (d : Document) (k : ℕ) (e : EntryReading) (j : ℕ) (f : FieldReading) (value : List ℕ) → IsRead d → slice_get d.says.entries k ≡ Some e → slice_get e.fields j ≡ Some f → CanStandInBraces value
-    → Run is_whitespace (place d.text (value_edit d.text f value).end) (place d.text f.value.end) → IsRead (value_changed d k e j f value)
+pub value_changed_read : (d : Document) (k : ℕ) (e : EntryReading) (j : ℕ) (f : FieldReading) (value : List ℕ) → IsDocument d → slice_get d.says.entries k ≡ Some e → slice_get e.fields j ≡ Some f → CanStandInBraces value
+    → Run is_whitespace (place d.text (value_edit d.text f value).end) (place d.text f.value.end) → IsDocument (value_changed d k e j f value)
 value_changed_read d k e j f value read here there' can white =
     let s = split_file k e read here in
     let g = split_fields j f s.block.fields there' in
@@ -260,7 +260,7 @@ value_changed_read d k e j f value read here there' can white =
       following = after_stands g.rest s.block.closes;
       some = subst (λ n. n < edit.end) (sym start) (value_some g.field.elements value_at.text (omega (arith, start)) blank);
     } in
-    field_edited_read d edit k e j f (with_value value (moved_field (moved edit) f)) (fits_value edit d.text value f can stretch) s g
+    field_edited_read d edit k e j f (with_value value (moved_field (moved_place edit) f)) (fits_value edit d.text value f can stretch) s g
     (omega (arith, start, to_value.at, (ahead_char g.field.sign).at, name_before g.field)) (ahead_run blank).at (new_field edit d.text value f can stretch)
   where
     name_before : {u v : Place} {f : FieldReading} → (field : Field longest u f v) → u.at < field.value_start.at
@@ -269,18 +269,18 @@ value_changed_read d k e j f value read here there' can white =
         omega (arith, rest.at, field.name.here.next, (len_utf8_bounds field.name.first).0)
 
 -- where a value may be cut out of its text
-pub field_placed : (d : Document) (k : ℕ) (e : EntryReading) (j : ℕ) (f : FieldReading) → IsRead d → slice_get d.says.entries k ≡ Some e → slice_get e.fields j ≡ Some f → IsPlaced d.text f
+pub field_placed : (d : Document) (k : ℕ) (e : EntryReading) (j : ℕ) (f : FieldReading) → IsDocument d → slice_get d.says.entries k ≡ Some e → slice_get e.fields j ≡ Some f → IsPlaced d.text f
 field_placed d k e j f read here there' =
     let s = split_file k e read here in
     let g = split_fields j f s.block.fields there' in
     let to_field = ahead_then (ahead_file_before s.first) (ahead_then (ahead_head s.block.head) (ahead_then (ahead_run s.block.key.run) (ahead_then (ahead_run s.block.white.run) (ahead_then (ahead_char s.block.comma) (ahead_then (ahead_gap s.block.gap) (ahead_fields_before g.first)))))) in
     let to_value = ahead_then (ahead_identifier g.field.name) (ahead_then (ahead_run g.field.white.run) (ahead_then (ahead_char g.field.sign) (ahead_run g.field.white'.run))) in
     let over = ahead_elements g.field.elements in
-    let value_text = (ahead_then to_field to_value).text in
+    let value_stretch = (ahead_then to_field to_value).text in
     let opens = elements_opens g.field.elements in
     let closes = after_stands g.rest s.block.closes in
     record {
       ordered = omega (arith, g.field.starts, g.field.ends, over.at);
-      start = subst (λ n. IsCharBoundary d.text n) (sym g.field.starts) (subst (λ t. IsCharBoundary t g.field.value_start.at) value_text (char_boundary opens.here));
-      end = subst (λ n. IsCharBoundary d.text n) (sym g.field.ends) (subst (λ t. IsCharBoundary t g.end.at) (over.text ∙ value_text) (char_boundary closes.here));
+      start = subst (λ n. IsCharBoundary d.text n) (sym g.field.starts) (subst (λ t. IsCharBoundary t g.field.value_start.at) value_stretch (char_boundary opens.here));
+      end = subst (λ n. IsCharBoundary d.text n) (sym g.field.ends) (subst (λ t. IsCharBoundary t g.end.at) (over.text ∙ value_stretch) (char_boundary closes.here));
     }

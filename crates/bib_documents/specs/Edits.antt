@@ -16,8 +16,8 @@ abbrev pub edited : Edit → List ℕ → List ℕ
 edited edit text = take edit.start text ++ edit.bytes ++ drop edit.end text
 
 -- a place of the old text in the new: what stands before the end of the stretch stays, what stands after it moves with it
-abbrev pub moved : Edit → ℕ → ℕ
-moved edit at = if nat_lt at edit.end then at else at - edit.end + (edit.start + length edit.bytes)
+abbrev pub moved_place : Edit → ℕ → ℕ
+moved_place edit at = if nat_lt at edit.end then at else at - edit.end + (edit.start + length edit.bytes)
 
 -- a part of a text at another place
 abbrev pub moved_part : (ℕ → ℕ) → Part → Part

@@ -1,9 +1,9 @@
 -- Machinery: words of private contracts.
 -- Where the parts of a document may be cut out of its text.
-use Rattle.std.specs.Prelude.{ℕ, ◌+◌, ◌<◌, ◌≤◌, List, length, ⊤}
+use Rattle.std.specs.Prelude.{◌≡◌, ℕ, ◌+◌, ◌<◌, ◌≤◌, List, length, slice_get, Some, ⊤}
 use Rattle.std.specs.Str.{IsCharBoundary}
 use Rattle.bib_syntax.specs.Reading.{EntryReading, FieldReading}
-use Rattle.bib_documents.specs.Documents.{CanBeName, CanStandInBraces, IsAfterComma}
+use Rattle.bib_documents.specs.Documents.{CanBeName, CanStandInBraces, IsAfterComma, field_limit}
 use Rattle.bib_documents.specs.declared.errors.EditError.{EditError}
 use Rattle.bib_documents.specs.declared.errors.EditError.TheVariants.{UnknownKey, KeyIsThere, NotAKey, NotAName, NotInBraces, OutOfMemory}
 
@@ -19,6 +19,22 @@ pub record IsEntryPlaced (text : List ℕ) (e : EntryReading) : Type 0 where
   pub within : e.end < length text
   pub start : IsCharBoundary text e.start
   pub end : IsCharBoundary text (e.end + 1)
+
+-- where a field of an entry may be cut out of a text, up to the next one
+pub record IsFieldPlaced (text : List ℕ) (e : EntryReading) (j : ℕ) (f : FieldReading) : Type 0 where
+  pub ordered : f.name.start ≤ field_limit e j
+  pub start : IsCharBoundary text f.name.start
+  pub end : IsCharBoundary text (field_limit e j)
+
+-- where each field of an entry may be cut out of a text
+abbrev pub AreFieldsPlaced : List ℕ → EntryReading → Type 0
+AreFieldsPlaced text e = (j : ℕ) (f : FieldReading) → slice_get e.fields j ≡ Some f → IsFieldPlaced text e j f
+
+-- where the key of an entry may be cut out of a text
+pub record IsKeyPlaced (text : List ℕ) (e : EntryReading) : Type 0 where
+  pub ordered : e.key.start ≤ e.key.end
+  pub start : IsCharBoundary text e.key.start
+  pub end : IsCharBoundary text e.key.end
 
 -- where the comma after an entry's key stands in a text
 pub record HasComma (text : List ℕ) (e : EntryReading) : Type 0 where

@@ -32,7 +32,7 @@ fn after_comma(text: &str, entry: &Spanned<RawEntry<'_>>) -> usize
 }
 
 // A line with a field whose value stands in braces, and the comma after it.
-fn field_line(alloc: Global, name: &str, braced: &str) -> Result<String, AllocError>
+fn added_line(alloc: Global, name: &str, braced: &str) -> Result<String, AllocError>
     ensures { IfOk result (λ line. string_bytes line ≡ codes "\n  " ++ name.now ++ codes " = " ++ braced.now ++ codes ",") }
 {
     let mut line = String::new(alloc);
@@ -54,7 +54,7 @@ pub(crate) fn with_field(
 ) -> Result<String, EditError>
     requires { HasComma text.now (entry_reading_of entry.now) }
     ensures text { IfOk result (λ new. (at : ℕ) × IsAfterComma text.now (entry_reading_of entry.now) at ×
-        (string_bytes new ≡ edits.edited (record { start = at; end = at; bytes = documents.field_line name.now value.now }) text.now)) }
+        (string_bytes new ≡ edits.edited (record { start = at; end = at; bytes = documents.added_line name.now value.now }) text.now)) }
     ensures name { OnOk result (CanBeName name.now) }
     ensures value { OnOk result (CanStandInBraces value.now) }
     ensures refused { IfErr result (AddIsRefused name.now value.now) }
@@ -63,7 +63,7 @@ pub(crate) fn with_field(
         return Err(EditError::NotAName);
     }
     let braced = in_braces(alloc, value)?;
-    let line = field_line(alloc, name, &braced)?;
+    let line = added_line(alloc, name, &braced)?;
     let at = after_comma(text, entry);
     Ok(edited(alloc, text, at, at, &line)?)
 }

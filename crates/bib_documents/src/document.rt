@@ -6,12 +6,14 @@ ghost use Rattle.bib_syntax.specs.Errors.{Refuses, out_of_memory};
 ghost use Rattle.bib_syntax.specs.Grammar.{IsFile, IsRawReading};
 ghost use Rattle.bib_syntax.specs.SyntaxErrors.{IsReported};
 ghost use Rattle.bib_syntax.specs.Views.{file_of};
-ghost use Rattle.bib_documents.specs.Documents.{Document, EntryRemoved, FieldSet, IsEdited, IsRead, RemoveIsRefused, SetIsRefused};
+ghost use Rattle.bib_documents.specs.Documents.{Document, EntryIsRefused, EntryRemoved, FieldSet, FieldUnset, IsEdited, IsDocument, KeyRenamed, RenameIsRefused, SetIsRefused};
 
 use crate::adding::with_field;
+use crate::editing::edited;
 use crate::errors::EditError;
+use crate::keys::can_be_key;
 use crate::lookup::{entry_with, field_with};
-use crate::removing::without_entry;
+use crate::removing::{without_entry, without_field};
 use crate::setting::set_value;
 use bib_syntax::raw::{ParseError, RawBibliography};
 use std::alloc::Global;
@@ -39,7 +41,7 @@ impl<'s> Model for RawDocument<'s> {
 impl<'s> RawDocument<'s> {
     /// Reads a text, as `RawBibliography::parse` does.
     pub fn parse(alloc: Global, src: &'s str) -> Result<Self, ParseError>
-        ensures read { IfOk result (λ d. IsRead d) }
+        ensures read { IfOk result (λ d. IsDocument d) }
         ensures same { IfOk result (λ d. d.text ≡ src.now) }
         ensures accepted { OnOk result (IsFile src.now) }
         ensures refused { IfErr result (λ e. Refuses src.now e (IsFile src.now → ⊥)) }
@@ -84,14 +86,49 @@ impl<'s> RawDocument<'s> {
         }
     }
 
+    /// The text without a field of an entry: the last field with the name of the first entry with the key, up to the next field or
+    /// the closing brace. As it is where the field isn't there. Of several fields with the name the others stay.
+    pub fn unset_field(&self, alloc: Global, key: &str, name: &str) -> Result<String, EditError>
+        ensures unset { IfOk result (λ new. IsEdited (FieldUnset self.now key.now name.now) (string_bytes new)) }
+        ensures refused { IfErr result (EntryIsRefused self.now key.now) }
+    {
+        match entry_with(&self.raw.entries, key) {
+            Some(entry) => Ok(without_field(alloc, self.text, entry, name)?),
+            None => Err(EditError::UnknownKey),
+        }
+    }
+
     /// The text without the first entry with a key, and without the white space after it.
     pub fn remove_entry(&self, alloc: Global, key: &str) -> Result<String, EditError>
         ensures removed { IfOk result (λ new. IsEdited (EntryRemoved self.now key.now) (string_bytes new)) }
-        ensures refused { IfErr result (RemoveIsRefused self.now key.now) }
+        ensures refused { IfErr result (EntryIsRefused self.now key.now) }
     {
         match entry_with(&self.raw.entries, key) {
             Some(entry) => Ok(without_entry(alloc, self.text, entry)?),
             None => Err(EditError::UnknownKey),
+        }
+    }
+
+    /// The text with another key of the first entry with a key. References to the key stay as they are.
+    pub fn rename_key(&self, alloc: Global, old: &str, new: &str) -> Result<String, EditError>
+        ensures renamed { IfOk result (λ text. IsEdited (KeyRenamed self.now old.now new.now) (string_bytes text)) }
+        ensures refused { IfErr result (RenameIsRefused self.now old.now new.now) }
+    {
+        if !can_be_key(old) {
+            return Err(EditError::NotAKey);
+        }
+        if !can_be_key(new) {
+            return Err(EditError::NotAKey);
+        }
+        match entry_with(&self.raw.entries, new) {
+            Some(_) => Err(EditError::KeyIsThere),
+            None => match entry_with(&self.raw.entries, old) {
+                Some(entry) => {
+                    let span = &entry.v.key.span;
+                    Ok(edited(alloc, self.text, span.start, span.end, new)?)
+                }
+                None => Err(EditError::UnknownKey),
+            },
         }
     }
 }

@@ -6,6 +6,7 @@ mod adding;
 mod braces;
 mod editing;
 pub mod errors;
+mod keys;
 mod lookup;
 mod names;
 mod removing;

@@ -9,19 +9,19 @@ use bib_syntax::raw::{Pair, RawEntry, is_word};
 use bib_text::spanned::Spanned;
 
 // Whether an entry has this key.
-fn has_key(entry: &Spanned<RawEntry<'_>>, key: &str) -> bool
-    ensures { result ≡ documents.has_key key.now (entry_reading_of entry.now) }
+fn is_keyed(entry: &Spanned<RawEntry<'_>>, key: &str) -> bool
+    ensures { result ≡ documents.is_keyed key.now (entry_reading_of entry.now) }
 {
     entry.v.key.v == key
 }
 
 // The index of the first entry with this key.
 fn entry_index(entries: &[Spanned<RawEntry<'_>>], key: &str) -> Option<usize>
-    ensures is { result ≡ first_position (documents.has_key key.now) (map entry_reading_of entries.now) }
+    ensures is { result ≡ first_position (documents.is_keyed key.now) (map entry_reading_of entries.now) }
     ensures bound { IfSome result (λ index. index < length entries.now) }
 {
     'entries: for (index, entry) in entries.iter().enumerate() {
-        if has_key(entry, key) {
+        if is_keyed(entry, key) {
             return Some(index);
         }
     }
@@ -29,7 +29,7 @@ fn entry_index(entries: &[Spanned<RawEntry<'_>>], key: &str) -> Option<usize>
 }
 
 // The index of the last field with this name.
-fn field_index(fields: &[Pair<'_>], name: &str) -> Option<usize>
+pub(crate) fn field_index(fields: &[Pair<'_>], name: &str) -> Option<usize>
     ensures is { result ≡ last_position (documents.has_name name.now) (map field_of fields.now) }
     ensures bound { IfSome result (λ index. index < length fields.now) }
 {
@@ -48,8 +48,8 @@ pub(crate) fn entry_with<'a, 's>(
     key: &str,
 ) -> Option<&'a Spanned<RawEntry<'s>>>
     ensures { MatchOption result
-        (first_position (documents.has_key key.now) (map entry_reading_of entries.now) ≡ None)
-        (λ entry. (k : ℕ) × (first_position (documents.has_key key.now) (map entry_reading_of entries.now) ≡ Some k) ×
+        (first_position (documents.is_keyed key.now) (map entry_reading_of entries.now) ≡ None)
+        (λ entry. (k : ℕ) × (first_position (documents.is_keyed key.now) (map entry_reading_of entries.now) ≡ Some k) ×
             (slice_get (map entry_reading_of entries.now) k ≡ Some (entry_reading_of entry.now))) }
 {
     match entry_index(entries, key) {

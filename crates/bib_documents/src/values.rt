@@ -5,7 +5,7 @@ ghost use Rattle.std.specs.Char.{is_whitespace};
 ghost use Rattle.std.specs.Str.{IsCharBoundary, trim_end};
 ghost use Rattle.bib_text.specs.Places.{Run, place};
 ghost use Rattle.bib_syntax.specs.Views.{field_of};
-ghost use Rattle.bib_documents.specs.Documents.{value_text};
+ghost use Rattle.bib_documents.specs.Documents.{value_stretch};
 
 use bib_syntax::raw::Pair;
 
@@ -15,7 +15,7 @@ pub(crate) fn value_end(text: &str, field: &Pair<'_>) -> usize
     requires start { IsCharBoundary text.now (field_of field.now).value.start }
     requires end { IsCharBoundary text.now (field_of field.now).value.end }
     ensures end { result ≡ (field_of field.now).value.start +
-        length (trim_end (value_text text.now (field_of field.now))) }
+        length (trim_end (value_stretch text.now (field_of field.now))) }
     ensures white { Run is_whitespace (place text.now result)
         (place text.now (field_of field.now).value.end) }
     ensures boundary { IsCharBoundary text.now result }
