@@ -162,23 +162,27 @@ key_some d k e read here some =
     omega (arith, size, length-take (b.key_end.at - b.inside.at) bytes, ap (λ p. p.start) b.key_is, ap (λ p. p.end) b.key_is)
 
 -- what passes at the first index passes
-first_passes : (test : EntryReading → Bool) (es : List EntryReading) (k : ℕ) (e : EntryReading) → first_position test es ≡ Some k → slice_get es k ≡ Some e → test e ≡ true
-first_passes test [] k e first here = absurd (cc)
-first_passes test (x ∷ xs) k e first here = by_case (test x) refl first
+first_step : (test : EntryReading → Bool) (x : EntryReading) (xs : List EntryReading) (k : ℕ) (e : EntryReading) → ((i : ℕ) → first_position test xs ≡ Some i → slice_get xs i ≡ Some e → test e ≡ true)
+    → first_position test (x ∷ xs) ≡ Some k → slice_get (x ∷ xs) k ≡ Some e → test e ≡ true
+first_step test x xs k e rest first here = by_case (test x) refl first
   where
     next : (i : Option ℕ) → first_position test xs ≡ i → next_index i ≡ Some k → test e ≡ true
     next None is found = absurd (cc)
     next (Some i) is found =
         let same : suc i ≡ k = cc in
-        first_passes test xs i e is (subst (λ n. slice_get (x ∷ xs) n ≡ Some e) (sym same) here)
+        rest i is (subst (λ n. slice_get (x ∷ xs) n ≡ Some e) (sym same) here)
 
     by_case : (b : Bool) → test x ≡ b → cond b (Some 0) (next_index (first_position test xs)) ≡ Some k → test e ≡ true
     by_case true is found =
-        let zero_is : 0 ≡ k = cc in
-        let same : Some x ≡ Some e = subst (λ n. slice_get (x ∷ xs) n ≡ Some e) (sym zero_is) here in
+        let none : 0 ≡ k = cc in
+        let same : Some x ≡ Some e = subst (λ n. slice_get (x ∷ xs) n ≡ Some e) (sym none) here in
         let head : x ≡ e = cc in
         ap test (sym head) ∙ is
     by_case false is found = next (first_position test xs) refl found
+
+first_passes : (test : EntryReading → Bool) (es : List EntryReading) (k : ℕ) (e : EntryReading) → first_position test es ≡ Some k → slice_get es k ≡ Some e → test e ≡ true
+first_passes test [] k e first here = absurd (cc)
+first_passes test (x ∷ xs) k e first here = first_step test x xs k e (λ i is found. first_passes test xs i e is found) first here
 
 -- a key was renamed
 pub key_renamed : {S : Type 0} (bytes : S → List ℕ) (d : Document) (old new : List ℕ) (k : ℕ) (e : EntryReading) (text : S) → IsDocument d → HasEntry d old k e → CanBeKey old → CanBeKey new

@@ -40,7 +40,7 @@ pub record Inside (f : Frame) (u : Place) : Type 0 where
   pub text : u.text ≡ f.old
   pub start : f.from ≤ u.at
   pub end : u.at ≤ f.end
-  pub moved_place : f.move u.at + f.from ≡ u.at + f.to
+  pub moved : f.move u.at + f.from ≡ u.at + f.to
 
 pub inside : {f : Frame} {u : Place} → Zone f → u.text ≡ f.old → f.from ≤ u.at → u.at < f.end → Inside f u
 inside {f} {u} z text start below = record { text = text; start = start; end = omega arith; moved = z.moves u.at start below }
