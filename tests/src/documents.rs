@@ -36,6 +36,12 @@ fn edited(alloc: Global, call: &str, document: &RawDocument<'_>) -> Option<Resul
         let (old, new) = words.split_once(' ')?;
         return Some(document.rename_key(alloc, old, new));
     }
+    if let Some(more) = call.strip_prefix("add ") {
+        let Ok(more) = RawDocument::parse(alloc, more) else {
+            return None;
+        };
+        return Some(document.add_entries(alloc, &more));
+    }
     let key = call.strip_prefix("remove ")?;
     Some(document.remove_entry(alloc, key))
 }

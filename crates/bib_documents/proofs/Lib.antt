@@ -3,11 +3,13 @@ pub mod BoundaryFacts
 pub mod EditFacts
 pub mod EntryFacts
 pub mod GrammarFacts
+pub mod JoinedFacts
 pub mod MovedFacts
 pub mod PositionFacts
 pub mod RemovedFacts
 pub mod RenamedFacts
 pub mod SetFacts
+pub mod SetLawFacts
 pub mod SplitFacts
 pub mod TrimFacts
 pub mod UnsetFacts

@@ -71,7 +71,7 @@ pub run_within : {test : ℕ → Bool} {u v : Place} → Run test u v → u.at �
 run_within stop within = within
 run_within (step char passes rest) within = run_within rest (char_within char)
 
-body_within : {start u v : Place} {kind : Part} {k : BlockKind} {says : FileReading} → Body longest start kind k u says v → v.at ≤ length v.text
+pub body_within : {start u v : Place} {kind : Part} {k : BlockKind} {says : FileReading} → Body longest start kind k u says v → v.at ≤ length v.text
 body_within (body.comment brace chars closes) = char_within closes
 body_within (body.preamble quoted white closes is_brace) = char_within closes
 body_within (body.strings fs closes) = char_within closes

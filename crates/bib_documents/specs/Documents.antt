@@ -2,14 +2,14 @@
 -- A bibliography's text with what it says, and what an edit makes of the two.
 use Rattle.std.specs.Prelude.{◌≡◌, ℕ, suc, ◌+◌, ◌<◌, Bool, true, false, if◌then◌else◌, List, [], ◌∷◌, ◌++◌, length, map, Option, Some, None, bytes_eq, slice_get, slice_set, codes, ⊤}
 use Rattle.std.specs.Char.{is_whitespace}
-use Rattle.std.specs.List.{remove}
+use Rattle.std.specs.List.{AllByRecursion, remove}
 use Rattle.std.specs.Option.{option_map_or}
 use Rattle.std.specs.Str.{trim_end}
 use Rattle.bib_text.specs.Places.{CharAt, Longest, Place, Run, between, place}
 use Rattle.bib_syntax.specs.Characters.{is_key}
 use Rattle.bib_text.specs.Characters as char
 use Rattle.bib_syntax.specs.Grammar.{Braced, Identifier, IsRawReading, is_word, longest}
-use Rattle.bib_syntax.specs.Reading.{Part, Piece, FieldReading, EntryReading, FileReading}
+use Rattle.bib_syntax.specs.Reading.{Part, Piece, FieldReading, EntryReading, FileReading, then}
 use Rattle.bib_syntax.specs.Reading.Piece.{literal, abbreviation}
 use Rattle.bib_documents.specs.declared.errors.EditError.{EditError}
 use Rattle.bib_documents.specs.declared.errors.EditError.TheVariants.{UnknownKey, KeyIsThere, NotAKey, NotAName, NotInBraces, OutOfMemory}
@@ -224,6 +224,30 @@ RenameIsRefused d old new NotAKey = CanBeKey old → CanBeKey new → ⊥
 RenameIsRefused d old new NotAName = ⊥
 RenameIsRefused d old new NotInBraces = ⊥
 RenameIsRefused d old new OutOfMemory = ⊤
+
+-- a text after another, with a line feed between them
+abbrev pub joined_documents : Document → Document → Document
+joined_documents d more = record {
+  text = d.text ++ char.line_feed ∷ more.text;
+  says = (then) d.says (moved_file (λ at. at + (length d.text + 1)) more.says);
+}
+
+-- no entry has the key of another document's
+abbrev pub SharesNoKey : Document → Document → Type 0
+SharesNoKey d more = AllByRecursion (λ e. first_position (is_keyed e.key.text) d.says.entries ≡ None) more.says.entries
+
+-- what comes of adding what another document has
+pub data EntriesAdded (d more : Document) : Document → Type 0 where
+  added : SharesNoKey d more → EntriesAdded d more (joined_documents d more)
+
+-- why adding a document is refused
+abbrev pub EntriesAreRefused : Document → Document → EditError → Type 0
+EntriesAreRefused d more UnknownKey = ⊥
+EntriesAreRefused d more KeyIsThere = SharesNoKey d more → ⊥
+EntriesAreRefused d more NotAKey = ⊥
+EntriesAreRefused d more NotAName = ⊥
+EntriesAreRefused d more NotInBraces = ⊥
+EntriesAreRefused d more OutOfMemory = ⊤
 
 -- a text is what comes of an edit, and is read so
 pub record IsEdited (Outcome : Document → Type 0) (text : List ℕ) : Type 0 where

@@ -6,11 +6,12 @@ ghost use Rattle.bib_syntax.specs.Errors.{Refuses, out_of_memory};
 ghost use Rattle.bib_syntax.specs.Grammar.{IsFile, IsRawReading};
 ghost use Rattle.bib_syntax.specs.SyntaxErrors.{IsReported};
 ghost use Rattle.bib_syntax.specs.Views.{file_of};
-ghost use Rattle.bib_documents.specs.Documents.{Document, EntryIsRefused, EntryRemoved, FieldSet, FieldUnset, IsEdited, IsDocument, KeyRenamed, RenameIsRefused, SetIsRefused};
+ghost use Rattle.bib_documents.specs.Documents.{Document, EntriesAdded, EntriesAreRefused, EntryIsRefused, EntryRemoved, FieldSet, FieldUnset, IsEdited, IsDocument, KeyRenamed, RenameIsRefused, SetIsRefused};
 
 use crate::adding::with_field;
 use crate::editing::edited;
 use crate::errors::EditError;
+use crate::joining::{joined, shares_key};
 use crate::keys::can_be_key;
 use crate::lookup::{entry_with, field_with};
 use crate::removing::{without_entry, without_field};
@@ -130,5 +131,17 @@ impl<'s> RawDocument<'s> {
                 None => Err(EditError::UnknownKey),
             },
         }
+    }
+
+    /// The text with that of another document after it, in a line of its own. Refused where an entry has the key of one of the
+    /// other's.
+    pub fn add_entries(&self, alloc: Global, more: &RawDocument<'_>) -> Result<String, EditError>
+        ensures added { IfOk result (λ text. IsEdited (EntriesAdded self.now more.now) (string_bytes text)) }
+        ensures refused { IfErr result (EntriesAreRefused self.now more.now) }
+    {
+        if shares_key(&self.raw.entries, &more.raw.entries) {
+            return Err(EditError::KeyIsThere);
+        }
+        Ok(joined(alloc, self.text, more.text)?)
     }
 }

@@ -7,10 +7,8 @@ use Rattle.bib_syntax.specs.Views.{entry_reading_of, field_of}
 use Rattle.bib_syntax.specs.declared.raw.Pair.{Pair}
 use Rattle.bib_documents.specs.Documents.{field_edit, field_limit, has_name, last_position}
 use Rattle.bib_documents.specs.Edits.{Edit, edited}
-use Rattle.bib_documents.specs.Placed.{IsFieldPlaced}
 use Rattle.bib_documents.proofs.PositionFacts.{slice_get-map}
 use Rattle.bib_documents.proofs.removing.without_field.Goals as goal
-use Rattle.bib_documents.proofs.removing.without_field.Goals.{After-edited-arg-in-Some-1}
 
 -- the field that was looked up
 found : (listed items : List Pair) (index : ℕ) (x : Pair) → listed ≡ items → index < length listed → x ≡ get_or items index x → slice_get (map field_of items) index ≡ Some (field_of x)
@@ -26,20 +24,23 @@ taken bytes (Ok new) text e index limit x last is end here all = λ j found_at.
     let whole : bytes new ≡ edited (field_edit e index x) text = all ∙ ap (λ n. let edit : Edit = record { start = x.name.start; end = n; bytes = [] } in edited edit text) end in
     (x, subst (λ n. slice_get e.fields n ≡ Some x) same here, subst (λ n. bytes new ≡ edited (field_edit e n x) text) same whole)
 
-field_at_index : (c : After-edited-arg-in-Some-1) → slice_get (entry_reading_of c.args.entry.now).fields c.in-Some.index ≡ Some (field_of c.index.result.now)
-field_at_index c = found c.deref.result.now c.args.entry.now.v.fields.items c.in-Some.index c.index.result.now c.deref.ensures.value c.in-Some.ensures.bound c.index.ensures
-
-placed : (c : After-edited-arg-in-Some-1) → IsFieldPlaced c.args.text.now (entry_reading_of c.args.entry.now) c.in-Some.index (field_of c.index.result.now)
-placed c = c.requires c.in-Some.index (field_of c.index.result.now) (field_at_index c)
-
 pub edited-requires-clause-ordered : goal.edited-requires-clause-ordered
-edited-requires-clause-ordered c = subst (λ n. c.index.result.now.key.span.start ≤ n) (sym c.field_limit.ensures) (placed c).ordered
+edited-requires-clause-ordered c =
+    let here = found c.deref.result.now c.args.entry.now.v.fields.items c.in-Some.index c.index.result.now c.deref.ensures.value c.in-Some.ensures.bound c.index.ensures in
+    let placed = c.requires c.in-Some.index (field_of c.index.result.now) here in
+    subst (λ n. c.index.result.now.key.span.start ≤ n) (sym c.field_limit.ensures) placed.ordered
 
 pub edited-requires-clause-start : goal.edited-requires-clause-start
-edited-requires-clause-start c = (placed c).start
+edited-requires-clause-start c =
+    let here = found c.deref.result.now c.args.entry.now.v.fields.items c.in-Some.index c.index.result.now c.deref.ensures.value c.in-Some.ensures.bound c.index.ensures in
+    let placed = c.requires c.in-Some.index (field_of c.index.result.now) here in
+    placed.start
 
 pub edited-requires-clause-end : goal.edited-requires-clause-end
-edited-requires-clause-end c = subst (λ n. IsCharBoundary c.args.text.now n) (sym c.field_limit.ensures) (placed c).end
+edited-requires-clause-end c =
+    let here = found c.deref.result.now c.args.entry.now.v.fields.items c.in-Some.index c.index.result.now c.deref.ensures.value c.in-Some.ensures.bound c.index.ensures in
+    let placed = c.requires c.in-Some.index (field_of c.index.result.now) here in
+    subst (λ n. IsCharBoundary c.args.text.now n) (sym c.field_limit.ensures) placed.end
 
 pub returns-in-Some-clause-removed : goal.returns-in-Some-clause-removed
 returns-in-Some-clause-removed c =
