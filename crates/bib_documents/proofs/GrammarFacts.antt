@@ -153,8 +153,8 @@ line_before {u} {v} {w} {x} {c} m ahead char other =
     elim (cases_lt v.at w.at) [
       | inl before ↦ before
       | inr past ↦
-        let same : w ≡ v = same_place ahead.text (omega (arith, ahead.at)) in
-        absurd (test_clash (not (c == 10)) (not_from_false (c == 10) other) (m.line.stops c x (subst (λ p. CharAt p c x) same char)))
+          let same : w ≡ v = same_place ahead.text (omega (arith, ahead.at)) in
+          absurd (test_clash (not (c == 10)) (not_from_false (c == 10) other) (m.line.stops c x (subst (λ p. CharAt p c x) same char)))
     ]
 
 -- a gap, where what stands after it in both texts is known

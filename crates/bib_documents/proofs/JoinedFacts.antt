@@ -70,14 +70,14 @@ comment_first first second {u} {v} iu iv m =
     elim (cases_lt v.at (length first)) [
       | inl before ↦ line_comment_there z iu iv before m
       | inr past ↦
-        let last : v.at ≡ length first = omega (arith, iv.end) in
-        let feed : CharAt (there (first_frame first second) v) 10 (place (first ++ 10 ∷ second) (length first + 1)) = subst (λ n. CharAt (place (first ++ 10 ∷ second) n) 10 (place (first ++ 10 ∷ second) (length first + 1))) (sym last) (feed_stands first second) in
-        let a = inside_between z iu iv (ahead_char m.sign) (ahead_run m.line.run) in
-        record {
-          inside = there (first_frame first second) m.inside;
-          sign = char_there z iu a m.sign;
-          line = record { run = run_there z a iv m.line.run; stops = stops_at (λ c. not (c == 10)) feed refl };
-        }
+          let last : v.at ≡ length first = omega (arith, iv.end) in
+          let feed : CharAt (there (first_frame first second) v) 10 (place (first ++ 10 ∷ second) (length first + 1)) = subst (λ n. CharAt (place (first ++ 10 ∷ second) n) 10 (place (first ++ 10 ∷ second) (length first + 1))) (sym last) (feed_stands first second) in
+          let a = inside_between z iu iv (ahead_char m.sign) (ahead_run m.line.run) in
+          record {
+            inside = there (first_frame first second) m.inside;
+            sign = char_there z iu a m.sign;
+            line = record { run = run_there z a iv m.line.run; stops = stops_at (λ c. not (c == 10)) feed refl };
+          }
     ]
 
 file_first : (first second : List ℕ) (rest : FileReading) {u : Place} {says : FileReading} → Inside (first_frame first second) u → File longest u says → File longest (place (first ++ 10 ∷ second) (length first + 1)) rest

@@ -218,8 +218,8 @@ split_file zero e (file.block {first = first} {rest = rest} b x) found =
     elim (one_entry b.body) [
       | inl no_entry ↦ after_none b no_entry (split_file zero e x (get_after first.entries rest.entries [] zero e no_entry found))
       | inr one ↦
-        let here : Some one.0 ≡ Some e = get_after first.entries rest.entries (one.0 ∷ []) zero e (ap (λ r. r.entries) one.1) found in
-        at_entry b one.1 (cc) x
+          let here : Some one.0 ≡ Some e = get_after first.entries rest.entries (one.0 ∷ []) zero e (ap (λ r. r.entries) one.1) found in
+          at_entry b one.1 (cc) x
     ]
 split_file (suc k) e (file.block {first = first} {rest = rest} b x) found =
     elim (one_entry b.body) [

@@ -233,9 +233,9 @@ value_some {edit_end} {text} {u} {v} all same ordered white =
     elim (cases_lt u.at edit_end) [
       | inl before ↦ before
       | inr past ↦
-        let here : place text edit_end ≡ u = same_place {u = place text edit_end} {v = u} (sym same) (omega arith) in
-        let none : u ≡ v = dark_run (subst (λ p. Run is_whitespace p v) here white) opens.here opens.dark in
-        absurd (omega (arith, ap (λ p. p.at) none, opens.ahead.at, opens.here.next, (len_utf8_bounds opens.char).0))
+          let here : place text edit_end ≡ u = same_place {u = place text edit_end} {v = u} (sym same) (omega arith) in
+          let none : u ≡ v = dark_run (subst (λ p. Run is_whitespace p v) here white) opens.here opens.dark in
+          absurd (omega (arith, ap (λ p. p.at) none, opens.ahead.at, opens.here.next, (len_utf8_bounds opens.char).0))
     ]
 
 pub value_changed_read : (d : Document) (k : ℕ) (e : EntryReading) (j : ℕ) (f : FieldReading) (value : List ℕ) → IsDocument d → slice_get d.says.entries k ≡ Some e → slice_get e.fields j ≡ Some f → CanStandInBraces value

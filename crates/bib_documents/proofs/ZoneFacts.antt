@@ -54,8 +54,8 @@ inside_between {f} {u} {v} {w} z iu iv first second =
     elim (cases_lt w.at f.end) [
       | inl below ↦ inside z text start below
       | inr past ↦
-        let last : v.at ≡ w.at = omega (arith, iv.end, second.at) in
-        record { text = text; start = start; end = end; moved = subst (λ n. f.move n + f.from ≡ n + f.to) last iv.moved }
+          let last : v.at ≡ w.at = omega (arith, iv.end, second.at) in
+          record { text = text; start = start; end = end; moved = subst (λ n. f.move n + f.from ≡ n + f.to) last iv.moved }
     ]
 
 -- some bytes of the first bytes of a list

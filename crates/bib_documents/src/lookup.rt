@@ -50,7 +50,7 @@ pub(crate) fn entry_with<'a, 's>(
     ensures { MatchOption result
         (first_position (documents.is_keyed key.now) (map entry_reading_of entries.now) ≡ None)
         (λ entry. (k : ℕ) × (first_position (documents.is_keyed key.now) (map entry_reading_of entries.now) ≡ Some k) ×
-            (slice_get (map entry_reading_of entries.now) k ≡ Some (entry_reading_of entry.now))) }
+        (slice_get (map entry_reading_of entries.now) k ≡ Some (entry_reading_of entry.now))) }
 {
     match entry_index(entries, key) {
         Some(index) => Some(&entries[index]),
@@ -63,7 +63,7 @@ pub(crate) fn field_with<'a, 's>(fields: &'a [Pair<'s>], name: &str) -> Option<&
     ensures { MatchOption result
         (last_position (documents.has_name name.now) (map field_of fields.now) ≡ None)
         (λ field. (j : ℕ) × (last_position (documents.has_name name.now) (map field_of fields.now) ≡ Some j) ×
-            (slice_get (map field_of fields.now) j ≡ Some (field_of field.now))) }
+        (slice_get (map field_of fields.now) j ≡ Some (field_of field.now))) }
 {
     match field_index(fields, name) {
         Some(index) => Some(&fields[index]),
