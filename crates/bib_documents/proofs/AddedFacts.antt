@@ -1,15 +1,14 @@
 -- An entry with one more field.
-use Rattle.std.proofs.Common.{◌≡◌, inr, ℕ, ◌+◌, ◌-◌, ◌<◌, ◌≤◌, Bool, true, false, List, [], ◌∷◌, ◌++◌, length, take, drop, map, refl, sym, ap, ◌∙◌, subst, arith, Some, append_assoc, length-append}
+use Rattle.std.proofs.Common.{◌≡◌, inr, ℕ, ◌+◌, ◌-◌, ◌<◌, ◌≤◌, true, false, List, ◌∷◌, ◌++◌, length, take, drop, map, refl, sym, ap, ◌∙◌, subst, arith, Some, append_assoc, length-append}
 use Rattle.std.proofs.lemmas.Bool.{ne_eqb}
 use Rattle.std.specs.Prelude.{◌==◌, slice_get, codes}
-use Rattle.std.specs.Char.{is_whitespace, len_utf8}
-use Rattle.std.proofs.lemmas.List.{take_all, take_at}
-use Rattle.std.proofs.lemmas.Str.{len_utf8_bounds}
-use Rattle.bib_text.specs.Places.{Place, place, CharAt, Run, Stops, Longest, between}
+use Rattle.std.specs.Char.{is_whitespace}
+use Rattle.std.proofs.lemmas.List.{take_at}
+use Rattle.bib_text.specs.Places.{Place, place, CharAt, Run, Longest, between}
 use Rattle.bib_text.specs.Places.Run.{stop, step}
-use Rattle.bib_text.proofs.PlaceFacts.{Ahead, ahead_then, ahead_char, ahead_run, longest_same, same_char, same_place, stops_at, test_clash}
+use Rattle.bib_text.proofs.PlaceFacts.{ahead_then, ahead_char, ahead_run, longest_same, same_char, same_place, stops_at, test_clash}
 use Rattle.bib_syntax.specs.Characters.{is_id_continue, is_id_start}
-use Rattle.bib_syntax.specs.Reading.{Part, part, FieldReading, EntryReading}
+use Rattle.bib_syntax.specs.Reading.{Part, EntryReading}
 use Rattle.bib_syntax.specs.Reading.Piece.{literal}
 use Rattle.bib_syntax.specs.Grammar.{Element, Elements, Field, Fields, Gap, Identifier, longest}
 use Rattle.bib_syntax.proofs.FieldFacts.{ahead_gap, ahead_fields}
@@ -18,9 +17,9 @@ use Rattle.bib_syntax.proofs.LawFacts.{start_not_white}
 use Rattle.bib_documents.specs.Edits.{Edit, edited, moved_place, moved_part, moved_field, moved_entry}
 use Rattle.bib_documents.specs.Documents.{CanBeName, CanStandInBraces, Document, IsAfterComma, IsDocument, field_added, field_at, added_line, in_braces, text_at}
 use Rattle.bib_documents.proofs.EditFacts.{Fits, before_frame, after_frame, piece_frame, moved_before, moved_after, zone_before, zone_after, zone_piece, new_bytes, ascii_stands, rest_stands, text_stands}
-use Rattle.bib_documents.proofs.ZoneFacts.{Zone, Inside, there, inside, inside_between, char_there, char_there_last, longest_there, part_there, run_there}
+use Rattle.bib_documents.proofs.ZoneFacts.{Inside, inside_between, char_there, char_there_last, longest_there, part_there, run_there}
 use Rattle.bib_documents.proofs.GrammarFacts.{below_char, gap_there, fields_there, head_there}
-use Rattle.bib_documents.proofs.SplitFacts.{EntryBlock, EntrySplit, ahead_file_before, block_of, split_file}
+use Rattle.bib_documents.proofs.SplitFacts.{EntryBlock, ahead_file_before, block_of, split_file}
 use Rattle.bib_documents.proofs.MovedFacts.{char_within}
 use Rattle.bib_documents.proofs.EntryFacts.{goes, before_stretch, after_stretch, entry_edited_read}
 use Rattle.bib_documents.proofs.ValueFacts.{braced_stands}

@@ -1,11 +1,10 @@
 -- What stands before the stretch that an edit changes, and what stands after it, stands in the edited text.
-use Rattle.std.proofs.Common.{◌≡◌, ℕ, ◌+◌, ◌-◌, ◌<◌, ◌≤◌, Bool, true, false, List, ◌∷◌, ◌++◌, length, take, drop, refl, sym, ap, ◌∙◌, subst, arith, length-append, length-drop, append_assoc}
-use Rattle.std.specs.Prelude.{nat_lt}
+use Rattle.std.proofs.Common.{◌≡◌, ℕ, ◌+◌, ◌-◌, ◌<◌, ◌≤◌, List, ◌∷◌, ◌++◌, length, take, drop, refl, sym, ap, ◌∙◌, subst, arith, length-append, length-drop, append_assoc}
 use Rattle.std.specs.Char.{len_utf8}
 use Rattle.std.proofs.lemmas.List.{take_all, take_at, drop_at, drop-drop, length-take-le}
 use Rattle.std.proofs.lemmas.Str.{encode_ascii, len_utf8_ascii}
 use Rattle.std.proofs.lemmas.Bool.Decides.{nat_tests}
-use Rattle.bib_text.specs.Places.{Place, place, CharAt}
+use Rattle.bib_text.specs.Places.{place, CharAt}
 use Rattle.bib_text.proofs.PlaceFacts.{char_here, char_left}
 use Rattle.bib_documents.specs.Edits.{Edit, edited, moved_place}
 use Rattle.bib_documents.proofs.BoundaryFacts.{Border, not_over}

@@ -1,11 +1,9 @@
 -- A text that is edited in one of its entries, or in one field of an entry.
-use Rattle.std.proofs.Common.{◌≡◌, ℕ, ◌+◌, ◌<◌, ◌≤◌, List, [], ◌∷◌, ◌++◌, length, map, refl, sym, ap, ◌∙◌, subst, arith, Some}
-use Rattle.std.specs.Prelude.{slice_get, slice_set}
-use Rattle.std.specs.Char.{len_utf8}
-use Rattle.std.proofs.lemmas.Str.{len_utf8_bounds}
-use Rattle.bib_text.specs.Places.{Place, place, CharAt}
-use Rattle.bib_text.proofs.PlaceFacts.{Ahead, ahead_here, ahead_then, ahead_char, ahead_run}
-use Rattle.bib_syntax.specs.Reading.{Part, part, FieldReading, EntryReading, FileReading, then}
+use Rattle.std.proofs.Common.{◌≡◌, ℕ, ◌+◌, ◌<◌, ◌≤◌, List, ◌∷◌, ◌++◌, length, map, refl, sym, ap, ◌∙◌, subst, arith}
+use Rattle.std.specs.Prelude.{slice_set}
+use Rattle.bib_text.specs.Places.{Place, place}
+use Rattle.bib_text.proofs.PlaceFacts.{Ahead, ahead_then, ahead_char, ahead_run}
+use Rattle.bib_syntax.specs.Reading.{FieldReading, EntryReading, FileReading}
 use Rattle.bib_syntax.specs.Recovery.{entry_alone}
 use Rattle.bib_syntax.specs.Grammar.{Field, Fields, Block, File, longest}
 use Rattle.bib_syntax.specs.Grammar.{File as file}
@@ -14,9 +12,9 @@ use Rattle.bib_syntax.proofs.FileFacts.{ahead_head}
 use Rattle.bib_documents.specs.Edits.{Edit, edited, moved_place, moved_part, moved_field, moved_entry, moved_file}
 use Rattle.bib_documents.specs.Documents.{Document, IsDocument, entry_edited, field_edited}
 use Rattle.bib_documents.proofs.EditFacts.{Fits, before_frame, after_frame, moved_before, length-edited, zone_before, zone_after}
-use Rattle.bib_documents.proofs.ZoneFacts.{Zone, Inside, there, inside, inside_between, char_there, longest_there, part_there}
-use Rattle.bib_documents.proofs.GrammarFacts.{below_char, below_between, gap_there, head_there}
-use Rattle.bib_documents.proofs.SplitFacts.{EntryBlock, EntrySplit, FieldSplit, FieldsBefore, ahead_fields_before, ahead_fields_after, ahead_file_before, block_of, joined_fields, joined_file}
+use Rattle.bib_documents.proofs.ZoneFacts.{Inside, inside, inside_between, char_there, longest_there, part_there}
+use Rattle.bib_documents.proofs.GrammarFacts.{below_char, gap_there, head_there}
+use Rattle.bib_documents.proofs.SplitFacts.{EntryBlock, EntrySplit, FieldSplit, ahead_fields_before, ahead_fields_after, ahead_file_before, block_of, joined_fields, joined_file}
 use Rattle.bib_documents.proofs.MovedFacts.{char_within, exchanged, fields_before_there, fields_after_there, file_before_there, file_there, says_exchanged}
 
 -- where a place of a text goes in an edit

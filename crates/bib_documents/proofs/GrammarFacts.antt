@@ -1,15 +1,15 @@
 -- What the rules of the file grammar read in a zone that two texts share, in the one and in the other.
-use Rattle.std.proofs.Common.{◌≡◌, ℕ, ◌+◌, ◌<◌, ◌≤◌, Bool, true, false, List, [], ◌∷◌, ◌++◌, length, map, refl, sym, ap, ◌∙◌, subst, arith, inl, inr}
+use Rattle.std.proofs.Common.{◌≡◌, ℕ, ◌<◌, ◌≤◌, false, List, [], ◌∷◌, ◌++◌, map, sym, ap, ◌∙◌, subst, arith, inl, inr}
 use Rattle.std.specs.Prelude.{◌==◌, not}
 use Rattle.std.specs.Char.{is_whitespace, len_utf8}
 use Rattle.std.proofs.lemmas.Bool.{cases_lt, not_from_false}
 use Rattle.std.proofs.lemmas.List.{map-append}
 use Rattle.std.proofs.lemmas.Str.{len_utf8_bounds}
-use Rattle.bib_text.specs.Places.{Place, CharAt, Longest, Stops, AtEnd, between}
-use Rattle.bib_text.proofs.PlaceFacts.{Ahead, ahead_here, ahead_then, ahead_char, ahead_run, same_place, test_clash}
-use Rattle.bib_syntax.specs.Reading.{Part, part, Piece, FieldReading, EntryReading, FileReading, empty_reading, then}
+use Rattle.bib_text.specs.Places.{Place, CharAt, Stops}
+use Rattle.bib_text.proofs.PlaceFacts.{Ahead, ahead_then, ahead_char, ahead_run, same_place, test_clash}
+use Rattle.bib_syntax.specs.Reading.{Part, Piece, FieldReading, EntryReading, FileReading, then}
 use Rattle.bib_syntax.specs.Reading.Piece.{literal}
-use Rattle.bib_syntax.specs.Grammar.{Identifier, Number, QuotedParts, Quoted, Braced, NoDigit, Element, Elements, Field, LineComment, Gap, Fields, BlockKind, Head, Body, Block, File, longest}
+use Rattle.bib_syntax.specs.Grammar.{Identifier, Number, QuotedParts, Quoted, Braced, NoDigit, Element, Elements, Field, LineComment, Gap, Fields, BlockKind, Head, Body, Block, longest}
 use Rattle.bib_syntax.specs.Grammar.{Number as number}
 use Rattle.bib_syntax.specs.Grammar.{QuotedParts as quotes}
 use Rattle.bib_syntax.specs.Grammar.{Element as element}
@@ -17,12 +17,11 @@ use Rattle.bib_syntax.specs.Grammar.{Elements as elements}
 use Rattle.bib_syntax.specs.Grammar.{Gap as gap}
 use Rattle.bib_syntax.specs.Grammar.{Fields as fields}
 use Rattle.bib_syntax.specs.Grammar.{Body as body}
-use Rattle.bib_syntax.specs.Grammar.{File as file}
 use Rattle.bib_syntax.proofs.WordFacts.{ahead_number}
 use Rattle.bib_syntax.proofs.FieldFacts.{ahead_identifier, ahead_quoted_parts, ahead_parts, ahead_quoted, ahead_element, ahead_elements, ahead_field, ahead_gap, ahead_fields}
-use Rattle.bib_syntax.proofs.FileFacts.{ahead_head, ahead_body, ahead_block, ahead_line_comment}
+use Rattle.bib_syntax.proofs.FileFacts.{ahead_head, ahead_body, ahead_line_comment}
 use Rattle.bib_documents.specs.Edits.{moved_part, moved_piece, moved_field, moved_entry, moved_file}
-use Rattle.bib_documents.proofs.ZoneFacts.{Frame, Zone, Inside, there, inside, inside_between, char_there, char_back, stops_there, run_there, longest_there, parts_there, between_there, part_there, end_there}
+use Rattle.bib_documents.proofs.ZoneFacts.{Frame, Zone, Inside, there, inside_between, char_there, char_back, stops_there, run_there, longest_there, parts_there, between_there, part_there}
 
 -- a place before the end of the zone
 pub below_between : (f : Frame) {v w : Place} → Ahead w v → v.at < f.end → w.at < f.end

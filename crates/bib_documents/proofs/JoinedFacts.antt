@@ -1,18 +1,18 @@
 -- A text after another: what the two say, one after the other.
-use Rattle.std.proofs.Common.{◌≡◌, inl, inr, ℕ, zero, suc, ◌+◌, ◌-◌, ◌<◌, ◌≤◌, Bool, true, false, List, [], ◌∷◌, ◌++◌, length, take, drop, get_or, map, refl, sym, ap, ◌∙◌, subst, arith, length-append}
+use Rattle.std.proofs.Common.{◌≡◌, inl, inr, ℕ, ◌+◌, ◌-◌, ◌<◌, ◌≤◌, List, [], ◌∷◌, ◌++◌, length, take, drop, get_or, map, refl, sym, ap, ◌∙◌, subst, arith, length-append}
 use Rattle.std.specs.Prelude.{◌==◌, not}
 use Rattle.std.specs.List.{AllByRecursion}
 use Rattle.std.proofs.lemmas.Bool.{cases_lt}
 use Rattle.std.proofs.lemmas.List.{drop_at, drop_more, map-append, take-append-drop, take_all, take_at}
-use Rattle.bib_text.specs.Places.{Place, place, CharAt, Longest, AtEnd}
-use Rattle.bib_text.proofs.PlaceFacts.{ahead_char, ahead_run, ahead_then, char_left, same_place, stops_at}
-use Rattle.bib_syntax.specs.Reading.{Part, Piece, FieldReading, EntryReading, FileReading, empty_reading, then}
+use Rattle.bib_text.specs.Places.{Place, place, CharAt}
+use Rattle.bib_text.proofs.PlaceFacts.{ahead_char, ahead_run, char_left, stops_at}
+use Rattle.bib_syntax.specs.Reading.{Piece, FieldReading, EntryReading, FileReading, then}
 use Rattle.bib_syntax.specs.Reading.Piece.{literal, abbreviation}
 use Rattle.bib_syntax.specs.Grammar.{Block, File, LineComment, longest}
 use Rattle.bib_syntax.specs.Grammar.{File as file}
 use Rattle.bib_syntax.proofs.FileFacts.{ahead_block, ahead_line_comment, then-then}
 use Rattle.bib_documents.specs.Edits.{moved_entry, moved_field, moved_file, moved_piece}
-use Rattle.bib_documents.specs.Documents.{Document, EntriesAdded, IsDocument, IsEdited, SharesNoKey, joined_documents}
+use Rattle.bib_documents.specs.Documents.{Document, IsDocument, joined_documents}
 use Rattle.bib_documents.proofs.EditFacts.{ascii_stands, rest_stands}
 use Rattle.bib_documents.proofs.BoundaryFacts.{not_over}
 use Rattle.bib_documents.proofs.ZoneFacts.{Frame, Inside, Zone, char_there, inside_between, run_there, there}

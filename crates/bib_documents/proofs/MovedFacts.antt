@@ -1,16 +1,13 @@
 -- A file that is cut round an entry, and an entry's fields that are cut round one of them, in an edited text.
-use Rattle.std.proofs.Common.{◌≡◌, ℕ, ◌+◌, ◌<◌, ◌≤◌, Bool, true, false, List, [], ◌∷◌, ◌++◌, length, map, refl, sym, ap, ◌∙◌, subst, arith, inl, inr, Some}
-use Rattle.std.specs.Prelude.{◌==◌, not, slice_get, slice_set}
-use Rattle.std.specs.Char.{len_utf8}
-use Rattle.std.proofs.lemmas.Bool.{cases_lt}
+use Rattle.std.proofs.Common.{◌≡◌, ℕ, ◌+◌, ◌<◌, ◌≤◌, Bool, List, ◌∷◌, ◌++◌, length, map, refl, sym, ap, ◌∙◌, subst, arith}
+use Rattle.std.specs.Prelude.{slice_set}
 use Rattle.std.proofs.lemmas.List.{length-map, map-append, set_at}
-use Rattle.std.proofs.lemmas.Str.{len_utf8_bounds}
-use Rattle.bib_text.specs.Places.{Place, place, CharAt, Run, Stops, AtEnd}
+use Rattle.bib_text.specs.Places.{Place, CharAt, Run}
 use Rattle.bib_text.specs.Places.Run.{stop, step}
-use Rattle.bib_text.proofs.PlaceFacts.{Ahead, ahead_here, ahead_then, ahead_char, ahead_run, same_place, char_left, test_clash}
-use Rattle.bib_syntax.specs.Reading.{Part, FieldReading, EntryReading, FileReading, empty_reading, then}
+use Rattle.bib_text.proofs.PlaceFacts.{Ahead, ahead_then, ahead_char, char_left}
+use Rattle.bib_syntax.specs.Reading.{Part, FieldReading, EntryReading, FileReading, then}
 use Rattle.bib_syntax.specs.Recovery.{entry_alone}
-use Rattle.bib_syntax.specs.Grammar.{LineComment, BlockKind, Body, Block, File, longest}
+use Rattle.bib_syntax.specs.Grammar.{BlockKind, Body, File, longest}
 use Rattle.bib_syntax.specs.Grammar.{Body as body}
 use Rattle.bib_syntax.specs.Grammar.{File as file}
 use Rattle.bib_syntax.proofs.FieldFacts.{ahead_field, ahead_gap, ahead_fields}
@@ -18,7 +15,7 @@ use Rattle.bib_syntax.proofs.FileFacts.{ahead_block, ahead_line_comment}
 use Rattle.bib_documents.specs.Edits.{moved_field, moved_entry, moved_file}
 use Rattle.bib_documents.proofs.ZoneFacts.{Frame, Zone, Inside, there, inside, inside_between, char_there, end_there}
 use Rattle.bib_documents.proofs.GrammarFacts.{below_between, below_char, field_there, line_before, line_comment_there, gap_there, fields_there, block_there, moved-then}
-use Rattle.bib_documents.proofs.SplitFacts.{FieldsBefore, FieldsAfter, FileBefore, ahead_fields_before, ahead_fields_after, ahead_file_before}
+use Rattle.bib_documents.proofs.SplitFacts.{FieldsBefore, FieldsAfter, FileBefore, ahead_fields_before, ahead_file_before}
 
 -- ---- fields
 

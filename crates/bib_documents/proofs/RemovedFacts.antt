@@ -1,18 +1,18 @@
 -- A text without one of its entries.
-use Rattle.std.proofs.Common.{◌≡◌, inl, inr, ℕ, suc, ◌+◌, ◌<◌, ◌≤◌, Bool, true, List, [], ◌∷◌, ◌++◌, length, take, drop, map, refl, sym, ap, ◌∙◌, subst, arith, Some, Result, Ok, Err, length-append, append_assoc}
-use Rattle.std.specs.Prelude.{◌==◌, ◌&&◌, not, IfOk, slice_get}
-use Rattle.std.specs.Char.{is_whitespace, len_utf8}
+use Rattle.std.proofs.Common.{◌≡◌, inl, inr, ℕ, suc, ◌+◌, ◌<◌, ◌≤◌, true, List, [], ◌∷◌, ◌++◌, length, drop, map, refl, sym, ap, ◌∙◌, subst, arith, Some, length-append, append_assoc}
+use Rattle.std.specs.Prelude.{slice_get}
+use Rattle.std.specs.Char.{is_whitespace}
 use Rattle.std.specs.List.{remove}
 use Rattle.std.specs.Str.{IsCharBoundary}
 use Rattle.std.proofs.lemmas.Bool.Decides.{nat_tests}
 use Rattle.std.proofs.lemmas.List.{length-map, map-append, take_at, drop_at}
 use Rattle.std.proofs.lemmas.Str.{len_utf8_bounds, IsCharBoundary-end}
-use Rattle.bib_text.specs.Places.{Place, place, CharAt, Longest, Run}
+use Rattle.bib_text.specs.Places.{Place, place, Longest, Run}
 use Rattle.bib_text.specs.Places.Run.{stop, step}
 use Rattle.bib_text.proofs.PlaceFacts.{ahead_char, ahead_run, ahead_then, char_left, same_place}
 use Rattle.bib_syntax.specs.Reading.{EntryReading, FieldReading, FileReading, then}
 use Rattle.bib_syntax.specs.Recovery.{entry_alone}
-use Rattle.bib_syntax.specs.Grammar.{Block, File, longest}
+use Rattle.bib_syntax.specs.Grammar.{File, longest}
 use Rattle.bib_syntax.specs.Grammar.{File as file}
 use Rattle.bib_syntax.proofs.FieldFacts.{ahead_fields, ahead_gap}
 use Rattle.bib_syntax.proofs.FileFacts.{ahead_head, is_skipped, skipped_rest}
@@ -21,10 +21,10 @@ use Rattle.bib_documents.specs.Documents.{Document, EntryRemoved, HasEntry, IsEd
 use Rattle.bib_documents.specs.Placed.{IsEntryPlaced}
 use Rattle.bib_documents.proofs.BoundaryFacts.{Border, char_boundary}
 use Rattle.bib_documents.proofs.EditFacts.{Fits, before_frame, after_frame, length-edited, moved_after, moved_before, zone_before, zone_after}
-use Rattle.bib_documents.proofs.ZoneFacts.{Inside, Zone, inside, there}
-use Rattle.bib_documents.proofs.SplitFacts.{EntrySplit, ahead_file_before, joined_file, split_file}
+use Rattle.bib_documents.proofs.ZoneFacts.{Inside, inside}
+use Rattle.bib_documents.proofs.SplitFacts.{ahead_file_before, joined_file, split_file}
 use Rattle.bib_documents.proofs.MovedFacts.{char_within, file_before_there, file_there, run_within}
-use Rattle.bib_documents.proofs.EntryFacts.{ahead_entry, before_stretch, goes}
+use Rattle.bib_documents.proofs.EntryFacts.{ahead_entry, goes}
 
 -- white space between blocks is passed over
 white_skipped : (c : ℕ) → is_whitespace c ≡ true → is_skipped c ≡ true

@@ -1,29 +1,29 @@
 -- An entry with another key.
-use Rattle.std.proofs.Common.{◌≡◌, inr, ℕ, suc, ◌+◌, ◌-◌, ◌<◌, ◌≤◌, Bool, true, false, cond, Option, None, List, [], ◌∷◌, ◌++◌, length, take, drop, map, refl, sym, ap, ◌∙◌, subst, arith, Some, length-take}
+use Rattle.std.proofs.Common.{◌≡◌, inr, ℕ, suc, ◌+◌, ◌-◌, ◌<◌, ◌≤◌, Bool, true, false, cond, Option, None, List, [], ◌∷◌, ◌++◌, length, take, drop, refl, sym, ap, ◌∙◌, subst, arith, Some, length-take}
 use Rattle.std.specs.Prelude.{not, ◌||◌, ◌&&◌, ◌==◌, slice_get}
-use Rattle.std.specs.Char.{is_control, is_whitespace, len_utf8}
+use Rattle.std.specs.Char.{is_control, is_whitespace}
 use Rattle.std.specs.Str.{IsCharBoundary}
 use Rattle.std.proofs.lemmas.Bool.{and_parts, not-true}
 use Rattle.std.proofs.lemmas.List.{take_at}
 use Rattle.std.proofs.lemmas.Slice.Eq.{bytes_eq-Decides}
 use Rattle.std.proofs.lemmas.Str.{len_utf8_bounds}
-use Rattle.bib_text.specs.Places.{Place, place, CharAt, Longest, Run, between}
+use Rattle.bib_text.specs.Places.{Place, place, CharAt, Run, between}
 use Rattle.bib_text.specs.Places.Run.{stop, step}
-use Rattle.bib_text.proofs.PlaceFacts.{Ahead, ahead_char, ahead_run, ahead_then, same_place, stops_at}
+use Rattle.bib_text.proofs.PlaceFacts.{Ahead, ahead_char, ahead_run, ahead_then, stops_at}
 use Rattle.bib_syntax.specs.Characters.{is_key}
 use Rattle.bib_syntax.specs.Reading.{Part, part, EntryReading}
 use Rattle.bib_syntax.proofs.FieldFacts.{ahead_fields, ahead_gap, ahead_identifier}
 use Rattle.bib_syntax.proofs.FileFacts.{ahead_head}
-use Rattle.bib_documents.specs.Edits.{Edit, edited, moved_place, moved_entry, moved_field}
+use Rattle.bib_documents.specs.Edits.{Edit, edited, moved_place, moved_entry}
 use Rattle.bib_documents.specs.Documents.{CanBeKey, Document, HasEntry, IsEdited, IsDocument, KeyRenamed, entry_renamed, first_position, is_keyed, next_index, text_at}
 use Rattle.bib_documents.specs.Placed.{IsKeyPlaced}
 use Rattle.bib_documents.proofs.BoundaryFacts.{Border, char_boundary}
 use Rattle.bib_documents.proofs.EditFacts.{Fits, before_frame, after_frame, piece_frame, moved_after, moved_before, new_bytes, zone_before, zone_after, zone_piece}
-use Rattle.bib_documents.proofs.ZoneFacts.{Inside, Zone, char_there, inside, inside_between, longest_there, run_there, stops_there, there}
+use Rattle.bib_documents.proofs.ZoneFacts.{Inside, char_there, inside, inside_between, longest_there, run_there, stops_there, there}
 use Rattle.bib_documents.proofs.GrammarFacts.{below_char, fields_there, gap_there, head_until}
 use Rattle.bib_documents.proofs.SplitFacts.{EntryBlock, ahead_file_before, block_of, split_file}
 use Rattle.bib_documents.proofs.MovedFacts.{char_within}
-use Rattle.bib_documents.proofs.EntryFacts.{ahead_entry, before_stretch, entry_edited_read, goes}
+use Rattle.bib_documents.proofs.EntryFacts.{entry_edited_read, goes}
 use Rattle.bib_documents.proofs.ValueFacts.{run_stands}
 
 -- a character of a key is no white space

@@ -1,9 +1,9 @@
 -- What comes of setting a field.
-use Rattle.std.proofs.Common.{◌≡◌, ℕ, Bool, true, false, List, refl, sym, ap, ◌∙◌, subst, arith, Result, Ok, Err, None, Some}
+use Rattle.std.proofs.Common.{◌≡◌, ℕ, Bool, true, false, List, refl, sym, ap, ◌∙◌, subst, Result, Ok, Err, None, Some}
 use Rattle.std.specs.Prelude.{IfOk, slice_get}
 use Rattle.std.specs.Char.{is_whitespace}
 use Rattle.std.specs.Str.{IsCharBoundary}
-use Rattle.bib_text.specs.Places.{CharAt, Longest, Place, Run, place}
+use Rattle.bib_text.specs.Places.{CharAt, Longest, Run, place}
 use Rattle.bib_text.proofs.PlaceFacts.{ahead_run, ahead_then, same_place}
 use Rattle.bib_syntax.specs.Reading.{EntryReading, FieldReading}
 use Rattle.bib_syntax.proofs.FileFacts.{ahead_head}

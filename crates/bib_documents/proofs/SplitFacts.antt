@@ -1,9 +1,9 @@
 -- A file cut round one of its entries, and an entry's fields cut round one of them.
-use Rattle.std.proofs.Common.{◌≡◌, ◌⊎◌, inl, inr, ℕ, zero, suc, ◌+◌, ◌<◌, ◌≤◌, Bool, true, false, List, [], ◌∷◌, ◌++◌, length, refl, sym, ap, ◌∙◌, subst, arith, Option, Some, None}
+use Rattle.std.proofs.Common.{◌≡◌, ◌⊎◌, inl, inr, ℕ, zero, suc, true, List, [], ◌∷◌, ◌++◌, length, refl, sym, ap, ◌∙◌, subst, Some}
 use Rattle.std.specs.Prelude.{◌==◌, not, ◌&&◌, slice_get}
 use Rattle.std.specs.Char.{is_whitespace}
-use Rattle.bib_text.specs.Places.{Place, CharAt, Longest, AtEnd}
-use Rattle.bib_text.proofs.PlaceFacts.{Ahead, ahead_here, ahead_then, ahead_char, ahead_run}
+use Rattle.bib_text.specs.Places.{Place, CharAt, Longest}
+use Rattle.bib_text.proofs.PlaceFacts.{Ahead, ahead_here, ahead_then, ahead_char}
 use Rattle.bib_syntax.specs.Characters.{is_key}
 use Rattle.bib_syntax.specs.Reading.{Part, part, FieldReading, EntryReading, FileReading, empty_reading, then}
 use Rattle.bib_syntax.specs.Recovery.{entry_alone}
@@ -12,7 +12,7 @@ use Rattle.bib_syntax.specs.Grammar.{Fields as fields}
 use Rattle.bib_syntax.specs.Grammar.{Body as body}
 use Rattle.bib_syntax.specs.Grammar.{File as file}
 use Rattle.bib_syntax.proofs.FieldFacts.{ahead_field, ahead_gap, ahead_fields}
-use Rattle.bib_syntax.proofs.FileFacts.{ahead_head, ahead_block, ahead_line_comment, entry_found, then-then}
+use Rattle.bib_syntax.proofs.FileFacts.{ahead_block, ahead_line_comment, entry_found, then-then}
 
 -- ---- an entry as a block, with all its parts
 

@@ -1,12 +1,12 @@
 -- White space at the end of a part of a text.
-use Rattle.std.proofs.Common.{◌≡◌, ℕ, ◌+◌, ◌-◌, ◌≤◌, Bool, true, false, List, [], ◌∷◌, ◌++◌, length, take, drop, refl, sym, ap, ◌∙◌, subst, arith, append_assoc, length-append, length-drop, length-take}
+use Rattle.std.proofs.Common.{◌≡◌, ℕ, ◌+◌, ◌-◌, ◌≤◌, List, [], ◌∷◌, ◌++◌, length, take, drop, sym, ap, ◌∙◌, subst, arith, append_assoc, length-append, length-drop}
 use Rattle.std.specs.Prelude.{encode_utf8, encode_utf8_all}
 use Rattle.std.specs.Char.{is_whitespace, is_not_whitespace, len_utf8}
 use Rattle.std.specs.Str.{IsUtf8, IsCharBoundary, NonePass, NoCharPasses}
 use Rattle.std.proofs.lemmas.List.{drop-drop, drop-append-le, take-append-drop, take-take, length-take-le}
 use Rattle.std.proofs.lemmas.Bool.{not-false}
 use Rattle.std.proofs.lemmas.Str.{drop_past_char, length-encode, IsUtf8-drop, IsCharBoundary-from_take, IsCharBoundary-from_rest}
-use Rattle.bib_text.specs.Places.{Place, place, CharAt, Run}
+use Rattle.bib_text.specs.Places.{place, Run}
 use Rattle.bib_text.specs.Places.Run.{stop, step}
 use Rattle.bib_text.proofs.PlaceFacts.{char_here}
 

@@ -1,17 +1,17 @@
 -- An entry without one of its fields.
-use Rattle.std.proofs.Common.{◌≡◌, inr, ℕ, zero, suc, ◌+◌, ◌<◌, ◌≤◌, Bool, true, false, List, [], ◌∷◌, ◌++◌, length, map, refl, sym, ap, ◌∙◌, subst, arith, Option, Some, None}
-use Rattle.std.specs.Prelude.{◌==◌, not, slice_get}
-use Rattle.std.specs.Char.{is_whitespace, len_utf8}
+use Rattle.std.proofs.Common.{◌≡◌, inr, ℕ, zero, suc, ◌+◌, ◌<◌, ◌≤◌, true, false, List, [], ◌∷◌, ◌++◌, length, map, refl, sym, ap, ◌∙◌, subst, arith, Option, Some, None}
+use Rattle.std.specs.Prelude.{◌==◌, slice_get}
+use Rattle.std.specs.Char.{is_whitespace}
 use Rattle.std.specs.List.{remove}
 use Rattle.std.specs.Option.{option_map_or}
 use Rattle.std.specs.Str.{IsCharBoundary}
 use Rattle.std.proofs.lemmas.Bool.{ne_eqb}
 use Rattle.std.proofs.lemmas.Str.{len_utf8_bounds}
-use Rattle.bib_text.specs.Places.{Place, place, CharAt, Longest, Stops}
+use Rattle.bib_text.specs.Places.{Place, place, CharAt, Stops}
 use Rattle.bib_text.specs.Places.Run.{stop}
-use Rattle.bib_text.proofs.PlaceFacts.{Ahead, ahead_char, ahead_here, ahead_run, ahead_then, stops_at, test_clash}
+use Rattle.bib_text.proofs.PlaceFacts.{Ahead, ahead_char, ahead_run, ahead_then, stops_at, test_clash}
 use Rattle.bib_syntax.specs.Characters.{is_id_start}
-use Rattle.bib_syntax.specs.Reading.{Part, part, EntryReading, FieldReading}
+use Rattle.bib_syntax.specs.Reading.{EntryReading, FieldReading}
 use Rattle.bib_syntax.specs.Grammar.{Field, Fields, Gap, longest}
 use Rattle.bib_syntax.specs.Grammar.{Fields as fields}
 use Rattle.bib_syntax.proofs.FieldFacts.{ahead_elements, ahead_field, ahead_fields, ahead_gap}
@@ -22,9 +22,9 @@ use Rattle.bib_documents.specs.Documents.{Document, FieldUnset, HasEntry, IsDocu
 use Rattle.bib_documents.specs.Placed.{AreFieldsPlaced}
 use Rattle.bib_documents.proofs.BoundaryFacts.{char_boundary}
 use Rattle.bib_documents.proofs.EditFacts.{Fits, before_frame, after_frame, moved_after, moved_before, zone_before, zone_after}
-use Rattle.bib_documents.proofs.ZoneFacts.{Frame, Inside, Zone, char_there, inside, inside_between, longest_there, part_there, stops_there, there}
+use Rattle.bib_documents.proofs.ZoneFacts.{Frame, Inside, Zone, char_there, inside, inside_between, longest_there, part_there, there}
 use Rattle.bib_documents.proofs.GrammarFacts.{below_between, below_char, field_there, fields_there, gap_there, gap_until, head_there}
-use Rattle.bib_documents.proofs.SplitFacts.{EntryBlock, FieldsAfter, FieldsBefore, ahead_fields_after, ahead_fields_before, ahead_file_before, block_of, split_fields, split_file}
+use Rattle.bib_documents.proofs.SplitFacts.{EntryBlock, FieldsAfter, FieldsBefore, ahead_fields_before, ahead_file_before, block_of, split_fields, split_file}
 use Rattle.bib_documents.proofs.MovedFacts.{char_within}
 use Rattle.bib_documents.proofs.EntryFacts.{entry_edited_read, goes}
 use Rattle.bib_documents.proofs.RemovedFacts.{taken_out}

@@ -1,17 +1,17 @@
 -- A field with another value in braces.
-use Rattle.std.proofs.Common.{◌≡◌, inl, inr, ℕ, ◌+◌, ◌-◌, ◌<◌, ◌≤◌, Bool, true, false, List, [], ◌∷◌, ◌++◌, length, take, drop, map, refl, sym, ap, ◌∙◌, subst, arith, Some, length-append}
-use Rattle.std.specs.Prelude.{◌==◌, slice_get, slice_set}
-use Rattle.std.specs.Char.{is_whitespace, is_ascii_digit, len_utf8}
+use Rattle.std.proofs.Common.{◌≡◌, inl, inr, ℕ, ◌+◌, ◌-◌, ◌<◌, ◌≤◌, Bool, true, false, List, [], ◌∷◌, ◌++◌, length, drop, refl, sym, ap, ◌∙◌, subst, arith, Some, length-append}
+use Rattle.std.specs.Prelude.{◌==◌, slice_get}
+use Rattle.std.specs.Char.{is_whitespace, is_ascii_digit}
 use Rattle.std.proofs.lemmas.Bool.Decides.{nat_tests}
 use Rattle.std.proofs.lemmas.Bool.{cases_lt}
 use Rattle.std.proofs.lemmas.List.{take_at}
 use Rattle.std.proofs.lemmas.Str.{len_utf8_bounds}
 use Rattle.bib_text.specs.Places.{Place, place, CharAt, Run, Stops, Longest, between}
 use Rattle.bib_text.specs.Places.Run.{stop, step}
-use Rattle.bib_text.proofs.PlaceFacts.{Ahead, ahead_here, ahead_then, ahead_char, ahead_run, same_place, stops_at, same_char, test_clash}
-use Rattle.bib_syntax.specs.Reading.{Part, part, Piece, FieldReading, EntryReading, FileReading}
+use Rattle.bib_text.proofs.PlaceFacts.{Ahead, ahead_then, ahead_char, ahead_run, same_place, stops_at, same_char, test_clash}
+use Rattle.bib_syntax.specs.Reading.{Part, part, Piece, FieldReading, EntryReading}
 use Rattle.bib_syntax.specs.Reading.Piece.{literal}
-use Rattle.bib_syntax.specs.Grammar.{Braced, Element, Elements, Field, Gap, File, longest}
+use Rattle.bib_syntax.specs.Grammar.{Braced, Element, Elements, Field, Gap, longest}
 use Rattle.bib_syntax.specs.Grammar.{Number as number}
 use Rattle.bib_syntax.specs.Grammar.{Element as element}
 use Rattle.bib_syntax.specs.Grammar.{Elements as elements}
@@ -25,11 +25,11 @@ use Rattle.bib_documents.specs.Edits.{Edit, edited, moved_place, moved_part, mov
 use Rattle.bib_documents.specs.Documents.{Document, IsDocument, CanStandInBraces, in_braces, text_at, value_edit, with_value, value_changed}
 use Rattle.bib_documents.proofs.BoundaryFacts.{Border, char_boundary}
 use Rattle.bib_documents.proofs.EditFacts.{Fits, before_frame, after_frame, piece_frame, moved_before, moved_after, zone_before, zone_after, zone_piece, new_bytes}
-use Rattle.bib_documents.proofs.ZoneFacts.{Zone, Inside, there, inside, inside_between, char_there, run_there, longest_there, stops_there}
+use Rattle.bib_documents.proofs.ZoneFacts.{Inside, there, inside, inside_between, char_there, run_there, longest_there, stops_there}
 use Rattle.bib_documents.proofs.GrammarFacts.{below_between, below_char, identifier_there, braced_there}
-use Rattle.bib_documents.proofs.SplitFacts.{EntrySplit, FieldSplit, FieldsAfter, ahead_file_before, ahead_fields_before, ahead_fields_after, split_file, split_fields}
+use Rattle.bib_documents.proofs.SplitFacts.{FieldsAfter, ahead_file_before, ahead_fields_before, split_file, split_fields}
 use Rattle.bib_documents.proofs.MovedFacts.{char_within}
-use Rattle.bib_documents.proofs.EntryFacts.{goes, before_stretch, after_stretch, field_edited_read}
+use Rattle.bib_documents.proofs.EntryFacts.{goes, field_edited_read}
 
 -- ---- where a value begins and ends
 

@@ -1,15 +1,15 @@
 -- Two texts that have the same bytes in a zone: what stands in it in the one stands in it in the other.
-use Rattle.std.proofs.Common.{◌≡◌, ◌⊎◌, ℕ, ◌+◌, ◌-◌, ◌<◌, ◌≤◌, Bool, List, ◌++◌, length, take, drop, refl, sym, ap, ◌∙◌, subst, arith, inl, inr}
+use Rattle.std.proofs.Common.{◌≡◌, ℕ, ◌+◌, ◌-◌, ◌<◌, ◌≤◌, Bool, List, ◌++◌, length, take, drop, refl, sym, ap, ◌∙◌, subst, arith, inl, inr}
 use Rattle.std.specs.Prelude.{encode_utf8}
 use Rattle.std.specs.Char.{len_utf8}
 use Rattle.std.proofs.lemmas.List.{take-take, drop-take, drop-drop, take_at, take-append-drop}
-use Rattle.std.proofs.lemmas.Str.{length-encode, len_utf8_bounds}
+use Rattle.std.proofs.lemmas.Str.{length-encode}
 use Rattle.std.proofs.lemmas.Bool.{cases_lt}
 use Rattle.bib_text.specs.Places.{Place, place, CharAt, Run, Stops, Longest, AtEnd, between}
 use Rattle.bib_text.specs.Places.Run.{stop, step}
 use Rattle.bib_text.specs.Braces.{Parts}
 use Rattle.bib_text.specs.Braces.Parts.{none, plain, hidden, nested}
-use Rattle.bib_text.proofs.PlaceFacts.{same_place, char_here, Ahead, ahead_here, ahead_then, ahead_char, ahead_run}
+use Rattle.bib_text.proofs.PlaceFacts.{char_here, Ahead, ahead_then, ahead_char, ahead_run}
 use Rattle.bib_syntax.proofs.FieldFacts.{ahead_parts}
 use Rattle.bib_syntax.specs.Reading.{Part, part}
 use Rattle.bib_documents.specs.Edits.{moved_part}

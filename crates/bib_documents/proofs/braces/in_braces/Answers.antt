@@ -1,7 +1,7 @@
-use Rattle.std.proofs.Common.{◌≡◌, inr, List, length, ℕ, refl, sym, ◌∙◌, subst}
+use Rattle.std.proofs.Common.{◌≡◌, inr, length, refl, sym, ◌∙◌, subst}
 use Rattle.bib_text.specs.Places.{place}
 use Rattle.bib_syntax.specs.Grammar.{Braced}
-use Rattle.bib_documents.specs.Documents.{CanStandInBraces, in_braces}
+use Rattle.bib_documents.specs.Documents.{in_braces}
 use Rattle.bib_documents.proofs.braces.in_braces.Goals as goal
 
 pub returns-then-not-is_braced-clause-refused : goal.returns-then-not-is_braced-clause-refused

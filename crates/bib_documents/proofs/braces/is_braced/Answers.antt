@@ -1,7 +1,7 @@
-use Rattle.std.proofs.Common.{◌≡◌, ℕ, Bool, true, false, List, MatchBool, length, refl, sym, ap, ◌∙◌, subst, arith}
+use Rattle.std.proofs.Common.{◌≡◌, ℕ, Bool, true, false, List, MatchBool, length, refl, ap, ◌∙◌, subst}
 use Rattle.bib_text.specs.Braces.{Parts}
 use Rattle.bib_text.specs.Places.{AtEnd, CharAt, Place, place}
-use Rattle.bib_text.proofs.PlaceFacts.{Ahead, ahead_then, ahead_char, same_char, same_place}
+use Rattle.bib_text.proofs.PlaceFacts.{ahead_then, ahead_char, same_char, same_place}
 use Rattle.bib_syntax.specs.Grammar.{Braced}
 use Rattle.bib_syntax.specs.Reading.{Part, part}
 use Rattle.bib_syntax.proofs.FieldFacts.{ahead_parts}

@@ -1,4 +1,4 @@
-use Rattle.std.proofs.Common.{◌≡◌, ◌↔◌, ◌<◌, Bool, true, false, List, ℕ, zero, suc, IsTrue, MatchBool, length, refl, sym, ap, ◌∙◌, subst, arith}
+use Rattle.std.proofs.Common.{◌≡◌, ◌↔◌, ◌<◌, Bool, true, false, List, ℕ, zero, suc, IsTrue, MatchBool, length, refl, ap, ◌∙◌, subst, arith}
 use Rattle.std.specs.Prelude.{◌==◌}
 use Rattle.bib_text.specs.Places.{AtEnd, Longest, Place, Run, place}
 use Rattle.bib_text.proofs.PlaceFacts.{ahead_run, runs_same, same_place, stops_at_end}

@@ -1,4 +1,4 @@
-use Rattle.std.proofs.Common.{◌≡◌, ◌≤◌, map, take}
+use Rattle.std.proofs.Common.{◌≡◌, map, take}
 use Rattle.std.specs.Prelude.{◌<◌, IfSome}
 use Rattle.bib_syntax.specs.Views.{field_of}
 use Rattle.bib_documents.specs.Documents.{last_position, has_name}

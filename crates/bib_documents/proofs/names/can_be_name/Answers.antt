@@ -1,9 +1,9 @@
-use Rattle.std.proofs.Common.{◌≡◌, ◌↔◌, ℕ, Bool, true, false, List, IsTrue, MatchBool, length, refl, sym, ap, ◌∙◌, subst, arith}
+use Rattle.std.proofs.Common.{◌≡◌, ◌↔◌, ℕ, Bool, true, false, List, IsTrue, MatchBool, length, refl, sym, ap, ◌∙◌, subst}
 use Rattle.bib_text.specs.Places.{AtEnd, CharAt, Longest, Place, place}
 use Rattle.bib_text.proofs.PlaceFacts.{ahead_run, same_place, test_clash}
 use Rattle.bib_syntax.specs.Characters.{is_id_continue, is_id_start}
 use Rattle.bib_syntax.specs.Grammar.{Identifier, longest}
-use Rattle.bib_syntax.specs.Reading.{Part, part}
+use Rattle.bib_syntax.specs.Reading.{part}
 use Rattle.bib_syntax.proofs.LawFacts.{identifier_same}
 use Rattle.bib_syntax.proofs.WordFacts.{identifier_found}
 use Rattle.bib_documents.specs.Documents.{CanBeName}

@@ -2,7 +2,6 @@ use Rattle.std.proofs.Common.{◌≡◌, map, ap, subst}
 use Rattle.std.specs.String.{string_bytes}
 use Rattle.bib_syntax.specs.Views.{entry_reading_of, file_of}
 use Rattle.bib_documents.specs.Documents.{Document, HasEntry, IsEdited, KeyRenamed}
-use Rattle.bib_documents.specs.Placed.{IsKeyPlaced}
 use Rattle.bib_documents.proofs.RenamedFacts.{key_placed, key_renamed}
 use Rattle.bib_documents.proofs.SetFacts.{has_entry}
 use Rattle.bib_documents.proofs.document.RawDocument.rename_key.Goals as goal

@@ -1,8 +1,8 @@
-use Rattle.std.proofs.Common.{◌≡◌, None, map, sym, ap, ◌∙◌, subst}
+use Rattle.std.proofs.Common.{◌≡◌, None, map, ap, subst}
 use Rattle.std.specs.Prelude.{IfOk}
 use Rattle.std.specs.String.{string_bytes}
 use Rattle.bib_syntax.specs.Views.{entry_reading_of, field_of, file_of}
-use Rattle.bib_documents.specs.Documents.{Document, FieldSet, HasEntry, HasField, IsEdited, IsDocument, has_name, last_position}
+use Rattle.bib_documents.specs.Documents.{Document, FieldSet, IsEdited, has_name, last_position}
 use Rattle.bib_documents.proofs.SetFacts.{comma_known, field_set, has_entry, has_field, value_set}
 use Rattle.bib_documents.proofs.ValueFacts.{field_placed}
 use Rattle.bib_documents.proofs.document.RawDocument.set_field.Goals as goal
