@@ -123,9 +123,9 @@ line_read whole rest name value at can_name can_value stands =
         after_sign = place whole (n1 + 1 + 1);
         value_start = place whole n2;
         name = name_read;
-        white = one_white space sign refl;
+        white = one_white {w = place whole (n1 + 1 + 1)} space sign refl;
         sign = sign;
-        white' = one_white space' braced.opens refl;
+        white' = one_white {w = braced.inside} space' braced.opens refl;
         elements = Elements.last element none (stops_at (λ c. c == 35) comma refl);
         starts = refl;
         ends = refl;
