@@ -6,7 +6,7 @@ use Rattle.std.proofs.lemmas.Slice.Eq.{bytes_eq-Decides}
 use Rattle.bib_syntax.specs.Reading.{EntryReading, FieldReading}
 use Rattle.bib_syntax.specs.Grammar.{is_word}
 use Rattle.bib_documents.specs.Edits.{Edit, moved_entry, moved_field, moved_place}
-use Rattle.bib_documents.specs.Documents.{Document, FieldSet, HasEntry, HasField, first_position, has_name, is_keyed, is_value, last_position, next_index, or_first, added_line, field_at, value_edit, with_value}
+use Rattle.bib_documents.specs.Documents.{Document, FieldSet, HasValue, first_position, has_name, is_keyed, is_value, last_position, next_index, or_first, added_line, field_at, value_edit, with_value}
 
 -- ---- lists with another element in the place of one
 
@@ -102,17 +102,7 @@ passes_last {A} test (z ∷ zs) j x last here = by_case (last_position test zs) 
 same_text : (text : List ℕ) → bytes_eq text text ≡ true
 same_text text = (bytes_eq-Decides text text).1 refl
 
--- an entry's field with a value
-pub record IsThere (d : Document) (key name value : List ℕ) : Type 0 where
-  pub index : ℕ
-  pub entry : EntryReading
-  pub at : ℕ
-  pub field : FieldReading
-  pub has : HasEntry d key index entry
-  pub named : HasField entry name at field
-  pub is : is_value value field.value.pieces ≡ true
-
-pub set_there : {d after : Document} {key name value : List ℕ} → FieldSet d key name value after → IsThere after key name value
+pub set_there : {d after : Document} {key name value : List ℕ} → FieldSet d key name value after → HasValue after key name value
 set_there (FieldSet.same {k = k} {j = j} {e = e} {f = f} entry field is) = record { index = k; entry = e; at = j; field = f; has = entry; named = field; is = is }
 set_there {d} {after} {key} {name} {value} (FieldSet.changed {k = k} {j = j} {e = e} {f = f} entry field other) =
     let edit : Edit = value_edit d.text f value in

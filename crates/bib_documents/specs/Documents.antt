@@ -151,6 +151,16 @@ pub data FieldSet (d : Document) (key name value : List ℕ) : Document → Type
   added : {k at : ℕ} {e : EntryReading} → HasEntry d key k e → last_position (has_name name) e.fields ≡ None → IsAfterComma d.text e at
       → FieldSet d key name value (field_added d k e at name value)
 
+-- the last field with a name, of the first entry with a key, has a text as its value
+pub record HasValue (d : Document) (key name value : List ℕ) : Type 0 where
+  pub index : ℕ
+  pub entry : EntryReading
+  pub at : ℕ
+  pub field : FieldReading
+  pub has : HasEntry d key index entry
+  pub named : HasField entry name at field
+  pub is : is_value value field.value.pieces ≡ true
+
 -- why setting a field is refused
 abbrev pub SetIsRefused : Document → List ℕ → List ℕ → List ℕ → EditError → Type 0
 SetIsRefused d key name value UnknownKey = first_position (is_keyed key) d.says.entries ≡ None

@@ -2,4 +2,4 @@ use Rattle.bib_documents.proofs.SetLawFacts.{set_there}
 use Rattle.bib_documents.proofs.laws.set_is_there.Goals as goal
 
 pub returns : goal.returns
-returns c d after key name value set = let all = set_there set in (all.index, all.entry, all.at, all.field, all.has, all.named, all.is)
+returns c d after key name value set = set_there set
