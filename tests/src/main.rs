@@ -10,6 +10,7 @@ mod bibliography_calls;
 #[cfg(test)]
 mod calls;
 mod contents;
+mod documents;
 mod entries;
 mod excerpts;
 mod support;
@@ -28,6 +29,7 @@ fn rows(alloc: Global, layer: &str, input: &str) -> Result<String, AllocError> {
         "contents" => answered::<contents::Contents>(alloc, input),
         "tables" => answered::<tables::Tables>(alloc, input),
         "values" => answered::<values::Values>(alloc, input),
+        "documents" => answered::<documents::Documents>(alloc, input),
         "excerpts" => answered::<excerpts::Excerpts>(alloc, input),
         "entries" => answered::<entries::Entries>(alloc, input),
         "bibliographies" => answered::<bibliographies::Bibliographies>(alloc, input),

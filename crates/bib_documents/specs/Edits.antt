@@ -1,0 +1,51 @@
+-- Meaning: words of public contracts.
+-- Edits of a text that change one stretch, and what the text says after one: the same entries, abbreviations and preamble,
+-- each part as far from the end of the text as it was where it stands after the stretch.
+use Rattle.std.specs.Prelude.{ℕ, ◌+◌, ◌-◌, List, ◌++◌, length, take, drop, map, nat_lt, if◌then◌else◌}
+use Rattle.bib_syntax.specs.Reading.{Part, Piece, FieldReading, EntryReading, FileReading}
+use Rattle.bib_syntax.specs.Reading.Piece.{literal, abbreviation}
+
+-- a stretch of a text, and the bytes that take its place
+pub record Edit : Type 0 where
+  pub start : ℕ
+  pub end : ℕ
+  pub bytes : List ℕ
+
+-- the text with other bytes in the stretch
+abbrev pub edited : Edit → List ℕ → List ℕ
+edited edit text = take edit.start text ++ edit.bytes ++ drop edit.end text
+
+-- a place of the old text in the new: what stands before the end of the stretch stays, what stands after it moves with it
+abbrev pub moved_place : Edit → ℕ → ℕ
+moved_place edit at = if nat_lt at edit.end then at else at - edit.end + (edit.start + length edit.bytes)
+
+-- a part of a text at another place
+abbrev pub moved_part : (ℕ → ℕ) → Part → Part
+moved_part move p = record { text = p.text; start = move p.start; end = move p.end }
+
+abbrev pub moved_piece : (ℕ → ℕ) → Piece → Piece
+moved_piece move (literal p) = literal (moved_part move p)
+moved_piece move (abbreviation p) = abbreviation (moved_part move p)
+
+abbrev pub moved_field : (ℕ → ℕ) → FieldReading → FieldReading
+moved_field move f = record {
+  name = moved_part move f.name;
+  value = record { pieces = map (moved_piece move) f.value.pieces; start = move f.value.start; end = move f.value.end };
+}
+
+abbrev pub moved_entry : (ℕ → ℕ) → EntryReading → EntryReading
+moved_entry move e = record {
+  key = moved_part move e.key;
+  kind = moved_part move e.kind;
+  fields = map (moved_field move) e.fields;
+  start = move e.start;
+  end = move e.end;
+}
+
+-- what a file says, each part at another place
+abbrev pub moved_file : (ℕ → ℕ) → FileReading → FileReading
+moved_file move says = record {
+  preamble = says.preamble;
+  entries = map (moved_entry move) says.entries;
+  abbreviations = map (moved_field move) says.abbreviations;
+}

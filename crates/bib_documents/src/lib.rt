@@ -1,0 +1,23 @@
+//! A bibliography file's text with its raw reading as one value, and edits that change one stretch of the text.
+//!
+//! An edit finds its stretch by the spans of the raw reading, and copies the text round it; the new text isn't read. What it says
+//! is proved of the file grammar. Two texts share a *zone* where they have the same bytes (`ZoneFacts`): before the stretch and after
+//! it the old text and the new do, and a text that is put in stands in the new. The rules of the grammar relate places, so each reads
+//! in the one text what it reads in the other, with its places moved (`GrammarFacts`, one lemma a rule). What may not follow a run
+//! (no more white space, no `%`) is looked for at the zone's end alone, where the new bytes are known. A file is cut round an entry,
+//! and an entry's fields round a field (`SplitFacts`), and put together again with what is between exchanged (`EntryFacts`).
+#![tactic(auto)]
+
+mod adding;
+mod braces;
+pub mod document;
+mod editing;
+pub mod errors;
+mod joining;
+mod keys;
+pub mod laws;
+mod lookup;
+mod names;
+mod removing;
+mod setting;
+mod values;

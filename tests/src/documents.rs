@@ -1,0 +1,85 @@
+//! Reads rows, an edit of a text in each line, and prints each with the text that comes of it, or with why it is refused. That the new
+//! text is read, and says what it should, is seen by a row that reads it again.
+
+use bib_documents::document::RawDocument;
+use bib_documents::errors::EditError;
+use bib_syntax::raw::RawChunk;
+use std::alloc::{AllocError, Global};
+use crate::support::rows::Calls;
+
+pub struct Documents;
+
+// Why an edit was refused.
+fn refusal(error: EditError) -> &'static str {
+    match error {
+        EditError::UnknownKey => "refused: unknown key",
+        EditError::KeyIsThere => "refused: the key is there",
+        EditError::NotAKey => "refused: not a key",
+        EditError::NotAName => "refused: not a name",
+        EditError::NotInBraces => "refused: not in braces",
+        EditError::OutOfMemory => "refused: out of memory",
+    }
+}
+
+// The text that comes of an edit, if the call is one.
+fn edited(alloc: Global, call: &str, document: &RawDocument<'_>) -> Option<Result<String, EditError>> {
+    if let Some(words) = call.strip_prefix("set ") {
+        let (key, rest) = words.split_once(' ')?;
+        let (name, value) = rest.split_once(' ')?;
+        return Some(document.set_field(alloc, key, name, value));
+    }
+    if let Some(words) = call.strip_prefix("unset ") {
+        let (key, name) = words.split_once(' ')?;
+        return Some(document.unset_field(alloc, key, name));
+    }
+    if let Some(words) = call.strip_prefix("rename ") {
+        let (old, new) = words.split_once(' ')?;
+        return Some(document.rename_key(alloc, old, new));
+    }
+    if let Some(more) = call.strip_prefix("add ") {
+        let Ok(more) = RawDocument::parse(alloc, more) else {
+            return None;
+        };
+        return Some(document.add_entries(alloc, &more));
+    }
+    let key = call.strip_prefix("remove ")?;
+    Some(document.remove_entry(alloc, key))
+}
+
+// The keys, names and elements that a text says, with where each begins.
+fn said(alloc: Global, text: &str) -> Result<String, AllocError> {
+    let mut out = String::new(alloc);
+    let Ok(document) = RawDocument::parse(alloc, text) else {
+        return String::from_str(alloc, "no bibliography");
+    };
+    for entry in &document.raw().entries {
+        out.push_str(format!(in alloc; "{}@{}", entry.v.key.v, entry.v.key.span.start)?.as_str())?;
+        for field in &entry.v.fields {
+            out.push_str(format!(in alloc; " {}@{}=", field.key.v, field.key.span.start)?.as_str())?;
+            for piece in &field.value.v {
+                let (RawChunk::Normal(text) | RawChunk::Abbreviation(text)) = piece.v;
+                out.push_str(format!(in alloc; "{}@{};", text, piece.span.start)?.as_str())?;
+            }
+        }
+        out.push_str(" | ")?;
+    }
+    Ok(out)
+}
+
+impl Calls for Documents {
+    fn answer(alloc: Global, call: &str, text: &str) -> Result<Option<String>, AllocError> {
+        let Ok(document) = RawDocument::parse(alloc, text) else {
+            return Ok(Some(String::from_str(alloc, "no bibliography")?));
+        };
+        let (is_read_again, call) = match call.strip_prefix("again ") {
+            Some(call) => (true, call),
+            None => (false, call),
+        };
+        Ok(match edited(alloc, call, &document) {
+            Some(Ok(new)) if is_read_again => Some(said(alloc, new.as_str())?),
+            Some(Ok(new)) => Some(new),
+            Some(Err(error)) => Some(String::from_str(alloc, refusal(error))?),
+            None => None,
+        })
+    }
+}
