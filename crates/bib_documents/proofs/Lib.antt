@@ -4,6 +4,7 @@ pub mod EditFacts
 pub mod EntryFacts
 pub mod GrammarFacts
 pub mod JoinedFacts
+mod KeyFacts
 pub mod MovedFacts
 pub mod PositionFacts
 pub mod RemovedFacts

@@ -6,7 +6,7 @@ use Rattle.std.proofs.lemmas.Slice.Eq.{bytes_eq-Decides}
 use Rattle.bib_syntax.specs.Reading.{EntryReading, FieldReading}
 use Rattle.bib_syntax.specs.Grammar.{is_word}
 use Rattle.bib_documents.specs.Edits.{Edit, moved_entry, moved_field, moved_place}
-use Rattle.bib_documents.specs.Documents.{Document, FieldSet, HasValue, first_position, has_name, is_keyed, is_value, last_position, next_index, or_first, added_line, field_at, value_edit, with_value}
+use Rattle.bib_documents.specs.Documents.{Document, FieldSet, HasValue, first_position, has_name, is_keyed, last_position, next_index, or_first, added_line, field_at, value_edit, with_value}
 
 -- ---- lists with another element in the place of one
 

@@ -139,7 +139,7 @@ impl<'s> RawDocument<'s> {
         ensures added { IfOk result (λ text. IsEdited (EntriesAdded self.now more.now) (string_bytes text)) }
         ensures refused { IfErr result (EntriesAreRefused self.now more.now) }
     {
-        if shares_key(&self.raw.entries, &more.raw.entries) {
+        if shares_key(alloc, &self.raw.entries, &more.raw.entries)? {
             return Err(EditError::KeyIsThere);
         }
         Ok(joined(alloc, self.text, more.text)?)

@@ -1,13 +1,9 @@
-use Rattle.std.proofs.Common.{◌≡◌, None, false, map, ap, ◌∙◌}
-use Rattle.std.specs.Option.{is_some}
+use Rattle.std.proofs.Common.{map}
 use Rattle.bib_syntax.specs.Views.{entry_reading_of}
-use Rattle.bib_documents.specs.Documents.{first_position, is_keyed}
-use Rattle.bib_documents.proofs.JoinedFacts.{all_here}
+use Rattle.bib_documents.proofs.KeyFacts.{answered, on_false_more, on_true_more}
 use Rattle.bib_documents.proofs.joining.shares_key.Goals as goal
 
-pub returns-then-is_some-clause-one : goal.returns-then-is_some-clause-one
-returns-then-is_some-clause-one c = λ all.
-    let none : c.entry_index.result ≡ None = c.entry_index.ensures.is ∙
-    all_here entry_reading_of (λ e. first_position (is_keyed e.key.text) (map entry_reading_of c.args.entries.now) ≡ None) c.args.others.now c.others.entry-index c.entry-item.result c.others-test.true c.entry-item.is all in
-    let fails : c.is_some.result ≡ false = c.is_some.ensures ∙ ap is_some none in
-    absurd (cc)
+pub returns : goal.returns
+returns c =
+    let entries = map entry_reading_of c.args.entries.now in
+    answered _ _ c.has_one.result (on_true_more _ _ c.has_one.result (λ is. is entries c.in_ok-keys.ensures) c.has_one.ensures.one) (on_false_more _ _ c.has_one.result (λ is. is entries c.in_ok-keys.ensures) c.has_one.ensures.none)

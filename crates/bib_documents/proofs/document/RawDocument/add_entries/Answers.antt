@@ -4,6 +4,7 @@ use Rattle.std.specs.String.{string_bytes}
 use Rattle.bib_syntax.specs.Views.{entry_reading_of, file_of}
 use Rattle.bib_documents.specs.Documents.{Document, EntriesAdded, IsEdited, SharesNoKey, first_position, is_keyed, joined_documents}
 use Rattle.bib_documents.proofs.JoinedFacts.{documents_joined}
+use Rattle.bib_documents.proofs.KeyFacts.{on_no}
 use Rattle.bib_documents.proofs.document.RawDocument.add_entries.Goals as goal
 
 pub returns-clause-added : goal.returns-clause-added
@@ -14,7 +15,7 @@ returns-clause-added c =
     let other_seen : other ≡ c.args.more.now = c.more.view_is in
     let fresh : SharesNoKey d other =
     subst (λ es. AllByRecursion (λ e. first_position (is_keyed e.key.text) (map entry_reading_of c.self.inside.raw.entries.items) ≡ None) (map entry_reading_of es)) c.deref-2.ensures.value
-    (subst (λ es. AllByRecursion (λ e. first_position (is_keyed e.key.text) (map entry_reading_of es) ≡ None) (map entry_reading_of c.deref-2.result.now)) c.deref.ensures.value c.if-shares_key.ensures.none) in
+    (subst (λ es. AllByRecursion (λ e. first_position (is_keyed e.key.text) (map entry_reading_of es) ≡ None) (map entry_reading_of c.deref-2.result.now)) c.deref.ensures.value (on_no _ _ c.in_ok-shares_key.field-0 c.if-branch.false c.in_ok-shares_key.ensures)) in
     let edit : IsEdited (EntriesAdded d other) (string_bytes c.in_ok-joined.field-0) = record {
       document = joined_documents d other;
       outcome = EntriesAdded.added fresh;
