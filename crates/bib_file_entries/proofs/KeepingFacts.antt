@@ -1,10 +1,10 @@
 -- Facts on what is kept of a file's fields and entries, one after another.
-use Rattle.std.proofs.Common.{◌≡◌, ℕ, ◌+◌, Bool, true, false, List, [], ◌∷◌, ◌++◌, ◌<◌, zero, suc, drop, length, map, refl, sym, ap, subst, ◌∙◌, append_assoc, is_some, reverse, add-one, arith}
+use Rattle.std.proofs.Common.{◌≡◌, ℕ, ◌+◌, true, false, List, [], ◌∷◌, ◌++◌, ◌<◌, zero, suc, drop, length, map, refl, sym, ap, subst, ◌∙◌, append_assoc, is_some, get_or, reverse, add-one, arith}
 use Rattle.std.specs.Prelude.{slice_get, Some}
 use Rattle.std.specs.FinMap as by_name
 use Rattle.std.specs.List.{AllZip}
 use Rattle.std.specs.declared.ops.Range.{Range}
-use Rattle.std.proofs.lemmas.List.{append-nil, map-append}
+use Rattle.std.proofs.lemmas.List.{append-nil, drop_more, map-append}
 use Rattle.bib_abbreviations.specs.Abbreviations.{Definitions}
 use Rattle.bib_chunks.specs.declared.chunk.Chunk.{Chunk}
 use Rattle.bib_entry.specs.declared.entry.Entry.{Entry}
@@ -13,7 +13,7 @@ use Rattle.bib_file_entries.specs.Bibliography.{claims, empty_bibliography}
 use Rattle.bib_file_entries.specs.Claiming.{IsKeptSoFar, place_of}
 use Rattle.bib_file_entries.specs.Keeping.{AreKeptFields, IsKeptEntry, IsKeptField, IsLeftOut}
 use Rattle.bib_file_entries.specs.Kept.{EntriesKept, FieldsKept, IsKeptFrom, duplicate_key, mended, unknown_names, with_fields}
-use Rattle.bib_file_entries.specs.Loaded.{CanBeRead, IsEntry, is_claimed, loaded_after}
+use Rattle.bib_file_entries.specs.Loaded.{CanBeRead, is_claimed, loaded_after}
 use Rattle.bib_file_entries.specs.Loading.{IsRead, last_field, pieces_of}
 use Rattle.bib_file_entries.proofs.BibliographyFacts.{below_empty}
 use Rattle.bib_file_entries.proofs.LoadedFacts.{same_next, bibliography_next, below_next}
@@ -80,6 +80,10 @@ left_out_next {definitions} {said} {rest} {f} {old} {errors} {new} {pairs} so_fa
       read = so_far.read;
       noted = added_twice old so_far.more first errors new so_far.noted field.errors;
     }
+
+-- the element at an index, and the rest after it
+pub rest_at : {A : Type 0} (all : List A) (i : ℕ) (x : A) → i < length all → x ≡ get_or all i x → drop i all ≡ x ∷ drop (i + 1) all
+rest_at all i x within is = drop_more all i x within ∙ ap (λ y. y ∷ drop (i + 1) all) (sym is)
 
 -- all fields were kept or left out
 pub kept_all : {definitions : Definitions} {said : List Pair} {old errors : List ParseError} {pairs : List (List ℕ × List (Spanned Chunk))} → KeptSoFar definitions said [] old errors pairs

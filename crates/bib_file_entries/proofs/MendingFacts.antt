@@ -1,11 +1,18 @@
 -- Facts on the names of a field that become texts, one element after another.
-use Rattle.std.proofs.Common.{◌≡◌, ℕ, ◌+◌, ◌<◌, ◌≤◌, Bool, true, false, cond, List, [], ◌∷◌, ◌++◌, length, map, take, drop, get_or, set, refl, sym, ap, subst, ◌∙◌, arith, append_assoc}
-use Rattle.std.proofs.lemmas.List.{append-nil, map-append, take_more, take_more_set, take_all, drop_more, drop-set-lt, take-append-le}
-use Rattle.bib_abbreviations.specs.Abbreviations.{Definitions, error_at, is_known}
-use Rattle.bib_file_entries.specs.Kept.{mended_piece, unknown_names}
-use Rattle.bib_syntax.specs.Reading.{Part, Piece}
+use Rattle.std.proofs.Common.{◌≡◌, ℕ, ◌+◌, ◌<◌, Bool, true, false, cond, List, [], ◌∷◌, ◌++◌, length, map, take, get_or, refl, sym, ap, subst, ◌∙◌, append_assoc, Option, None, Some, Bor}
+use Rattle.std.specs.Option.{option_copied, unwrap_or}
+use Rattle.std.proofs.lemmas.List.{append-nil, map-append, take_more}
+use Rattle.bib_abbreviations.specs.Abbreviations.{Definitions, IsFirstError, error_at, is_known}
+use Rattle.bib_entry_types.specs.VerbatimFields.{is_verbatim_field}
+use Rattle.bib_file_entries.specs.Keeping.{IsLeftOut}
+use Rattle.bib_file_entries.specs.Kept.{mended, mended_piece, unknown_names}
+use Rattle.bib_file_entries.specs.Loaded.{CanBeRead, name_of}
+use Rattle.bib_file_entries.specs.Loading.{pieces_of}
+use Rattle.bib_file_entries.specs.Reading.{IsFieldError}
+use Rattle.bib_syntax.specs.Reading.{FieldReading, Piece}
 use Rattle.bib_syntax.specs.Reading.Piece.{abbreviation, literal}
-use Rattle.bib_syntax.specs.Views.{piece_of}
+use Rattle.bib_syntax.specs.Views.{field_of, part_of, piece_of}
+use Rattle.bib_syntax.specs.declared.raw.Pair.{Pair}
 use Rattle.bib_syntax.specs.declared.raw.ParseError.{ParseError}
 use Rattle.bib_syntax.specs.declared.raw.ParseErrorKind.TheVariants.{UnknownAbbreviation}
 use Rattle.bib_syntax.specs.declared.raw.RawChunk.{RawChunk}
@@ -23,62 +30,76 @@ unknown_names-append definitions (abbreviation p ∷ first) rest =
     chosen_append (is_known definitions p.text) (error_at p (UnknownAbbreviation p.text)) (unknown_names definitions (first ++ rest)) (unknown_names definitions first) (unknown_names definitions rest)
     (unknown_names-append definitions first rest)
 
+-- where no name stands for nothing, no element changes
+pub known_stay : (definitions : Definitions) (pieces : List Piece) → unknown_names definitions pieces ≡ [] → map (mended_piece definitions) pieces ≡ pieces
+known_stay definitions [] none = refl
+known_stay definitions (literal p ∷ rest) none = ap (λ l. literal p ∷ l) (known_stay definitions rest none)
+known_stay definitions (abbreviation p ∷ rest) none =
+    elim (is_known definitions p.text) as (λ b. cond b (unknown_names definitions rest) (error_at p (UnknownAbbreviation p.text) ∷ unknown_names definitions rest) ≡ []
+    → cond b (abbreviation p) (literal p) ∷ map (mended_piece definitions) rest ≡ abbreviation p ∷ rest) [
+      | true ↦ λ e. ap (λ l. abbreviation p ∷ l) (known_stay definitions rest e)
+      | false ↦ λ e. cc
+    ] none
+
+-- a field without such a name stays as it is
+pub field_stays : (definitions : Definitions) (p : Pair) → unknown_names definitions (pieces_of p) ≡ [] → field_of p ≡ mended definitions (field_of p)
+field_stays definitions p none =
+    let build : List Piece → FieldReading = λ pieces. record { name = part_of p.key; value = record { pieces = pieces; start = p.value.span.start; end = p.value.span.end } } in
+    ap build (sym (known_stay definitions (pieces_of p) none))
+
+-- a mended field, or else the field itself, as borrows
+pub now_or : {A : Type 0} (o : Option (Bor A)) (d : Bor A) → (unwrap_or o d).now ≡ unwrap_or (option_copied o) d.now
+now_or None d = refl
+now_or (Some x) d = refl
+
+-- a mended field that can't be read is left out
+pub left_out : (definitions : Definitions) (said kept : Pair) (old errors new : List ParseError) (e : ParseError) → field_of kept ≡ mended definitions (field_of said) → IsFieldError definitions kept e
+    → errors ≡ old ++ unknown_names definitions (pieces_of said) → new ≡ errors ++ e ∷ [] → IsLeftOut definitions said old new
+left_out definitions said kept old errors new e is error noted pushed = record {
+  error = e;
+  first = subst (λ (g : FieldReading). IsFirstError definitions (is_verbatim_field (name_of g)) [] g.value.pieces e) is error.0;
+  unread = λ can. error.1 (subst (CanBeRead definitions) (sym is) can);
+  errors = pushed ∙ ap (λ l. l ++ e ∷ []) noted ∙ append_assoc old (unknown_names definitions (pieces_of said)) (e ∷ []);
+}
+
+-- one more element that is no unknown name
+pub none_next : (definitions : Definitions) (field : List (Spanned RawChunk)) (i : ℕ) (d : Spanned RawChunk) → i < length field
+    → unknown_names definitions (map piece_of (take i field)) ≡ [] → unknown_names definitions (piece_of (get_or field i d) ∷ []) ≡ []
+    → unknown_names definitions (map piece_of (take (i + 1) field)) ≡ []
+none_next definitions field i d within before here =
+    ap (λ l. unknown_names definitions (map piece_of l)) (take_more field i d within)
+    ∙ ap (unknown_names definitions) (map-append piece_of (take i field) (get_or field i d ∷ []))
+    ∙ unknown_names-append definitions (map piece_of (take i field)) (piece_of (get_or field i d) ∷ [])
+    ∙ ap (λ l. l ++ unknown_names definitions (piece_of (get_or field i d) ∷ [])) before ∙ here
+
 -- so many elements of a field were mended
-pub record MendedSoFar (definitions : Definitions) (old : List (Spanned RawChunk)) (i : ℕ) (now : List (Spanned RawChunk)) (before errors : List ParseError) : Type 0 where
-  pub mended : map piece_of (take i now) ≡ map (mended_piece definitions) (map piece_of (take i old))
-  pub rest : drop i now ≡ drop i old
-  pub noted : errors ≡ before ++ unknown_names definitions (map piece_of (take i old))
+pub record MendedSoFar (definitions : Definitions) (field : List (Spanned RawChunk)) (i : ℕ) (pieces : List (Spanned RawChunk)) (before errors : List ParseError) : Type 0 where
+  pub mended : map piece_of pieces ≡ map (mended_piece definitions) (map piece_of (take i field))
+  pub noted : errors ≡ before ++ unknown_names definitions (map piece_of (take i field))
 
-pub mended_none : (definitions : Definitions) (old : List (Spanned RawChunk)) (before : List ParseError) → MendedSoFar definitions old 0 old before before
-mended_none definitions old before = record { mended = refl; rest = refl; noted = sym (append-nil before) }
-
-cons_head : {A : Type 0} {x y : A} {xs ys : List A} → x ∷ xs ≡ y ∷ ys → x ≡ y
-cons_head {A} {x} {y} e = ap (λ l. get_or l 0 x) e
-
-cons_tail : {A : Type 0} {x y : A} {xs ys : List A} → x ∷ xs ≡ y ∷ ys → xs ≡ ys
-cons_tail e = ap (drop 1) e
+pub mended_none : (definitions : Definitions) (field : List (Spanned RawChunk)) (before : List ParseError) → MendedSoFar definitions field 0 [] before before
+mended_none definitions field before = record { mended = refl; noted = sym (append-nil before) }
 
 -- one more element was mended
-pub mended_next : (definitions : Definitions) (old now : List (Spanned RawChunk)) (i : ℕ) (d x : Spanned RawChunk) (before errors more : List ParseError)
-    → i < length now → i < length old → MendedSoFar definitions old i now before errors
-    → piece_of x ≡ mended_piece definitions (piece_of (get_or now i d))
-    → more ≡ errors ++ unknown_names definitions (piece_of (get_or now i d) ∷ [])
-    → MendedSoFar definitions old (i + 1) (set now i x) before more
-mended_next definitions old now i d x before errors more within in_old so_far is added =
-    let both : get_or now i d ∷ drop (i + 1) now ≡ get_or old i d ∷ drop (i + 1) old = sym (drop_more now i d within) ∙ so_far.rest ∙ drop_more old i d in_old in
-    let here : get_or now i d ≡ get_or old i d = cons_head both in
-    let taken : map piece_of (take (i + 1) old) ≡ map piece_of (take i old) ++ piece_of (get_or old i d) ∷ [] =
-    ap (map piece_of) (take_more old i d in_old) ∙ map-append piece_of (take i old) (get_or old i d ∷ []) in
+pub mended_next : (definitions : Definitions) (field pieces : List (Spanned RawChunk)) (i : ℕ) (d x : Spanned RawChunk) (before errors more : List ParseError)
+    → i < length field → MendedSoFar definitions field i pieces before errors
+    → piece_of x ≡ mended_piece definitions (piece_of (get_or field i d))
+    → more ≡ errors ++ unknown_names definitions (piece_of (get_or field i d) ∷ [])
+    → MendedSoFar definitions field (i + 1) (pieces ++ x ∷ []) before more
+mended_next definitions field pieces i d x before errors more within so_far is added =
+    let here : Piece = piece_of (get_or field i d) in
+    let taken : map piece_of (take (i + 1) field) ≡ map piece_of (take i field) ++ here ∷ [] =
+    ap (map piece_of) (take_more field i d within) ∙ map-append piece_of (take i field) (get_or field i d ∷ []) in
     record {
       mended =
-          ap (map piece_of) (take_more_set now i x within)
-          ∙ map-append piece_of (take i now) (x ∷ [])
+          map-append piece_of pieces (x ∷ [])
           ∙ ap (λ l. l ++ piece_of x ∷ []) so_far.mended
-          ∙ ap (λ p. map (mended_piece definitions) (map piece_of (take i old)) ++ p ∷ []) (is ∙ ap (λ s. mended_piece definitions (piece_of s)) here)
-          ∙ sym (map-append (mended_piece definitions) (map piece_of (take i old)) (piece_of (get_or old i d) ∷ []))
+          ∙ ap (λ p. map (mended_piece definitions) (map piece_of (take i field)) ++ p ∷ []) is
+          ∙ sym (map-append (mended_piece definitions) (map piece_of (take i field)) (here ∷ []))
           ∙ ap (map (mended_piece definitions)) (sym taken);
-      rest = drop-set-lt (i + 1) now i x (omega arith) ∙ cons_tail both;
       noted =
           added
-          ∙ ap (λ l. l ++ unknown_names definitions (piece_of (get_or now i d) ∷ [])) so_far.noted
-          ∙ append_assoc before (unknown_names definitions (map piece_of (take i old))) (unknown_names definitions (piece_of (get_or now i d) ∷ []))
-          ∙ ap (λ l. before ++ l)
-          (ap (λ s. unknown_names definitions (map piece_of (take i old)) ++ unknown_names definitions (piece_of s ∷ [])) here
-          ∙ sym (unknown_names-append definitions (map piece_of (take i old)) (piece_of (get_or old i d) ∷ []))
-          ∙ ap (unknown_names definitions) (sym taken));
+          ∙ ap (λ l. l ++ unknown_names definitions (here ∷ [])) so_far.noted
+          ∙ append_assoc before (unknown_names definitions (map piece_of (take i field))) (unknown_names definitions (here ∷ []))
+          ∙ ap (λ l. before ++ l) (sym (unknown_names-append definitions (map piece_of (take i field)) (here ∷ [])) ∙ ap (unknown_names definitions) (sym taken));
     }
-
--- all were mended
-pub all_mended : (definitions : Definitions) (old now : List (Spanned RawChunk)) (i : ℕ) (before errors : List ParseError) → length old ≤ i → length now ≤ i
-    → MendedSoFar definitions old i now before errors → map piece_of now ≡ map (mended_piece definitions) (map piece_of old)
-all_mended definitions old now i before errors past now_past so_far =
-    ap (map piece_of) (sym (take_all i now now_past)) ∙ so_far.mended ∙ ap (λ l. map (mended_piece definitions) (map piece_of l)) (take_all i old past)
-
-pub all_unknown : (definitions : Definitions) (old now : List (Spanned RawChunk)) (i : ℕ) (before errors : List ParseError) → length old ≤ i
-    → MendedSoFar definitions old i now before errors → errors ≡ before ++ unknown_names definitions (map piece_of old)
-all_unknown definitions old now i before errors past so_far = so_far.noted ∙ ap (λ l. before ++ unknown_names definitions (map piece_of l)) (take_all i old past)
-
--- elements that were changed in place, and nothing after them
-pub nothing_after : {A : Type 0} (n : ℕ) (now old : List A) → n ≡ length old → length now ≡ length old → take n (now ++ drop (length now) old) ≡ now
-nothing_after n now old is same =
-    ap (λ k. take k (now ++ drop (length now) old)) (is ∙ sym same) ∙ take-append-le (length now) now (drop (length now) old) (omega arith) ∙ take_all (length now) now (omega arith)

@@ -1,13 +1,16 @@
 //! What is kept of a file's entries where not all of it can be read.
 
+ghost use Rattle.std.specs.Bool.{OnFalse};
+ghost use Rattle.std.specs.Option.{unwrap_or};
 ghost use Rattle.std.specs.Prelude.{◌≡◌, ◌++◌, ◌∷◌, [], map, length, IfOk, OnOk};
 ghost use Rattle.bib_abbreviations.specs.Abbreviations.{given_by, sorted_in};
-ghost use Rattle.bib_syntax.specs.Views.{entry_reading_of, file_of, piece_of};
+ghost use Rattle.bib_syntax.specs.Views.{entry_reading_of, field_of, file_of, piece_of};
 ghost use Rattle.bib_syntax.specs.declared.raw.ParseErrorKind.TheVariants.{UnknownAbbreviation};
 ghost use Rattle.bib_file_entries.specs.Claiming.{IsKeptSoFar};
 ghost use Rattle.bib_file_entries.specs.Keeping.{AreKeptFields, IsKeptEntry, IsTried};
-ghost use Rattle.bib_file_entries.specs.Kept.{mended_piece, unknown_names};
+ghost use Rattle.bib_file_entries.specs.Kept.{mended, mended_piece, unknown_names};
 ghost use Rattle.bib_file_entries.specs.Loaded.{definition_in};
+ghost use Rattle.bib_file_entries.specs.Loading.{pieces_of};
 ghost use Rattle.bib_maps.specs.Names.{AreIndicesBelow};
 
 use crate::claiming::claims;
@@ -53,60 +56,105 @@ fn unknown(alloc: Global, name: &str, span: &Span) -> Result<ParseError, AllocEr
     })
 }
 
-// An element becomes a text where it is a name that stands for nothing, whose error is kept.
-fn mend_piece<'f, 's>(
-    alloc: Global,
-    piece: &mut Spanned<RawChunk<'s>>,
-    reader: &FieldReader<'f, 's>,
-    errors: &mut Vec<ParseError>,
-) -> Result<(), AllocError>
-    ensures mended { OnOk result (piece_of piece.new ≡
-        mended_piece (given_by reader.now) (piece_of piece.old)) }
-    ensures errors { OnOk result (errors.new.items ≡ errors.old.items ++
-        unknown_names (given_by reader.now) (piece_of piece.old ∷ [])) }
+// Whether an element is a name that stands for nothing.
+fn is_unknown(piece: &Spanned<RawChunk<'_>>, reader: &FieldReader<'_, '_>) -> bool
+    ensures { OnFalse result (unknown_names (given_by reader.now) (piece_of piece.now ∷ []) ≡ []) }
 {
-    let RawChunk::Abbreviation(name) = piece.v else {
-        return Ok(());
-    };
-    if reader.knows(name) {
-        return Ok(());
+    match piece.v {
+        RawChunk::Abbreviation(name) => !reader.knows(name),
+        RawChunk::Normal(_) => false,
     }
-    errors.push(unknown(alloc, name, &piece.span)?)?;
-    piece.v = RawChunk::Normal(name);
-    Ok(())
 }
 
-// Each name in a field that stands for nothing becomes a text, and its error is kept.
-fn mend<'f, 's>(
-    alloc: Global,
-    field: &mut Field<'s>,
-    reader: &FieldReader<'f, 's>,
-    errors: &mut Vec<ParseError>,
-) -> Result<(), AllocError>
-    ensures mended { OnOk result (map piece_of field.new.items ≡
-        map (mended_piece (given_by reader.now)) (map piece_of field.old.items)) }
-    ensures errors { OnOk result (errors.new.items ≡ errors.old.items ++
-        unknown_names (given_by reader.now) (map piece_of field.old.items)) }
+// Whether a field has a name that stands for nothing.
+fn has_unknown(field: &[Spanned<RawChunk<'_>>], reader: &FieldReader<'_, '_>) -> bool
+    ensures { OnFalse result (unknown_names (given_by reader.now) (map piece_of field.now) ≡ []) }
 {
-    'pieces: for piece in field.iter_mut() {
-        mend_piece(alloc, piece, reader, errors)?;
+    'pieces: for piece in field {
+        if is_unknown(piece, reader) {
+            return true;
+        }
     }
-    Ok(())
+    false
+}
+
+// An element, as a text where it is a name that stands for nothing, whose error is kept.
+fn mended_piece<'s>(
+    alloc: Global,
+    piece: &Spanned<RawChunk<'s>>,
+    reader: &FieldReader<'_, '_>,
+    errors: &mut Vec<ParseError>,
+) -> Result<Spanned<RawChunk<'s>>, AllocError>
+    ensures mended { IfOk result (λ mended. piece_of mended ≡
+        mended_piece (given_by reader.now) (piece_of piece.now)) }
+    ensures errors { OnOk result (errors.new.items ≡ errors.old.items ++
+        unknown_names (given_by reader.now) (piece_of piece.now ∷ [])) }
+{
+    let v = match piece.v {
+        RawChunk::Normal(text) => RawChunk::Normal(text),
+        RawChunk::Abbreviation(name) if reader.knows(name) => RawChunk::Abbreviation(name),
+        RawChunk::Abbreviation(name) => {
+            errors.push(unknown(alloc, name, &piece.span)?)?;
+            RawChunk::Normal(name)
+        }
+    };
+    Ok(Spanned::new(v, piece.span.start..piece.span.end))
+}
+
+// The elements of a field, each name that stands for nothing as a text, and its error is kept.
+fn mended_pieces<'s>(
+    alloc: Global,
+    field: &[Spanned<RawChunk<'s>>],
+    reader: &FieldReader<'_, '_>,
+    errors: &mut Vec<ParseError>,
+) -> Result<Field<'s>, AllocError>
+    ensures mended { IfOk result (λ pieces. map piece_of pieces.items ≡
+        map (mended_piece (given_by reader.now)) (map piece_of field.now)) }
+    ensures errors { OnOk result (errors.new.items ≡ errors.old.items ++
+        unknown_names (given_by reader.now) (map piece_of field.now)) }
+{
+    let mut pieces = Vec::with_capacity(alloc, field.len())?;
+    'pieces: for piece in field {
+        pieces.push(mended_piece(alloc, piece, reader, errors)?)?;
+    }
+    Ok(pieces)
+}
+
+// A field with each name that stands for nothing as a text, whose error is kept; None where it has no such name.
+fn mended<'s>(
+    alloc: Global,
+    field: &Pair<'s>,
+    reader: &FieldReader<'_, '_>,
+    errors: &mut Vec<ParseError>,
+) -> Result<Option<Pair<'s>>, AllocError>
+    ensures mended { IfOk result (λ copy. field_of (unwrap_or copy field.now) ≡
+        mended (given_by reader.now) (field_of field.now)) }
+    ensures errors { OnOk result (errors.new.items ≡ errors.old.items ++
+        unknown_names (given_by reader.now) (pieces_of field.now)) }
+{
+    if !has_unknown(&field.value.v, reader) {
+        return Ok(None);
+    }
+    let pieces = mended_pieces(alloc, &field.value.v, reader, errors)?;
+    let (name, value) = (&field.key.span, &field.value.span);
+    Ok(Some(Pair {
+        key: Spanned::new(field.key.v, name.start..name.end),
+        value: Spanned::new(pieces, value.start..value.end),
+    }))
 }
 
 // Reads a field with such names as texts; None where it can't be read even so.
-fn keep_field<'f, 's>(
+fn keep_field<'s>(
     alloc: Global,
-    field: Pair<'s>,
-    reader: &mut FieldReader<'f, 's>,
+    field: &Pair<'s>,
+    reader: &mut FieldReader<'_, 's>,
     errors: &mut Vec<ParseError>,
 ) -> Result<Option<(Text, Chunks)>, AllocError>
     ensures same { reader.new ≡ reader.old }
-    ensures tried { IfOk result (IsTried (given_by reader.old) field.entry errors.old.items errors.new.items) }
+    ensures tried { IfOk result (IsTried (given_by reader.old) field.now errors.old.items errors.new.items) }
 {
-    let mut field = field;
-    mend(alloc, &mut field.value.v, reader, errors)?;
-    match read_field(alloc, &field, reader) {
+    let copy = mended(alloc, field, reader, errors)?;
+    match read_field(alloc, copy.as_ref().unwrap_or(field), reader) {
         Ok(read) => Ok(Some(read)),
         Err(e) => {
             e.unless_out_of_memory()?;
@@ -117,14 +165,14 @@ fn keep_field<'f, 's>(
 }
 
 // Reads the fields of an entry that can be read.
-fn keep_fields<'f, 's>(
+fn keep_fields<'s>(
     alloc: Global,
-    fields: Vec<Pair<'s>>,
-    reader: &mut FieldReader<'f, 's>,
+    fields: &[Pair<'s>],
+    reader: &mut FieldReader<'_, 's>,
     errors: &mut Vec<ParseError>,
 ) -> Result<Vec<(Text, Chunks)>, AllocError>
     ensures same { reader.new ≡ reader.old }
-    ensures kept { IfOk result (λ pairs. AreKeptFields (given_by reader.old) fields.entry.items
+    ensures kept { IfOk result (λ pairs. AreKeptFields (given_by reader.old) fields.now
         errors.old.items errors.new.items pairs.items) }
 {
     let mut pairs = Vec::with_capacity(alloc, fields.len())?;
@@ -139,30 +187,29 @@ fn keep_fields<'f, 's>(
 }
 
 // Reads what can be read of an entry.
-fn keep_entry<'f, 's>(
+fn keep_entry<'s>(
     alloc: Global,
-    raw: Spanned<RawEntry<'s>>,
-    reader: &mut FieldReader<'f, 's>,
+    raw: &Spanned<RawEntry<'s>>,
+    reader: &mut FieldReader<'_, 's>,
     errors: &mut Vec<ParseError>,
 ) -> Result<Entry, AllocError>
     ensures same { reader.new ≡ reader.old }
-    ensures kept { IfOk result (IsKeptEntry (given_by reader.old) (entry_reading_of raw.entry)
+    ensures kept { IfOk result (IsKeptEntry (given_by reader.old) (entry_reading_of raw.now)
         errors.old.items errors.new.items) }
 {
-    let RawEntry { key, kind, fields } = raw.v;
-    let pairs = keep_fields(alloc, fields, reader, errors)?;
-    let entry = entry_with(alloc, key.v, kind.v, pairs)?;
+    let pairs = keep_fields(alloc, &raw.v.fields, reader, errors)?;
+    let entry = entry_with(alloc, raw.v.key.v, raw.v.kind.v, pairs)?;
     Ok(entry)
 }
 
 // What is kept of a file's entries with these definitions of abbreviations.
 fn keep_entries<'f, 's>(
     alloc: Global,
-    raw: Vec<Spanned<RawEntry<'s>>>,
+    raw: &[Spanned<RawEntry<'s>>],
     definitions: BTreeMap<&'s str, &'f Field<'s>>,
 ) -> Result<KeptEntries, AllocError>
     ensures kept { IfOk result (λ found. IsKeptSoFar (sorted_in definitions.entry)
-        (map entry_reading_of raw.entry.items) found.entries.items found.names found.spans.items
+        (map entry_reading_of raw.now) found.entries.items found.names found.spans.items
         found.origins.items found.errors.items) }
     ensures below { IfOk result (λ found. AreIndicesBelow (length found.entries.items) found.names) }
 {
@@ -177,7 +224,7 @@ fn keep_entries<'f, 's>(
         let origin = next;
         next += 1;
         if names.get(said.v.key.v).is_some() {
-            errors.push(duplicate(alloc, &said)?)?;
+            errors.push(duplicate(alloc, said)?)?;
             continue 'entries;
         }
         spans.push(said.span.start..said.span.end)?;
@@ -199,17 +246,12 @@ fn keep_entries<'f, 's>(
 /// What is kept of the entries of a file: each entry but those whose key an earlier one claimed, with each field that can be
 /// read, and each name pointing to the last kept entry that claims it. A name that stands for nothing is read as text.
 /// Each of these has its error. Refused only when out of memory.
-pub fn keep(alloc: Global, raw: RawBibliography<'_>) -> Result<KeptEntries, AllocError>
-    ensures kept { IfOk result (λ found. IsKeptSoFar (definition_in (file_of raw.entry).abbreviations)
-        (file_of raw.entry).entries found.entries.items found.names found.spans.items
+pub fn keep(alloc: Global, raw: &RawBibliography<'_>) -> Result<KeptEntries, AllocError>
+    ensures kept { IfOk result (λ found. IsKeptSoFar (definition_in (file_of raw.now).abbreviations)
+        (file_of raw.now).entries found.entries.items found.names found.spans.items
         found.origins.items found.errors.items) }
     ensures below { IfOk result (λ found. AreIndicesBelow (length found.entries.items) found.names) }
 {
-    let RawBibliography {
-        preamble: _,
-        entries,
-        abbreviations,
-    } = raw;
-    let definitions = definitions(alloc, abbreviations.as_slice())?;
-    keep_entries(alloc, entries, definitions)
+    let definitions = definitions(alloc, &raw.abbreviations)?;
+    keep_entries(alloc, &raw.entries, definitions)
 }

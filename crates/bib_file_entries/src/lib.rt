@@ -9,7 +9,8 @@
 //! between them.
 //!
 //! `keeping` does the same of a file with errors: it goes on after a key that was claimed and a field that can't be read, keeps
-//! each error, and takes a name that stands for nothing as text, in place.
+//! each error, and takes a name that stands for nothing as text. It borrows the raw entries, which have the places of what is
+//! wrong; of them only a field with such a name is copied.
 #![tactic(auto)]
 
 pub mod claiming;

@@ -395,20 +395,29 @@ times_other all one other differs =
     let counts : count_by (nat_eq other) (all ++ one ∷ []) ≡ count_by (nat_eq other) all = omega (arith, sum, none) in
     ap (λ b. cond b (Some (is_repeated (all ++ one ∷ []) other)) None) there ∙ ap (λ n. cond (list_any (nat_eq other) all) (Some (nat_lt 1 n)) None) counts
 
--- one more mark is noted
-pub noted_more : (met new : BTreeMap ℕ Bool) (all : List ℕ) (one : ℕ) (is_there : Bool) → AreMetMarks met all → is_there ≡ is_some (get nat_cmp met one) → Updates nat_cmp met new one (Some is_there)
-    → AreMetMarks new (all ++ one ∷ [])
-noted_more met new all one is_there noted is updates other = by (nat_eq other one) refl
+-- a mark that is noted once more, where the others stay
+noted_by : (met new : BTreeMap ℕ Bool) (all : List ℕ) (one : ℕ) (is_there : Bool) → AreMetMarks met all → is_there ≡ is_some (get nat_cmp met one) → get nat_cmp new one ≡ Some is_there
+    → ((other : ℕ) → nat_eq other one ≡ false → get nat_cmp new other ≡ get nat_cmp met other) → AreMetMarks new (all ++ one ∷ [])
+noted_by met new all one is_there noted is here others other = by (nat_eq other one) refl
   where
-    apart : (one other : ℕ) → nat_eq other one ≡ false → is_at (nat_cmp one) other ≡ false
-    apart one other differs = grind (arith, nat_tests, differs)
-
     by : (same : Bool) → nat_eq other one ≡ same → get nat_cmp new other ≡ met_mark (all ++ one ∷ []) other
     by true same =
         subst (λ n. get nat_cmp new n ≡ met_mark (all ++ one ∷ []) n) (sym (numbers_alike other one same))
-        (updates.1 ∙ times_here all one is_there (is ∙ ap is_some (noted one) ∙ is_some_times (list_any (nat_eq one) all) (is_repeated all one)))
-    by false differs =
-        updates.2 other (apart one other differs) ∙ noted other ∙ sym (times_other all one other differs)
+        (here ∙ times_here all one is_there (is ∙ ap is_some (noted one) ∙ is_some_times (list_any (nat_eq one) all) (is_repeated all one)))
+    by false differs = others other differs ∙ noted other ∙ sym (times_other all one other differs)
+
+apart : (one other : ℕ) → nat_eq other one ≡ false → is_at (nat_cmp one) other ≡ false
+apart one other differs = grind (arith, nat_tests, differs)
+
+-- a mark is noted that wasn't there
+pub noted_once : (met new : BTreeMap ℕ Bool) (all : List ℕ) (one : ℕ) → AreMetMarks met all → is_some (get nat_cmp met one) ≡ false → Updates nat_cmp met new one (Some false) → AreMetMarks new (all ++ one ∷ [])
+noted_once met new all one noted absent updates = noted_by met new all one false noted (sym absent) updates.1 (λ other differs. updates.2 other (apart one other differs))
+
+-- a mark is noted that was there
+pub noted_again : (met mid new : BTreeMap ℕ Bool) (all : List ℕ) (one : ℕ) → AreMetMarks met all → is_some (get nat_cmp met one) ≡ true → Updates nat_cmp met mid one (Some false)
+    → Updates nat_cmp mid new one (Some true) → AreMetMarks new (all ++ one ∷ [])
+noted_again met mid new all one noted there first second =
+    noted_by met new all one true noted (sym there) second.1 (λ other differs. second.2 other (apart one other differs) ∙ first.2 other (apart one other differs))
 
 -- no mark is noted before the first
 pub none_noted : (met : BTreeMap ℕ Bool) → IsEmpty met → AreMetMarks met []

@@ -121,7 +121,6 @@ pub fn findings_in(
 pub fn findings(alloc: Global, text: &str) -> Result<Vec<Finding>, AllocError>
     ensures { IfOk result (λ found. AreFindings text.now found.items) }
 {
-    let said = RawBibliography::recover(alloc, text)?.raw.entries;
     let RawRecovery { raw, skipped } = RawBibliography::recover(alloc, text)?;
     let KeptEntries {
         mut entries,
@@ -129,9 +128,10 @@ pub fn findings(alloc: Global, text: &str) -> Result<Vec<Finding>, AllocError>
         spans,
         origins,
         mut errors,
-    } = keep(alloc, raw)?;
-    let linked = between(alloc, &said, &origins, &names, &entries)?;
+    } = keep(alloc, &raw)?;
+    let said = &raw.entries;
+    let linked = between(alloc, said, &origins, &names, &entries)?;
     let mut unresolved = resolve_readable(alloc, &spans, &names, &mut entries)?;
     errors.append(&mut unresolved)?;
-    findings_in(alloc, &skipped, &errors, &said, &origins, &entries, linked)
+    findings_in(alloc, &skipped, &errors, said, &origins, &entries, linked)
 }

@@ -88,8 +88,9 @@ fn note(met: &mut BTreeMap<u64, bool>, mark: Option<u64>) -> Result<(), AllocErr
     let Some(mark) = mark else {
         return Ok(());
     };
-    let is_there = met.contains_key(&mark);
-    met.insert(mark, is_there)?;
+    if met.insert(mark, false)?.is_some() {
+        met.insert(mark, true)?;
+    }
     Ok(())
 }
 

@@ -44,7 +44,7 @@ impl Bibliography {
             spans,
             origins,
             mut errors,
-        } = keep(alloc, raw)?;
+        } = keep(alloc, &raw)?;
         let mut unresolved = resolve_readable(alloc, &spans, &names, &mut entries)?;
         errors.append(&mut unresolved)?;
         Ok(BibliographyRecovery {

@@ -1,5 +1,4 @@
-use Rattle.std.proofs.Common.{◌≡◌, map}
-use Rattle.std.specs.Vec.Iter.{into_iter_items}
+use Rattle.std.proofs.Common.{◌≡◌, drop, map}
 use Rattle.bib_abbreviations.specs.Abbreviations.{pairs_in, sorted_in}
 use Rattle.bib_syntax.specs.Views.{entry_reading_of}
 use Rattle.bib_file_entries.proofs.KeepingFacts.{EntriesKeptSoFar}
@@ -8,8 +7,6 @@ use Rattle.bib_file_entries.proofs.keeping.keep_entries.Given as goal
 -- the entries so far are kept or left out, and the names of those that are kept are claimed
 abbrev pub invariant-entries : goal.invariant-entries
 invariant-entries l = record {
-  can_next : (goal.iterator-entries).can_next l.said-iterator;
-  is_finite : (goal.iterator-entries).is_finite l.said-iterator;
   reader : l.reader ≡ pairs_in l.fn.definitions;
-  kept : EntriesKeptSoFar (sorted_in l.fn.definitions) (map entry_reading_of l.fn.raw.items) (map entry_reading_of (into_iter_items l.said-iterator)) l.entries.items l.names l.spans.items l.origins.items l.next l.errors.items;
+  kept : EntriesKeptSoFar (sorted_in l.fn.definitions) (map entry_reading_of l.raw) (map entry_reading_of (drop l.said-index l.raw)) l.entries.items l.names l.spans.items l.origins.items l.next l.errors.items;
 }

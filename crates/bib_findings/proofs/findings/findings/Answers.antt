@@ -3,7 +3,6 @@ use Rattle.std.proofs.lemmas.List.{length-map}
 use Rattle.bib_references.specs.Recovered.{AreRecovered}
 use Rattle.bib_references.proofs.DatesRead.{all_taken}
 use Rattle.bib_syntax.specs.Views.{entry_reading_of, file_of}
-use Rattle.bib_syntax.proofs.RecoveryFacts.{recovery_same}
 use Rattle.bib_findings.specs.Findings.{AreFindings, AreFindingsIn, entries_said}
 use Rattle.bib_findings.proofs.RecoveredFacts.{between_of, findings_of, if_ok_more, origins_count, origins_within, places_count, within_of}
 use Rattle.bib_findings.proofs.findings.findings.Goals as goal
@@ -14,11 +13,10 @@ between-requires-clause-same_length c =
 
 pub between-requires-clause-there : goal.between-requires-clause-there
 between-requires-clause-there c =
-    let said = c.in_ok-said.field-0.raw.entries.items in
+    let said = c.in_ok-raw.field-0.raw.entries.items in
     let says = file_of c.in_ok-raw.field-0.raw in
-    let same : map entry_reading_of said ≡ says.entries = ap (λ r. r.entries) (recovery_same c.in_ok-said.ensures c.in_ok-raw.ensures).0 in
     within_of says.entries c.in_ok-entries.field-0.origins.items c.deref-2.result.now (length c.deref.result.now) (origins_within c.in_ok-entries.ensures.kept) c.deref-2.ensures.value
-    (sym (ap length same) ∙ length-map said entry_reading_of ∙ sym (ap length c.deref.ensures.value))
+    (length-map said entry_reading_of ∙ sym (ap length c.deref.ensures.value))
 
 pub resolve_readable-requires-clause-as_long : goal.resolve_readable-requires-clause-as_long
 resolve_readable-requires-clause-as_long c =
@@ -33,17 +31,14 @@ findings_in-requires-clause-same_length c =
 
 pub findings_in-requires-clause-there : goal.findings_in-requires-clause-there
 findings_in-requires-clause-there c =
-    let said = c.in_ok-said.field-0.raw.entries.items in
+    let said = c.in_ok-raw.field-0.raw.entries.items in
     let says = file_of c.in_ok-raw.field-0.raw in
-    let same : map entry_reading_of said ≡ says.entries = ap (λ r. r.entries) (recovery_same c.in_ok-said.ensures c.in_ok-raw.ensures).0 in
     within_of says.entries c.in_ok-entries.field-0.origins.items c.deref-8.result.now (length c.deref-7.result.now) (origins_within c.in_ok-entries.ensures.kept) c.deref-8.ensures.value
-    (sym (ap length same) ∙ length-map said entry_reading_of ∙ sym (ap length c.deref-7.ensures.value))
+    (length-map said entry_reading_of ∙ sym (ap length c.deref-7.ensures.value))
 
 pub returns : goal.returns
 returns c =
-    let said = c.in_ok-said.field-0.raw.entries.items in
     let says = file_of c.in_ok-raw.field-0.raw in
-    let same : map entry_reading_of said ≡ says.entries = ap (λ r. r.entries) (recovery_same c.in_ok-said.ensures c.in_ok-raw.ensures).0 in
     let skipped = c.in_ok-raw.field-0.skipped.items in
     let own = c.in_ok-entries.field-0.entries.items in
     let names = c.in_ok-entries.field-0.names in
@@ -58,7 +53,7 @@ returns c =
     let resolved = subst (λ p. AreRecovered p names own entries of_references) c.deref-4.ensures.value
     (subst (λ es. AreRecovered c.deref-4.result.now names es entries of_references) c.deref_mut.ensures.value c.in_ok-unresolved.ensures.recovered) in
     let are_between = between_of names (entries_said c.deref.result.now) says.entries c.deref-2.result.now origins c.deref-3.result.now own linked
-    (ap (map entry_reading_of) c.deref.ensures.value ∙ same) c.deref-2.ensures.value c.deref-3.ensures.value c.in_ok-linked.ensures in
+    (ap (map entry_reading_of) c.deref.ensures.value) c.deref-2.ensures.value c.deref-3.ensures.value c.in_ok-linked.ensures in
     if_ok_more (λ found. AreFindingsIn c.deref-5.result.now c.deref-6.result.now (entries_said c.deref-7.result.now) c.deref-8.result.now c.deref-9.result.now linked found.items)
     (λ found. AreFindings c.args.text.now found.items) c.findings_in.result
     (λ found are. record {
@@ -77,6 +72,6 @@ returns c =
       between = linked;
       are_between = are_between;
       are = findings_of c.deref-5.result.now skipped c.deref-6.result.now (of_entries ++ of_references) (entries_said c.deref-7.result.now) says.entries c.deref-8.result.now origins c.deref-9.result.now entries linked found.items
-          c.deref-5.ensures.value (c.deref-6.ensures.value ∙ c.in_ok-append.ensures.items) (ap (map entry_reading_of) c.deref-7.ensures.value ∙ same) c.deref-8.ensures.value (c.deref-9.ensures.value ∙ all) are;
+          c.deref-5.ensures.value (c.deref-6.ensures.value ∙ c.in_ok-append.ensures.items) (ap (map entry_reading_of) c.deref-7.ensures.value) c.deref-8.ensures.value (c.deref-9.ensures.value ∙ all) are;
     })
     c.findings_in.ensures
