@@ -13,6 +13,7 @@ mod contents;
 mod documents;
 mod entries;
 mod excerpts;
+mod formats;
 mod support;
 mod syntax;
 mod tables;
@@ -31,6 +32,7 @@ fn rows(alloc: Global, layer: &str, input: &str) -> Result<String, AllocError> {
         "values" => answered::<values::Values>(alloc, input),
         "documents" => answered::<documents::Documents>(alloc, input),
         "excerpts" => answered::<excerpts::Excerpts>(alloc, input),
+        "formats" => answered::<formats::Formats>(alloc, input),
         "entries" => answered::<entries::Entries>(alloc, input),
         "bibliographies" => answered::<bibliographies::Bibliographies>(alloc, input),
         _ => String::from_str(alloc, "there is no such layer"),

@@ -110,9 +110,7 @@ line_read whole rest name value at can_name can_value stands =
     let comma : CharAt (place whole n3) 44 (place whole (n3 + 1)) = ascii_stands whole rest n3 44 (omega arith) s8 in
     let name_read : Identifier longest (place whole (at + 3)) (text_at (at + 3) name) (place whole n1) = name_stands whole from_sign name (at + 3) can_name s3 in
     let braced = braced_stands whole (44 ∷ rest) value n2 can_value s7 (inr (44, place whole (n3 + 1), comma)) in
-    let inner : n2 + 1 ≡ at + 3 + length name + 4 = omega arith in
-    let element : Element longest (place whole n2) (literal (text_at (at + 3 + length name + 4) value)) (place whole n3) =
-    subst (λ n. Element longest (place whole n2) (literal (text_at n value)) (place whole n3)) inner (Element.braced braced) in
+    let element : Element longest (place whole n2) (literal (text_at (n2 + 1) value)) (place whole n3) = Element.braced braced in
     let none : Longest is_whitespace (place whole n3) (place whole n3) = record { run = stop; stops = stops_at is_whitespace comma refl } in
     record {
       white = Gap.white (record { run = step feed refl (step blank refl (step blank' refl stop)); stops = stops_at is_whitespace name_read.here (start_not_white name_read.first name_read.starts) })

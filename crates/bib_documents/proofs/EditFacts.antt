@@ -29,7 +29,7 @@ pub moved_after : (edit : Edit) (at : ℕ) → edit.end ≤ at → moved_place e
 moved_after edit at past = grind (arith, nat_tests)
 
 -- the new text, from its start and from after the new bytes
-front : (start end : ℕ) (bytes text : List ℕ) → start ≤ length text → take start (take start text ++ bytes ++ drop end text) ≡ take start text
+pub front : (start end : ℕ) (bytes text : List ℕ) → start ≤ length text → take start (take start text ++ bytes ++ drop end text) ≡ take start text
 front start end bytes text within =
     ap (take start) (append_assoc (take start text) bytes (drop end text)) ∙ take_at (take start text) (bytes ++ drop end text) start (length-take-le start text within)
 

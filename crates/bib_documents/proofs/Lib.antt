@@ -1,5 +1,8 @@
 pub mod AddedFacts
+pub mod AgreementFacts
 pub mod BoundaryFacts
+pub mod ChangeListFacts
+pub mod ChangedFacts
 pub mod EditFacts
 pub mod EntryFacts
 pub mod GrammarFacts
@@ -7,12 +10,17 @@ pub mod JoinedFacts
 mod KeyFacts
 pub mod MovedFacts
 pub mod PositionFacts
+pub mod ReferenceFacts
+pub mod RemovalFacts
 pub mod RemovedFacts
 pub mod RenamedFacts
+pub mod RenamingFacts
 pub mod SetFacts
 pub mod SetLawFacts
 pub mod SplitFacts
+pub mod StretchFacts
 pub mod TrimFacts
 pub mod UnsetFacts
 pub mod ValueFacts
+pub mod WhiteFacts
 pub mod ZoneFacts

@@ -5,7 +5,6 @@ use Rattle.std.specs.Char.{is_control, is_whitespace}
 use Rattle.std.specs.Str.{IsCharBoundary}
 use Rattle.std.proofs.lemmas.Bool.{and_parts, not-true}
 use Rattle.std.proofs.lemmas.List.{take_at}
-use Rattle.std.proofs.lemmas.Slice.Eq.{bytes_eq-Decides}
 use Rattle.std.proofs.lemmas.Str.{len_utf8_bounds}
 use Rattle.bib_text.specs.Places.{Place, place, CharAt, Run, between}
 use Rattle.bib_text.specs.Places.Run.{stop, step}
@@ -15,7 +14,7 @@ use Rattle.bib_syntax.specs.Reading.{Part, part, EntryReading}
 use Rattle.bib_syntax.proofs.FieldFacts.{ahead_fields, ahead_gap, ahead_identifier}
 use Rattle.bib_syntax.proofs.FileFacts.{ahead_head}
 use Rattle.bib_documents.specs.Edits.{Edit, edited, moved_place, moved_entry}
-use Rattle.bib_documents.specs.Documents.{CanBeKey, Document, HasEntry, IsEdited, IsDocument, KeyRenamed, entry_renamed, first_position, is_keyed, next_index, text_at}
+use Rattle.bib_documents.specs.Documents.{CanBeKey, Document, IsDocument, entry_renamed, first_position, next_index, text_at}
 use Rattle.bib_documents.specs.Placed.{IsKeyPlaced}
 use Rattle.bib_documents.proofs.BoundaryFacts.{Border, char_boundary}
 use Rattle.bib_documents.proofs.EditFacts.{Fits, before_frame, after_frame, piece_frame, moved_after, moved_before, new_bytes, zone_before, zone_after, zone_piece}
@@ -154,7 +153,7 @@ key_placed d k e read here =
     }
 
 -- an entry with a key that is some text has a key of that many bytes
-key_some : (d : Document) (k : ℕ) (e : EntryReading) → IsDocument d → slice_get d.says.entries k ≡ Some e → 0 < length e.key.text → e.key.start < e.key.end
+pub key_some : (d : Document) (k : ℕ) (e : EntryReading) → IsDocument d → slice_get d.says.entries k ≡ Some e → 0 < length e.key.text → e.key.start < e.key.end
 key_some d k e read here some =
     let b = (split_file k e read here).block in
     let bytes : List ℕ = drop b.inside.at b.inside.text in
@@ -180,14 +179,6 @@ first_step test x xs k e rest first here = by_case (test x) refl first
         ap test (sym head) ∙ is
     by_case false is found = next (first_position test xs) refl found
 
-first_passes : (test : EntryReading → Bool) (es : List EntryReading) (k : ℕ) (e : EntryReading) → first_position test es ≡ Some k → slice_get es k ≡ Some e → test e ≡ true
+pub first_passes : (test : EntryReading → Bool) (es : List EntryReading) (k : ℕ) (e : EntryReading) → first_position test es ≡ Some k → slice_get es k ≡ Some e → test e ≡ true
 first_passes test [] k e first here = absurd (cc)
 first_passes test (x ∷ xs) k e first here = first_step test x xs k e (λ i is found. first_passes test xs i e is found) first here
-
--- a key was renamed
-pub key_renamed : {S : Type 0} (bytes : S → List ℕ) (d : Document) (old new : List ℕ) (k : ℕ) (e : EntryReading) (text : S) → IsDocument d → HasEntry d old k e → CanBeKey old → CanBeKey new
-    → bytes text ≡ edited (record { start = e.key.start; end = e.key.end; bytes = new }) d.text → IsEdited (KeyRenamed d old new) (bytes text)
-key_renamed bytes d old new k e text read entry can_old can_new is =
-    let same : e.key.text ≡ old = (bytes_eq-Decides e.key.text old).0 (first_passes (is_keyed old) d.says.entries k e entry.first entry.here) in
-    let some : e.key.start < e.key.end = key_some d k e read entry.here (omega (arith, can_old.some, ap length same)) in
-    record { document = entry_renamed d k e new; outcome = KeyRenamed.renamed entry; is = is; read = entry_renamed_read d k e new read entry.here some can_new }

@@ -79,7 +79,7 @@ block_of {u} {v} {e} b = record {
 }
 
 -- a block says one entry or no_entry
-one_entry : {start u v : Place} {kind : Part} {k : BlockKind} {says : FileReading} → Body longest start kind k u says v → (says.entries ≡ []) ⊎ ((e : EntryReading) × (says ≡ entry_alone e))
+pub one_entry : {start u v : Place} {kind : Part} {k : BlockKind} {says : FileReading} → Body longest start kind k u says v → (says.entries ≡ []) ⊎ ((e : EntryReading) × (says ≡ entry_alone e))
 one_entry (body.comment brace chars closes) = inl refl
 one_entry (body.preamble quoted white closes is_brace) = inl refl
 one_entry (body.strings fs closes) = inl refl

@@ -1,5 +1,5 @@
 -- An entry without one of its fields.
-use Rattle.std.proofs.Common.{◌≡◌, inr, ℕ, zero, suc, ◌+◌, ◌<◌, ◌≤◌, true, false, List, [], ◌∷◌, ◌++◌, length, map, refl, sym, ap, ◌∙◌, subst, arith, Option, Some, None}
+use Rattle.std.proofs.Common.{◌≡◌, inr, ℕ, zero, suc, ◌+◌, ◌<◌, ◌≤◌, true, false, List, [], ◌∷◌, ◌++◌, length, map, refl, sym, ap, ◌∙◌, subst, arith, Some}
 use Rattle.std.specs.Prelude.{◌==◌, slice_get}
 use Rattle.std.specs.Char.{is_whitespace}
 use Rattle.std.specs.List.{remove}
@@ -18,7 +18,7 @@ use Rattle.bib_syntax.proofs.FieldFacts.{ahead_elements, ahead_field, ahead_fiel
 use Rattle.bib_syntax.proofs.FileFacts.{ahead_head}
 use Rattle.bib_syntax.proofs.LawFacts.{start_not_white}
 use Rattle.bib_documents.specs.Edits.{Edit, edited, moved_place, moved_entry, moved_field, moved_part}
-use Rattle.bib_documents.specs.Documents.{Document, FieldUnset, HasEntry, IsDocument, IsEdited, field_edit, field_limit, field_removed, has_name, last_position}
+use Rattle.bib_documents.specs.Documents.{Document, IsDocument, field_edit, field_limit, field_removed}
 use Rattle.bib_documents.specs.Placed.{AreFieldsPlaced}
 use Rattle.bib_documents.proofs.BoundaryFacts.{char_boundary}
 use Rattle.bib_documents.proofs.EditFacts.{Fits, before_frame, after_frame, moved_after, moved_before, zone_before, zone_after}
@@ -225,20 +225,34 @@ fields_placed d k e read here j f there' =
       end = subst (λ n. IsCharBoundary d.text n) (sym end_is) (subst (λ t. IsCharBoundary t r.start.at) (ahead_then at_field over).text (char_boundary r.here));
     }
 
--- a field was unset
-pub field_unset : {S : Type 0} (bytes : S → List ℕ) (d : Document) (key name : List ℕ) (k : ℕ) (e : EntryReading) (new : S) → IsDocument d → HasEntry d key k e
-    → (last_position (has_name name) e.fields ≡ None → bytes new ≡ d.text)
-    → ((j : ℕ) → last_position (has_name name) e.fields ≡ Some j → (f : FieldReading) × (slice_get e.fields j ≡ Some f) × (bytes new ≡ edited (field_edit e j f) d.text))
-    → IsEdited (FieldUnset d key name) (bytes new)
-field_unset bytes d key name k e new read entry stays changes = by_case (last_position (has_name name) e.fields) refl
-  where
-    by_case : (o : Option ℕ) → last_position (has_name name) e.fields ≡ o → IsEdited (FieldUnset d key name) (bytes new)
-    by_case None is = record { document = d; outcome = FieldUnset.same entry is; is = stays is; read = read }
-    by_case (Some j) is =
-        let change = changes j is in
-        record {
-          document = field_removed d k e j change.0;
-          outcome = FieldUnset.removed entry (record { last = is; here = change.1 });
-          is = change.2;
-          read = field_removed_read d k e j change.0 read entry.here change.1;
-        }
+-- a field takes some bytes
+pub limit_past : (d : Document) (k : ℕ) (e : EntryReading) (j : ℕ) (f : FieldReading) → IsDocument d → slice_get d.says.entries k ≡ Some e → slice_get e.fields j ≡ Some f → f.name.start < field_limit e j
+limit_past d k e j f read here there' =
+    let s = split_file k e read here in
+    let b = s.block in
+    let g = split_fields j f b.fields there' in
+    let r = rest_fields g.rest b.closes in
+    let name = g.field.name in
+    let over_name = ahead_then (ahead_run name.rest.run) (ahead_then (ahead_run g.field.white.run) (ahead_then (ahead_char g.field.sign) (ahead_then (ahead_run g.field.white'.run) (ahead_elements g.field.elements)))) in
+    let limit : field_limit e j ≡ limit_of g.following e.end = ap (λ fs. option_map_or (λ h. h.name.start) (slice_get fs (suc j)) e.end) g.whole ∙ limit_is g.before g.following f j e.end g.index in
+    omega (arith, ap (λ p. p.start) name.reading, limit, ap (limit_of g.following) b.ends, r.limit, name.here.next, (len_utf8_bounds name.first).0, over_name.at, r.before.at)
+
+-- fields end before those after them
+before_ends : {u v : Place} {fs : List FieldReading} (i : ℕ) (f : FieldReading) → FieldsBefore u fs v → slice_get fs i ≡ Some f → f.value.end ≤ v.at
+before_ends i f FieldsBefore.none found = absurd (cc)
+before_ends zero f (FieldsBefore.more {f = g} field gap comma gap' others) found =
+    let same : g ≡ f = cc in
+    omega (arith, ap (λ x. x.value.end) same, field.ends, (ahead_gap gap).at, (ahead_char comma).at, (ahead_gap gap').at, (ahead_fields_before others).at)
+before_ends (suc i) f (FieldsBefore.more field gap comma gap' others) found = before_ends i f others found
+
+get_before : (xs ys : List FieldReading) (i : ℕ) → i < length xs → slice_get (xs ++ ys) i ≡ slice_get xs i
+get_before [] ys i within = absurd (omega arith)
+get_before (x ∷ xs) ys zero within = refl
+get_before (x ∷ xs) ys (suc i) within = get_before xs ys i (omega arith)
+
+pub ends_before : (d : Document) (k : ℕ) (e : EntryReading) (i j : ℕ) (f g : FieldReading) → IsDocument d → slice_get d.says.entries k ≡ Some e → i < j → slice_get e.fields i ≡ Some f → slice_get e.fields j ≡ Some g → f.value.end ≤ g.name.start
+ends_before d k e i j f g read here less first second =
+    let b = (split_file k e read here).block in
+    let s = split_fields j g b.fields second in
+    let listed : slice_get s.before i ≡ Some f = sym (get_before s.before (g ∷ s.following) i (omega (arith, s.index))) ∙ ap (λ l. slice_get l i) (sym s.whole) ∙ first in
+    omega (arith, before_ends i f s.first listed, ap (λ p. p.start) s.field.name.reading)

@@ -39,12 +39,12 @@ elements_stop (elements.last e white ends) = (white.stops, ends)
 elements_stop (elements.more e white sign white' rest) = elements_stop rest
 
 -- it begins with a character that is no white space
-record Opens (u v : Place) : Type 0 where
+pub record Opens (u v : Place) : Type 0 where
   pub char : ℕ
   pub next : Place
   pub here : CharAt u char next
-  dark : is_whitespace char ≡ false
-  ahead : Ahead next v
+  pub dark : is_whitespace char ≡ false
+  pub ahead : Ahead next v
 
 digit_dark : (c : ℕ) → is_ascii_digit c ≡ true → is_whitespace c ≡ false
 digit_dark c digit = grind (arith, nat_tests)
@@ -57,7 +57,7 @@ element_opens (element.named none i) = record { char = i.first; next = i.second;
 element_opens (element.braced b) = record { char = 123; next = b.inside; here = b.opens; dark = refl; ahead = ahead_then (ahead_parts b.parts) (ahead_char b.closes) }
 element_opens (element.quoted q) = record { char = 34; next = q.inside; here = q.opens; dark = refl; ahead = ahead_then (ahead_quoted_parts q.parts) (ahead_char q.closes) }
 
-elements_opens : {u v : Place} {es : List Piece} → Elements longest u es v → Opens u v
+pub elements_opens : {u v : Place} {es : List Piece} → Elements longest u es v → Opens u v
 elements_opens (elements.last e white ends) =
     let o = element_opens e in
     record { char = o.char; next = o.next; here = o.here; dark = o.dark; ahead = ahead_then o.ahead (ahead_run white.run) }
@@ -227,7 +227,7 @@ new_field edit text value f {u} {v} can s =
 -- ---- a text with another value of a field
 
 -- the first character of a value is replaced
-value_some : {edit_end : ℕ} {text : List ℕ} {u v : Place} {es : List Piece} → Elements longest u es v → u.text ≡ text → u.at ≤ edit_end → Run is_whitespace (place text edit_end) v → u.at < edit_end
+pub value_some : {edit_end : ℕ} {text : List ℕ} {u v : Place} {es : List Piece} → Elements longest u es v → u.text ≡ text → u.at ≤ edit_end → Run is_whitespace (place text edit_end) v → u.at < edit_end
 value_some {edit_end} {text} {u} {v} all same ordered white =
     let opens = elements_opens all in
     elim (cases_lt u.at edit_end) [

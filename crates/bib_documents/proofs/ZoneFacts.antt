@@ -59,7 +59,7 @@ inside_between {f} {u} {v} {w} z iu iv first second =
     ]
 
 -- some bytes of the first bytes of a list
-inner : (size k n : ℕ) (xs : List ℕ) → k + n ≤ size → take n (drop k (take size xs)) ≡ take n (drop k xs)
+pub inner : (size k n : ℕ) (xs : List ℕ) → k + n ≤ size → take n (drop k (take size xs)) ≡ take n (drop k xs)
 inner size k n xs fits =
     let whole : size ≡ k + (size - k) = omega arith in
     ap (λ m. take n (drop k (take m xs))) whole ∙ ap (take n) (drop-take k (size - k) xs) ∙ take-take n (size - k) (drop k xs) (omega arith)
@@ -77,7 +77,7 @@ bytes_there {f} z a n b start end is =
     ∙ inner size k n (drop f.from f.old) fits ∙ ap (take n) (drop-drop k f.from f.old) ∙ ap (λ m. take n (drop m f.old)) from_old
 
 -- a character stands where its bytes do
-copied : (old new rest : List ℕ) (a b c : ℕ) → drop a old ≡ encode_utf8 c ++ rest → take (len_utf8 c) (drop b new) ≡ take (len_utf8 c) (drop a old) → CharAt (place new b) c (place new (b + len_utf8 c))
+pub copied : (old new rest : List ℕ) (a b c : ℕ) → drop a old ≡ encode_utf8 c ++ rest → take (len_utf8 c) (drop b new) ≡ take (len_utf8 c) (drop a old) → CharAt (place new b) c (place new (b + len_utf8 c))
 copied old new rest a b c here same =
     let bytes : take (len_utf8 c) (drop b new) ≡ encode_utf8 c = same ∙ ap (take (len_utf8 c)) here ∙ take_at (encode_utf8 c) rest (len_utf8 c) (length-encode c) in
     char_here new (drop (len_utf8 c) (drop b new)) b c (sym (take-append-drop (len_utf8 c) (drop b new)) ∙ ap (λ xs. xs ++ drop (len_utf8 c) (drop b new)) bytes)

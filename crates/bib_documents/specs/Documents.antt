@@ -127,14 +127,13 @@ added_line name value = codes "\n  " ++ name ++ codes " = " ++ in_braces value +
 
 -- a field in a line that is added at a place
 abbrev pub field_at : ℕ → List ℕ → List ℕ → FieldReading
-field_at at name value = record {
-  name = text_at (at + 3) name;
-  value = record {
-    pieces = literal (text_at (at + 3 + length name + 4) value) ∷ [];
-    start = at + 3 + length name + 3;
-    end = at + 3 + length name + 3 + length (in_braces value);
-  };
-}
+field_at at name value =
+    let name_start : ℕ = at + length (codes "\n  ") in
+    let value_start : ℕ = name_start + length name + length (codes " = ") in
+    record {
+      name = text_at name_start name;
+      value = record { pieces = literal (text_at (value_start + 1) value) ∷ []; start = value_start; end = value_start + length (in_braces value) };
+    }
 
 -- an entry with one more field, before the others, in a line of its own
 abbrev pub field_added : Document → ℕ → EntryReading → ℕ → List ℕ → List ℕ → Document
@@ -206,10 +205,20 @@ field_removed d k e j f =
     let edit = field_edit e j f in
     entry_edited d edit k (record (moved_entry (moved_place edit) e) { fields = remove (map (moved_field (moved_place edit)) e.fields) j })
 
--- what comes of unsetting a field of an entry: where it is there it is taken out
+-- the indices at which a test is passed, in a list that begins with one
+abbrev pub positions : {A : Type 0} → (A → Bool) → ℕ → List A → List ℕ
+positions test index [] = []
+positions test index (x ∷ xs) = if test x then index ∷ positions test (suc index) xs else positions test (suc index) xs
+
+-- what comes of taking fields out of an entry, from the last to the first, so that each is where it was
+pub data FieldsRemoved (d : Document) (k : ℕ) : List ℕ → Document → Type 0 where
+  none : FieldsRemoved d k [] d
+  taken : {after : Document} {rest : List ℕ} {j : ℕ} {e : EntryReading} {f : FieldReading} → FieldsRemoved d k rest after → slice_get after.says.entries k ≡ Some e → slice_get e.fields j ≡ Some f
+      → FieldsRemoved d k (j ∷ rest) (field_removed after k e j f)
+
+-- what comes of unsetting a field of an entry: each field with the name is taken out
 pub data FieldUnset (d : Document) (key name : List ℕ) : Document → Type 0 where
-  same : {k : ℕ} {e : EntryReading} → HasEntry d key k e → last_position (has_name name) e.fields ≡ None → FieldUnset d key name d
-  removed : {k j : ℕ} {e : EntryReading} {f : FieldReading} → HasEntry d key k e → HasField e name j f → FieldUnset d key name (field_removed d k e j f)
+  unset : {k : ℕ} {e : EntryReading} {after : Document} → HasEntry d key k e → FieldsRemoved d k (positions (has_name name) 0 e.fields) after → FieldUnset d key name after
 
 -- a text can be a key: some characters that a key may have
 pub record CanBeKey (text : List ℕ) : Type 0 where
@@ -221,19 +230,6 @@ abbrev pub entry_renamed : Document → ℕ → EntryReading → List ℕ → Do
 entry_renamed d k e key =
     let edit : Edit = record { start = e.key.start; end = e.key.end; bytes = key } in
     entry_edited d edit k (record (moved_entry (moved_place edit) e) { key = text_at (moved_place edit e.key.start) key })
-
--- what comes of renaming a key: the entry has another
-pub data KeyRenamed (d : Document) (old new : List ℕ) : Document → Type 0 where
-  renamed : {k : ℕ} {e : EntryReading} → HasEntry d old k e → KeyRenamed d old new (entry_renamed d k e new)
-
--- why renaming a key is refused
-abbrev pub RenameIsRefused : Document → List ℕ → List ℕ → EditError → Type 0
-RenameIsRefused d old new UnknownKey = first_position (is_keyed old) d.says.entries ≡ None
-RenameIsRefused d old new KeyIsThere = (k : ℕ) × (e : EntryReading) × HasEntry d new k e
-RenameIsRefused d old new NotAKey = CanBeKey old → CanBeKey new → ⊥
-RenameIsRefused d old new NotAName = ⊥
-RenameIsRefused d old new NotInBraces = ⊥
-RenameIsRefused d old new OutOfMemory = ⊤
 
 -- a text after another, with a line feed between them
 abbrev pub joined_documents : Document → Document → Document

@@ -1,7 +1,7 @@
 -- Meaning: words of public contracts.
--- Edits of a text that change one stretch, and what the text says after one: the same entries, abbreviations and preamble,
--- each part as far from the end of the text as it was where it stands after the stretch.
-use Rattle.std.specs.Prelude.{ℕ, ◌+◌, ◌-◌, List, ◌++◌, length, take, drop, map, nat_lt, if◌then◌else◌}
+-- Edits of a text that change one stretch or several, and what the text says after one: the same entries, abbreviations and
+-- preamble, each part as far from the end of the text as it was where it stands after the stretch.
+use Rattle.std.specs.Prelude.{ℕ, ◌+◌, ◌-◌, List, [], ◌∷◌, ◌++◌, length, take, drop, map, nat_lt, if◌then◌else◌}
 use Rattle.bib_syntax.specs.Reading.{Part, Piece, FieldReading, EntryReading, FileReading}
 use Rattle.bib_syntax.specs.Reading.Piece.{literal, abbreviation}
 
@@ -14,6 +14,11 @@ pub record Edit : Type 0 where
 -- the text with other bytes in the stretch
 abbrev pub edited : Edit → List ℕ → List ℕ
 edited edit text = take edit.start text ++ edit.bytes ++ drop edit.end text
+
+-- the text with each of these edits made, from the last to the first, so that each stretch is where it was
+abbrev pub edited_all : List Edit → List ℕ → List ℕ
+edited_all [] text = text
+edited_all (edit ∷ edits) text = edited edit (edited_all edits text)
 
 -- a place of the old text in the new: what stands before the end of the stretch stays, what stands after it moves with it
 abbrev pub moved_place : Edit → ℕ → ℕ

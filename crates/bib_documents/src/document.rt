@@ -6,15 +6,16 @@ ghost use Rattle.bib_syntax.specs.Errors.{Refuses, out_of_memory};
 ghost use Rattle.bib_syntax.specs.Grammar.{IsFile, IsRawReading};
 ghost use Rattle.bib_syntax.specs.SyntaxErrors.{IsReported};
 ghost use Rattle.bib_syntax.specs.Views.{file_of};
-ghost use Rattle.bib_documents.specs.Documents.{Document, EntriesAdded, EntriesAreRefused, EntryIsRefused, EntryRemoved, FieldSet, FieldUnset, IsEdited, IsDocument, KeyRenamed, RenameIsRefused, SetIsRefused};
+ghost use Rattle.bib_documents.specs.Documents.{Document, EntriesAdded, EntriesAreRefused, EntryIsRefused, EntryRemoved, FieldSet, FieldUnset, IsEdited, IsDocument, SetIsRefused};
+ghost use Rattle.bib_documents.specs.References.{KeyRenamed, RenameIsRefused};
 
 use crate::adding::with_field;
-use crate::editing::edited;
 use crate::errors::EditError;
 use crate::joining::{joined, shares_key};
 use crate::keys::can_be_key;
-use crate::lookup::{entry_with, field_with};
-use crate::removing::{without_entry, without_field};
+use crate::lookup::{entry_index, entry_with, field_with};
+use crate::removing::{without_entry, without_fields};
+use crate::renaming::with_key_renamed;
 use crate::setting::set_value;
 use bib_syntax::raw::{ParseError, RawBibliography};
 use std::alloc::Global;
@@ -61,7 +62,8 @@ impl<'s> RawDocument<'s> {
 
     /// What the text says.
     pub fn raw(&self) -> &RawBibliography<'s>
-        ensures { file_of result.now ≡ self.now.says }
+        ensures says { file_of result.now ≡ self.now.says }
+        ensures read { IsDocument self.now }
     {
         &self.raw
     }
@@ -87,14 +89,14 @@ impl<'s> RawDocument<'s> {
         }
     }
 
-    /// The text without a field of an entry: the last field with the name of the first entry with the key, up to the next field or
-    /// the closing brace. As it is where the field isn't there. Of several fields with the name the others stay.
+    /// The text without a field of an entry: each field with the name of the first entry with the key, up to the next field or the
+    /// closing brace. As it is where the field isn't there.
     pub fn unset_field(&self, alloc: Global, key: &str, name: &str) -> Result<String, EditError>
         ensures unset { IfOk result (λ new. IsEdited (FieldUnset self.now key.now name.now) (string_bytes new)) }
         ensures refused { IfErr result (EntryIsRefused self.now key.now) }
     {
         match entry_with(&self.raw.entries, key) {
-            Some(entry) => Ok(without_field(alloc, self.text, entry, name)?),
+            Some(entry) => Ok(without_fields(alloc, self.text, entry, name)?),
             None => Err(EditError::UnknownKey),
         }
     }
@@ -110,7 +112,11 @@ impl<'s> RawDocument<'s> {
         }
     }
 
-    /// The text with another key of the first entry with a key. References to the key stay as they are.
+    /// The text with another key of the first entry with a key, and in each reference to it: an element of the comma list that a
+    /// field `crossref`, `xref`, `xdata`, `entryset`, `related` or `set` of any entry is, where its value is one text. It is the key,
+    /// byte for byte, but for the white space round it. A value with another key in it comes to stand in braces; joined values,
+    /// abbreviations, and keys that are written with TeX stay as they are. As it is where the new key is the old one; refused where
+    /// another entry has it, or a value with it can't stand in braces.
     pub fn rename_key(&self, alloc: Global, old: &str, new: &str) -> Result<String, EditError>
         ensures renamed { IfOk result (λ text. IsEdited (KeyRenamed self.now old.now new.now) (string_bytes text)) }
         ensures refused { IfErr result (RenameIsRefused self.now old.now new.now) }
@@ -121,16 +127,16 @@ impl<'s> RawDocument<'s> {
         if !can_be_key(new) {
             return Err(EditError::NotAKey);
         }
-        match entry_with(&self.raw.entries, new) {
-            Some(_) => Err(EditError::KeyIsThere),
-            None => match entry_with(&self.raw.entries, old) {
-                Some(entry) => {
-                    let span = &entry.v.key.span;
-                    Ok(edited(alloc, self.text, span.start, span.end, new)?)
-                }
-                None => Err(EditError::UnknownKey),
-            },
+        let Some(index) = entry_index(&self.raw.entries, old) else {
+            return Err(EditError::UnknownKey);
+        };
+        if old == new {
+            return Ok(String::from_str(alloc, self.text)?);
         }
+        if entry_index(&self.raw.entries, new).is_some() {
+            return Err(EditError::KeyIsThere);
+        }
+        with_key_renamed(alloc, self.text, &self.raw.entries, index, old, new)
     }
 
     /// The text with that of another document after it, in a line of its own. Refused where an entry has the key of one of the

@@ -3,6 +3,7 @@
 ghost use Rattle.std.specs.Prelude.{◌≡◌, ◌++◌, ◌∷◌, IfOk, List, MatchBool, map};
 ghost use Rattle.std.specs.Bool.{OnFalse, OnTrue};
 ghost use Rattle.std.specs.String.{string_bytes};
+ghost use Rattle.bib_text.specs.Characters as char;
 ghost use Rattle.bib_syntax.specs.Views.{entry_reading_of};
 ghost use Rattle.bib_syntax.specs.Reading.{EntryReading};
 ghost use Rattle.bib_documents.specs.Keys.{AreKeysOf, NoneHasKeyOf};
@@ -55,7 +56,7 @@ pub(crate) fn shares_key(
 
 // A text after another, with a line feed between them.
 pub(crate) fn joined(alloc: Global, first: &str, second: &str) -> Result<String, AllocError>
-    ensures { IfOk result (λ text. string_bytes text ≡ first.now ++ 10 ∷ second.now) }
+    ensures { IfOk result (λ text. string_bytes text ≡ first.now ++ char.line_feed ∷ second.now) }
 {
     let mut text = String::new(alloc);
     text.push_str(first)?;

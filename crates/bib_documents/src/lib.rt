@@ -1,4 +1,4 @@
-//! A bibliography file's text with its raw reading as one value, and edits that change one stretch of the text.
+//! A bibliography file's text with its raw reading as one value, and edits that change a stretch of the text, or several.
 //!
 //! An edit finds its stretch by the spans of the raw reading, and copies the text round it; the new text isn't read. What it says
 //! is proved of the file grammar. Two texts share a *zone* where they have the same bytes (`ZoneFacts`): before the stretch and after
@@ -6,6 +6,10 @@
 //! in the one text what it reads in the other, with its places moved (`GrammarFacts`, one lemma a rule). What may not follow a run
 //! (no more white space, no `%`) is looked for at the zone's end alone, where the new bytes are known. A file is cut round an entry,
 //! and an entry's fields round a field (`SplitFacts`), and put together again with what is between exchanged (`EntryFacts`).
+//!
+//! Several stretches are changed in one go over the text (`StretchFacts`). What is said then is proved of the changes one by one, from
+//! the last to the first: a document agrees with the old one up to where its last change begins (`AgreementFacts`), so the next piece is
+//! where it was (`ChangedFacts`).
 #![tactic(auto)]
 
 mod adding;
@@ -18,6 +22,8 @@ mod keys;
 pub mod laws;
 mod lookup;
 mod names;
+mod references;
 mod removing;
+mod renaming;
 mod setting;
 mod values;

@@ -1,21 +1,20 @@
 //! Entries and fields that are taken out.
 
-ghost use Rattle.std.specs.Prelude.{◌≡◌, ◌+◌, ◌≤◌, ◌<◌, ℕ, [], IfOk, None, Some, length, slice_get};
+ghost use Rattle.std.specs.Prelude.{◌≡◌, ◌+◌, ◌++◌, ◌≤◌, ◌<◌, ℕ, [], IfOk, OnOk, length, map};
 ghost use Rattle.std.specs.Char.{is_whitespace};
 ghost use Rattle.std.specs.Str.{IsCharBoundary};
 ghost use Rattle.std.specs.String.{string_bytes};
 ghost use Rattle.bib_text.specs.Places.{Longest};
 ghost use Rattle.bib_text.specs.Places as places;
-ghost use Rattle.bib_syntax.specs.Reading.{FieldReading};
-ghost use Rattle.bib_syntax.specs.Views.{entry_reading_of};
+ghost use Rattle.bib_syntax.specs.Views.{entry_reading_of, field_of};
 ghost use Rattle.bib_documents.specs.Documents as documents;
-ghost use Rattle.bib_documents.specs.Documents.{last_position};
 ghost use Rattle.bib_documents.specs.Edits as edits;
-ghost use Rattle.bib_documents.specs.Placed.{AreFieldsPlaced, IsEntryPlaced};
+ghost use Rattle.bib_documents.specs.Placed.{IsEntryPlaced};
+ghost use Rattle.bib_documents.specs.Stretches as stretches;
+ghost use Rattle.bib_documents.specs.Stretches.{AreEditsInOrder, edit_of};
 
-use crate::editing::edited;
-use crate::lookup::field_index;
-use bib_syntax::raw::RawEntry;
+use crate::editing::{Edit, edited, edited_all};
+use bib_syntax::raw::{Pair, RawEntry, is_word};
 use bib_text::scanner::Scanner;
 use bib_text::spanned::Spanned;
 use std::alloc::{AllocError, Global};
@@ -59,25 +58,55 @@ fn field_limit(entry: &Spanned<RawEntry<'_>>, index: usize) -> usize
     }
 }
 
-// The text without an entry's last field with a name, if there is one.
-pub(crate) fn without_field(
+// Adds the edit that takes a field out of an entry, if it has a name.
+fn push_removal(
+    edits: &mut Vec<Edit>,
+    alloc: Global,
+    entry: &Spanned<RawEntry<'_>>,
+    index: usize,
+    field: &Pair<'_>,
+    name: &str,
+) -> Result<(), AllocError>
+    requires { index < length (entry_reading_of entry.now).fields }
+    ensures { OnOk result (map edit_of edits.new.items ≡ map edit_of edits.old.items ++ stretches.removal name.now (entry_reading_of entry.now) index (field_of field.now)) }
+{
+    if !is_word(field.key.v, name) {
+        return Ok(());
+    }
+    let end = field_limit(entry, index);
+    edits.push(Edit {
+        start: field.key.span.start,
+        end,
+        text: String::new(alloc),
+    })?;
+    Ok(())
+}
+
+// The edits that take the fields with a name out of an entry.
+fn removals(
+    alloc: Global,
+    entry: &Spanned<RawEntry<'_>>,
+    name: &str,
+) -> Result<Vec<Edit>, AllocError>
+    ensures { IfOk result (λ edits. map edit_of edits.items ≡ stretches.removals name.now (entry_reading_of entry.now) 0 (entry_reading_of entry.now).fields) }
+{
+    let mut edits = Vec::new(alloc);
+    'fields: for (index, field) in entry.v.fields.iter().enumerate() {
+        push_removal(&mut edits, alloc, entry, index, field, name)?;
+    }
+    Ok(edits)
+}
+
+// The text without an entry's fields with a name.
+pub(crate) fn without_fields(
     alloc: Global,
     text: &str,
     entry: &Spanned<RawEntry<'_>>,
     name: &str,
 ) -> Result<String, AllocError>
-    requires { AreFieldsPlaced text.now (entry_reading_of entry.now) }
-    ensures none { IfOk result (λ new. last_position (documents.has_name name.now) (entry_reading_of entry.now).fields ≡ None →
-        string_bytes new ≡ text.now) }
-    ensures removed { IfOk result (λ new. (j : ℕ) → last_position (documents.has_name name.now) (entry_reading_of entry.now).fields ≡ Some j →
-        (f : FieldReading) × (slice_get (entry_reading_of entry.now).fields j ≡ Some f) ×
-        (string_bytes new ≡ edits.edited (documents.field_edit (entry_reading_of entry.now) j f) text.now)) }
+    requires { AreEditsInOrder text.now 0 (stretches.removals name.now (entry_reading_of entry.now) 0 (entry_reading_of entry.now).fields) }
+    ensures { IfOk result (λ new. string_bytes new ≡ edits.edited_all (stretches.removals name.now (entry_reading_of entry.now) 0 (entry_reading_of entry.now).fields) text.now) }
 {
-    match field_index(&entry.v.fields, name) {
-        Some(index) => {
-            let start = entry.v.fields[index].key.span.start;
-            edited(alloc, text, start, field_limit(entry, index), "")
-        }
-        None => String::from_str(alloc, text),
-    }
+    let removed = removals(alloc, entry, name)?;
+    edited_all(alloc, text, &removed)
 }

@@ -17,7 +17,7 @@ fn found(alloc: Global, file: &str) -> Result<Vec<Finding>, AllocError> {
         spans,
         origins,
         mut errors,
-    } = keep(alloc, raw)?;
+    } = keep(alloc, &raw)?;
     let between = between(alloc, &said, &origins, &names, &entries)?;
     let mut unresolved = resolve_readable(alloc, &spans, &names, &mut entries)?;
     errors.append(&mut unresolved)?;

@@ -3,24 +3,24 @@ use Rattle.std.specs.String.{string_bytes}
 use Rattle.bib_syntax.specs.Views.{entry_reading_of, file_of}
 use Rattle.bib_documents.specs.Documents.{Document, FieldUnset, IsEdited}
 use Rattle.bib_documents.proofs.SetFacts.{has_entry}
-use Rattle.bib_documents.proofs.UnsetFacts.{field_unset, fields_placed}
+use Rattle.bib_documents.proofs.RemovalFacts.{field_unset, removals_ordered}
 use Rattle.bib_documents.proofs.document.RawDocument.unset_field.Goals as goal
 
-pub without_field-requires : goal.without_field-requires
-without_field-requires c =
+pub without_fields-requires : goal.without_fields-requires
+without_fields-requires c =
     let d : Document = record { text = c.self.inside.text.now; says = file_of c.self.inside.raw } in
     let e = entry_reading_of c.in-Some.entry.now in
     let found = c.in-Some.ensures in
     let entry = has_entry d (map entry_reading_of c.deref.result.now) c.args.key.now found.0 e (ap (map entry_reading_of) c.deref.ensures.value) found.1 found.2 in
-    fields_placed d found.0 e c.self.invariant entry.here
+    removals_ordered d found.0 e c.args.name.now c.self.invariant entry.here
 
-pub returns-in_ok-without_field-in-Some-clause-unset : goal.returns-in_ok-without_field-in-Some-clause-unset
-returns-in_ok-without_field-in-Some-clause-unset c =
+pub returns-in_ok-without_fields-in-Some-clause-unset : goal.returns-in_ok-without_fields-in-Some-clause-unset
+returns-in_ok-without_fields-in-Some-clause-unset c =
     let d : Document = record { text = c.self.inside.text.now; says = file_of c.self.inside.raw } in
     let seen : d ≡ c.args.self.now = c.self.view_is in
     let e = entry_reading_of c.in-Some.entry.now in
     let found = c.in-Some.ensures in
     let entry = has_entry d (map entry_reading_of c.deref.result.now) c.args.key.now found.0 e (ap (map entry_reading_of) c.deref.ensures.value) found.1 found.2 in
-    let new = c.in_ok-without_field-in-Some.field-0 in
+    let new = c.in_ok-without_fields-in-Some.field-0 in
     subst (λ x. IsEdited (FieldUnset x c.args.key.now c.args.name.now) (string_bytes new)) seen
-    (field_unset string_bytes d c.args.key.now c.args.name.now found.0 e new c.self.invariant entry c.in_ok-without_field-in-Some.ensures.none c.in_ok-without_field-in-Some.ensures.removed)
+    (field_unset string_bytes d c.args.key.now c.args.name.now found.0 e new c.self.invariant entry c.in_ok-without_fields-in-Some.ensures)

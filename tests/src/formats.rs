@@ -1,0 +1,52 @@
+//! Reads rows, a style and a text in each line, and prints each with the text in that style. A style is the word `format` with what
+//! it has other than the usual one: the spaces before a field, `aligned`, `bare` where no comma stands after the last field.
+
+use bib_documents::document::RawDocument;
+use bib_format::formatting::format;
+use bib_format::style::Style;
+use std::alloc::{AllocError, Global};
+use crate::support::rows::Calls;
+
+pub struct Formats;
+
+// The style that words name.
+fn style_of(words: &str) -> Option<Style> {
+    let mut style = Style::default();
+    for word in words.split(' ') {
+        match word {
+            "" => {}
+            "aligned" => style.aligned = true,
+            "bare" => style.trailing_comma = false,
+            _ => style.indent = word.parse().ok()?,
+        }
+    }
+    Some(style)
+}
+
+// A text in a style.
+fn formatted(alloc: Global, text: &str, style: &Style) -> Result<String, AllocError> {
+    match RawDocument::parse(alloc, text) {
+        Ok(document) => format(alloc, &document, style),
+        Err(_) => String::from_str(alloc, "no bibliography"),
+    }
+}
+
+impl Calls for Formats {
+    fn answer(alloc: Global, call: &str, text: &str) -> Result<Option<String>, AllocError> {
+        let (is_twice, call) = match call.strip_prefix("twice ") {
+            Some(call) => (true, call),
+            None => (false, call),
+        };
+        let Some(words) = call.strip_prefix("format") else {
+            return Ok(None);
+        };
+        let Some(style) = style_of(words) else {
+            return Ok(None);
+        };
+        let new = formatted(alloc, text, &style)?;
+        if is_twice {
+            return Ok(Some(formatted(alloc, new.as_str(), &style)?));
+        }
+        Ok(Some(new))
+    }
+}
