@@ -1,0 +1,216 @@
+-- An entry in one style, as it is read.
+use Rattle.std.proofs.Common.{◌≡◌, inl, inr, ℕ, ◌+◌, ◌-◌, ◌<◌, ◌≤◌, Bool, true, false, cond, List, [], ◌∷◌, ◌++◌, length, drop, take, map, refl, sym, ap, ◌∙◌, subst, arith, append_assoc}
+use Rattle.std.specs.Prelude.{◌==◌, ◌&&◌, ◌||◌, not}
+use Rattle.std.specs.Char.{is_whitespace, is_control}
+use Rattle.std.specs.List.{flat_map}
+use Rattle.std.specs.Str.{str_to_ascii_lowercase}
+use Rattle.std.proofs.lemmas.Bool.{cases_lt, not-true}
+use Rattle.std.proofs.lemmas.Simd.{map-map}
+use Rattle.bib_text.specs.Places.{Place, place, CharAt, Run, Stops, between}
+use Rattle.bib_text.specs.Places.Run.{stop, step}
+use Rattle.bib_text.proofs.PlaceFacts.{ahead_then, ahead_char, ahead_run, same_char, same_place, stops_at}
+use Rattle.bib_syntax.specs.Characters.{is_key}
+use Rattle.bib_syntax.specs.Reading.{part, FieldReading, EntryReading}
+use Rattle.bib_syntax.specs.Recovery.{entry_alone}
+use Rattle.bib_syntax.specs.Grammar.{Block, Fields, block_kind, longest}
+use Rattle.bib_syntax.specs.Grammar.{Fields as fields}
+use Rattle.bib_syntax.proofs.FieldFacts.{ahead_identifier, ahead_field, ahead_fields, ahead_gap}
+use Rattle.bib_syntax.proofs.FileFacts.{ahead_head}
+use Rattle.bib_documents.specs.Edits.{moved_entry, moved_field}
+use Rattle.bib_documents.proofs.BoundaryFacts.{not_over}
+use Rattle.bib_documents.proofs.GrammarFacts.{block_there}
+use Rattle.bib_documents.proofs.MovedFacts.{char_within}
+use Rattle.bib_documents.proofs.SplitFacts.{EntryBlock, block_of}
+use Rattle.bib_documents.proofs.ZoneFacts.{run_there, there}
+use Rattle.bib_format.specs.Formatted.{entry_content, entry_in_style, entry_laid_out, field_in_lowercase, field_laid_out, has_comment, last_comma, padded_width}
+use Rattle.bib_format.specs.declared.style.Style.{Style}
+use Rattle.bib_format.proofs.ContentFacts.{entry_placeless}
+use Rattle.bib_format.proofs.ElementFacts.{one_byte, parted}
+use Rattle.bib_format.proofs.FieldFacts.{CommaRead, IsLineEnd, LastComma, after_last, fields_read, none_read}
+use Rattle.bib_format.proofs.LowerFacts.{kind_lower, lower_lower}
+use Rattle.bib_format.proofs.NameFacts.{name_read}
+use Rattle.bib_format.proofs.StandsFacts.{Stands, ascii, between_stands, copied, copied_before, copy_frame, first_part, last_part, past}
+
+abbrev contents : List FieldReading → List FieldReading
+contents fs = map (moved_field (λ n. 0)) (map field_in_lowercase fs)
+
+-- ---- fields after the key
+
+last_of : (style : Style) (f : FieldReading) (fs : List FieldReading) → LastComma (last_comma style (f ∷ fs))
+last_of style f fs = by_choice style.trailing_comma
+  where
+    by_choice : (b : Bool) → LastComma (cond b (44 ∷ []) [])
+    by_choice true = LastComma.comma
+    by_choice false = LastComma.none
+
+key_read : (line_end : List ℕ) (style : Style) (width : ℕ) (text : List ℕ) {a b u v : Place} {fs : List FieldReading} → IsLineEnd line_end → a.text ≡ text → Fields longest a fs b → b.at ≤ length text
+    → Stands u (flat_map (field_laid_out line_end style text width) fs ++ (last_comma style fs ++ (line_end ++ 125 ∷ []))) v → CommaRead fs u v
+key_read line_end style width text ends same (fields.none white) within s = none_read line_end ends s
+key_read line_end style width text {a} {b} {u} {v} ends same (fields.last {v = a1} {f = f} field g) within s =
+    let write = field_laid_out line_end style text width in
+    let tail = last_comma style (f ∷ []) ++ (line_end ++ 125 ∷ []) in
+    let s' : Stands u (write f ++ tail) v = subst (λ t. Stands u t v) (append_assoc (write f) [] tail) s in
+    let up : a1.at ≤ length a.text = omega (arith, within, (ahead_gap g).at, ap length same) in
+    let here = subst (λ t. Stands u (field_laid_out line_end style t width f) (past u (write f))) (sym same) (first_part (write f) tail s') in
+    after_last line_end style width ends (last_of style f []) field up here (last_part (write f) tail s')
+key_read line_end style width text {a} {b} {u} {v} ends same (fields.more {v = a1} {y = a4} {f = f} {fs = fs} field g sep g' rest) within s =
+    let write = field_laid_out line_end style text width in
+    let tail = last_comma style (f ∷ fs) ++ (line_end ++ 125 ∷ []) in
+    let past_comma = ahead_then (ahead_gap g) (ahead_then (ahead_char sep) (ahead_gap g')) in
+    let s' : Stands u (write f ++ (flat_map write fs ++ tail)) v = subst (λ t. Stands u t v) (append_assoc (write f) (flat_map write fs) tail) s in
+    let up : a1.at ≤ length a.text = omega (arith, within, past_comma.at, (ahead_fields rest).at, ap length same) in
+    let here = subst (λ t. Stands u (field_laid_out line_end style t width f) (past u (write f))) (sym same) (first_part (write f) (flat_map write fs ++ tail) s') in
+    fields_read line_end style width text (last_comma style (f ∷ fs)) ends (last_of style f fs) field up same here ((ahead_then (ahead_field field) past_comma).text ∙ same) rest within (last_part (write f) (flat_map write fs ++ tail) s')
+
+-- ---- an entry
+
+-- an entry of a text, read in another
+pub record EntryRead (e : EntryReading) (u v : Place) : Type 0 where
+  pub reading : EntryReading
+  pub block : Block longest u (entry_alone reading) v
+  pub alike : entry_content reading ≡ entry_content e
+
+and_right : (b c : Bool) → (b && c) ≡ true → c ≡ true
+and_right true c is = is
+and_right false c is = absurd (cc)
+
+key_dark : (c : ℕ) → is_key c ≡ true → is_whitespace c ≡ false
+key_dark c key = not-true (is_whitespace c) (and_right (not (c == 44 || c == 125) && not (is_control c)) (not (is_whitespace c)) key)
+
+stops_key : {u v : Place} → Run is_key u v → Stops is_whitespace v → Stops is_whitespace u
+stops_key stop stops = stops
+stops_key (step {c = c} char passes rest) stops = stops_at is_whitespace char (key_dark c passes)
+
+laid_out_read : (line_end : List ℕ) (style : Style) {a b u v : Place} {e : EntryReading} → IsLineEnd line_end → EntryBlock a e b → Stands u (entry_laid_out line_end style a.text e) v → EntryRead e u v
+laid_out_read line_end style {a} {b} {u} {v} {e} ends x s =
+    let width = padded_width style e.fields in
+    let kind = str_to_ascii_lowercase e.kind.text in
+    let listed = flat_map (field_laid_out line_end style a.text width) e.fields ++ (last_comma style e.fields ++ (line_end ++ 125 ∷ [])) in
+    let from_fields = ahead_then (ahead_fields x.fields) (ahead_char x.closes) in
+    let from_key = ahead_then (ahead_run x.key.run) (ahead_then (ahead_run x.white.run) (ahead_then (ahead_char x.comma) (ahead_then (ahead_gap x.gap) from_fields))) in
+    let from_name = ahead_then (ahead_run x.head.white.run) (ahead_then (ahead_char x.head.opens) (ahead_run x.head.white'.run)) in
+    let to_start = ahead_then (ahead_char x.head.sign) (ahead_identifier x.head.name) in
+    let to_inside = ahead_then to_start from_name in
+    let end_within : b.at ≤ length b.text = char_within x.closes in
+    let inside_text : x.inside.text ≡ a.text = to_inside.text in
+    let end_text : b.text ≡ x.inside.text = from_key.text in
+    let s1 = last_part (64 ∷ []) (kind ++ (123 ∷ (e.key.text ++ listed))) s in
+    let sign = ascii 64 (omega arith) (first_part (64 ∷ []) (kind ++ (123 ∷ (e.key.text ++ listed))) s) in
+    let u1 = past u (64 ∷ []) in
+    let u2 = past u1 kind in
+    let named = first_part kind (123 ∷ (e.key.text ++ listed)) s1 in
+    let s2 = last_part kind (123 ∷ (e.key.text ++ listed)) s1 in
+    let brace = ascii 123 (omega arith) (first_part (123 ∷ []) (e.key.text ++ listed) s2) in
+    let u3 = past u2 (123 ∷ []) in
+    let s3 = last_part (123 ∷ []) (e.key.text ++ listed) s2 in
+    let keyed = first_part e.key.text listed s3 in
+    let u4 = past u3 e.key.text in
+    let s4 = last_part e.key.text listed s3 in
+    let fields_text : x.fields_start.text ≡ a.text = (ahead_then (ahead_run x.key.run) (ahead_then (ahead_run x.white.run) (ahead_then (ahead_char x.comma) (ahead_gap x.gap)))).text ∙ inside_text in
+    let brace_within : x.brace.at ≤ length a.text = omega (arith, (ahead_char x.closes).at, end_within, ap length end_text, ap length inside_text) in
+    let list = key_read line_end style width a.text ends fields_text x.fields brace_within s4 in
+    let kind_is : kind ≡ str_to_ascii_lowercase (between x.head.name_start x.head.name_end) = ap (λ p. str_to_ascii_lowercase p.text) x.head.name.reading in
+    let name_within : x.head.name_end.at ≤ length x.head.name_start.text =
+    omega (arith, from_name.at, from_key.at, end_within, ap length end_text, ap length inside_text, ap length x.head.sign.same) in
+    let name = name_read x.head.name name_within (subst (λ t. Stands u1 t u2) kind_is named) (record { char = 123; next = _; here = brace; no_name = refl; no_digit = refl; no_point = refl }) in
+    let key_is : e.key.text ≡ between x.inside x.key_end = ap (λ p. p.text) x.key_is in
+    let from_key_end = ahead_then (ahead_run x.white.run) (ahead_then (ahead_char x.comma) (ahead_then (ahead_gap x.gap) from_fields)) in
+    let key_within : x.key_end.at ≤ length x.inside.text = omega (arith, from_key_end.at, end_within, ap length end_text) in
+    let c = copied_before (ahead_run x.key.run) key_within (subst (λ t. Stands u3 t u4) key_is keyed) list.comma in
+    let key_run : Run is_key u3 u4 = subst (λ p. Run is_key p u4) c.goes_start (subst (λ p. Run is_key (there (copy_frame x.inside x.key_end u3) x.inside) p) c.goes_end (run_there c.zone c.start c.end x.key.run)) in
+    let dark : Stops is_whitespace u4 = stops_at is_whitespace list.comma refl in
+    let kind_text : between u1 u2 ≡ kind = between_stands kind named in
+    let key_text : between u3 u4 ≡ e.key.text = between_stands e.key.text keyed in
+    let e' : EntryReading = record { key = part u3 u4; kind = part u1 u2; fields = list.reading; start = u.at; end = list.brace.at } in
+    let block : EntryBlock u e' v = record {
+      inside = u3;
+      key_end = u4;
+      before_comma = u4;
+      after_comma = list.after;
+      fields_start = list.start;
+      brace = list.brace;
+      head = record {
+        name_start = u1;
+        name_end = u2;
+        before_brace = u2;
+        after_brace = u3;
+        brace = 123;
+        sign = sign;
+        name = name;
+        white = record { run = stop; stops = stops_at is_whitespace brace refl };
+        opens = brace;
+        is_brace = refl;
+        white' = record { run = stop; stops = stops_key key_run dark };
+      };
+      is_entry = ap block_kind kind_text ∙ kind_lower e.kind.text ∙ x.is_entry;
+      key = record { run = key_run; stops = stops_at is_key list.comma refl };
+      white = record { run = stop; stops = dark };
+      comma = list.comma;
+      gap = list.gap;
+      fields = list.fields;
+      closes = list.closes;
+      key_is = refl;
+      starts = refl;
+      ends = refl;
+    } in
+    let build = λ (k t : List ℕ) (fs : List FieldReading). let r : EntryReading = record { key = record { text = k; start = 0; end = 0 }; kind = record { text = t; start = 0; end = 0 }; fields = fs; start = 0; end = 0 } in r in
+    record {
+      reading = e';
+      block = block_of block;
+      alike = ap (λ k. build k (str_to_ascii_lowercase (between u1 u2)) (contents list.reading)) key_text
+          ∙ ap (λ t. build e.key.text (str_to_ascii_lowercase t) (contents list.reading)) kind_text
+          ∙ ap (λ t. build e.key.text t (contents list.reading)) (lower_lower e.kind.text)
+          ∙ ap (build e.key.text kind) (map-map (moved_field (λ n. 0)) field_in_lowercase list.reading ∙ list.alike ∙ sym (map-map (moved_field (λ n. 0)) field_in_lowercase e.fields));
+    }
+
+-- an entry that stays as it stands
+kept_read : {a b u v : Place} {e : EntryReading} → EntryBlock a e b → Stands u (between a b) v → EntryRead e u v
+kept_read {a} {b} {u} {v} {e} x s =
+    let to_inside = ahead_head x.head in
+    let to_brace = ahead_then to_inside (ahead_then (ahead_run x.key.run) (ahead_then (ahead_run x.white.run) (ahead_then (ahead_char x.comma) (ahead_then (ahead_gap x.gap) (ahead_fields x.fields))))) in
+    let whole = ahead_then to_brace (ahead_char x.closes) in
+    let within : b.at ≤ length a.text = omega (arith, char_within x.closes, ap length whole.text) in
+    let cut : between a b ≡ between a x.brace ++ 125 ∷ [] =
+    parted to_brace (ahead_char x.closes) within ∙ ap (λ t. between a x.brace ++ t) (one_byte 125 (omega arith) x.closes) in
+    let s' : Stands u (between a x.brace ++ 125 ∷ []) v = subst (λ t. Stands u t v) cut s in
+    let brace = ascii 125 (omega arith) (last_part (between a x.brace) (125 ∷ []) s') in
+    let m = past u (between a x.brace) in
+    let next : v.at ≡ m.at + 1 = brace.next in
+    let over = λ (p q : Place) (d : ℕ) (same : p.text ≡ u.text) (char : CharAt p d q) (low : p.at < v.at). last_char m p q v same char brace low next in
+    let c = copied whole within s over in
+    let move = λ (n : ℕ). n - a.at + u.at in
+    record {
+      reading = moved_entry move e;
+      block = subst (λ p. Block longest p (entry_alone (moved_entry move e)) v) c.goes_start
+          (subst (λ p. Block longest (there (copy_frame a b u) a) (entry_alone (moved_entry move e)) p) c.goes_end (block_there c.zone c.start c.end (block_of x)));
+      alike = entry_placeless move e;
+    }
+  where
+    last_char : (m p q v : Place) {d : ℕ} → p.text ≡ m.text → CharAt p d q → CharAt m 125 v → p.at < v.at → v.at ≡ m.at + 1 → q.at ≤ v.at
+    last_char m p q v {d} same char brace low next =
+        elim (cases_lt p.at m.at) [
+          | inl before ↦ omega (arith, not_over m.text m.at (inr (125, v, record { same = brace.same; here = brace.here; next = brace.next })) same char before, next)
+          | inr past_it ↦
+              let here : p ≡ m = same_place same (omega arith) in
+              let at : q ≡ v = (same_char char (subst (λ x. CharAt x 125 v) (sym here) brace)).1 in
+              omega (arith, ap (λ x. x.at) at)
+        ]
+
+-- ---- either
+
+pub entry_read : (line_end : List ℕ) (style : Style) (text : List ℕ) {a b u v : Place} {e : EntryReading} → IsLineEnd line_end → a.text ≡ text → EntryBlock a e b → Stands u (entry_in_style line_end style text e) v → EntryRead e u v
+entry_read line_end style text {a} {b} {u} {v} {e} ends same x s = by_comment (has_comment text e) refl
+  where
+    by_comment : (c : Bool) → has_comment text e ≡ c → EntryRead e u v
+    by_comment true is =
+        let from : e.start ≡ a.at = x.starts in
+        let next : b.at ≡ x.brace.at + 1 = x.closes.next in
+        let to : e.end + 1 ≡ b.at = omega (arith, x.ends) in
+        let kept : entry_in_style line_end style text e ≡ between a b =
+        ap (λ c. cond c (between (place text e.start) (place text (e.end + 1))) (entry_laid_out line_end style text e)) is
+        ∙ ap (λ n. between (place text n) (place text (e.end + 1))) from ∙ ap (λ n. take (n - a.at) (drop a.at text)) to ∙ ap (λ t. take (b.at - a.at) (drop a.at t)) (sym same) in
+        kept_read x (subst (λ t. Stands u t v) kept s)
+    by_comment false is =
+        let laid_out : entry_in_style line_end style text e ≡ entry_laid_out line_end style a.text e =
+        ap (λ c. cond c (between (place text e.start) (place text (e.end + 1))) (entry_laid_out line_end style text e)) is ∙ ap (λ t. entry_laid_out line_end style t e) (sym same) in
+        laid_out_read line_end style ends x (subst (λ t. Stands u t v) laid_out s)

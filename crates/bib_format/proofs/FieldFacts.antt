@@ -1,0 +1,229 @@
+-- A field, laid out, as it is read.
+use Rattle.std.proofs.Common.{◌≡◌, ℕ, zero, suc, ◌-◌, ◌≤◌, true, false, List, [], ◌∷◌, ◌++◌, length, map, codes, refl, sym, ap, ◌∙◌, subst, arith, append_assoc}
+use Rattle.std.specs.Prelude.{◌==◌, replicate}
+use Rattle.std.specs.Char.{is_whitespace}
+use Rattle.std.specs.List.{flat_map}
+use Rattle.std.specs.Str.{chars, str_to_ascii_lowercase}
+use Rattle.std.proofs.lemmas.Bool.{ne_eqb}
+use Rattle.bib_text.specs.Places.{Place, CharAt, Stops, Longest, between}
+use Rattle.bib_text.specs.Places.Run.{stop, step}
+use Rattle.bib_text.proofs.PlaceFacts.{ahead_then, ahead_char, ahead_run, run_append, stops_at, test_clash}
+use Rattle.bib_syntax.specs.Characters.{is_id_start}
+use Rattle.bib_syntax.specs.Reading.{part, Piece, FieldReading}
+use Rattle.bib_syntax.specs.Grammar.{Field, Fields, Gap, longest}
+use Rattle.bib_syntax.specs.Grammar.{Fields as fields}
+use Rattle.bib_syntax.specs.Grammar.{Gap as gap}
+use Rattle.bib_syntax.proofs.FieldFacts.{ahead_identifier, ahead_elements, ahead_field, ahead_gap, ahead_fields}
+use Rattle.bib_syntax.proofs.LawFacts.{start_not_white}
+use Rattle.bib_documents.specs.Edits.{moved_field, moved_piece}
+use Rattle.bib_format.specs.Formatted.{field_in_lowercase, field_laid_out, spaces, value_laid_out}
+use Rattle.bib_format.specs.declared.style.Style.{Style}
+use Rattle.bib_format.proofs.ElementFacts.{Ending}
+use Rattle.bib_format.proofs.LowerFacts.{lower_lower}
+use Rattle.bib_format.proofs.NameFacts.{name_read}
+use Rattle.bib_format.proofs.StandsFacts.{AreWhite, Stands, ascii, between_stands, first_part, last_part, past, run_white, spaces_white}
+use Rattle.bib_format.proofs.ValueFacts.{not_opened_run, not_opened_sign, not_opened_white, signed, unsigned, value_read}
+
+-- how lines end: with white space, after which and before a closing brace a value ends
+pub record IsLineEnd (line_end : List ℕ) : Type 0 where
+  pub white : AreWhite line_end
+  pub ending : (u v : Place) → Stands u (line_end ++ 125 ∷ []) v → Ending u
+
+-- a field without places and with its name in lowercase
+abbrev pub field_content : FieldReading → FieldReading
+field_content f = moved_field (λ n. 0) (field_in_lowercase f)
+
+starts_no_percent : (c : ℕ) → is_id_start c ≡ true → (c == 37) ≡ false
+starts_no_percent c starts = ne_eqb c 37 (λ same. test_clash (is_id_start 37) (subst (λ x. is_id_start x ≡ true) same starts) refl)
+
+first_space : {u v : Place} (n : ℕ) (rest : List ℕ) → Stands u (replicate n 32 ++ 32 ∷ rest) v → Ending u
+first_space {u} {v} zero rest s = record { char = 32; next = _; here = ascii 32 (omega arith) (first_part (32 ∷ []) rest s); no_name = refl; no_digit = refl; no_point = refl }
+first_space {u} {v} (suc n) rest s = record { char = 32; next = _; here = ascii 32 (omega arith) (first_part (32 ∷ []) (replicate n 32 ++ 32 ∷ rest) s); no_name = refl; no_digit = refl; no_point = refl }
+
+-- a field in a line of its own, after a comma
+pub record FieldRead (f : FieldReading) (u v : Place) : Type 0 where
+  pub after : Place
+  pub start : Place
+  pub reading : FieldReading
+  pub comma : CharAt u 44 after
+  pub gap : Gap longest after start
+  pub field : Field longest start reading v
+  pub alike : field_content reading ≡ field_content f
+
+pub field_read : (line_end : List ℕ) (style : Style) (width : ℕ) {a b u v w : Place} {f : FieldReading} → IsLineEnd line_end → Field longest a f b → b.at ≤ length a.text → Stands u (field_laid_out line_end style a.text width f) v
+    → Ending v → Longest is_whitespace v w → Stops (λ c. c == 35) w → FieldRead f u w
+field_read line_end style width {a} {b} {u} {v} {w} {f} ends field within s ending over no_hash =
+    let indent = spaces style.indent in
+    let name = str_to_ascii_lowercase f.name.text in
+    let n : ℕ = width - length (chars f.name.text) in
+    let to_sign = ahead_then (ahead_run field.white.run) (ahead_char field.sign) in
+    let to_value = ahead_then to_sign (ahead_run field.white'.run) in
+    let to_start = ahead_then (ahead_identifier field.name) to_value in
+    let same : field.value_start.text ≡ a.text = to_start.text in
+    let old = field.value_start in
+    let es = f.value.pieces in
+    let rest_bytes = unsigned old.text es in
+    let value_is : value_laid_out (codes " = ") a.text es ≡ 32 ∷ 61 ∷ 32 ∷ rest_bytes = signed (codes " = ") a.text field.elements ∙ ap (λ t. codes " = " ++ unsigned t es) (sym same) in
+    let padded = replicate n 32 ++ 32 ∷ 61 ∷ 32 ∷ rest_bytes in
+    let s0 : Stands u (44 ∷ (line_end ++ (indent ++ (name ++ padded)))) v = subst (λ t. Stands u (44 ∷ (line_end ++ (indent ++ (name ++ (replicate n 32 ++ t))))) v) value_is s in
+    let comma = ascii 44 (omega arith) (first_part (44 ∷ []) (line_end ++ (indent ++ (name ++ padded))) s0) in
+    let s1 = last_part (44 ∷ []) (line_end ++ (indent ++ (name ++ padded))) s0 in
+    let line = run_white line_end ends.white (first_part line_end (indent ++ (name ++ padded)) s1) in
+    let s2 = last_part line_end (indent ++ (name ++ padded)) s1 in
+    let blank = run_white indent (spaces_white style.indent) (first_part indent (name ++ padded) s2) in
+    let s3 = last_part indent (name ++ padded) s2 in
+    let named = first_part name padded s3 in
+    let s4 = last_part name padded s3 in
+    let name_is : name ≡ str_to_ascii_lowercase (between a field.name_end) = ap (λ p. str_to_ascii_lowercase p.text) field.name.reading in
+    let u3 = past (past (past u (44 ∷ [])) line_end) indent in
+    let u4 = past u3 name in
+    let over_value = ahead_then to_value (ahead_elements field.elements) in
+    let name_within : field.name_end.at ≤ length a.text = omega (arith, within, over_value.at) in
+    let name' = name_read field.name name_within (subst (λ t. Stands u3 t u4) name_is named) (first_space n (61 ∷ 32 ∷ rest_bytes) s4) in
+    let pad = run_white (replicate n 32) (spaces_white n) (first_part (replicate n 32) (32 ∷ 61 ∷ 32 ∷ rest_bytes) s4) in
+    let s5 = last_part (replicate n 32) (32 ∷ 61 ∷ 32 ∷ rest_bytes) s4 in
+    let space = ascii 32 (omega arith) (first_part (32 ∷ []) (61 ∷ 32 ∷ rest_bytes) s5) in
+    let s6 = last_part (32 ∷ []) (61 ∷ 32 ∷ rest_bytes) s5 in
+    let sign = ascii 61 (omega arith) (first_part (61 ∷ []) (32 ∷ rest_bytes) s6) in
+    let s7 = last_part (61 ∷ []) (32 ∷ rest_bytes) s6 in
+    let space' = ascii 32 (omega arith) (first_part (32 ∷ []) rest_bytes s7) in
+    let s8 = last_part (32 ∷ []) rest_bytes s7 in
+    let opened = not_opened_run (not_opened_sign 61 (omega arith) (λ clash. omega arith) (λ clash. omega arith) field.sign) field.white'.run in
+    let value = value_read field.elements opened (omega (arith, within, ap length same)) s8 (not_opened_white space' refl) ending over no_hash in
+    let text_is : between u3 u4 ≡ name = between_stands name named in
+    let build = λ (t : List ℕ) (ps : List Piece). let g : FieldReading = record { name = record { text = t; start = 0; end = 0 }; value = record { pieces = ps; start = 0; end = 0 } } in g in
+    record {
+      after = past u (44 ∷ []);
+      start = u3;
+      reading = record { name = part u3 u4; value = record { pieces = value.reading; start = (past (past (past (past u4 (replicate n 32)) (32 ∷ [])) (61 ∷ [])) (32 ∷ [])).at; end = w.at } };
+      comma = comma;
+      gap = gap.white (record { run = run_append line blank; stops = stops_at is_whitespace name'.here (start_not_white name'.first name'.starts) }) (stops_at (λ c. c == 37) name'.here (starts_no_percent name'.first name'.starts));
+      field = record {
+        name_end = u4;
+        before_sign = _;
+        after_sign = _;
+        value_start = _;
+        name = name';
+        white = record { run = run_append pad (step space refl stop); stops = stops_at is_whitespace sign refl };
+        sign = sign;
+        white' = record { run = step space' refl stop; stops = value.dark };
+        elements = value.elements;
+        starts = refl;
+        ends = refl;
+      };
+      alike = ap (λ t. build (str_to_ascii_lowercase t) (map (moved_piece (λ n. 0)) value.reading)) text_is ∙ ap (λ t. build t (map (moved_piece (λ n. 0)) value.reading)) (lower_lower f.name.text) ∙ ap (build name) value.alike;
+    }
+
+-- ---- fields
+
+-- a comma, fields, and a closing brace
+pub record CommaRead (fs : List FieldReading) (u v : Place) : Type 0 where
+  pub after : Place
+  pub start : Place
+  pub brace : Place
+  pub reading : List FieldReading
+  pub comma : CharAt u 44 after
+  pub gap : Gap longest after start
+  pub fields : Fields longest start reading brace
+  pub closes : CharAt brace 125 v
+  pub alike : map field_content reading ≡ map field_content fs
+
+-- white space and a closing brace
+pub record CloseRead (u v : Place) : Type 0 where
+  pub brace : Place
+  pub ending : Ending u
+  pub white : Longest is_whitespace u brace
+  pub closes : CharAt brace 125 v
+
+close_read : (line_end : List ℕ) {u v : Place} → IsLineEnd line_end → Stands u (line_end ++ 125 ∷ []) v → CloseRead u v
+close_read line_end {u} {v} ends s =
+    let brace = ascii 125 (omega arith) (last_part line_end (125 ∷ []) s) in
+    record {
+      brace = past u line_end;
+      ending = ends.ending u v s;
+      white = record { run = run_white line_end ends.white (first_part line_end (125 ∷ []) s); stops = stops_at is_whitespace brace refl };
+      closes = brace;
+    }
+
+pub none_read : (line_end : List ℕ) {u v : Place} → IsLineEnd line_end → Stands u (44 ∷ (line_end ++ 125 ∷ [])) v → CommaRead [] u v
+none_read line_end {u} {v} ends s =
+    let comma = ascii 44 (omega arith) (first_part (44 ∷ []) (line_end ++ 125 ∷ []) s) in
+    let close = close_read line_end ends (last_part (44 ∷ []) (line_end ++ 125 ∷ []) s) in
+    record {
+      after = past u (44 ∷ []);
+      start = close.brace;
+      brace = close.brace;
+      reading = [];
+      comma = comma;
+      gap = gap.white close.white (stops_at (λ c. c == 37) close.closes refl);
+      fields = fields.none (record { run = stop; stops = stops_at is_whitespace close.closes refl });
+      closes = close.closes;
+      alike = refl;
+    }
+
+-- a field before others, or before the end
+before_comma : (line_end : List ℕ) (style : Style) (width : ℕ) {a b u m v : Place} {f : FieldReading} {fs : List FieldReading} → IsLineEnd line_end → Field longest a f b → b.at ≤ length a.text
+    → Stands u (field_laid_out line_end style a.text width f) m → CommaRead fs m v → CommaRead (f ∷ fs) u v
+before_comma line_end style width {a} {b} {u} {m} {v} {f} {fs} ends field within s rest =
+    let none : Longest is_whitespace m m = record { run = stop; stops = stops_at is_whitespace rest.comma refl } in
+    let x = field_read line_end style width ends field within s (record { char = 44; next = _; here = rest.comma; no_name = refl; no_digit = refl; no_point = refl }) none (stops_at (λ c. c == 35) rest.comma refl) in
+    record {
+      after = x.after;
+      start = x.start;
+      brace = rest.brace;
+      reading = x.reading ∷ rest.reading;
+      comma = x.comma;
+      gap = x.gap;
+      fields = fields.more x.field (gap.white none (stops_at (λ c. c == 37) rest.comma refl)) rest.comma rest.gap rest.fields;
+      closes = rest.closes;
+      alike = ap (λ y. y ∷ map field_content rest.reading) x.alike ∙ ap (λ ys. field_content f ∷ ys) rest.alike;
+    }
+
+before_close : (line_end : List ℕ) (style : Style) (width : ℕ) {a b u m v : Place} {f : FieldReading} → IsLineEnd line_end → Field longest a f b → b.at ≤ length a.text
+    → Stands u (field_laid_out line_end style a.text width f) m → CloseRead m v → CommaRead (f ∷ []) u v
+before_close line_end style width {a} {b} {u} {m} {v} {f} ends field within s rest =
+    let x = field_read line_end style width ends field within s rest.ending rest.white (stops_at (λ c. c == 35) rest.closes refl) in
+    record {
+      after = x.after;
+      start = x.start;
+      brace = rest.brace;
+      reading = x.reading ∷ [];
+      comma = x.comma;
+      gap = x.gap;
+      fields = fields.last x.field (gap.white (record { run = stop; stops = stops_at is_whitespace rest.closes refl }) (stops_at (λ c. c == 37) rest.closes refl));
+      closes = rest.closes;
+      alike = ap (λ y. y ∷ []) x.alike;
+    }
+
+-- the last comma, or none
+pub data LastComma : List ℕ → Type 0 where
+  comma : LastComma (44 ∷ [])
+  none : LastComma []
+
+-- what stands after a field: others, or the end
+pub after_last : (line_end : List ℕ) (style : Style) (width : ℕ) {a b u m v : Place} {f : FieldReading} {last : List ℕ} → IsLineEnd line_end → LastComma last → Field longest a f b → b.at ≤ length a.text
+    → Stands u (field_laid_out line_end style a.text width f) m → Stands m (last ++ (line_end ++ 125 ∷ [])) v → CommaRead (f ∷ []) u v
+after_last line_end style width ends LastComma.comma field within s rest = before_comma line_end style width ends field within s (none_read line_end ends rest)
+after_last line_end style width ends LastComma.none field within s rest = before_close line_end style width ends field within s (close_read line_end ends rest)
+
+-- fields after one that ends here, or the end
+pub fields_read : (line_end : List ℕ) (style : Style) (width : ℕ) (text : List ℕ) (last : List ℕ) {a b c d u m v : Place} {f : FieldReading} {fs : List FieldReading} → IsLineEnd line_end → LastComma last → Field longest a f b → b.at ≤ length a.text
+    → a.text ≡ text → Stands u (field_laid_out line_end style a.text width f) m → c.text ≡ text → Fields longest c fs d → d.at ≤ length text → Stands m (flat_map (field_laid_out line_end style text width) fs ++ (last ++ (line_end ++ 125 ∷ []))) v
+    → CommaRead (f ∷ fs) u v
+fields_read line_end style width text last ends way field up old first same (fields.none white) within s = after_last line_end style width ends way field up first s
+fields_read line_end style width text last {c = c} {m = m} {v = v} ends way field up old first same (fields.last {v = c1} {f = g} next gap') within s =
+    let write = field_laid_out line_end style text width in
+    let tail = last ++ (line_end ++ 125 ∷ []) in
+    let s' : Stands m (write g ++ tail) v = subst (λ t. Stands m t v) (append_assoc (write g) [] tail) s in
+    let size : c1.at ≤ length c.text = omega (arith, within, (ahead_gap gap').at, ap length same) in
+    let here = subst (λ t. Stands m (field_laid_out line_end style t width g) (past m (write g))) (sym same) (first_part (write g) tail s') in
+    before_comma line_end style width ends field up first (after_last line_end style width ends way next size here (last_part (write g) tail s'))
+fields_read line_end style width text last {c = c} {d = d} {m = m} {v = v} ends way field up old first same (fields.more {v = c1} {y = c4} {f = g} {fs = gs} next gap' sep gap'' rest) within s =
+    let write = field_laid_out line_end style text width in
+    let tail = last ++ (line_end ++ 125 ∷ []) in
+    let past_comma = ahead_then (ahead_gap gap') (ahead_then (ahead_char sep) (ahead_gap gap'')) in
+    let s' : Stands m (write g ++ (flat_map write gs ++ tail)) v = subst (λ t. Stands m t v) (append_assoc (write g) (flat_map write gs) tail) s in
+    let size : c1.at ≤ length c.text = omega (arith, within, past_comma.at, (ahead_fields rest).at, ap length same) in
+    let here = subst (λ t. Stands m (field_laid_out line_end style t width g) (past m (write g))) (sym same) (first_part (write g) (flat_map write gs ++ tail) s') in
+    before_comma line_end style width ends field up first
+    (fields_read line_end style width text last {a = c} {b = c1} {c = c4} {d = d} {u = m} {m = past m (write g)} {v = v} {f = g} {fs = gs} ends way next size same here ((ahead_then (ahead_field next) past_comma).text ∙ same) rest within (last_part (write g) (flat_map write gs ++ tail) s'))

@@ -1,0 +1,12 @@
+pub mod ContentFacts
+pub mod CutFacts
+pub mod ElementFacts
+pub mod EntryFacts
+pub mod FieldFacts
+pub mod FileFacts
+pub mod LowerFacts
+pub mod NameFacts
+pub mod PercentFacts
+pub mod SplitFacts
+pub mod StandsFacts
+pub mod ValueFacts

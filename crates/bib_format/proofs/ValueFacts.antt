@@ -1,0 +1,157 @@
+-- A value, laid out, as it is read.
+use Rattle.std.proofs.Common.{◌≡◌, inl, inr, ℕ, ◌+◌, ◌-◌, ◌<◌, ◌≤◌, Bool, true, false, List, [], ◌∷◌, ◌++◌, length, drop, map, codes, refl, sym, ap, ◌∙◌, subst, arith, append_assoc, length-append}
+use Rattle.std.specs.Prelude.{◌==◌}
+use Rattle.std.specs.Char.{is_whitespace, is_ascii_digit, len_utf8}
+use Rattle.std.specs.List.{ends_with}
+use lib.Dec.{eqb}
+use Rattle.std.proofs.lemmas.Bool.{cases_lt}
+use Rattle.std.proofs.lemmas.Bool.Decides.{Decides-eqb}
+use Rattle.std.proofs.lemmas.Bool.Decides.{nat_tests}
+use Rattle.std.proofs.lemmas.List.{append-nil, drop_at}
+use Rattle.std.proofs.lemmas.Slice.Eq.{ends_is}
+use Rattle.std.proofs.lemmas.Str.{len_utf8_bounds}
+use Rattle.bib_text.specs.Places.{Place, place, CharAt, Run, Stops, Longest, between}
+use Rattle.bib_text.specs.Places.Run.{stop, step}
+use Rattle.bib_text.proofs.PlaceFacts.{ahead_then, ahead_char, ahead_run, same_char, same_place, stops_at, test_clash}
+use Rattle.bib_syntax.specs.Reading.{Piece}
+use Rattle.bib_syntax.specs.Reading.Piece.{literal, abbreviation}
+use Rattle.bib_syntax.specs.Grammar.{Element, Elements, longest}
+use Rattle.bib_syntax.specs.Grammar.{Number as number}
+use Rattle.bib_syntax.specs.Grammar.{Element as element}
+use Rattle.bib_syntax.specs.Grammar.{Elements as elements}
+use Rattle.bib_syntax.proofs.FieldFacts.{ahead_element, ahead_elements}
+use Rattle.bib_syntax.proofs.LawFacts.{start_not_white}
+use Rattle.bib_documents.specs.Edits.{moved_piece}
+use Rattle.bib_documents.proofs.BoundaryFacts.{not_over}
+use Rattle.bib_documents.proofs.EditFacts.{ascii_stands}
+use Rattle.bib_documents.proofs.MovedFacts.{char_within}
+use Rattle.bib_format.specs.Formatted.{piece_as_written, value_laid_out}
+use Rattle.bib_format.proofs.ElementFacts.{Ending, NotOpened, before, element_stands, element_written, start_stands}
+use Rattle.bib_format.proofs.StandsFacts.{Stands, ascii, between_stands, first_part, last_part, past}
+
+-- ---- what stands before an element
+
+-- a text that ends with a byte of ASCII ends with its character
+no_other : {y u : Place} {d : ℕ} (c : ℕ) → c < 128 → CharAt y d u → (d ≡ c → ⊥) → (front : List ℕ) → before u ≡ front ++ c ∷ [] → ⊥
+no_other {y} {u} {d} c small char other front is =
+    let within : u.at ≤ length u.text = char_within char in
+    let all = start_stands u within in
+    let n : ℕ = length front in
+    let size : u.at ≡ n + 1 = omega (arith, all.next, ap length is, length-append front (c ∷ [])) in
+    let text : drop 0 u.text ≡ front ++ (c ∷ drop u.at u.text) = all.here ∙ ap (λ t. t ++ drop u.at u.text) is ∙ append_assoc front (c ∷ []) (drop u.at u.text) in
+    let here : drop n u.text ≡ c ∷ drop u.at u.text = ap (drop n) text ∙ drop_at front (c ∷ drop u.at u.text) n refl in
+    let stands = ascii_stands u.text (drop u.at u.text) n c small here in
+    let width : 1 ≤ len_utf8 d = (len_utf8_bounds d).0 in
+    elim (cases_lt y.at n) [
+      | inl low ↦ omega (arith, not_over u.text n (inr (c, place u.text (n + 1), stands)) (sym char.same) char low, size)
+      | inr high ↦
+          let at : y.at ≡ n = omega (arith, char.next, size, width, high) in
+          other (same_char char (subst (λ p. CharAt p c (place u.text (n + 1))) (same_here y u n at char.same) stands)).0
+    ]
+  where
+    same_here : (y u : Place) (n : ℕ) → y.at ≡ n → u.text ≡ y.text → place u.text n ≡ y
+    same_here y u n at same = same_place {u = place u.text n} {v = y} same (sym at)
+
+not_ended : {y u : Place} {d : ℕ} (c : ℕ) → c < 128 → CharAt y d u → (d ≡ c → ⊥) → ends_with eqb (before u) (c ∷ []) ≡ false
+not_ended {y} {u} {d} c small char other = by_value (ends_with eqb (before u) (c ∷ [])) refl
+  where
+    by_value : (b : Bool) → ends_with eqb (before u) (c ∷ []) ≡ b → ends_with eqb (before u) (c ∷ []) ≡ false
+    by_value true is = absurd (no_other c small char other _ ((ends_is Decides-eqb (before u) (c ∷ []) (ends_with eqb (before u) (c ∷ [])) refl).0 is))
+    by_value false is = is
+
+-- after a character of white space, or a space, neither a brace nor a quote stands
+pub not_opened_white : {y u : Place} {d : ℕ} → CharAt y d u → is_whitespace d ≡ true → NotOpened u
+not_opened_white char white = record {
+  no_brace = not_ended 123 (omega arith) char (λ same. test_clash false (subst (λ c. is_whitespace c ≡ true) same white) refl);
+  no_quote = not_ended 34 (omega arith) char (λ same. test_clash false (subst (λ c. is_whitespace c ≡ true) same white) refl);
+}
+
+pub not_opened_run : {x u : Place} → NotOpened x → Run is_whitespace x u → NotOpened u
+not_opened_run opened stop = opened
+not_opened_run opened (step char white rest) = not_opened_run (not_opened_white char white) rest
+
+pub not_opened_sign : {y u : Place} (c : ℕ) → c < 128 → (c ≡ 123 → ⊥) → (c ≡ 34 → ⊥) → CharAt y c u → NotOpened u
+not_opened_sign c small a b char = record { no_brace = not_ended 123 (omega arith) char a; no_quote = not_ended 34 (omega arith) char b }
+
+-- ---- values
+
+digit_is_dark : (c : ℕ) → is_ascii_digit c ≡ true → is_whitespace c ≡ false
+digit_is_dark c digit = grind (arith, nat_tests)
+
+element_dark : {u v : Place} {e : Piece} → Element longest u e v → Stops is_whitespace u
+element_dark (element.number (number.whole {c = c} char digit digits ends)) = stops_at is_whitespace char (digit_is_dark c digit)
+element_dark (element.number (number.broken {c = c} char digit digits point others ends)) = stops_at is_whitespace char (digit_is_dark c digit)
+element_dark (element.named none i) = stops_at is_whitespace i.here (start_not_white i.first i.starts)
+element_dark (element.braced b) = stops_at is_whitespace b.opens refl
+element_dark (element.quoted q) = stops_at is_whitespace q.opens refl
+
+-- a value without the sign before its first element
+abbrev pub unsigned : List ℕ → List Piece → List ℕ
+unsigned text [] = []
+unsigned text (p ∷ ps) = piece_as_written text p ++ value_laid_out (codes " # ") text ps
+
+pub signed : {u v : Place} {es : List Piece} (sign text : List ℕ) → Elements longest u es v → value_laid_out sign text es ≡ sign ++ unsigned text es
+signed sign text (elements.last e white ends) = refl
+signed sign text (elements.more e white hash white' rest) = refl
+
+-- the elements of a value in a text, read in another
+pub record ValueRead (text : List ℕ) (es : List Piece) (u v : Place) : Type 0 where
+  pub reading : List Piece
+  pub elements : Elements longest u reading v
+  pub alike : map (moved_piece (λ n. 0)) reading ≡ map (moved_piece (λ n. 0)) es
+  pub again : unsigned u.text reading ≡ unsigned text es
+  pub dark : Stops is_whitespace u
+
+-- an element's places
+placeless : (move : ℕ → ℕ) (e : Piece) → moved_piece (λ n. 0) (moved_piece move e) ≡ moved_piece (λ n. 0) e
+placeless move (literal p) = refl
+placeless move (abbreviation p) = refl
+
+pub value_read : {a b u v w : Place} {es : List Piece} → Elements longest a es b → NotOpened a → b.at ≤ length a.text → Stands u (unsigned a.text es) v → NotOpened u → Ending v → Longest is_whitespace v w → Stops (λ c. c == 35) w
+    → ValueRead a.text es u w
+value_read {a} {b} {u} {v} {w} (elements.last {v = a'} {e = e} x white ends) opened within s opened' ending over no_hash =
+    let up : a'.at ≤ length a.text = omega (arith, within, (ahead_run white.run).at) in
+    let bytes : piece_as_written a.text e ++ [] ≡ between a a' = append-nil (piece_as_written a.text e) ∙ element_written x opened in
+    let stands : Stands u (between a a') v = subst (λ t. Stands u t v) bytes s in
+    let x' = element_stands x up stands ending in
+    let e' = moved_piece (λ n. n - a.at + u.at) e in
+    record {
+      reading = e' ∷ [];
+      elements = elements.last x' over no_hash;
+      alike = ap (λ p. p ∷ []) (placeless (λ n. n - a.at + u.at) e);
+      again = ap (λ t. t ++ []) (element_written x' opened' ∙ between_stands (between a a') stands ∙ sym (element_written x opened));
+      dark = element_dark x';
+    }
+value_read {a} {b} {u} {v} {w} (elements.more {v = a1} {w = a2} {x = a3} {y = a4} {e = e} {es = es} x white hash white' rest) opened within s opened' ending over no_hash =
+    let to_hash = ahead_run white.run in
+    let past_hash = ahead_then (ahead_char hash) (ahead_run white'.run) in
+    let to_rest = ahead_then (ahead_element x) (ahead_then to_hash past_hash) in
+    let up : a1.at ≤ length a.text = omega (arith, within, to_hash.at, past_hash.at, (ahead_elements rest).at) in
+    let same : a4.text ≡ a.text = to_rest.text in
+    let within' : b.at ≤ length a4.text = omega (arith, within, ap length same) in
+    let opened_rest : NotOpened a4 = not_opened_run (not_opened_sign 35 (omega arith) (λ clash. omega arith) (λ clash. omega arith) hash) white'.run in
+    let signs : List ℕ = codes " # " in
+    let text_is : unsigned a.text (e ∷ es) ≡ between a a1 ++ (signs ++ unsigned a4.text es) =
+    ap (λ t. t ++ value_laid_out signs a.text es) (element_written x opened) ∙ ap (λ t. between a a1 ++ t) (signed signs a.text rest ∙ ap (λ t. signs ++ unsigned t es) (sym same)) in
+    let s0 : Stands u (between a a1 ++ (signs ++ unsigned a4.text es)) v = subst (λ t. Stands u t v) text_is s in
+    let first = first_part (between a a1) (signs ++ unsigned a4.text es) s0 in
+    let p1 = past u (between a a1) in
+    let s1 : Stands p1 (signs ++ unsigned a4.text es) v = last_part (between a a1) (signs ++ unsigned a4.text es) s0 in
+    let space = ascii 32 (omega arith) (first_part (32 ∷ []) (35 ∷ 32 ∷ unsigned a4.text es) s1) in
+    let s2 = last_part (32 ∷ []) (35 ∷ 32 ∷ unsigned a4.text es) s1 in
+    let sign = ascii 35 (omega arith) (first_part (35 ∷ []) (32 ∷ unsigned a4.text es) s2) in
+    let s3 = last_part (35 ∷ []) (32 ∷ unsigned a4.text es) s2 in
+    let space' = ascii 32 (omega arith) (first_part (32 ∷ []) (unsigned a4.text es) s3) in
+    let s4 = last_part (32 ∷ []) (unsigned a4.text es) s3 in
+    let others = value_read rest opened_rest within' s4 (not_opened_white space' refl) ending over no_hash in
+    let x' = element_stands x up first (record { char = 32; next = _; here = space; no_name = refl; no_digit = refl; no_point = refl }) in
+    let move = λ (n : ℕ). n - a.at + u.at in
+    let e' = moved_piece move e in
+    record {
+      reading = e' ∷ others.reading;
+      elements = elements.more x' (record { run = step space refl stop; stops = stops_at is_whitespace sign refl }) sign (record { run = step space' refl stop; stops = others.dark }) others.elements;
+      alike = ap (λ p. p ∷ map (moved_piece (λ n. 0)) others.reading) (placeless move e) ∙ ap (λ ps. moved_piece (λ n. 0) e ∷ ps) others.alike;
+      again = ap (λ t. t ++ value_laid_out signs u.text others.reading) (element_written x' opened' ∙ between_stands (between a a1) first)
+          ∙ ap (λ t. between a a1 ++ t) (signed signs u.text others.elements ∙ ap (λ t. signs ++ t) others.again) ∙ sym text_is;
+      dark = element_dark x';
+    }

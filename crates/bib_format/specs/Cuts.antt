@@ -1,0 +1,38 @@
+-- Machinery: words of private contracts.
+-- Where a text may be cut round its entries and their parts.
+use Rattle.std.specs.Prelude.{ℕ, ◌+◌, ◌≤◌, List, [], ◌∷◌, ⊤}
+use Rattle.std.specs.List.{AllByRecursion}
+use Rattle.std.specs.Str.{IsCharBoundary}
+use Rattle.bib_syntax.specs.Reading.{Piece, FieldReading, EntryReading}
+use Rattle.bib_syntax.specs.Reading.Piece.{literal, abbreviation}
+
+-- a part may be cut out of a text
+pub record CanBeCut (text : List ℕ) (start end : ℕ) : Type 0 where
+  pub ordered : start ≤ end
+  pub start_cut : IsCharBoundary text start
+  pub end_cut : IsCharBoundary text end
+
+-- a text may be cut where a literal begins
+abbrev pub IsPieceCut : List ℕ → Piece → Type 0
+IsPieceCut text (literal p) = IsCharBoundary text p.start
+IsPieceCut text (abbreviation p) = ⊤
+
+-- a text may be cut where the literals of a field begin
+abbrev pub ArePiecesCut : List ℕ → FieldReading → Type 0
+ArePiecesCut text f = AllByRecursion (IsPieceCut text) f.value.pieces
+
+-- what stands between a place, the fields after it and the closing brace may be cut out of a text
+abbrev pub AreGapsCut : List ℕ → ℕ → List FieldReading → ℕ → Type 0
+AreGapsCut text start [] end = CanBeCut text start end
+AreGapsCut text start (f ∷ fs) end = CanBeCut text start f.name.start × AreGapsCut text f.value.end fs end
+
+-- an entry and its parts may be cut out of a text
+pub record IsEntryCut (text : List ℕ) (e : EntryReading) : Type 0 where
+  pub whole : CanBeCut text e.start (e.end + 1)
+  pub gaps : AreGapsCut text e.key.end e.fields e.end
+  pub pieces : AllByRecursion (ArePiecesCut text) e.fields
+
+-- entries, and what stands between them from a place on, may be cut out of a text
+abbrev pub AreEntriesCut : List ℕ → ℕ → List EntryReading → Type 0
+AreEntriesCut text at [] = IsCharBoundary text at
+AreEntriesCut text at (e ∷ es) = CanBeCut text at e.start × IsEntryCut text e × AreEntriesCut text (e.end + 1) es

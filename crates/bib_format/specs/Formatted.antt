@@ -1,0 +1,114 @@
+-- Meaning: words of public contracts.
+-- A text in one style: its entries laid out anew, and what stands between them as it is.
+use Rattle.std.specs.Prelude.{◌≡◌, ◌==◌, ◌&&◌, ◌||◌, ℕ, ◌+◌, ◌-◌, max, Bool, if◌then◌else◌, List, [], ◌∷◌, ◌++◌, codes, cond, drop, fold, length, map, nat_lt, replicate}
+use Rattle.std.specs.List.{before_first, ends_with, flat_map, list_any, position_or_len}
+use Rattle.std.specs.Str.{chars, str_to_ascii_lowercase}
+use lib.Dec.{eqb}
+use Rattle.bib_text.specs.Characters as char
+use Rattle.bib_text.specs.Places.{between, place}
+use Rattle.bib_syntax.specs.Grammar.{IsRawReading}
+use Rattle.bib_syntax.specs.Reading.{Part, Piece, FieldReading, EntryReading, FileReading}
+use Rattle.bib_syntax.specs.Reading.Piece.{literal, abbreviation}
+use Rattle.bib_documents.specs.Edits.{moved_entry, moved_field}
+use Rattle.bib_format.specs.declared.style.Style.{Style}
+
+-- a literal with the delimiters that it has in its text, by what stands before it there: braces, quotes or, at a number, none
+abbrev pub delimited : List ℕ → List ℕ → List ℕ
+delimited before content =
+    cond (ends_with eqb before (codes "{")) (codes "{" ++ (content ++ codes "}"))
+    (cond (ends_with eqb before (codes "\"")) (codes "\"" ++ (content ++ codes "\"")) content)
+
+-- an element of a value as it stands in its text
+abbrev pub piece_as_written : List ℕ → Piece → List ℕ
+piece_as_written text (literal p) = delimited (between (place text 0) (place text p.start)) p.text
+piece_as_written text (abbreviation p) = p.text
+
+-- the elements of a value, with a sign before the first, and # before each other
+abbrev pub value_laid_out : List ℕ → List ℕ → List Piece → List ℕ
+value_laid_out sign text [] = []
+value_laid_out sign text (p ∷ ps) = sign ++ (piece_as_written text p ++ value_laid_out (codes " # ") text ps)
+
+-- so many spaces
+abbrev pub spaces : ℕ → List ℕ
+spaces count = replicate count char.space
+
+-- how many characters the longest name of fields has
+abbrev pub longest_name : List FieldReading → ℕ
+longest_name fields = fold (λ width f. max (length (chars f.name.text)) width) 0 fields
+
+-- how many characters the names of an entry's fields are padded to
+abbrev pub padded_width : Style → List FieldReading → ℕ
+padded_width style fields = if style.aligned then longest_name fields else 0
+
+-- a field after a comma, in a line of its own
+abbrev pub field_laid_out : List ℕ → Style → List ℕ → ℕ → FieldReading → List ℕ
+field_laid_out line_end style text width f =
+    codes "," ++ (line_end ++ (spaces style.indent ++ (str_to_ascii_lowercase f.name.text ++ (spaces (width - length (chars f.name.text)) ++ value_laid_out (codes " = ") text f.value.pieces))))
+
+-- the comma after the last field, or after the key where there is no field
+abbrev pub last_comma : Style → List FieldReading → List ℕ
+last_comma style [] = codes ","
+last_comma style (f ∷ fs) = if style.trailing_comma then codes "," else []
+
+-- an entry laid out: its type and its key, its fields, and its brace in a line of its own
+abbrev pub entry_laid_out : List ℕ → Style → List ℕ → EntryReading → List ℕ
+entry_laid_out line_end style text e =
+    codes "@" ++ (str_to_ascii_lowercase e.kind.text ++ (codes "{" ++ (e.key.text ++ (flat_map (field_laid_out line_end style text (padded_width style e.fields)) e.fields ++ (last_comma style e.fields ++ (line_end ++ codes "}"))))))
+
+-- whether a percent sign stands between two places of a text
+abbrev pub has_percent : List ℕ → ℕ → ℕ → Bool
+has_percent text start end = list_any (λ b. b == char.percent) (between (place text start) (place text end))
+
+-- whether a percent sign stands between a place, the fields after it and the closing brace
+abbrev pub has_percent_between : List ℕ → ℕ → List FieldReading → ℕ → Bool
+has_percent_between text start [] end = has_percent text start end
+has_percent_between text start (f ∷ fs) end = has_percent text start f.name.start || has_percent_between text f.value.end fs end
+
+-- whether a comment stands between an entry's key, its fields and its closing brace
+abbrev pub has_comment : List ℕ → EntryReading → Bool
+has_comment text e = has_percent_between text e.key.end e.fields e.end
+
+-- an entry in one style: laid out, or as it stands if a comment stands in it
+abbrev pub entry_in_style : List ℕ → Style → List ℕ → EntryReading → List ℕ
+entry_in_style line_end style text e = cond (has_comment text e) (between (place text e.start) (place text (e.end + 1))) (entry_laid_out line_end style text e)
+
+-- a text from a place on, with these entries of it in one style
+abbrev pub rest_in_style : List ℕ → Style → List ℕ → ℕ → List EntryReading → List ℕ
+rest_in_style line_end style text at [] = drop at text
+rest_in_style line_end style text at (e ∷ es) =
+    between (place text at) (place text e.start) ++ (entry_in_style line_end style text e ++ rest_in_style line_end style text (e.end + 1) es)
+
+-- how the lines of a text end: by a carriage return and a line feed if its first line does, else by a line feed
+abbrev pub line_end_of : List ℕ → List ℕ
+line_end_of text =
+    cond (nat_lt (position_or_len (λ b. eqb b char.line_feed) text) (length text) && ends_with eqb (before_first (λ b. eqb b char.line_feed) text) (codes "\r")) (codes "\r\n") (codes "\n")
+
+-- a text in one style, of which this is the reading
+abbrev pub text_in_style : Style → List ℕ → FileReading → List ℕ
+text_in_style style text says = rest_in_style (line_end_of text) style text 0 says.entries
+
+-- a part of a text with its ASCII letters in lowercase
+abbrev pub part_in_lowercase : Part → Part
+part_in_lowercase p = record p { text = str_to_ascii_lowercase p.text }
+
+-- a field with its name in lowercase
+abbrev pub field_in_lowercase : FieldReading → FieldReading
+field_in_lowercase f = record f { name = part_in_lowercase f.name }
+
+-- an entry with its type and its fields' names in lowercase
+abbrev pub entry_in_lowercase : EntryReading → EntryReading
+entry_in_lowercase e = record e { kind = part_in_lowercase e.kind; fields = map field_in_lowercase e.fields }
+
+-- an entry without its places, its type and its fields' names in lowercase
+abbrev pub entry_content : EntryReading → EntryReading
+entry_content e = moved_entry (λ at. 0) (entry_in_lowercase e)
+
+-- what a file says without places, with types of entries and names of fields in lowercase
+abbrev pub content : FileReading → FileReading
+content says = record { preamble = says.preamble; entries = map entry_content says.entries; abbreviations = map (moved_field (λ at. 0)) says.abbreviations }
+
+-- a text is read as one that says this, but for places and the case of types and names
+pub record IsReadAlike (says : FileReading) (text : List ℕ) : Type 0 where
+  pub tells : FileReading
+  pub read : IsRawReading text tells
+  pub alike : content tells ≡ content says

@@ -1,0 +1,14 @@
+//! One style for a bibliography file: each entry is laid out anew, and everything else stays byte for byte.
+//!
+//! The text is copied up to each entry, the entry is written from its raw reading, and the copying goes on after its closing brace; the
+//! new text isn't read. What it says is proved of the file grammar: what stands between entries is a zone of both texts (`ZoneFacts` of
+//! `bib_documents`), and an entry that is laid out is read part by part, each element in the zone that it shares with the old text.
+#![tactic(auto)]
+
+mod comments;
+mod entries;
+mod fields;
+pub mod formatting;
+mod layout;
+mod pieces;
+pub mod style;

@@ -1,0 +1,2 @@
+pub mod AlikeFacts
+pub mod ReadAlikeFacts
