@@ -60,7 +60,7 @@ def main():
         pathlib.Path(large).write_text(entries(words.entries), encoding="utf-8")
         pathlib.Path(small).write_text(entries(words.entries // 100), encoding="utf-8")
         edit = ["set", "key7", "note=new", "--file"]
-        for mine, theirs in ((["lint"], "check"), (["keys"], "keys"), (["get", "key7"], "keys"), (edit, "keys"), (["fmt", "--file"], "keys")):
+        for mine, theirs in ((["lint"], "check"), (["keys"], "keys"), (["get", "key7"], "keys"), (edit, "keys"), (["fmt"], "keys")):
             (time, memory), (other, less) = least([([words.bibkit, *mine, large], None), ([words.bib, theirs], large)], words.rounds)
             print(f"bibkit {' '.join(mine)} / bib {theirs}, {words.entries} entries: time {time / other:.2f}, memory {memory / less:.2f}")
         (time, memory), (first, _) = least([([words.bibkit, "lint", large], None), ([words.bibkit, "lint", small], None)], words.rounds)

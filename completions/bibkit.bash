@@ -5,7 +5,7 @@ _bibkit() {
         unread-date missing-field superfluous-field malformed-field unknown-field unknown-reference likely-duplicate missing-entry
         unused-entry'
     if [ "$COMP_CWORD" = 1 ]; then
-        mapfile -t COMPREPLY < <(compgen -W 'lint keys get grep cited stats help --help --version' -- "$current")
+        mapfile -t COMPREPLY < <(compgen -W 'lint keys get grep cited stats fmt set unset rename remove add help --help --version' -- "$current")
         return
     fi
     case $previous in
@@ -23,17 +23,23 @@ _bibkit() {
             mapfile -t COMPREPLY < <(compgen -W 'text json' -- "$current")
             return
             ;;
+        --indent)
+            mapfile -t COMPREPLY < <(compgen -W '0 1 2 3 4 5 6 7 8' -- "$current")
+            return
+            ;;
         --color)
             mapfile -t COMPREPLY < <(compgen -W 'auto always never' -- "$current")
             return
             ;;
-        --cited)
+        --cited | --file | -f)
             mapfile -t COMPREPLY < <(compgen -f -- "$current")
             return
             ;;
     esac
     if [[ $current == -* ]]; then
         local options='--help'
+        [[ $command =~ ^(set|unset|rename|remove|add)$ ]] && options='--file --write --help'
+        [ "$command" = fmt ] && options='--indent --align --no-trailing-comma --check --write --help'
         [ "$command" = lint ] && options='--only --ignore --explain --format --cited --unused --color --help'
         mapfile -t COMPREPLY < <(compgen -W "$options" -- "$current")
         return

@@ -1,5 +1,6 @@
 # Completions of bibkit for fish: put this file into ~/.config/fish/completions.
-set -l commands lint keys get grep cited stats help
+set -l commands lint keys get grep cited stats fmt set unset rename remove add help
+set -l edits set unset rename remove add
 set -l codes unread-bytes syntax unread-field unknown-abbreviation circular-abbreviation duplicate-key circular-reference \
     unread-date missing-field superfluous-field malformed-field unknown-field unknown-reference likely-duplicate missing-entry \
     unused-entry
@@ -11,6 +12,12 @@ complete -c bibkit -n "not __fish_seen_subcommand_from $commands" -a get -d 'Pri
 complete -c bibkit -n "not __fish_seen_subcommand_from $commands" -a grep -d 'Print the entries in whose field a text stands'
 complete -c bibkit -n "not __fish_seen_subcommand_from $commands" -a cited -d 'Print the entries that a document cites'
 complete -c bibkit -n "not __fish_seen_subcommand_from $commands" -a stats -d 'Count entries, fields and findings'
+complete -c bibkit -n "not __fish_seen_subcommand_from $commands" -a fmt -d 'Put files in one style'
+complete -c bibkit -n "not __fish_seen_subcommand_from $commands" -a set -d 'Set fields of an entry'
+complete -c bibkit -n "not __fish_seen_subcommand_from $commands" -a unset -d 'Take fields out of an entry'
+complete -c bibkit -n "not __fish_seen_subcommand_from $commands" -a rename -d 'Give an entry another key'
+complete -c bibkit -n "not __fish_seen_subcommand_from $commands" -a remove -d 'Take entries out'
+complete -c bibkit -n "not __fish_seen_subcommand_from $commands" -a add -d 'Add the entries of standard input'
 complete -c bibkit -n "not __fish_seen_subcommand_from $commands" -a help -d 'Print help'
 complete -c bibkit -n "not __fish_seen_subcommand_from $commands" -s V -l version -d 'Print the version'
 complete -c bibkit -s h -l help -d 'Print help'
@@ -21,3 +28,10 @@ complete -c bibkit -n '__fish_seen_subcommand_from lint' -x -l format -a 'text j
 complete -c bibkit -n '__fish_seen_subcommand_from lint' -r -l cited -d 'Report keys that this document cites and no file has'
 complete -c bibkit -n '__fish_seen_subcommand_from lint' -l unused -d 'Report entries that the document does not cite'
 complete -c bibkit -n '__fish_seen_subcommand_from lint' -x -l color -a 'auto always never' -d 'Whether colours are printed'
+complete -c bibkit -n '__fish_seen_subcommand_from fmt' -x -l indent -a '0 1 2 3 4 5 6 7 8' -d 'Spaces before a field'
+complete -c bibkit -n '__fish_seen_subcommand_from fmt' -l align -d 'Put the equals signs of an entry in one column'
+complete -c bibkit -n '__fish_seen_subcommand_from fmt' -l no-trailing-comma -d 'Write no comma after the last field'
+complete -c bibkit -n '__fish_seen_subcommand_from fmt' -l check -d 'Say which files are not in this style'
+complete -c bibkit -n '__fish_seen_subcommand_from fmt' -l write -d 'Write the new texts into the files'
+complete -c bibkit -n "__fish_seen_subcommand_from $edits" -r -s f -l file -d 'The file to edit'
+complete -c bibkit -n "__fish_seen_subcommand_from $edits" -l write -d 'Write the new text into the file'

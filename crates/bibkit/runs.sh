@@ -80,8 +80,8 @@ one.bib:1:10: warning: test: missing year [missing-field]
 run 'the version' 0 $'bibkit 0.1.0\n' --version
 run 'the version, in short' 0 $'bibkit 0.1.0\n' -V
 for word in help --help -h; do
-    run_start "$word" 0 $'Check and search bibliography files\n\nUsage: bibkit <COMMAND>\n' "$word"
-    for command in lint keys get grep cited stats; do
+    run_start "$word" 0 $'Check, search and edit bibliography files\n\nUsage: bibkit <COMMAND>\n' "$word"
+    for command in lint keys get grep cited stats fmt set unset rename remove add; do
         holds "$word names $command" grep -qE "^  $command +[A-Z]" results
     done
 done
@@ -94,9 +94,14 @@ run_start 'help of get' 0 $'Print the entries with these keys, as they stand in 
 run_start 'help of grep' 0 $'Print the entries in whose field a text stands, as they stand in the files\n\nUsage: bibkit grep <FIELD> <TEXT> [FILE]...\n' grep --help
 run_start 'help of cited' 0 $'Print the entries that a document cites, as they stand in the files\n\nUsage: bibkit cited <DOCUMENT> [FILE]...\n' cited --help
 run_start 'help of stats' 0 $'Count entries by type and year, fields by name, and findings by code\n\nUsage: bibkit stats [FILE]...\n' stats --help
-for command in lint keys get grep cited stats; do
+for command in lint keys get grep cited stats fmt set unset rename remove add; do
     "$program" $command --help >output
     holds "help of $command has an example" prints "  bibkit $command"
+done
+for command in set unset rename remove add; do
+    "$program" $command --help >output
+    holds "help of $command names the file" prints '-f, --file <FILE>'
+    holds "help of $command names --write" prints '--write'
 done
 run 'no command' 2 ''
 holds 'no command: usage is a message' messages_have 'Usage: bibkit'
@@ -206,6 +211,164 @@ else
 fi
 "$program" keys <&- >output 2>messages
 holds 'a closed input' [ $? = 2 ]
+
+# files in one style
+printf '@Book{a,title={X} # "y" ,\n AUTHOR = jan, year=1999}\ntext %% c\n@misc{b, %% note\n x={1}}\n' >style.bib
+rest=$'text % c\n@misc{b, % note\n x={1}}\n'
+laid_out=$'@book{a,\n  title = {X} # "y",\n  author = jan,\n  year = 1999,\n}\n'$rest
+run 'a file in one style' 0 "$laid_out" fmt style.bib
+run 'a file in another style' 0 $'@book{a,\n    title  = {X} # "y",\n    author = jan,\n    year   = 1999\n}\n'"$rest" fmt --indent 4 --align --no-trailing-comma style.bib
+cp style.bib input
+run 'standard input in one style' 0 "$laid_out" fmt
+run 'two files in one style' 0 "$laid_out$laid_out" fmt style.bib style.bib
+run 'an indent that is none' 2 '' fmt --indent 9 style.bib
+run 'a file that is not in the style' 1 '' fmt --check style.bib
+run_messages 'a file that is not in the style is named' 1 $'bibkit: style.bib: not in this style\n' fmt --check style.bib
+run_messages 'a file with an error has no style' 1 $'broken.bib:3:1: error: expected comma [syntax]\n' fmt broken.bib
+run_messages 'standard input is not written' 2 $'bibkit: --write needs the name of a file\n' fmt --write
+: >input
+chmod 600 style.bib
+run 'a file is put in one style' 0 '' fmt --write style.bib
+holds 'the file is in the style' cmp -s style.bib <(printf %s "$laid_out")
+holds 'the file has its rights' [ "$(stat -c %a style.bib)" = 600 ]
+run 'a file that is in the style' 0 '' fmt --check style.bib
+
+# edits: the new text is printed, and the file stays
+entry='@misc{a, title={A}, author={B}}'
+run 'a field that is there is set' 0 $'@misc{a, title={C d}, author={B}}\n\n@misc{b, title={x y}, author={Knuth, D.}, year={1984}}\n' set a 'title=C d' -f two.bib
+run 'a field that is not there is added' 0 $'@misc{a,\n  year = {2000}, title={A}, author={B}}\n\n@misc{b, title={x y}, author={Knuth, D.}, year={1984}}\n' set a year=2000 --file two.bib
+run 'two fields are set' 0 $'@misc{a, title={C}, author={D}}\n\n@misc{b, title={x y}, author={Knuth, D.}, year={1984}}\n' set a title=C AUTHOR=D -f two.bib
+run 'a value that is there changes nothing' 0 "$(cat two.bib)"$'\n' set b year=1984 -f two.bib
+run 'a value with an equals sign' 0 $'@misc{a, title={A=B}, author={B}}\n\n@misc{b, title={x y}, author={Knuth, D.}, year={1984}}\n' set a title=A=B -f two.bib
+run 'a field is taken out' 0 $'@misc{a, author={B}}\n\n@misc{b, title={x y}, author={Knuth, D.}, year={1984}}\n' unset a title -f two.bib
+run 'a field that is not there is taken out' 0 "$(cat two.bib)"$'\n' unset a year -f two.bib
+run 'two fields are taken out' 0 $'@misc{a, title={A}, author={B}}\n\n@misc{b, author={Knuth, D.}, }\n' unset b title,year -f two.bib
+run 'a key is renamed' 0 $'@misc{a, title={A}, author={B}}\n\n@misc{c, title={x y}, author={Knuth, D.}, year={1984}}\n' rename b c -f two.bib
+printf '@misc{a, t={A}}\n@misc{b, crossref={a}, xdata = "c, a", note={a}}\n' >naming.bib
+run 'a key is renamed with its references' 0 $'@misc{z, t={A}}\n@misc{b, crossref={z}, xdata = {c, z}, note={a}}\n' rename a z -f naming.bib
+printf '@misc{a, note={A}, t={B}, NOTE={C}}\n' >twice.bib
+run 'a field that is there twice is taken out' 0 $'@misc{a, t={B}, }\n' unset a note -f twice.bib
+run 'an entry is taken out' 0 $'@misc{b, title={x y}, author={Knuth, D.}, year={1984}}\n' remove a -f two.bib
+run 'all entries are taken out' 0 '' remove a b -f two.bib
+printf '@misc{c, title={C}}\n' >input
+run 'an entry is added' 0 "$(cat two.bib)"$'\n\n@misc{c, title={C}}\n' add -f two.bib
+cp two.bib input
+run 'standard input is edited' 0 $'@misc{b, title={x y}, author={Knuth, D.}, year={1984}}\n' remove a
+run 'standard input is edited, by its name' 0 $'@misc{b, title={x y}, author={Knuth, D.}, year={1984}}\n' remove a -f -
+
+# edits that are refused print nothing on standard output
+refuses() {
+    local name=$1 status=$2 said=$3
+    shift 3
+    run "$name" "$status" '' "$@"
+    run_messages "$name: what is said" "$status" "$said" "$@"
+}
+refuses 'no such key' 1 $'bibkit: two.bib: z: title: no entry has the key\n' set z title=A -f two.bib
+refuses 'no such key, after an edit that is made' 1 $'bibkit: two.bib: z: no entry has the key\n' remove a z -f two.bib
+refuses 'a key that is there' 1 $'bibkit: two.bib: a to b: an entry has the key already\n' rename a b -f two.bib
+refuses 'no key' 1 $'bibkit: two.bib: a to b c: the text can\'t be a key\n' rename a 'b c' -f two.bib
+refuses 'no name of a field' 1 $'bibkit: two.bib: a: a b: the text can\'t be the name of a field\n' set a 'a b=c' -f two.bib
+refuses 'no value' 1 $'bibkit: two.bib: a: title: the value can\'t stand between braces\n' set a 'title=}' -f two.bib
+refuses 'a value that is not closed' 1 $'bibkit: two.bib: a: title: the value can\'t stand between braces\n' set a 'title=a\' -f two.bib
+refuses 'entries that are there' 1 $'bibkit: two.bib: an entry has the key already\n' add -f two.bib
+refuses 'a file with an error' 1 $'broken.bib:3:1: error: expected comma [syntax]\n' set a title=B -f broken.bib
+cp broken.bib input
+refuses 'added entries with an error' 1 $'-:3:1: error: expected comma [syntax]\n' add -f one.bib
+: >input
+refuses 'bytes that are not UTF-8 are not edited' 2 $'latin.bib:1:17: error: not UTF-8 from here on, so the file can\'t be edited [unread-bytes]\n' set a title=B -f latin.bib
+refuses 'an edit of a file that is not there' 2 $'bibkit: no.bib: there is no such file\n' remove a -f no.bib
+refuses 'a word that is no field with a value' 2 $'bibkit: two.bib is no FIELD=VALUE; --file names a file\n' set a title=B two.bib
+refuses 'adding to standard input' 2 $'bibkit: add needs the name of a file\n' add -f -
+refuses 'writing into standard input' 2 $'bibkit: --write needs the name of a file\n' remove a -f - --write
+run 'writing into no file' 2 '' remove a --write
+run 'adding to no file' 2 '' add
+run 'nothing to set' 2 '' set a -f two.bib
+"$program" remove a -f two.bib >/dev/full 2>messages
+holds 'an edit on a full disk' [ $? = 2 ]
+holds 'an edit on a full disk is reported' messages_have "bibkit: the output can't be written"
+
+# byte order marks, and ends of lines
+printf '\xef\xbb\xbf@misc{a, title={A}}\r\n' >mark.bib
+run 'a byte order mark stays, and ends of lines do' 0 $'\xef\xbb\xbf@misc{a, title={B}}\r\n' set a title=B -f mark.bib
+printf '\xef\xbb\xbf@misc{a, title={A}}\r\n@misc{c\r\n' >broken-mark.bib
+refuses 'an error after a byte order mark' 1 $'broken-mark.bib:3:1: error: expected comma [syntax]\n' remove a -f broken-mark.bib
+
+# edits that are written
+rm -rf written && mkdir written
+has() { printf %s "$2" | cmp -s - "$1"; }
+are_in() { [ "$(ls -A "$1" | sort | tr '\n' ' ')" = "$2 " ]; }
+printf '%s\n' "$entry" >written/a.bib
+chmod 640 written/a.bib
+run 'an edit is written, and nothing is printed' 0 '' set a title=C -f written/a.bib --write
+holds 'the file has the new text' has written/a.bib $'@misc{a, title={C}, author={B}}\n'
+holds 'the file has its rights' [ "$(stat -c %a written/a.bib)" = 640 ]
+holds 'nothing is left beside the file' are_in written a.bib
+before=$(stat -c '%i %Y' written/a.bib)
+run 'an edit that changes nothing' 0 '' set a title=C -f written/a.bib --write
+holds 'nothing is written then' [ "$before" = "$(stat -c '%i %Y' written/a.bib)" ]
+run 'a refused edit' 1 '' remove a z -f written/a.bib --write
+holds 'nothing is written of refused edits' [ "$before" = "$(stat -c '%i %Y' written/a.bib)" ]
+mkdir links
+ln -s ../written/a.bib links/l.bib
+run 'an edit through a link' 0 '' set a title=D -f links/l.bib --write
+holds 'the link stays' [ -L links/l.bib ]
+holds 'the file behind it has the new text' has written/a.bib $'@misc{a, title={D}, author={B}}\n'
+holds 'nothing is left beside the link' are_in links l.bib
+run_messages 'writing into a folder' 2 $'bibkit: written: it is a folder\n' remove a -f written --write
+printf '\xef\xbb\xbf@misc{a, title={A}}\r\n' >written/m.bib
+run 'a byte order mark in a file' 0 '' set a title=B -f written/m.bib --write
+holds 'the byte order mark is written' has written/m.bib $'\xef\xbb\xbf@misc{a, title={B}}\r\n'
+rm written/m.bib
+printf '@misc{x, title={X}}\n' >input
+run 'entries are written' 0 '' add -f written/a.bib --write
+holds 'the added entry is there' has written/a.bib $'@misc{a, title={D}, author={B}}\n\n@misc{x, title={X}}\n'
+: >input
+cp "$program" program 2>/dev/null && chmod 755 program
+as_nobody=()
+[ "$(id -u)" = 0 ] && as_nobody=(setpriv --reuid 65534 --clear-groups)
+if [ "$(id -u)" != 0 ] || [ -x /usr/bin/setpriv ]; then
+    chmod 755 written
+    chmod 666 written/a.bib
+    [ "$(id -u)" = 0 ] || chmod 555 written
+    want=$(cat written/a.bib)
+    "${as_nobody[@]}" ./program set a title=E -f written/a.bib --write >results 2>output
+    count 'a folder without rights' $? 2 $'bibkit: written/a.bib: it may not be written\n'
+    holds 'the file is as it was' has written/a.bib "$want"$'\n'
+    holds 'nothing is left beside it' are_in written a.bib
+    chmod 777 written
+    chmod 444 written/a.bib
+    "${as_nobody[@]}" ./program set a title=E -f written/a.bib --write >results 2>output
+    count 'a file without rights is not written' $? 2 $'bibkit: written/a.bib: it may not be written\n'
+    chmod 644 written/a.bib
+    chmod 755 written
+else
+    left_out=$((left_out + 4))
+fi
+for i in $(seq 1 5000); do printf '@misc{key%d, title={T}}\n' "$i"; done >written/a.bib
+want=$(cat written/a.bib)
+# a limit of 8 blocks of 512 or 1024 bytes for files stands for a full disk
+(ulimit -f 8 && trap '' XFSZ && exec "$program" set key1 title=U -f written/a.bib --write) >output 2>messages
+holds 'no room for the new text' [ $? = 2 ]
+holds 'the old text stays' has written/a.bib "$want"$'\n'
+holds 'no part of the new text stays' are_in written a.bib
+(ulimit -f 8 && exec "$program" set key1 title=U -f written/a.bib --write) >output 2>messages
+holds 'a run that is killed' [ $? != 0 ]
+holds 'the old text stays then too' has written/a.bib "$want"$'\n'
+rm -f written/a.bib.bibkit-*
+new=$(sed '1s/{T}/{U}/' written/a.bib)
+for i in 1 2 3 4 5 6; do
+    cp written/a.bib written/b.bib
+    "$program" set key1 title=U -f written/b.bib --write >output 2>messages & pid=$!
+    sleep "0.0$i" && kill -9 $pid 2>/dev/null
+    wait $pid 2>/dev/null
+    holds 'a stopped run leaves one of both texts' eval 'has written/b.bib "$want"$'"'\n'"' || has written/b.bib "$new"$'"'\n'"
+done
+rm -f written/b.bib.bibkit-*
+cp written/a.bib written/b.bib
+for i in 1 2 3 4; do "$program" set key1 "title=R$i" -f written/b.bib --write >/dev/null 2>&1 & done
+wait
+holds 'runs at once leave the text of one of them' eval '"$program" get key1 written/b.bib | grep -qE "^@misc\{key1, title=\{R[1-4]\}\}$" && [ "$(wc -l <written/b.bib)" = 5000 ]'
+holds 'runs at once leave nothing beside' are_in written 'a.bib b.bib'
 
 # outputs that refuse
 : >output
@@ -371,6 +534,9 @@ in_bash 'bibkit lint --only syntax,dup' $'syntax,duplicate-key\n'
 in_bash 'bibkit lint --format j' $'json\n'
 in_bash 'bibkit lint --color ne' $'never\n'
 in_bash 'bibkit keys refe' $'references.bib\n'
+in_bash 'bibkit rem' $'remove\n'
+in_bash 'bibkit set --wr' $'--write\n'
+in_bash 'bibkit remove --file refe' $'references.bib\n'
 if command -v fish >/dev/null; then
     in_fish 'bibkit li' $'lint\n'
     in_fish 'bibkit lint --on' $'--only\n'

@@ -1,10 +1,13 @@
 //! What a command line asks for.
 
-use crate::commands::command;
+use crate::commands::{command, is_editing};
+use crate::edits::{Editing, Edits, Mode};
 use bib_excerpts::request::{Request as Excerpts, Search};
 use bib_findings::codes::Code;
+use bib_format::style::Style;
 use bibkit_core::request::{Cited, Request};
 use bibkit_core::settings::{Color, Format, Settings};
+use bibkit_edits::edit::Edit;
 use clap::{ArgMatches, Error};
 use std::alloc::{AllocError, Global};
 
@@ -18,6 +21,15 @@ pub enum Asked<'a> {
         settings: Settings,
         /// The document whose citations are compared with the files.
         cited: Option<Cited<'a>>,
+    },
+    /// Edits of a file.
+    Edits(Editing<'a>),
+    /// Files in one style.
+    Format {
+        /// How entries are laid out.
+        style: Style,
+        /// What is done with the new text of each file.
+        mode: Mode,
     },
     /// Something else.
     Other(Request<'a>),
@@ -80,6 +92,116 @@ fn lint_asked<'a>(alloc: Global, matches: &ArgMatches<'a>) -> Result<Asked<'a>, 
     Ok(Asked::Lint { settings, cited })
 }
 
+// The text that an argument was given.
+fn text<'a>(matches: &ArgMatches<'a>, id: &str) -> &'a str {
+    matches.get_str(id).unwrap_or("")
+}
+
+// Setting the fields that words name, each with its value.
+fn set_fields<'a>(alloc: Global, key: &'a str, words: &[&'a str]) -> Result<Edits<'a>, AllocError> {
+    let mut edits = Vec::new(alloc);
+    'words: for word in words {
+        match word.split_once('=') {
+            Some((name, value)) => edits.push(Edit::Set { key, name, value })?,
+            None => return Ok(Edits::NoValue(*word)),
+        }
+    }
+    Ok(Edits::These(edits))
+}
+
+// Taking out the fields of these names.
+fn unset_fields<'a>(
+    alloc: Global,
+    key: &'a str,
+    names: &[&'a str],
+) -> Result<Vec<Edit<'a>>, AllocError> {
+    let mut edits = Vec::new(alloc);
+    'names: for name in names {
+        edits.push(Edit::Unset { key, name: *name })?;
+    }
+    Ok(edits)
+}
+
+// Taking out the entries with these keys.
+fn removed<'a>(alloc: Global, keys: &[&'a str]) -> Result<Vec<Edit<'a>>, AllocError> {
+    let mut edits = Vec::new(alloc);
+    'keys: for key in keys {
+        edits.push(Edit::Remove { key: *key })?;
+    }
+    Ok(edits)
+}
+
+// The edits that a command asks for.
+fn edits_of<'a>(
+    alloc: Global,
+    name: &str,
+    matches: &ArgMatches<'a>,
+) -> Result<Edits<'a>, AllocError> {
+    let key = text(matches, "KEY");
+    match name {
+        "set" => {
+            let words = texts(alloc, matches, "FIELD=VALUE")?;
+            set_fields(alloc, key, &words)
+        }
+        "unset" => {
+            let names = texts(alloc, matches, "FIELDS")?;
+            Ok(Edits::These(unset_fields(alloc, key, &names)?))
+        }
+        "remove" => {
+            let keys = texts(alloc, matches, "KEYS")?;
+            Ok(Edits::These(removed(alloc, &keys)?))
+        }
+        "rename" => {
+            let old = text(matches, "OLD");
+            let new = text(matches, "NEW");
+            Ok(Edits::These(vec![in alloc; Edit::Rename { old, new }]?))
+        }
+        _ => Ok(Edits::AddInput),
+    }
+}
+
+// What a command that edits asks for.
+fn editing_of<'a>(
+    alloc: Global,
+    name: &str,
+    matches: &ArgMatches<'a>,
+) -> Result<Editing<'a>, AllocError> {
+    Ok(Editing {
+        edits: edits_of(alloc, name, matches)?,
+        name: matches.get_str("file").unwrap_or("-"),
+        mode: if matches.get_flag("write") {
+            Mode::Write
+        } else {
+            Mode::Print
+        },
+    })
+}
+
+// How many spaces are to stand before a field.
+fn indent_of(matches: &ArgMatches<'_>) -> usize {
+    match matches.get_str("indent") {
+        Some(word) => word.parse::<usize>().unwrap_or(0),
+        None => Style::default().indent,
+    }
+}
+
+// The style that `fmt` was asked for, and what for.
+fn format_asked<'a>(matches: &ArgMatches<'a>) -> Asked<'a> {
+    let mode = if matches.get_flag("check") {
+        Mode::Check
+    } else if matches.get_flag("write") {
+        Mode::Write
+    } else {
+        Mode::Print
+    };
+    let style = Style {
+        indent: indent_of(matches),
+        aligned: matches.get_flag("align"),
+        trailing_comma: !matches.get_flag("no-trailing-comma"),
+    };
+    Asked::Format { style, mode }
+}
+
 // What a command was asked for.
 fn request_of<'a>(
     alloc: Global,
@@ -88,6 +210,7 @@ fn request_of<'a>(
 ) -> Result<Asked<'a>, AllocError> {
     let request = match name {
         "lint" => return lint_asked(alloc, matches),
+        "fmt" => return Ok(format_asked(matches)),
         "get" => Request::Entries(Excerpts::Get(texts(alloc, matches, "KEYS")?)),
         "grep" => Request::Entries(Excerpts::Grep(Search {
             field: matches.get_str("FIELD").unwrap_or(""),
@@ -115,6 +238,13 @@ fn words_of<'a>(
     name: &str,
     matches: &ArgMatches<'a>,
 ) -> Result<Words<'a>, AllocError> {
+    if is_editing(name) {
+        let editing = editing_of(alloc, name, matches)?;
+        return Ok(Words {
+            asked: Asked::Edits(editing),
+            names: Vec::new(alloc),
+        });
+    }
     let names = file_names(alloc, matches)?;
     let asked = request_of(alloc, name, matches)?;
     Ok(Words { asked, names })

@@ -11,6 +11,14 @@ enum Takes {
     Text,
     // Texts, separated by commas: the argument has to be there.
     Texts,
+    // Words, one at least.
+    Words,
+    // Words, one at least, which commas may separate too.
+    WordsOrTexts,
+    // The name of the file that is edited.
+    EditedFile,
+    // The same, which has to be there.
+    AnEditedFile,
     // Codes, separated by commas.
     Codes,
     // One code.
@@ -21,6 +29,10 @@ enum Takes {
     Color,
     // The name of a document's file.
     Document,
+    // How many spaces stand before a field.
+    Indent,
+    // Nothing: it is an option by itself.
+    Nothing,
     // Nothing: it is an option beside the one of this name.
     NothingBeside(&'static str),
 }
@@ -32,9 +44,19 @@ struct Argument {
     help: &'static str,
 }
 
-// A command, which takes names of files too.
+// What files a command takes.
+#[derive(Clone, Copy)]
+enum TakesFiles {
+    // Names of files that it reads, after its other arguments.
+    Many,
+    // One file, by an option.
+    One,
+}
+
+// A command.
 struct Row {
     name: &'static str,
+    files: TakesFiles,
     about: &'static str,
     // What stands at the end of its help.
     help: &'static str,
@@ -119,43 +141,256 @@ const CITED: [Argument; 1] = [Argument {
     help: "The .aux or .bcf file that LaTeX wrote for the document",
 }];
 
+// What commands that edit take beside what they edit.
+const FILE: Argument = Argument {
+    name: "file",
+    takes: Takes::EditedFile,
+    help: "The file to edit; standard input for - or where there is none",
+};
+
+const WRITE: Argument = Argument {
+    name: "write",
+    takes: Takes::NothingBeside("file"),
+    help: "Write the new text into the file, in place of printing it",
+};
+
+// What `set` takes.
+const SET: [Argument; 4] = [
+    Argument {
+        name: "KEY",
+        takes: Takes::Text,
+        help: "The key of an entry",
+    },
+    Argument {
+        name: "FIELD=VALUE",
+        takes: Takes::Words,
+        help: "Names of fields, each with its value",
+    },
+    FILE,
+    WRITE,
+];
+
+// What `unset` takes.
+const UNSET: [Argument; 4] = [
+    Argument {
+        name: "KEY",
+        takes: Takes::Text,
+        help: "The key of an entry",
+    },
+    Argument {
+        name: "FIELDS",
+        takes: Takes::WordsOrTexts,
+        help: "Names of fields, in any case",
+    },
+    FILE,
+    WRITE,
+];
+
+// What `rename` takes.
+const RENAME: [Argument; 4] = [
+    Argument {
+        name: "OLD",
+        takes: Takes::Text,
+        help: "The key of an entry",
+    },
+    Argument {
+        name: "NEW",
+        takes: Takes::Text,
+        help: "Its new key",
+    },
+    FILE,
+    WRITE,
+];
+
+// What `remove` takes.
+const REMOVE: [Argument; 3] = [
+    Argument {
+        name: "KEYS",
+        takes: Takes::WordsOrTexts,
+        help: "The keys of entries",
+    },
+    FILE,
+    WRITE,
+];
+
+// What `add` takes.
+const ADD: [Argument; 2] = [
+    Argument {
+        name: "file",
+        takes: Takes::AnEditedFile,
+        help: "The file to which the entries of standard input are added",
+    },
+    WRITE,
+];
+
+// What stands at the end of the help of `set`.
+const SET_HELP: &str = "\
+Example:
+  bibkit set knuth1984 year=1984 'title=The {TeX}book' --file refs.bib --write
+
+Status: 0 done, 1 an edit is refused or the file has errors, 2 wrong usage, a file that can't be read, edited or written, or an
+output that can't be written, 3 out of memory";
+
+// What stands at the end of the help of `unset`.
+const UNSET_HELP: &str = "\
+Example:
+  bibkit unset knuth1984 abstract keywords --file refs.bib
+
+Status: 0 done, 1 an edit is refused or the file has errors, 2 wrong usage, a file that can't be read, edited or written, or an
+output that can't be written, 3 out of memory";
+
+// What stands at the end of the help of `rename`.
+const RENAME_HELP: &str = "\
+Example:
+  bibkit rename knuth knuth1984 --file refs.bib
+
+Status: 0 done, 1 an edit is refused or the file has errors, 2 wrong usage, a file that can't be read, edited or written, or an
+output that can't be written, 3 out of memory";
+
+// What stands at the end of the help of `remove`.
+const REMOVE_HELP: &str = "\
+Example:
+  bibkit remove knuth1984 tolkien1937 --file refs.bib
+
+Status: 0 done, 1 an edit is refused or the file has errors, 2 wrong usage, a file that can't be read, edited or written, or an
+output that can't be written, 3 out of memory";
+
+// What stands at the end of the help of `add`.
+const ADD_HELP: &str = "\
+Example:
+  bibkit add --file refs.bib --write <new.bib
+
+Status: 0 done, 1 an edit is refused or the file has errors, 2 wrong usage, a file that can't be read, edited or written, or an
+output that can't be written, 3 out of memory";
+
+// What stands at the end of the help of `fmt`.
+const FMT_HELP: &str = "\
+Each entry is written anew: its type and its fields in lowercase, a field a line, the elements of values as they stand. Everything else
+stays as it is, and so does an entry in which a comment stands.
+
+Example:
+  bibkit fmt --align --write refs.bib
+
+Status: 0 done, 1 a file isn't in this style (--check), or has errors, 2 wrong usage, a file that can't be read, edited or written, or an
+output that can't be written, 3 out of memory";
+
+// How many spaces may be asked for before a field.
+static INDENTS: [&str; 9] = ["0", "1", "2", "3", "4", "5", "6", "7", "8"];
+
+// What `fmt` takes.
+const FMT: [Argument; 5] = [
+    Argument {
+        name: "indent",
+        takes: Takes::Indent,
+        help: "Spaces before a field; 2 where there is no such option",
+    },
+    Argument {
+        name: "align",
+        takes: Takes::Nothing,
+        help: "Put the equals signs of an entry in one column",
+    },
+    Argument {
+        name: "no-trailing-comma",
+        takes: Takes::Nothing,
+        help: "Write no comma after the last field of an entry",
+    },
+    Argument {
+        name: "check",
+        takes: Takes::Nothing,
+        help: "Say which files aren't in this style, and change and print nothing",
+    },
+    Argument {
+        name: "write",
+        takes: Takes::Nothing,
+        help: "Write the new texts into the files, in place of printing them",
+    },
+];
+
 // The commands, in the order of help.
-static COMMANDS: [Row; 6] = [
+static COMMANDS: [Row; 12] = [
     Row {
         name: "lint",
+        files: TakesFiles::Many,
         about: "Report what is wrong in files, by place",
         help: LINT_HELP,
         arguments: &LINT,
     },
     Row {
         name: "keys",
+        files: TakesFiles::Many,
         about: "Print the key of each entry",
         help: "Example:\n  bibkit keys refs.bib",
         arguments: &[],
     },
     Row {
         name: "get",
+        files: TakesFiles::Many,
         about: "Print the entries with these keys, as they stand in the files",
         help: "Example:\n  bibkit get tolkien1937,knuth1984 refs.bib\n\nStatus 1 where no entry has one of the keys",
         arguments: &GET,
     },
     Row {
         name: "grep",
+        files: TakesFiles::Many,
         about: "Print the entries in whose field a text stands, as they stand in the files",
         help: "Example:\n  bibkit grep author Knuth refs.bib\n\nStatus 1 where there is no such entry",
         arguments: &GREP,
     },
     Row {
         name: "cited",
+        files: TakesFiles::Many,
         about: "Print the entries that a document cites, as they stand in the files",
         help: "Example:\n  bibkit cited thesis.bcf refs.bib >cited.bib\n\nStatus 1 where no cited entry is found",
         arguments: &CITED,
     },
     Row {
         name: "stats",
+        files: TakesFiles::Many,
         about: "Count entries by type and year, fields by name, and findings by code",
         help: "Example:\n  bibkit stats refs.bib",
         arguments: &[],
+    },
+    Row {
+        name: "fmt",
+        files: TakesFiles::Many,
+        about: "Put files in one style, and print the new texts",
+        help: FMT_HELP,
+        arguments: &FMT,
+    },
+    Row {
+        name: "set",
+        files: TakesFiles::One,
+        about: "Set fields of an entry, and print the new text",
+        help: SET_HELP,
+        arguments: &SET,
+    },
+    Row {
+        name: "unset",
+        files: TakesFiles::One,
+        about: "Take fields out of an entry, and print the new text",
+        help: UNSET_HELP,
+        arguments: &UNSET,
+    },
+    Row {
+        name: "rename",
+        files: TakesFiles::One,
+        about: "Give an entry another key, and print the new text",
+        help: RENAME_HELP,
+        arguments: &RENAME,
+    },
+    Row {
+        name: "remove",
+        files: TakesFiles::One,
+        about: "Take entries out, and print the new text",
+        help: REMOVE_HELP,
+        arguments: &REMOVE,
+    },
+    Row {
+        name: "add",
+        files: TakesFiles::One,
+        about: "Add the entries of standard input to a file, and print the new text",
+        help: ADD_HELP,
+        arguments: &ADD,
     },
 ];
 
@@ -197,29 +432,57 @@ fn codes<'a>(alloc: Global, row: &'static Argument) -> Arg<'a> {
         .hide_possible_values(true)
 }
 
+// An argument that has to be there, of words.
+fn words<'a>(alloc: Global, row: &'static Argument) -> Arg<'a> {
+    positional(alloc, row)
+        .required(true)
+        .num_args(1..)
+        .action(ArgAction::Append)
+}
+
+// The option that names the file to be edited.
+fn edited_file<'a>(alloc: Global, row: &'static Argument) -> Arg<'a> {
+    value(alloc, row, "FILE").short('f')
+}
+
 // An argument of a command.
 fn argument_of<'a>(alloc: Global, row: &'static Argument) -> Result<Arg<'a>, AllocError> {
     match row.takes {
         Takes::Text => Ok(required(alloc, row)),
         Takes::Texts => Ok(required(alloc, row).value_delimiter(',')),
+        Takes::Words => Ok(words(alloc, row)),
+        Takes::WordsOrTexts => Ok(words(alloc, row).value_delimiter(',')),
+        Takes::EditedFile => Ok(edited_file(alloc, row)),
+        Takes::AnEditedFile => Ok(edited_file(alloc, row).required(true)),
         Takes::Codes => Ok(codes(alloc, row)),
         Takes::Code => Ok(value(alloc, row, "CODE").value_parser(code_names())),
         Takes::Format => Ok(value(alloc, row, "FORMAT").value_parser(Format::names())),
         Takes::Color => Ok(value(alloc, row, "WHEN").value_parser(Color::names())),
         Takes::Document => Ok(value(alloc, row, "DOCUMENT")),
+        Takes::Indent => Ok(value(alloc, row, "SPACES").value_parser(INDENTS.as_slice())),
+        Takes::Nothing => Ok(option(alloc, row).action(ArgAction::SetTrue)),
         Takes::NothingBeside(other) => option(alloc, row)
             .action(ArgAction::SetTrue)
             .requires_arg(other),
     }
 }
 
-// The arguments of a command, the files last.
-fn arguments<'a>(alloc: Global, rows: &'static [Argument]) -> Result<Vec<Arg<'a>>, AllocError> {
+// The arguments of a command, but for files that it reads.
+fn own_arguments<'a>(alloc: Global, rows: &'static [Argument]) -> Result<Vec<Arg<'a>>, AllocError> {
     let mut arguments = Vec::new(alloc);
     'rows: for row in rows {
         arguments.push(argument_of(alloc, row)?)?;
     }
-    arguments.push(files(alloc))?;
+    Ok(arguments)
+}
+
+// The arguments of a command, the files that it reads last.
+fn arguments<'a>(alloc: Global, row: &'static Row) -> Result<Vec<Arg<'a>>, AllocError> {
+    let mut arguments = own_arguments(alloc, row.arguments)?;
+    match row.files {
+        TakesFiles::Many => arguments.push(files(alloc))?,
+        TakesFiles::One => {}
+    }
     Ok(arguments)
 }
 
@@ -232,7 +495,7 @@ fn described<'a>(alloc: Global, row: &'static Row) -> Command<'a> {
 
 // A command.
 fn command_of<'a>(alloc: Global, row: &'static Row) -> Result<Command<'a>, AllocError> {
-    let arguments = arguments(alloc, row.arguments)?;
+    let arguments = arguments(alloc, row)?;
     described(alloc, row).args(arguments)
 }
 
@@ -248,8 +511,13 @@ fn commands<'a>(alloc: Global) -> Result<Vec<Command<'a>>, AllocError> {
 // The program, without its commands.
 fn program<'a>(alloc: Global) -> Command<'a> {
     Command::new(alloc, "bibkit")
-        .about("Check and search bibliography files")
+        .about("Check, search and edit bibliography files")
         .version("0.1.0")
+}
+
+/// Whether the command of this name edits a file.
+pub fn is_editing(name: &str) -> bool {
+    COMMANDS.iter().any(|row| row.name == name && matches!(row.files, TakesFiles::One))
 }
 
 /// The whole command line.

@@ -4,7 +4,10 @@
 mod arguments;
 mod commands;
 mod configuration;
+mod edits;
 mod files;
+mod formatting;
+mod replacing;
 mod start;
 mod streams;
 

@@ -2,10 +2,13 @@
 
 use crate::arguments::{Asked, Words, read};
 use crate::configuration::{ConfigurationError, project_settings};
+use crate::edits::run_edits;
 use crate::files::SystemFiles;
+use crate::formatting::run_format;
 use crate::streams::Output;
-use bibkit_core::request::{Call, Request};
+use bibkit_core::request::{Call, Cited, Request};
 use bibkit_core::run::run;
+use bibkit_core::settings::Settings;
 use clap::error::ErrorKind;
 use std::io::IsTerminal;
 use std::{env, io};
@@ -46,22 +49,48 @@ fn are_colors_shown(rt: &HostRuntime) -> bool {
     rt.stdout().is_terminal() && rt.stderr().is_terminal() && !refuses_color(rt)
 }
 
-// What is asked for, with the settings of the project that its first file belongs to.
-fn request<'a>(
+// What is asked of findings, with the settings of the project that the first file belongs to.
+fn lint_request<'a>(
     rt: &HostRuntime,
-    asked: Asked<'a>,
+    settings: Settings,
+    cited: Option<Cited<'a>>,
     names: &[&str],
 ) -> Result<Request<'a>, ConfigurationError> {
-    match asked {
-        Asked::Other(request) => Ok(request),
-        Asked::Lint { settings, cited } => {
-            let name = names.first().copied().unwrap_or("-");
-            let project = project_settings(rt, name)?;
-            Ok(Request::Lint(
-                settings
-                    .over(project)
-                    .lint(rt.alloc(), are_colors_shown(rt), cited),
-            ))
+    let name = names.first().copied().unwrap_or("-");
+    let project = project_settings(rt, name)?;
+    Ok(Request::Lint(
+        settings
+            .over(project)
+            .lint(rt.alloc(), are_colors_shown(rt), cited),
+    ))
+}
+
+// Runs a command that reads files, and answers the status.
+fn run_request<'a>(rt: &HostRuntime, request: Request<'a>, names: Vec<&'a str>) -> u8 {
+    let call = Call {
+        request,
+        has_progress: names.len() > 1 && rt.stderr().is_terminal(),
+        names,
+    };
+    let mut files = SystemFiles::new(rt);
+    let mut output = Output::new(io::writer(rt));
+    let messages = Output::new(rt.stderr());
+    run(rt.alloc(), &call, &mut files, &mut output, messages)
+}
+
+// Runs what a command line asks for of findings, and answers the status.
+fn run_lint<'a>(
+    rt: &HostRuntime,
+    settings: Settings,
+    cited: Option<Cited<'a>>,
+    names: Vec<&'a str>,
+) -> u8 {
+    match lint_request(rt, settings, cited, &names) {
+        Ok(request) => run_request(rt, request, names),
+        Err(ConfigurationError::OutOfMemory) => out_of_memory(rt),
+        Err(ConfigurationError::Wrong(reason)) => {
+            let _ = eprintln!(rt; "bibkit: {reason}");
+            2
         }
     }
 }
@@ -69,23 +98,11 @@ fn request<'a>(
 // Runs what a command line asks for, and answers the status.
 fn answer(rt: &HostRuntime, words: Words<'_>) -> u8 {
     let Words { asked, names } = words;
-    match request(rt, asked, &names) {
-        Ok(request) => {
-            let call = Call {
-                request,
-                has_progress: names.len() > 1 && rt.stderr().is_terminal(),
-                names,
-            };
-            let mut files = SystemFiles::new(rt);
-            let mut output = Output::new(io::writer(rt));
-            let messages = Output::new(rt.stderr());
-            run(rt.alloc(), &call, &mut files, &mut output, messages)
-        }
-        Err(ConfigurationError::OutOfMemory) => out_of_memory(rt),
-        Err(ConfigurationError::Wrong(reason)) => {
-            let _ = eprintln!(rt; "bibkit: {reason}");
-            2
-        }
+    match asked {
+        Asked::Lint { settings, cited } => run_lint(rt, settings, cited, names),
+        Asked::Edits(editing) => run_edits(rt, &editing),
+        Asked::Format { style, mode } => run_format(rt, style, mode, &names),
+        Asked::Other(request) => run_request(rt, request, names),
     }
 }
 

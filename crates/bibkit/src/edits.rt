@@ -1,0 +1,317 @@
+//! The commands that edit a file.
+
+use crate::files::SystemFiles;
+use crate::replacing::replace;
+use crate::streams::Output;
+use bib_documents::errors::EditError;
+use bib_encoding::decoding::decode;
+use bib_lines::positions::Positions;
+use bib_syntax::raw::ParseError;
+use bibkit_core::files::Files;
+use bibkit_edits::edit::{Edit, Refusal};
+use bibkit_edits::editing::edited_file;
+use bibkit_edits::printing::{Unprinted, print_edited};
+use std::alloc::{AllocError, AllocFailed, Global};
+use std::io;
+use std::io::ErrorKind;
+
+/// Which edits are asked for.
+#[derive(Drop)]
+pub enum Edits<'a> {
+    /// These.
+    These(Vec<Edit<'a>>),
+    /// Adding the entries of standard input.
+    AddInput,
+    /// None: this word is no name of a field with a value.
+    NoValue(&'a str),
+}
+
+/// What a command that edits asks for.
+#[derive(Drop)]
+pub struct Editing<'a> {
+    /// The edits.
+    pub edits: Edits<'a>,
+    /// The name of the file; `-` is standard input.
+    pub name: &'a str,
+    /// What is done with the new text.
+    pub mode: Mode,
+}
+
+/// What is done with the new text of a file.
+#[derive(Clone, Copy, PartialEq, Eq)]
+pub enum Mode {
+    /// It is printed.
+    Print,
+    /// It is written into the file.
+    Write,
+    /// It is compared with the old one.
+    Check,
+}
+
+// Why an edit has no answer, with the message and the status.
+#[derive(Drop)]
+enum Stop {
+    // This is said, and the status is this.
+    Said(String, u8),
+    // There was no memory.
+    OutOfMemory,
+}
+
+impl From<AllocError> for Stop {
+    fn from(_error: AllocError) -> Self {
+        Stop::OutOfMemory
+    }
+}
+
+impl<T: Drop> From<AllocFailed<T>> for Stop {
+    fn from(_error: AllocFailed<T>) -> Self {
+        Stop::OutOfMemory
+    }
+}
+
+// What is wrong with the words of a command.
+fn wrong_usage(alloc: Global, text: &str) -> Result<(), Stop> {
+    Err(Stop::Said(format!(in alloc; "bibkit: {text}\n")?, 2))
+}
+
+// Refuses what a command can't do with standard input, which is read once, and into which nothing is written.
+fn check(alloc: Global, editing: &Editing<'_>) -> Result<(), Stop> {
+    match editing.edits {
+        _ if editing.name != "-" => Ok(()),
+        _ if editing.mode == Mode::Write => wrong_usage(alloc, "--write needs the name of a file"),
+        Edits::AddInput => wrong_usage(alloc, "add needs the name of a file"),
+        _ => Ok(()),
+    }
+}
+
+// The bytes of a file.
+fn bytes_of(rt: &HostRuntime, name: &str) -> Result<Vec<u8>, Stop> {
+    let mut files = SystemFiles::new(rt);
+    match files.read(rt.alloc(), name) {
+        Ok(bytes) => Ok(bytes),
+        Err(error) => {
+            let error = error.unless_out_of_memory()?;
+            let text = format!(in rt.alloc(); "bibkit: {name}: {}\n", error.text())?;
+            Err(Stop::Said(text, 2))
+        }
+    }
+}
+
+// The bytes of a file after its byte order mark.
+fn after_mark(bytes: &[u8]) -> &[u8] {
+    match bytes.strip_prefix(b"\xEF\xBB\xBF") {
+        Some(rest) => rest,
+        None => bytes,
+    }
+}
+
+// What is wrong at a place of bytes.
+fn error_line(
+    alloc: Global,
+    name: &str,
+    bytes: &[u8],
+    at: usize,
+    text: &str,
+) -> Result<String, AllocError> {
+    let position = Positions::of_bytes(bytes).position(at);
+    format!(in alloc;
+        "{name}:{}:{}: error: {text}\n",
+        position.line, position.column
+    )
+}
+
+// What is said of an edit that is refused.
+fn refused_line(
+    alloc: Global,
+    name: &str,
+    edit: Option<&Edit<'_>>,
+    why: EditError,
+) -> Result<String, AllocError> {
+    match edit {
+        Some(
+            Edit::Set {
+                key,
+                name: field,
+                ..
+            }
+            | Edit::Unset { key, name: field },
+        ) => { format!(in alloc; "bibkit: {name}: {key}: {field}: {why}\n") }
+        Some(Edit::Rename { old, new }) => {
+            format!(in alloc; "bibkit: {name}: {old} to {new}: {why}\n")
+        }
+        Some(Edit::Remove { key }) => format!(in alloc; "bibkit: {name}: {key}: {why}\n"),
+        _ => format!(in alloc; "bibkit: {name}: {why}\n"),
+    }
+}
+
+// What is said of a text with an error.
+fn syntax_line(
+    alloc: Global,
+    name: &str,
+    text: &[u8],
+    error: &ParseError,
+) -> Result<String, AllocError> {
+    let said = format!(in alloc; "{} [syntax]", error.kind)?;
+    error_line(alloc, name, text, error.span.start, &said)
+}
+
+// The text that an edit adds.
+fn added_text<'a>(edits: &[Edit<'a>]) -> &'a str {
+    match edits.first() {
+        Some(Edit::Add { text }) => *text,
+        _ => "",
+    }
+}
+
+// What is said of a refusal.
+fn refused(
+    alloc: Global,
+    name: &str,
+    bytes: &[u8],
+    edits: &[Edit<'_>],
+    refusal: &Refusal,
+) -> Result<String, AllocError> {
+    match refusal {
+        Refusal::NotUtf8 { at } => {
+            let said = "not UTF-8 from here on, so the file can't be edited [unread-bytes]";
+            error_line(alloc, name, bytes, *at, said)
+        }
+        Refusal::File(error) => syntax_line(alloc, name, after_mark(bytes), error),
+        Refusal::Added(error) => syntax_line(alloc, "-", added_text(edits).as_bytes(), error),
+        Refusal::Edit { index, why } => refused_line(alloc, name, edits.get(*index), *why),
+        Refusal::OutOfMemory => String::from_str(alloc, "bibkit: out of memory\n"),
+    }
+}
+
+// What is said of edits that aren't printed, and the status.
+fn unprinted(
+    alloc: Global,
+    name: &str,
+    bytes: &[u8],
+    edits: &[Edit<'_>],
+    why: &Unprinted,
+) -> Result<Stop, AllocError> {
+    match why {
+        Unprinted::Refused(refusal) => {
+            let said = refused(alloc, name, bytes, edits, refusal)?;
+            Ok(Stop::Said(said, why.status()))
+        }
+        Unprinted::NotTaken => {
+            let said = String::from_str(alloc, "bibkit: the output can't be written\n")?;
+            Ok(Stop::Said(said, why.status()))
+        }
+    }
+}
+
+// Why a file can't be written.
+fn write_reason(kind: ErrorKind) -> &'static str {
+    match kind {
+        ErrorKind::PermissionDenied => "it may not be written",
+        ErrorKind::InvalidInput => "it is no regular file",
+        ErrorKind::StorageFull => "the disk is full",
+        _ => "it can't be written",
+    }
+}
+
+// Writes a text into a file.
+fn write(rt: &HostRuntime, name: &str, text: &str) -> Result<(), Stop> {
+    match replace(rt, name, text) {
+        Ok(()) => Ok(()),
+        Err(error) if error.kind() == ErrorKind::OutOfMemory => Err(Stop::OutOfMemory),
+        Err(error) => {
+            let reason = write_reason(error.kind());
+            let said = format!(in rt.alloc(); "bibkit: {name}: {reason}\n")?;
+            Err(Stop::Said(said, 2))
+        }
+    }
+}
+
+// Prints what edits make of a file's bytes.
+fn print(rt: &HostRuntime, name: &str, bytes: &[u8], edits: &[Edit<'_>]) -> Result<(), Stop> {
+    let mut output = Output::new(io::writer(rt));
+    match print_edited(rt.alloc(), bytes, edits, &mut output) {
+        Ok(()) => Ok(()),
+        Err(why) => Err(unprinted(rt.alloc(), name, bytes, edits, &why)?),
+    }
+}
+
+// What edits make of a file's bytes.
+fn new_text(alloc: Global, name: &str, bytes: &[u8], edits: &[Edit<'_>]) -> Result<String, Stop> {
+    match edited_file(alloc, bytes, edits) {
+        Ok(new) => Ok(new),
+        Err(refusal) => {
+            let why = Unprinted::Refused(refusal);
+            Err(unprinted(alloc, name, bytes, edits, &why)?)
+        }
+    }
+}
+
+// Writes what edits make of a file's bytes into it, unless that is what it has.
+fn write_edited(
+    rt: &HostRuntime,
+    name: &str,
+    bytes: &[u8],
+    edits: &[Edit<'_>],
+) -> Result<(), Stop> {
+    let new = new_text(rt.alloc(), name, bytes, edits)?;
+    if new.as_bytes() == bytes {
+        Ok(())
+    } else {
+        write(rt, name, &new)
+    }
+}
+
+// Says whether edits would change a file's bytes.
+fn check_edited(alloc: Global, name: &str, bytes: &[u8], edits: &[Edit<'_>]) -> Result<(), Stop> {
+    let new = new_text(alloc, name, bytes, edits)?;
+    if new.as_bytes() == bytes {
+        Ok(())
+    } else {
+        Err(Stop::Said(format!(in alloc; "bibkit: {name}: not in this style\n")?, 1))
+    }
+}
+
+// Makes edits of a file, and does what is asked with the new text.
+fn edit(rt: &HostRuntime, editing: &Editing<'_>, edits: &[Edit<'_>]) -> Result<(), Stop> {
+    let bytes = bytes_of(rt, editing.name)?;
+    match editing.mode {
+        Mode::Print => print(rt, editing.name, &bytes, edits),
+        Mode::Write => write_edited(rt, editing.name, &bytes, edits),
+        Mode::Check => check_edited(rt.alloc(), editing.name, &bytes, edits),
+    }
+}
+
+// Adds the entries of standard input.
+fn add_input(rt: &HostRuntime, editing: &Editing<'_>) -> Result<(), Stop> {
+    let bytes = bytes_of(rt, "-")?;
+    let input = decode(rt.alloc(), &bytes)?;
+    edit(rt, editing, &[Edit::Add { text: &input.text }])
+}
+
+// Does what a command asks for.
+fn answer(rt: &HostRuntime, editing: &Editing<'_>) -> Result<(), Stop> {
+    check(rt.alloc(), editing)?;
+    match &editing.edits {
+        Edits::These(edits) => edit(rt, editing, edits),
+        Edits::AddInput => add_input(rt, editing),
+        Edits::NoValue(word) => {
+            let text = format!(in rt.alloc(); "{word} is no FIELD=VALUE; --file names a file")?;
+            wrong_usage(rt.alloc(), &text)
+        }
+    }
+}
+
+/// Does what a command that edits asks for, and answers the status.
+pub fn run_edits(rt: &HostRuntime, editing: &Editing<'_>) -> u8 {
+    match answer(rt, editing) {
+        Ok(()) => 0,
+        Err(Stop::Said(text, status)) => {
+            let _ = eprint!(rt; "{text}");
+            status
+        }
+        Err(Stop::OutOfMemory) => {
+            let _ = rt.eprintln("bibkit: out of memory");
+            3
+        }
+    }
+}

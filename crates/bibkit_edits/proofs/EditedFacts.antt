@@ -1,0 +1,140 @@
+-- Edits of a text, one after another.
+use Rattle.std.proofs.Common.{◌≡◌, ◌<◌, ◌+◌, ◌⊎◌, ℕ, List, [], ◌∷◌, ◌++◌, length, take, drop, get_or, refl, sym, ap, subst, ◌∙◌, inl, inr, append_assoc, ◌≤◌, arith}
+use Rattle.std.specs.Prelude.{MatchOption, None, Option, Some}
+use Rattle.std.specs.Str.{IsUtf8}
+use Rattle.bib_encoding.specs.Encoding.{IsFirstInvalid, without_byte_order_mark}
+use Rattle.std.proofs.lemmas.List.{length-take-le, take_more, take-append-drop}
+use Rattle.bib_syntax.specs.SyntaxErrors.{IsReported}
+use Rattle.bib_syntax.specs.declared.raw.ParseError.{ParseError}
+use Rattle.bib_syntax.specs.declared.raw.ParseErrorKind.{ParseErrorKind}
+use Rattle.bib_syntax.specs.declared.raw.ParseErrorKind.TheVariants as kind
+use Rattle.bib_syntax.proofs.FileFailureFacts.{file_unread}
+use Rattle.bib_documents.specs.Documents.{Document, EntriesAdded, IsEdited}
+use Rattle.bib_documents.specs.declared.errors.EditError.{EditError}
+use Rattle.bib_documents.specs.declared.errors.EditError.TheVariants as error
+use Rattle.bib_format.specs.Formatted.{IsReadAlike, text_in_style}
+use Rattle.bib_format.specs.declared.style.Style.{Style}
+use Rattle.bibkit_edits.specs.Edited.{AreMade, AreRefused, IsEditRefused, IsInStyle, IsMade, IsDocumentOf, TextAdded}
+use Rattle.bibkit_edits.specs.Edited.AreMade.{none, next}
+use Rattle.bibkit_edits.specs.Steps.{AddsError, AddsUnread, AreFirstMade, IsTextRefused, StepIsRefused, edit_refusal, refusal_at, unless_no_memory}
+use Rattle.bibkit_edits.specs.declared.edit.Edit.{Edit}
+use Rattle.bibkit_edits.specs.declared.edit.Refusal.{Refusal}
+use Rattle.bibkit_edits.specs.declared.edit.Refusal.TheVariants as refusal
+use Rattle.bibkit_edits.specs.declared.editing.Step.{Step}
+use Rattle.bibkit_edits.specs.declared.editing.Step.TheVariants as step
+
+-- a text in one style, which is read like the old one
+pub style_made : (style : Style) (d : Document) (new : List ℕ) → new ≡ text_in_style style d.text d.says → IsReadAlike d.says new → IsEdited (IsInStyle style d) new
+style_made style d new is alike = record {
+  document = record { text = new; says = alike.tells };
+  outcome = record { text = is; alike = alike.alike };
+  is = refl;
+  read = alike.read;
+}
+
+-- one edit more
+pub made_more : {edits : List Edit} {edit : Edit} {text new newer : List ℕ} → AreMade edits text new → IsMade edit new newer → AreMade (edits ++ edit ∷ []) text newer
+made_more {newer = newer} none more = next newer more none
+made_more (next between one rest) more = next between one (made_more rest more)
+
+-- edits up to an index, the one there, and those after it
+pub edits_parts : (edits : List Edit) (i : ℕ) (d : Edit) → i < length edits → edits ≡ take i edits ++ get_or edits i d ∷ drop (i + 1) edits
+edits_parts edits i d below =
+    sym (take-append-drop (i + 1) edits) ∙ ap (λ first. first ++ drop (i + 1) edits) (take_more edits i d below) ∙ append_assoc (take i edits) (get_or edits i d ∷ []) (drop (i + 1) edits)
+
+-- no edit is made
+pub first_none : (text : List ℕ) → AreFirstMade [] text text
+first_none text = record { made = none; read = inl refl }
+
+-- a text that an edit makes is read
+made_read : {edit : Edit} {text new : List ℕ} → IsMade edit text new → (d : Document) × IsDocumentOf new d
+made_read made = (made.edited.document, record { same = sym made.edited.is; read = made.edited.read })
+
+-- one edit more
+pub first_more : (edits : List Edit) (i : ℕ) (d : Edit) {text new between newer : List ℕ} → i < length edits → AreFirstMade (take i edits) text new → between ≡ new
+    → IsMade (get_or edits i d) between newer → AreFirstMade (take (i + 1) edits) text newer
+first_more edits i d {text} {new} {between} {newer} below first same made = record {
+  made = subst (λ es. AreMade es text newer) (sym (take_more edits i d below)) (made_more first.made (subst (λ t. IsMade (get_or edits i d) t newer) same made));
+  read = inr (made_read made);
+}
+
+-- a text that is read has no error
+read_fine : {text : List ℕ} {e : ParseError} {d : Document} → IsDocumentOf text d → IsReported text e → ⊥
+read_fine {text} {e} {d} read reported = let fails = subst (λ t. IsReported t e) (sym read.same) reported in file_unread fails.fails read.read
+
+-- after first edits, why the next one is refused is why all of them are
+pub first_refused : (done rest : List Edit) (edit : Edit) {text new : List ℕ} (why : Refusal) → AreFirstMade done text new → IsTextRefused edit new (length done) why → AreRefused (done ++ edit ∷ rest) text why
+first_refused done rest edit (refusal.NotUtf8 at) first refused = absurd refused
+first_refused done rest edit {text} {new} (refusal.File e) first refused =
+    elim first.read as (λ _. AreRefused (done ++ edit ∷ rest) text (refusal.File e)) [
+      | inl same ↦ AreRefused.file (subst (λ t. IsReported t e) same refused)
+      | inr (d, read) ↦ absurd (read_fine read refused)
+    ]
+first_refused done rest edit {new = new} (refusal.Added e) first refused = AreRefused.added edit done rest new refused.more refl first.made refused.adds refused.reported
+first_refused done rest edit {text} {new} (refusal.Edit at why) first refused =
+    subst (λ i. AreRefused (done ++ edit ∷ rest) text (refusal.Edit i why)) (sym refused.0)
+    (AreRefused.refused edit done rest new refused.1.document refl first.made refused.1.read refused.1.refused)
+first_refused done rest edit refusal.OutOfMemory first refused = AreRefused.no_memory
+
+-- the same of edits by the index of the one that is refused
+pub refused_at : (edits : List Edit) (i : ℕ) (d : Edit) {text new between : List ℕ} (why : Refusal) → i < length edits → AreFirstMade (take i edits) text new → between ≡ new
+    → IsTextRefused (get_or edits i d) between i why → AreRefused edits text why
+refused_at edits i d {text} {new} why below first same refused =
+    let count : length (take i edits) ≡ i = (let within : i ≤ length edits = omega (arith, below) in length-take-le i edits within) in
+    subst (λ es. AreRefused es text why) (sym (edits_parts edits i d below))
+    (first_refused (take i edits) (drop (i + 1) edits) (get_or edits i d) why first (subst (λ n. IsTextRefused (get_or edits i d) new n why) (sym count) (subst (λ t. IsTextRefused (get_or edits i d) t i why) same refused)))
+
+-- an error that isn't out of memory is one of the text that is added
+adds_error : {edit : Edit} {e : ParseError} → (e.kind ≡ kind.OutOfMemory → ⊥) → AddsUnread edit e → AddsError edit e
+adds_error {e = e} other adds = record {
+  more = adds.more;
+  adds = adds.adds;
+  reported = elim adds.why as (λ _. IsReported adds.more e) [ inl out ↦ absurd (other (ap (λ e. e.kind) out)) | inr reported ↦ reported ];
+}
+
+-- why an edit that adds a text that isn't read is refused, by the kind of the text's error
+added_refused : (edit : Edit) (text : List ℕ) (index : ℕ) (e : ParseError) (k : ParseErrorKind) → e.kind ≡ k → AddsUnread edit e → IsTextRefused edit text index (unless_no_memory k (refusal.Added e))
+added_refused edit text index e kind.OutOfMemory is adds = tt
+added_refused edit text index e kind.UnexpectedEof is adds = adds_error (λ out. let clash : kind.UnexpectedEof ≡ kind.OutOfMemory = sym is ∙ out in cc) adds
+added_refused edit text index e (kind.Unexpected t) is adds = adds_error (λ out. let clash : kind.Unexpected t ≡ kind.OutOfMemory = sym is ∙ out in cc) adds
+added_refused edit text index e (kind.Expected t) is adds = adds_error (λ out. let clash : kind.Expected t ≡ kind.OutOfMemory = sym is ∙ out in cc) adds
+added_refused edit text index e (kind.UnknownAbbreviation n) is adds = adds_error (λ out. let clash : kind.UnknownAbbreviation n ≡ kind.OutOfMemory = sym is ∙ out in cc) adds
+added_refused edit text index e kind.MalformedCommand is adds = adds_error (λ out. let clash : kind.MalformedCommand ≡ kind.OutOfMemory = sym is ∙ out in cc) adds
+added_refused edit text index e (kind.DuplicateKey n) is adds = adds_error (λ out. let clash : kind.DuplicateKey n ≡ kind.OutOfMemory = sym is ∙ out in cc) adds
+added_refused edit text index e (kind.ResolutionError t) is adds = adds_error (λ out. let clash : kind.ResolutionError t ≡ kind.OutOfMemory = sym is ∙ out in cc) adds
+added_refused edit text index e (kind.AbbreviationCycle n) is adds = adds_error (λ out. let clash : kind.AbbreviationCycle n ≡ kind.OutOfMemory = sym is ∙ out in cc) adds
+added_refused edit text index e (kind.ReferenceCycle n) is adds = adds_error (λ out. let clash : kind.ReferenceCycle n ≡ kind.OutOfMemory = sym is ∙ out in cc) adds
+
+-- an edit is refused for this reason, which isn't out of memory
+why_refused : (edit : Edit) (d : Document) {why : EditError} → (why ≡ error.OutOfMemory → ⊥) → IsEditRefused edit d why ⊎ (why ≡ error.OutOfMemory) → IsEditRefused edit d why
+why_refused edit d other (inl refused) = refused
+why_refused edit d other (inr out) = absurd (other out)
+
+-- the same of an edit that is refused itself
+edit_refused : (edit : Edit) (text : List ℕ) (index : ℕ) (d : Document) (why : EditError) → IsDocumentOf text d → IsEditRefused edit d why ⊎ (why ≡ error.OutOfMemory)
+    → IsTextRefused edit text index (edit_refusal why index)
+edit_refused edit text index d error.OutOfMemory read refused = tt
+edit_refused edit text index d error.UnknownKey read refused = (refl, record { document = d; read = read; refused = why_refused edit d (λ out. let clash : error.UnknownKey ≡ error.OutOfMemory = out in cc) refused })
+edit_refused edit text index d error.KeyIsThere read refused = (refl, record { document = d; read = read; refused = why_refused edit d (λ out. let clash : error.KeyIsThere ≡ error.OutOfMemory = out in cc) refused })
+edit_refused edit text index d error.NotAKey read refused = (refl, record { document = d; read = read; refused = why_refused edit d (λ out. let clash : error.NotAKey ≡ error.OutOfMemory = out in cc) refused })
+edit_refused edit text index d error.NotAName read refused = (refl, record { document = d; read = read; refused = why_refused edit d (λ out. let clash : error.NotAName ≡ error.OutOfMemory = out in cc) refused })
+edit_refused edit text index d error.NotInBraces read refused = (refl, record { document = d; read = read; refused = why_refused edit d (λ out. let clash : error.NotInBraces ≡ error.OutOfMemory = out in cc) refused })
+
+-- why an edit of a document is refused is why that of its text is
+pub step_refused : (edit : Edit) (text : List ℕ) (index : ℕ) (d : Document) (s : Step) → IsDocumentOf text d → StepIsRefused edit d s → IsTextRefused edit text index (refusal_at s index)
+step_refused edit text index d (step.Added e) read refused = added_refused edit text index e e.kind refl refused
+step_refused edit text index d (step.Refused why) read refused = edit_refused edit text index d why read refused
+
+-- adding a text that is read
+pub adds_made : {d : Document} {text new : List ℕ} (more : Document) → IsDocumentOf text more → IsEdited (EntriesAdded d more) new → IsEdited (TextAdded d text) new
+adds_made more read made = record { document = made.document; outcome = record { more = more; read = read; added = made.outcome }; is = made.is; read = made.read }
+
+-- the first byte that isn't UTF-8, where there is one
+pub invalid_at : (bytes : List ℕ) (found : Option ℕ) (at : ℕ) → found ≡ Some at → MatchOption found (IsUtf8 (without_byte_order_mark bytes)) (IsFirstInvalid bytes) → IsFirstInvalid bytes at
+invalid_at bytes found at is holds = let R : Option ℕ → Type 0 = λ o. MatchOption o (IsUtf8 (without_byte_order_mark bytes)) (IsFirstInvalid bytes) in subst R is holds
+
+-- where there is none, all are
+pub all_valid : (bytes : List ℕ) (found : Option ℕ) → ((at : ℕ) → found ≡ Some at → ⊥) → MatchOption found (IsUtf8 (without_byte_order_mark bytes)) (IsFirstInvalid bytes)
+    → IsUtf8 (without_byte_order_mark bytes)
+all_valid bytes None other holds = holds
+all_valid bytes (Some at) other holds = absurd (other at refl)

@@ -1,0 +1,105 @@
+-- Meaning: words of public contracts.
+-- What edits make of a bibliography file, and why they are refused.
+use Rattle.std.specs.Prelude.{◌≡◌, ℕ, length, if◌then◌else◌, List, [], ◌∷◌, ◌++◌, nat_eq}
+use Rattle.std.specs.List.{starts_with}
+use Rattle.std.specs.Str.{IsUtf8}
+use Rattle.bib_syntax.specs.SyntaxErrors.{IsReported}
+use Rattle.bib_syntax.specs.declared.raw.ParseError.{ParseError}
+use Rattle.bib_encoding.specs.Encoding.{IsFirstInvalid, byte_order_mark, without_byte_order_mark}
+use Rattle.bib_documents.specs.Documents.{Document, EntriesAdded, EntriesAreRefused, EntryIsRefused, EntryRemoved, FieldSet, FieldUnset, IsDocument, IsEdited, SetIsRefused}
+use Rattle.bib_documents.specs.References.{KeyRenamed, RenameIsRefused}
+use Rattle.bib_documents.specs.declared.errors.EditError.{EditError}
+use Rattle.bib_format.specs.Formatted.{content, text_in_style}
+use Rattle.bib_format.specs.declared.style.Style.{Style}
+use Rattle.bibkit_edits.specs.declared.edit.Edit.{Edit}
+use Rattle.bibkit_edits.specs.declared.edit.Edit.TheVariants.{Set, Unset, Rename, Remove, Add, Format}
+use Rattle.bibkit_edits.specs.declared.edit.Refusal.{Refusal}
+use Rattle.bibkit_edits.specs.declared.edit.Refusal.TheVariants as refusal
+
+-- a text is read as this document
+pub record IsDocumentOf (text : List ℕ) (d : Document) : Type 0 where
+  pub same : d.text ≡ text
+  pub read : IsDocument d
+
+-- what comes of adding the entries of a text
+pub record TextAdded (d : Document) (text : List ℕ) (after : Document) : Type 0 where
+  pub more : Document
+  pub read : IsDocumentOf text more
+  pub added : EntriesAdded d more after
+
+-- what comes of putting a document in one style: its text is in that style, and says the same but for places and the case of types
+-- and names
+pub record IsInStyle (style : Style) (d after : Document) : Type 0 where
+  pub text : after.text ≡ text_in_style style d.text d.says
+  pub alike : content after.says ≡ content d.says
+
+-- what comes of an edit of a document
+abbrev pub EditOutcome : Edit → Document → Document → Type 0
+EditOutcome (Set key name value) d = FieldSet d key.now name.now value.now
+EditOutcome (Unset key name) d = FieldUnset d key.now name.now
+EditOutcome (Rename old new) d = KeyRenamed d old.now new.now
+EditOutcome (Remove key) d = EntryRemoved d key.now
+EditOutcome (Add text) d = TextAdded d text.now
+EditOutcome (Format style) d = IsInStyle style d
+
+-- what an edit makes of a text
+pub record IsMade (edit : Edit) (text new : List ℕ) : Type 0 where
+  pub document : Document
+  pub read : IsDocumentOf text document
+  pub edited : IsEdited (EditOutcome edit document) new
+
+-- what edits make of a text, each of the text that the one before made
+pub data AreMade : List Edit → List ℕ → List ℕ → Type 0 where
+  none : {text : List ℕ} → AreMade [] text text
+  next : {edit : Edit} {rest : List Edit} {text new : List ℕ} (between : List ℕ) → IsMade edit text between → AreMade rest between new → AreMade (edit ∷ rest) text new
+
+-- why adding the entries of a text is refused, where the text is read
+pub record TextIsRefused (d : Document) (text : List ℕ) (why : EditError) : Type 0 where
+  pub more : Document
+  pub read : IsDocumentOf text more
+  pub refused : EntriesAreRefused d more why
+
+-- why an edit of a document is refused
+abbrev pub IsEditRefused : Edit → Document → EditError → Type 0
+IsEditRefused (Set key name value) d why = SetIsRefused d key.now name.now value.now why
+IsEditRefused (Unset key name) d why = EntryIsRefused d key.now why
+IsEditRefused (Rename old new) d why = RenameIsRefused d old.now new.now why
+IsEditRefused (Remove key) d why = EntryIsRefused d key.now why
+IsEditRefused (Add text) d why = TextIsRefused d text.now why
+IsEditRefused (Format style) d why = ⊥
+
+-- an edit adds the entries of this text
+abbrev pub AddsText : Edit → List ℕ → Type 0
+AddsText (Set key name value) added = ⊥
+AddsText (Unset key name) added = ⊥
+AddsText (Rename old new) added = ⊥
+AddsText (Remove key) added = ⊥
+AddsText (Add text) added = added ≡ text.now
+AddsText (Format style) added = ⊥
+
+-- why edits of a text are refused: the text isn't one of the file grammar; or first edits are made, and the next adds a text
+-- that isn't, or is refused; or there was no memory
+pub data AreRefused (edits : List Edit) (text : List ℕ) : Refusal → Type 0 where
+  file : {e : ParseError} → IsReported text e → AreRefused edits text (refusal.File e)
+  added : {e : ParseError} (edit : Edit) (done rest : List Edit) (between more : List ℕ) → edits ≡ done ++ edit ∷ rest → AreMade done text between → AddsText edit more → IsReported more e
+      → AreRefused edits text (refusal.Added e)
+  refused : {why : EditError} (edit : Edit) (done rest : List Edit) (between : List ℕ) (d : Document) → edits ≡ done ++ edit ∷ rest → AreMade done text between → IsDocumentOf between d
+      → IsEditRefused edit d why → AreRefused edits text (refusal.Edit (length done) why)
+  no_memory : AreRefused edits text refusal.OutOfMemory
+
+-- the byte order mark that bytes begin with, if they do
+abbrev pub mark_of : List ℕ → List ℕ
+mark_of bytes = if starts_with nat_eq bytes byte_order_mark then byte_order_mark else []
+
+-- what edits make of a file's bytes: the bytes are UTF-8, and the text after a byte order mark is edited
+pub record IsFileMade (edits : List Edit) (bytes new : List ℕ) : Type 0 where
+  pub text : List ℕ
+  pub utf8 : IsUtf8 (without_byte_order_mark bytes)
+  pub made : AreMade edits (without_byte_order_mark bytes) text
+  pub is : new ≡ mark_of bytes ++ text
+
+-- why edits of a file are refused: its bytes aren't UTF-8, or the edits of its text are
+pub data IsFileRefused (edits : List Edit) (bytes : List ℕ) : Refusal → Type 0 where
+  not_utf8 : {at : ℕ} → IsFirstInvalid bytes at → IsFileRefused edits bytes (refusal.NotUtf8 at)
+  text : {why : Refusal} → IsUtf8 (without_byte_order_mark bytes) → AreRefused edits (without_byte_order_mark bytes) why → IsFileRefused edits bytes why
+  no_memory : IsFileRefused edits bytes refusal.OutOfMemory

@@ -1,0 +1,45 @@
+-- Meaning: words of public contracts.
+-- What is printed of a file that is edited, and the status.
+use Rattle.std.specs.Prelude.{◌≡◌, ℕ, Bool, false, List, Option}
+use Rattle.std.specs.Io.KnownBytes.{Appends}
+use Rattle.bibkit_edits.specs.Edited.{IsFileMade, IsFileRefused}
+use Rattle.bibkit_edits.specs.declared.edit.Edit.{Edit}
+use Rattle.bibkit_edits.specs.declared.edit.Refusal.{Refusal}
+use Rattle.bibkit_edits.specs.declared.edit.Refusal.TheVariants as refusal
+use Rattle.bibkit_edits.specs.declared.printing.Unprinted.{Unprinted}
+use Rattle.bibkit_edits.specs.declared.printing.Unprinted.TheVariants as unprinted
+
+-- the output takes what edits make of a file's bytes
+pub record HasPrintedEdited {K : Type 0} (taken : K → Option (List ℕ)) (edits : List Edit) (bytes : List ℕ) (old new : K) : Type 0 where
+  pub text : List ℕ
+  pub made : IsFileMade edits bytes text
+  pub printed : Appends (taken old) (taken new) text
+
+-- the output refuses what edits make of a file's bytes, at the only call
+pub record IsNotTaken {K : Type 0} (hands_over : K → List ℕ → Bool → K → Type 0) (edits : List Edit) (bytes : List ℕ) (old new : K) : Type 0 where
+  pub text : List ℕ
+  pub made : IsFileMade edits bytes text
+  pub handed : hands_over old text false new
+
+-- edits are refused, and nothing is printed
+pub record IsRefusedUnprinted {K : Type 0} (edits : List Edit) (bytes : List ℕ) (why : Refusal) (old new : K) : Type 0 where
+  pub refused : IsFileRefused edits bytes why
+  pub same : new ≡ old
+
+-- why what edits make of a file's bytes isn't printed
+abbrev pub IsNotPrinted : {K : Type 0} → (K → List ℕ → Bool → K → Type 0) → List Edit → List ℕ → K → K → Unprinted → Type 0
+IsNotPrinted hands_over edits bytes old new (unprinted.Refused why) = IsRefusedUnprinted edits bytes why old new
+IsNotPrinted hands_over edits bytes old new unprinted.NotTaken = IsNotTaken hands_over edits bytes old new
+
+-- the status where edits are refused
+abbrev pub refusal_status : Refusal → ℕ
+refusal_status (refusal.NotUtf8 at) = 2
+refusal_status (refusal.File e) = 1
+refusal_status (refusal.Added e) = 1
+refusal_status (refusal.Edit index why) = 1
+refusal_status refusal.OutOfMemory = 3
+
+-- the status where what edits make of a file isn't printed
+abbrev pub status_of : Unprinted → ℕ
+status_of (unprinted.Refused why) = refusal_status why
+status_of unprinted.NotTaken = 2

@@ -1,0 +1,76 @@
+-- Machinery: words of private contracts.
+-- Why one edit is refused.
+use Rattle.std.specs.Prelude.{◌≡◌, ◌⊎◌, ⊤, ℕ, List}
+use Rattle.bib_syntax.specs.Errors.{out_of_memory}
+use Rattle.bib_syntax.specs.SyntaxErrors.{IsReported}
+use Rattle.bib_syntax.specs.declared.raw.ParseError.{ParseError}
+use Rattle.bib_syntax.specs.declared.raw.ParseErrorKind.{ParseErrorKind}
+use Rattle.bib_syntax.specs.declared.raw.ParseErrorKind.TheVariants as kind
+use Rattle.bib_documents.specs.Documents.{Document}
+use Rattle.bib_documents.specs.declared.errors.EditError.{EditError}
+use Rattle.bib_documents.specs.declared.errors.EditError.TheVariants as error
+use Rattle.bibkit_edits.specs.Edited.{AddsText, AreMade, IsEditRefused, IsDocumentOf}
+use Rattle.bibkit_edits.specs.declared.edit.Edit.{Edit}
+use Rattle.bibkit_edits.specs.declared.edit.Refusal.{Refusal}
+use Rattle.bibkit_edits.specs.declared.edit.Refusal.TheVariants as refusal
+use Rattle.bibkit_edits.specs.declared.editing.Step.{Step}
+use Rattle.bibkit_edits.specs.declared.editing.Step.TheVariants as step
+
+-- the text to be added by an edit isn't read
+pub record AddsUnread (edit : Edit) (e : ParseError) : Type 0 where
+  pub more : List ℕ
+  pub adds : AddsText edit more
+  pub why : (e ≡ out_of_memory) ⊎ IsReported more e
+
+-- why one edit of a document is refused
+abbrev pub StepIsRefused : Edit → Document → Step → Type 0
+StepIsRefused edit d (step.Added e) = AddsUnread edit e
+StepIsRefused edit d (step.Refused why) = IsEditRefused edit d why ⊎ (why ≡ error.OutOfMemory)
+
+-- this refusal, or out of memory where that is the kind of an error
+abbrev pub unless_no_memory : ParseErrorKind → Refusal → Refusal
+unless_no_memory kind.OutOfMemory other = refusal.OutOfMemory
+unless_no_memory _ other = other
+
+-- why edits are refused, where the text to be added isn't read
+abbrev pub added_refusal : ParseError → Refusal
+added_refusal e = unless_no_memory e.kind (refusal.Added e)
+
+-- why edits are refused, where the file's text isn't read
+abbrev pub file_refusal : ParseError → Refusal
+file_refusal e = unless_no_memory e.kind (refusal.File e)
+
+-- why edits are refused, where the one at an index is
+abbrev pub edit_refusal : EditError → ℕ → Refusal
+edit_refusal error.OutOfMemory index = refusal.OutOfMemory
+edit_refusal other index = refusal.Edit index other
+
+-- why edits are refused, where the one at an index is, or the text that it adds isn't read
+abbrev pub refusal_at : Step → ℕ → Refusal
+refusal_at (step.Added e) index = added_refusal e
+refusal_at (step.Refused why) index = edit_refusal why index
+
+-- an edit is refused, of a text that is read as this document
+pub record IsRefusedAt (edit : Edit) (text : List ℕ) (why : EditError) : Type 0 where
+  pub document : Document
+  pub read : IsDocumentOf text document
+  pub refused : IsEditRefused edit document why
+
+-- the text to be added by an edit has an error
+pub record AddsError (edit : Edit) (e : ParseError) : Type 0 where
+  pub more : List ℕ
+  pub adds : AddsText edit more
+  pub reported : IsReported more e
+
+-- why an edit of a text is refused, which has this index among edits
+abbrev pub IsTextRefused : Edit → List ℕ → ℕ → Refusal → Type 0
+IsTextRefused edit text index (refusal.NotUtf8 at) = ⊥
+IsTextRefused edit text index (refusal.File e) = IsReported text e
+IsTextRefused edit text index (refusal.Added e) = AddsError edit e
+IsTextRefused edit text index (refusal.Edit at why) = (at ≡ index) × IsRefusedAt edit text why
+IsTextRefused edit text index refusal.OutOfMemory = ⊤
+
+-- first edits are made of a text, which is as it was or is read
+pub record AreFirstMade (edits : List Edit) (text new : List ℕ) : Type 0 where
+  pub made : AreMade edits text new
+  pub read : (new ≡ text) ⊎ ((d : Document) × IsDocumentOf new d)

@@ -1,0 +1,180 @@
+//! Edits of a file's text, one after another.
+
+ghost use Rattle.std.specs.Prelude.{◌≡◌, ◌≢◌, ◌++◌, IfErr, IfOk, OnErr};
+ghost use Rattle.std.specs.String.{string_bytes};
+ghost use Rattle.bib_documents.specs.Documents.{IsEdited};
+ghost use Rattle.bib_documents.specs.declared.errors.EditError.TheVariants.{OutOfMemory};
+ghost use Rattle.bibkit_edits.specs.Edited.{AreMade, AreRefused, EditOutcome, IsFileMade, IsFileRefused, IsInStyle, IsMade, mark_of};
+ghost use Rattle.bibkit_edits.specs.declared.editing.Step.TheVariants.{Added, Refused};
+ghost use Rattle.bibkit_edits.specs.Steps.{IsTextRefused, StepIsRefused, added_refusal, edit_refusal, file_refusal, refusal_at};
+
+use crate::edit::{Edit, Refusal};
+use bib_documents::document::RawDocument;
+use bib_documents::errors::EditError;
+use bib_encoding::decoding::decode;
+use bib_format::formatting::format;
+use bib_format::style::Style;
+use bib_syntax::raw::ParseError;
+use std::alloc::{AllocError, Global};
+
+// Why one edit of a document is refused.
+#[derive(Debug, Drop)]
+enum Step {
+    // The text to be added isn't read.
+    Added(ParseError),
+    // The edit is refused.
+    Refused(EditError),
+}
+
+impl From<ParseError> for Step {
+    ghost from_gives = { λ error step. step ≡ Added error };
+
+    fn from(error: ParseError) -> Self {
+        Step::Added(error)
+    }
+}
+
+impl From<EditError> for Step {
+    ghost from_gives = { λ error step. step ≡ Refused error };
+
+    fn from(error: EditError) -> Self {
+        Step::Refused(error)
+    }
+}
+
+// The text of a document in one style.
+fn in_style(alloc: Global, document: &RawDocument<'_>, style: &Style) -> Result<String, EditError>
+    ensures made { IfOk result (λ new. IsEdited (IsInStyle style.now document.now) (string_bytes new)) }
+    ensures refused { IfErr result (λ why. why ≡ OutOfMemory) }
+{
+    Ok(format(alloc, document, style)?)
+}
+
+// The text that an edit makes of a document.
+fn edit_document(alloc: Global, document: &RawDocument<'_>, edit: &Edit<'_>) -> Result<String, Step>
+    ensures made { IfOk result (λ new. IsEdited (EditOutcome edit.now document.now) (string_bytes new)) }
+    ensures refused { IfErr result (StepIsRefused edit.now document.now) }
+{
+    match *edit {
+        Edit::Set { key, name, value } => Ok(document.set_field(alloc, key, name, value)?),
+        Edit::Unset { key, name } => Ok(document.unset_field(alloc, key, name)?),
+        Edit::Rename { old, new } => Ok(document.rename_key(alloc, old, new)?),
+        Edit::Remove { key } => Ok(document.remove_entry(alloc, key)?),
+        Edit::Add { text } => {
+            let more = RawDocument::parse(alloc, text)?;
+            Ok(document.add_entries(alloc, &more)?)
+        }
+        Edit::Format { style } => Ok(in_style(alloc, document, &style)?),
+    }
+}
+
+// Why edits are refused, where the text to be added isn't read.
+fn added_refusal(error: ParseError) -> Refusal
+    ensures { result ≡ added_refusal error }
+{
+    match error.unless_out_of_memory() {
+        Ok(()) => Refusal::Added(error),
+        Err(no_memory) => Refusal::from(no_memory),
+    }
+}
+
+// Why edits are refused, where the file's text isn't read.
+fn file_refusal(error: ParseError) -> Refusal
+    ensures { result ≡ file_refusal error }
+{
+    match error.unless_out_of_memory() {
+        Ok(()) => Refusal::File(error),
+        Err(no_memory) => Refusal::from(no_memory),
+    }
+}
+
+// Why an edit is refused, unless it is that there was no memory.
+fn unless_out_of_memory(why: EditError) -> Result<EditError, AllocError>
+    ensures other { IfOk result (λ other. (other ≡ why) × (why ≢ OutOfMemory)) }
+    ensures no_memory { OnErr result (why ≡ OutOfMemory) }
+{
+    match why {
+        EditError::OutOfMemory => Err(AllocError),
+        _ => Ok(why),
+    }
+}
+
+// Why edits are refused, where the one at this index is.
+fn edit_refusal(why: EditError, index: usize) -> Refusal
+    ensures { result ≡ edit_refusal why index }
+{
+    match unless_out_of_memory(why) {
+        Ok(why) => Refusal::Edit { index, why },
+        Err(no_memory) => Refusal::from(no_memory),
+    }
+}
+
+// Why edits are refused, where the one at this index is.
+fn refusal(step: Step, index: usize) -> Refusal
+    ensures { result ≡ refusal_at step index }
+{
+    match step {
+        Step::Added(error) => added_refusal(error),
+        Step::Refused(why) => edit_refusal(why, index),
+    }
+}
+
+// The text that an edit makes of a text. The index is that of the edit.
+fn edited_once(alloc: Global, text: &str, edit: &Edit<'_>, index: usize) -> Result<String, Refusal>
+    ensures made { IfOk result (λ new. IsMade edit.now text.now (string_bytes new)) }
+    ensures refused { IfErr result (IsTextRefused edit.now text.now index) }
+{
+    match RawDocument::parse(alloc, text) {
+        Ok(document) => match edit_document(alloc, &document, edit) {
+            Ok(new) => Ok(new),
+            Err(step) => Err(refusal(step, index)),
+        },
+        Err(error) => Err(file_refusal(error)),
+    }
+}
+
+/// The text that edits make of a text: each is of the text that the one before made. All of them are made, or none.
+pub fn edited(alloc: Global, text: &str, edits: &[Edit<'_>]) -> Result<String, Refusal>
+    ensures made { IfOk result (λ new. AreMade edits.now text.now (string_bytes new)) }
+    ensures refused { IfErr result (AreRefused edits.now text.now) }
+{
+    let mut new = String::from_str(alloc, text)?;
+    'edits: for (index, edit) in edits.iter().enumerate() {
+        new = edited_once(alloc, &new, edit, index)?;
+    }
+    Ok(new)
+}
+
+// The byte order mark that a file begins with, if it does.
+fn mark(bytes: &[u8]) -> &'static str
+    ensures { result.now ≡ mark_of bytes.now }
+{
+    if bytes.starts_with(b"\xEF\xBB\xBF") {
+        "\u{FEFF}"
+    } else {
+        ""
+    }
+}
+
+// Two texts, one after the other.
+fn joined(alloc: Global, first: &str, second: &str) -> Result<String, AllocError>
+    ensures { IfOk result (λ text. string_bytes text ≡ first.now ++ second.now) }
+{
+    let mut text = String::from_str(alloc, first)?;
+    text.push_str(second)?;
+    Ok(text)
+}
+
+/// What edits make of a file's bytes, which have to be UTF-8: a byte order mark at their start stays, and the text after it is
+/// edited.
+pub fn edited_file(alloc: Global, bytes: &[u8], edits: &[Edit<'_>]) -> Result<String, Refusal>
+    ensures made { IfOk result (λ new. IsFileMade edits.now bytes.now (string_bytes new)) }
+    ensures refused { IfErr result (IsFileRefused edits.now bytes.now) }
+{
+    let decoded = decode(alloc, bytes)?;
+    if let Some(at) = decoded.invalid {
+        return Err(Refusal::NotUtf8 { at });
+    }
+    let new = edited(alloc, &decoded.text, edits)?;
+    Ok(joined(alloc, mark(bytes), &new)?)
+}
