@@ -8,7 +8,7 @@ use Rattle.std.proofs.lemmas.Bool.{cases_lt, not-true}
 use Rattle.std.proofs.lemmas.Simd.{map-map}
 use Rattle.bib_text.specs.Places.{Place, place, CharAt, Run, Stops, between}
 use Rattle.bib_text.specs.Places.Run.{stop, step}
-use Rattle.bib_text.proofs.PlaceFacts.{ahead_then, ahead_char, ahead_run, same_char, same_place, stops_at}
+use Rattle.bib_text.proofs.PlaceFacts.{Ahead, ahead_then, ahead_char, ahead_run, same_char, same_place, stops_at}
 use Rattle.bib_syntax.specs.Characters.{is_key}
 use Rattle.bib_syntax.specs.Reading.{part, FieldReading, EntryReading}
 use Rattle.bib_syntax.specs.Recovery.{entry_alone}
@@ -21,9 +21,11 @@ use Rattle.bib_documents.proofs.BoundaryFacts.{not_over}
 use Rattle.bib_documents.proofs.GrammarFacts.{block_there}
 use Rattle.bib_documents.proofs.MovedFacts.{char_within}
 use Rattle.bib_documents.proofs.SplitFacts.{EntryBlock, block_of}
-use Rattle.bib_documents.proofs.ZoneFacts.{run_there, there}
-use Rattle.bib_format.specs.Formatted.{entry_content, entry_in_style, entry_laid_out, field_in_lowercase, field_laid_out, has_comment, last_comma, padded_width}
+use Rattle.bib_documents.proofs.ZoneFacts.{Frame, Inside, Zone, between_there, inside_between, run_there, there}
+use Rattle.bib_format.specs.Formatted.{entry_content, entry_in_style, entry_laid_out, field_in_lowercase, field_laid_out, has_comment, has_percent, has_percent_between, last_comma, padded_width}
 use Rattle.bib_format.specs.declared.style.Style.{Style}
+use Rattle.bib_format.proofs.ByteFacts.{has}
+use Rattle.bib_format.proofs.ColumnFacts.{same_last, same_padded}
 use Rattle.bib_format.proofs.ContentFacts.{entry_placeless}
 use Rattle.bib_format.proofs.ElementFacts.{one_byte, parted}
 use Rattle.bib_format.proofs.FieldFacts.{CommaRead, IsLineEnd, LastComma, after_last, fields_read, none_read}
@@ -44,15 +46,15 @@ last_of style f fs = by_choice style.trailing_comma
     by_choice false = LastComma.none
 
 key_read : (line_end : List ℕ) (style : Style) (width : ℕ) (text : List ℕ) {a b u v : Place} {fs : List FieldReading} → IsLineEnd line_end → a.text ≡ text → Fields longest a fs b → b.at ≤ length text
-    → Stands u (flat_map (field_laid_out line_end style text width) fs ++ (last_comma style fs ++ (line_end ++ 125 ∷ []))) v → CommaRead fs u v
-key_read line_end style width text ends same (fields.none white) within s = none_read line_end ends s
+    → Stands u (flat_map (field_laid_out line_end style text width) fs ++ (last_comma style fs ++ (line_end ++ 125 ∷ []))) v → CommaRead line_end style text width fs u v
+key_read line_end style width text ends same (fields.none white) within s = none_read line_end style text width ends s
 key_read line_end style width text {a} {b} {u} {v} ends same (fields.last {v = a1} {f = f} field g) within s =
     let write = field_laid_out line_end style text width in
     let tail = last_comma style (f ∷ []) ++ (line_end ++ 125 ∷ []) in
     let s' : Stands u (write f ++ tail) v = subst (λ t. Stands u t v) (append_assoc (write f) [] tail) s in
     let up : a1.at ≤ length a.text = omega (arith, within, (ahead_gap g).at, ap length same) in
     let here = subst (λ t. Stands u (field_laid_out line_end style t width f) (past u (write f))) (sym same) (first_part (write f) tail s') in
-    after_last line_end style width ends (last_of style f []) field up here (last_part (write f) tail s')
+    after_last line_end style text width ends (last_of style f []) field up same here (last_part (write f) tail s')
 key_read line_end style width text {a} {b} {u} {v} ends same (fields.more {v = a1} {y = a4} {f = f} {fs = fs} field g sep g' rest) within s =
     let write = field_laid_out line_end style text width in
     let tail = last_comma style (f ∷ fs) ++ (line_end ++ 125 ∷ []) in
@@ -64,11 +66,14 @@ key_read line_end style width text {a} {b} {u} {v} ends same (fields.more {v = a
 
 -- ---- an entry
 
--- an entry of a text, read in another
-pub record EntryRead (e : EntryReading) (u v : Place) : Type 0 where
+-- an entry of a text, written as these bytes and read in another text
+pub record EntryRead (line_end : List ℕ) (style : Style) (bytes : List ℕ) (e : EntryReading) (u v : Place) : Type 0 where
   pub reading : EntryReading
   pub block : Block longest u (entry_alone reading) v
   pub alike : entry_content reading ≡ entry_content e
+  pub again : entry_in_style line_end style u.text reading ≡ bytes
+  pub starts : reading.start ≡ u.at
+  pub ends : reading.end + 1 ≡ v.at
 
 and_right : (b c : Bool) → (b && c) ≡ true → c ≡ true
 and_right true c is = is
@@ -81,7 +86,7 @@ stops_key : {u v : Place} → Run is_key u v → Stops is_whitespace v → Stops
 stops_key stop stops = stops
 stops_key (step {c = c} char passes rest) stops = stops_at is_whitespace char (key_dark c passes)
 
-laid_out_read : (line_end : List ℕ) (style : Style) {a b u v : Place} {e : EntryReading} → IsLineEnd line_end → EntryBlock a e b → Stands u (entry_laid_out line_end style a.text e) v → EntryRead e u v
+laid_out_read : (line_end : List ℕ) (style : Style) {a b u v : Place} {e : EntryReading} → IsLineEnd line_end → EntryBlock a e b → Stands u (entry_laid_out line_end style a.text e) v → EntryRead line_end style (entry_laid_out line_end style a.text e) e u v
 laid_out_read line_end style {a} {b} {u} {v} {e} ends x s =
     let width = padded_width style e.fields in
     let kind = str_to_ascii_lowercase e.kind.text in
@@ -153,6 +158,9 @@ laid_out_read line_end style {a} {b} {u} {v} {e} ends x s =
       starts = refl;
       ends = refl;
     } in
+    let write = λ (t k fields last : List ℕ). 64 ∷ (t ++ (123 ∷ (k ++ (fields ++ (last ++ (line_end ++ 125 ∷ [])))))) in
+    let from = λ (n : ℕ). flat_map (field_laid_out line_end style u.text n) list.reading in
+    let next : v.at ≡ list.brace.at + 1 = list.closes.next in
     let build = λ (k t : List ℕ) (fs : List FieldReading). let r : EntryReading = record { key = record { text = k; start = 0; end = 0 }; kind = record { text = t; start = 0; end = 0 }; fields = fs; start = 0; end = 0 } in r in
     record {
       reading = e';
@@ -161,11 +169,65 @@ laid_out_read line_end style {a} {b} {u} {v} {e} ends x s =
           ∙ ap (λ t. build e.key.text (str_to_ascii_lowercase t) (contents list.reading)) kind_text
           ∙ ap (λ t. build e.key.text t (contents list.reading)) (lower_lower e.kind.text)
           ∙ ap (build e.key.text kind) (map-map (moved_field (λ n. 0)) field_in_lowercase list.reading ∙ list.alike ∙ sym (map-map (moved_field (λ n. 0)) field_in_lowercase e.fields));
+      again = ap (λ c. cond c (between (place u.text u.at) (place u.text (list.brace.at + 1))) (entry_laid_out line_end style u.text e')) list.clear
+          ∙ ap (λ t. write (str_to_ascii_lowercase t) (between u3 u4) (from (padded_width style list.reading)) (last_comma style list.reading)) kind_text
+          ∙ ap (λ t. write t (between u3 u4) (from (padded_width style list.reading)) (last_comma style list.reading)) (lower_lower e.kind.text)
+          ∙ ap (λ k. write kind k (from (padded_width style list.reading)) (last_comma style list.reading)) key_text
+          ∙ ap (λ n. write kind e.key.text (from n) (last_comma style list.reading)) (same_padded style list.reading e.fields list.alike)
+          ∙ ap (λ t. write kind e.key.text t (last_comma style list.reading)) list.again
+          ∙ ap (write kind e.key.text (flat_map (field_laid_out line_end style a.text width) e.fields)) (same_last style list.reading e.fields list.alike);
+      starts = refl;
+      ends = sym next;
     }
 
+-- whether a percent sign stands between two places of a zone
+percent_there : {f : Frame} {p q : Place} → Zone f → Inside f p → Inside f q → Ahead p q → has_percent f.new (f.move p.at) (f.move q.at) ≡ has_percent f.old p.at q.at
+percent_there {f} {p} {q} z ip iq ahead = ap (has 37) (between_there z ip iq ahead ∙ ap (λ t. take (q.at - p.at) (drop p.at t)) ip.text)
+
+percents_there : {f : Frame} {s x y : Place} {fs : List FieldReading} → Zone f → Inside f s → Inside f y → Ahead s x → Fields longest x fs y
+    → has_percent_between f.new (f.move s.at) (map (moved_field f.move) fs) (f.move y.at) ≡ has_percent_between f.old s.at fs y.at
+percents_there z is iy ahead (fields.none white) = percent_there z is iy (ahead_then ahead (ahead_run white.run))
+percents_there {f} {s} {x} {y} z is iy ahead (fields.last {v = w} {f = r} field g) =
+    let ix = inside_between z is iy ahead (ahead_then (ahead_field field) (ahead_gap g)) in
+    let iw = inside_between z is iy (ahead_then ahead (ahead_field field)) (ahead_gap g) in
+    let begins : r.name.start ≡ x.at = ap (λ p. p.start) field.name.reading in
+    ap (λ n. has_percent f.new (f.move s.at) (f.move n) || has_percent f.new (f.move r.value.end) (f.move y.at)) begins
+    ∙ ap (λ n. has_percent f.new (f.move s.at) (f.move x.at) || has_percent f.new (f.move n) (f.move y.at)) field.ends
+    ∙ ap (λ c. c || has_percent f.new (f.move w.at) (f.move y.at)) (percent_there z is ix ahead)
+    ∙ ap (λ c. has_percent f.old s.at x.at || c) (percent_there z iw iy (ahead_gap g))
+    ∙ ap (λ n. has_percent f.old s.at x.at || has_percent f.old n y.at) (sym field.ends)
+    ∙ ap (λ n. has_percent f.old s.at n || has_percent f.old r.value.end y.at) (sym begins)
+percents_there {f} {s} {x} {y} z is iy ahead (fields.more {v = w} {f = r} {fs = rs} field g comma g' rest) =
+    let past_comma = ahead_then (ahead_gap g) (ahead_then (ahead_char comma) (ahead_gap g')) in
+    let over = ahead_then past_comma (ahead_fields rest) in
+    let ix = inside_between z is iy ahead (ahead_then (ahead_field field) over) in
+    let iw = inside_between z is iy (ahead_then ahead (ahead_field field)) over in
+    let begins : r.name.start ≡ x.at = ap (λ p. p.start) field.name.reading in
+    ap (λ n. has_percent f.new (f.move s.at) (f.move n) || has_percent_between f.new (f.move r.value.end) (map (moved_field f.move) rs) (f.move y.at)) begins
+    ∙ ap (λ n. has_percent f.new (f.move s.at) (f.move x.at) || has_percent_between f.new (f.move n) (map (moved_field f.move) rs) (f.move y.at)) field.ends
+    ∙ ap (λ c. c || has_percent_between f.new (f.move w.at) (map (moved_field f.move) rs) (f.move y.at)) (percent_there z is ix ahead)
+    ∙ ap (λ c. has_percent f.old s.at x.at || c) (percents_there z iw iy past_comma rest)
+    ∙ ap (λ n. has_percent f.old s.at x.at || has_percent_between f.old n rs y.at) (sym field.ends)
+    ∙ ap (λ n. has_percent f.old s.at n || has_percent_between f.old r.value.end rs y.at) (sym begins)
+
+-- whether a comment stands in an entry of a zone
+comment_there : {f : Frame} {a b : Place} {e : EntryReading} → Zone f → Inside f a → Inside f b → EntryBlock a e b → has_comment f.new (moved_entry f.move e) ≡ has_comment f.old e
+comment_there {f} {a} {b} {e} z ia ib x =
+    let to_key = ahead_then (ahead_head x.head) (ahead_run x.key.run) in
+    let to_fields = ahead_then (ahead_run x.white.run) (ahead_then (ahead_char x.comma) (ahead_gap x.gap)) in
+    let to_brace = ahead_then to_fields (ahead_fields x.fields) in
+    let key = inside_between z ia ib to_key (ahead_then to_brace (ahead_char x.closes)) in
+    let brace = inside_between z ia ib (ahead_then to_key to_brace) (ahead_char x.closes) in
+    let key_end : e.key.end ≡ x.key_end.at = ap (λ p. p.end) x.key_is in
+    ap (λ n. has_percent_between f.new (f.move n) (map (moved_field f.move) e.fields) (f.move e.end)) key_end
+    ∙ ap (λ n. has_percent_between f.new (f.move x.key_end.at) (map (moved_field f.move) e.fields) (f.move n)) x.ends
+    ∙ percents_there z key brace to_fields x.fields
+    ∙ ap (λ n. has_percent_between f.old x.key_end.at e.fields n) (sym x.ends)
+    ∙ ap (λ n. has_percent_between f.old n e.fields e.end) (sym key_end)
+
 -- an entry that stays as it stands
-kept_read : {a b u v : Place} {e : EntryReading} → EntryBlock a e b → Stands u (between a b) v → EntryRead e u v
-kept_read {a} {b} {u} {v} {e} x s =
+kept_read : (line_end : List ℕ) (style : Style) {a b u v : Place} {e : EntryReading} → has_comment a.text e ≡ true → EntryBlock a e b → Stands u (between a b) v → EntryRead line_end style (between a b) e u v
+kept_read line_end style {a} {b} {u} {v} {e} commented x s =
     let to_inside = ahead_head x.head in
     let to_brace = ahead_then to_inside (ahead_then (ahead_run x.key.run) (ahead_then (ahead_run x.white.run) (ahead_then (ahead_char x.comma) (ahead_then (ahead_gap x.gap) (ahead_fields x.fields))))) in
     let whole = ahead_then to_brace (ahead_char x.closes) in
@@ -179,11 +241,19 @@ kept_read {a} {b} {u} {v} {e} x s =
     let over = λ (p q : Place) (d : ℕ) (same : p.text ≡ u.text) (char : CharAt p d q) (low : p.at < v.at). last_char m p q v same char brace low next in
     let c = copied whole within s over in
     let move = λ (n : ℕ). n - a.at + u.at in
+    let to_start : move e.start ≡ u.at = omega (arith, x.starts) in
+    let last_next : b.at ≡ x.brace.at + 1 = x.closes.next in
+    let size : v.at + a.at ≡ b.at + u.at = omega (arith, c.end.moved, ap (λ p. p.at) c.goes_end) in
+    let to_end : move e.end + 1 ≡ v.at = omega (arith, x.ends, last_next, size, to_brace.at) in
     record {
       reading = moved_entry move e;
       block = subst (λ p. Block longest p (entry_alone (moved_entry move e)) v) c.goes_start
           (subst (λ p. Block longest (there (copy_frame a b u) a) (entry_alone (moved_entry move e)) p) c.goes_end (block_there c.zone c.start c.end (block_of x)));
       alike = entry_placeless move e;
+      again = ap (λ c. cond c (between (place u.text (move e.start)) (place u.text (move e.end + 1))) (entry_laid_out line_end style u.text (moved_entry move e))) (comment_there c.zone c.start c.end x ∙ commented)
+          ∙ ap (λ n. between (place u.text n) (place u.text (move e.end + 1))) to_start ∙ ap (λ n. take (n - u.at) (drop u.at u.text)) to_end ∙ between_stands (between a b) s;
+      starts = to_start;
+      ends = to_end;
     }
   where
     last_char : (m p q v : Place) {d : ℕ} → p.text ≡ m.text → CharAt p d q → CharAt m 125 v → p.at < v.at → v.at ≡ m.at + 1 → q.at ≤ v.at
@@ -198,10 +268,10 @@ kept_read {a} {b} {u} {v} {e} x s =
 
 -- ---- either
 
-pub entry_read : (line_end : List ℕ) (style : Style) (text : List ℕ) {a b u v : Place} {e : EntryReading} → IsLineEnd line_end → a.text ≡ text → EntryBlock a e b → Stands u (entry_in_style line_end style text e) v → EntryRead e u v
+pub entry_read : (line_end : List ℕ) (style : Style) (text : List ℕ) {a b u v : Place} {e : EntryReading} → IsLineEnd line_end → a.text ≡ text → EntryBlock a e b → Stands u (entry_in_style line_end style text e) v → EntryRead line_end style (entry_in_style line_end style text e) e u v
 entry_read line_end style text {a} {b} {u} {v} {e} ends same x s = by_comment (has_comment text e) refl
   where
-    by_comment : (c : Bool) → has_comment text e ≡ c → EntryRead e u v
+    by_comment : (c : Bool) → has_comment text e ≡ c → EntryRead line_end style (entry_in_style line_end style text e) e u v
     by_comment true is =
         let from : e.start ≡ a.at = x.starts in
         let next : b.at ≡ x.brace.at + 1 = x.closes.next in
@@ -209,8 +279,9 @@ entry_read line_end style text {a} {b} {u} {v} {e} ends same x s = by_comment (h
         let kept : entry_in_style line_end style text e ≡ between a b =
         ap (λ c. cond c (between (place text e.start) (place text (e.end + 1))) (entry_laid_out line_end style text e)) is
         ∙ ap (λ n. between (place text n) (place text (e.end + 1))) from ∙ ap (λ n. take (n - a.at) (drop a.at text)) to ∙ ap (λ t. take (b.at - a.at) (drop a.at t)) (sym same) in
-        kept_read x (subst (λ t. Stands u t v) kept s)
+        let commented : has_comment a.text e ≡ true = ap (λ t. has_comment t e) same ∙ is in
+        subst (λ t. EntryRead line_end style t e u v) (sym kept) (kept_read line_end style commented x (subst (λ t. Stands u t v) kept s))
     by_comment false is =
         let laid_out : entry_in_style line_end style text e ≡ entry_laid_out line_end style a.text e =
         ap (λ c. cond c (between (place text e.start) (place text (e.end + 1))) (entry_laid_out line_end style text e)) is ∙ ap (λ t. entry_laid_out line_end style t e) (sym same) in
-        laid_out_read line_end style ends x (subst (λ t. Stands u t v) laid_out s)
+        subst (λ t. EntryRead line_end style t e u v) (sym laid_out) (laid_out_read line_end style ends x (subst (λ t. Stands u t v) laid_out s))

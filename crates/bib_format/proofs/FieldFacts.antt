@@ -5,7 +5,7 @@ use Rattle.std.specs.Char.{is_whitespace}
 use Rattle.std.specs.List.{flat_map}
 use Rattle.std.specs.Str.{chars, str_to_ascii_lowercase}
 use Rattle.std.proofs.lemmas.Bool.{ne_eqb}
-use Rattle.bib_text.specs.Places.{Place, CharAt, Stops, Longest, between}
+use Rattle.bib_text.specs.Places.{Place, place, CharAt, Stops, Longest, between}
 use Rattle.bib_text.specs.Places.Run.{stop, step}
 use Rattle.bib_text.proofs.PlaceFacts.{ahead_then, ahead_char, ahead_run, run_append, stops_at, test_clash}
 use Rattle.bib_syntax.specs.Characters.{is_id_start}
@@ -16,13 +16,15 @@ use Rattle.bib_syntax.specs.Grammar.{Gap as gap}
 use Rattle.bib_syntax.proofs.FieldFacts.{ahead_identifier, ahead_elements, ahead_field, ahead_gap, ahead_fields}
 use Rattle.bib_syntax.proofs.LawFacts.{start_not_white}
 use Rattle.bib_documents.specs.Edits.{moved_field, moved_piece}
-use Rattle.bib_format.specs.Formatted.{field_in_lowercase, field_laid_out, spaces, value_laid_out}
+use Rattle.bib_format.specs.Formatted.{field_in_lowercase, field_laid_out, has_percent, has_percent_between, spaces, value_laid_out}
 use Rattle.bib_format.specs.declared.style.Style.{Style}
+use Rattle.bib_format.proofs.ByteFacts.{either_false, has, white_without}
 use Rattle.bib_format.proofs.ElementFacts.{Ending}
 use Rattle.bib_format.proofs.LowerFacts.{lower_lower}
-use Rattle.bib_format.proofs.NameFacts.{name_read}
-use Rattle.bib_format.proofs.StandsFacts.{AreWhite, Stands, ascii, between_stands, first_part, last_part, past, run_white, spaces_white}
+use Rattle.bib_format.proofs.NameFacts.{name_read, none_between}
+use Rattle.bib_format.proofs.StandsFacts.{AreWhite, Stands, ascii, between_stands, first_part, joined, last_part, past, run_white, spaces_white, white_append}
 use Rattle.bib_format.proofs.ValueFacts.{not_opened_run, not_opened_sign, not_opened_white, signed, unsigned, value_read}
+use Rattle.bib_format.proofs.WidthFacts.{width_lower}
 
 -- how lines end: with white space, after which and before a closing brace a value ends
 pub record IsLineEnd (line_end : List ℕ) : Type 0 where
@@ -41,7 +43,7 @@ first_space {u} {v} zero rest s = record { char = 32; next = _; here = ascii 32 
 first_space {u} {v} (suc n) rest s = record { char = 32; next = _; here = ascii 32 (omega arith) (first_part (32 ∷ []) (replicate n 32 ++ 32 ∷ rest) s); no_name = refl; no_digit = refl; no_point = refl }
 
 -- a field in a line of its own, after a comma
-pub record FieldRead (f : FieldReading) (u v : Place) : Type 0 where
+pub record FieldRead (line_end : List ℕ) (style : Style) (text : List ℕ) (width : ℕ) (f : FieldReading) (u v : Place) : Type 0 where
   pub after : Place
   pub start : Place
   pub reading : FieldReading
@@ -49,9 +51,11 @@ pub record FieldRead (f : FieldReading) (u v : Place) : Type 0 where
   pub gap : Gap longest after start
   pub field : Field longest start reading v
   pub alike : field_content reading ≡ field_content f
+  pub again : field_laid_out line_end style u.text width reading ≡ field_laid_out line_end style text width f
+  pub clear : has_percent u.text u.at reading.name.start ≡ false
 
 pub field_read : (line_end : List ℕ) (style : Style) (width : ℕ) {a b u v w : Place} {f : FieldReading} → IsLineEnd line_end → Field longest a f b → b.at ≤ length a.text → Stands u (field_laid_out line_end style a.text width f) v
-    → Ending v → Longest is_whitespace v w → Stops (λ c. c == 35) w → FieldRead f u w
+    → Ending v → Longest is_whitespace v w → Stops (λ c. c == 35) w → FieldRead line_end style a.text width f u w
 field_read line_end style width {a} {b} {u} {v} {w} {f} ends field within s ending over no_hash =
     let indent = spaces style.indent in
     let name = str_to_ascii_lowercase f.name.text in
@@ -91,6 +95,12 @@ field_read line_end style width {a} {b} {u} {v} {w} {f} ends field within s endi
     let opened = not_opened_run (not_opened_sign 61 (omega arith) (λ clash. omega arith) (λ clash. omega arith) field.sign) field.white'.run in
     let value = value_read field.elements opened (omega (arith, within, ap length same)) s8 (not_opened_white space' refl) ending over no_hash in
     let text_is : between u3 u4 ≡ name = between_stands name named in
+    let value_again : value_laid_out (codes " = ") u.text value.reading ≡ value_laid_out (codes " = ") a.text es =
+    signed (codes " = ") u.text value.elements ∙ ap (λ t. 32 ∷ 61 ∷ 32 ∷ t) value.again ∙ sym value_is in
+    let write = λ (t : List ℕ) (k : ℕ) (rest : List ℕ). 44 ∷ (line_end ++ (indent ++ (t ++ (spaces (width - k) ++ rest)))) in
+    let before_name : between u u3 ≡ 44 ∷ (line_end ++ indent) =
+    between_stands (44 ∷ (line_end ++ indent)) (joined (44 ∷ []) (line_end ++ indent) (first_part (44 ∷ []) (line_end ++ (indent ++ (name ++ padded))) s0)
+    (joined line_end indent (first_part line_end (indent ++ (name ++ padded)) s1) (first_part indent (name ++ padded) s2))) in
     let build = λ (t : List ℕ) (ps : List Piece). let g : FieldReading = record { name = record { text = t; start = 0; end = 0 }; value = record { pieces = ps; start = 0; end = 0 } } in g in
     record {
       after = past u (44 ∷ []);
@@ -112,12 +122,16 @@ field_read line_end style width {a} {b} {u} {v} {w} {f} ends field within s endi
         ends = refl;
       };
       alike = ap (λ t. build (str_to_ascii_lowercase t) (map (moved_piece (λ n. 0)) value.reading)) text_is ∙ ap (λ t. build t (map (moved_piece (λ n. 0)) value.reading)) (lower_lower f.name.text) ∙ ap (build name) value.alike;
+      again = ap (λ t. write (str_to_ascii_lowercase t) (length (chars t)) (value_laid_out (codes " = ") u.text value.reading)) text_is
+          ∙ ap (λ t. write t (length (chars name)) (value_laid_out (codes " = ") u.text value.reading)) (lower_lower f.name.text)
+          ∙ ap (λ k. write name k (value_laid_out (codes " = ") u.text value.reading)) (width_lower f.name.text) ∙ ap (write name (length (chars f.name.text))) value_again;
+      clear = ap (has 37) before_name ∙ white_without (line_end ++ indent) (white_append line_end indent ends.white (spaces_white style.indent));
     }
 
 -- ---- fields
 
 -- a comma, fields, and a closing brace
-pub record CommaRead (fs : List FieldReading) (u v : Place) : Type 0 where
+pub record CommaRead (line_end : List ℕ) (style : Style) (text : List ℕ) (width : ℕ) (fs : List FieldReading) (u v : Place) : Type 0 where
   pub after : Place
   pub start : Place
   pub brace : Place
@@ -127,6 +141,8 @@ pub record CommaRead (fs : List FieldReading) (u v : Place) : Type 0 where
   pub fields : Fields longest start reading brace
   pub closes : CharAt brace 125 v
   pub alike : map field_content reading ≡ map field_content fs
+  pub again : flat_map (field_laid_out line_end style u.text width) reading ≡ flat_map (field_laid_out line_end style text width) fs
+  pub clear : has_percent_between u.text u.at reading brace.at ≡ false
 
 -- white space and a closing brace
 pub record CloseRead (u v : Place) : Type 0 where
@@ -145,10 +161,13 @@ close_read line_end {u} {v} ends s =
       closes = brace;
     }
 
-pub none_read : (line_end : List ℕ) {u v : Place} → IsLineEnd line_end → Stands u (44 ∷ (line_end ++ 125 ∷ [])) v → CommaRead [] u v
-none_read line_end {u} {v} ends s =
+pub none_read : (line_end : List ℕ) (style : Style) (text : List ℕ) (width : ℕ) {u v : Place} → IsLineEnd line_end → Stands u (44 ∷ (line_end ++ 125 ∷ [])) v → CommaRead line_end style text width [] u v
+none_read line_end style text width {u} {v} ends s =
     let comma = ascii 44 (omega arith) (first_part (44 ∷ []) (line_end ++ 125 ∷ []) s) in
-    let close = close_read line_end ends (last_part (44 ∷ []) (line_end ++ 125 ∷ []) s) in
+    let rest = last_part (44 ∷ []) (line_end ++ 125 ∷ []) s in
+    let close = close_read line_end ends rest in
+    let bytes : between u close.brace ≡ 44 ∷ line_end =
+    between_stands (44 ∷ line_end) (joined (44 ∷ []) line_end (first_part (44 ∷ []) (line_end ++ 125 ∷ []) s) (first_part line_end (125 ∷ []) rest)) in
     record {
       after = past u (44 ∷ []);
       start = close.brace;
@@ -159,12 +178,15 @@ none_read line_end {u} {v} ends s =
       fields = fields.none (record { run = stop; stops = stops_at is_whitespace close.closes refl });
       closes = close.closes;
       alike = refl;
+      again = refl;
+      clear = ap (has 37) bytes ∙ white_without line_end ends.white;
     }
 
 -- a field before others, or before the end
-before_comma : (line_end : List ℕ) (style : Style) (width : ℕ) {a b u m v : Place} {f : FieldReading} {fs : List FieldReading} → IsLineEnd line_end → Field longest a f b → b.at ≤ length a.text
-    → Stands u (field_laid_out line_end style a.text width f) m → CommaRead fs m v → CommaRead (f ∷ fs) u v
-before_comma line_end style width {a} {b} {u} {m} {v} {f} {fs} ends field within s rest =
+before_comma : (line_end : List ℕ) (style : Style) (text : List ℕ) (width : ℕ) {a b u m v : Place} {f : FieldReading} {fs : List FieldReading} → IsLineEnd line_end → Field longest a f b → b.at ≤ length a.text
+    → a.text ≡ text → Stands u (field_laid_out line_end style a.text width f) m → CommaRead line_end style text width fs m v → CommaRead line_end style text width (f ∷ fs) u v
+before_comma line_end style text width {a} {b} {u} {m} {v} {f} {fs} ends field within old s rest =
+    let write = λ (t : List ℕ). field_laid_out line_end style t width in
     let none : Longest is_whitespace m m = record { run = stop; stops = stops_at is_whitespace rest.comma refl } in
     let x = field_read line_end style width ends field within s (record { char = 44; next = _; here = rest.comma; no_name = refl; no_digit = refl; no_point = refl }) none (stops_at (λ c. c == 35) rest.comma refl) in
     record {
@@ -177,11 +199,14 @@ before_comma line_end style width {a} {b} {u} {m} {v} {f} {fs} ends field within
       fields = fields.more x.field (gap.white none (stops_at (λ c. c == 37) rest.comma refl)) rest.comma rest.gap rest.fields;
       closes = rest.closes;
       alike = ap (λ y. y ∷ map field_content rest.reading) x.alike ∙ ap (λ ys. field_content f ∷ ys) rest.alike;
+      again = ap (λ t. t ++ flat_map (write u.text) rest.reading) (x.again ∙ ap (λ t. write t f) old)
+          ∙ ap (λ t. write text f ++ t) (ap (λ t. flat_map (write t) rest.reading) (sym s.same) ∙ rest.again);
+      clear = either_false _ _ x.clear (ap (λ n. has_percent_between u.text n rest.reading rest.brace.at) x.field.ends ∙ ap (λ t. has_percent_between t m.at rest.reading rest.brace.at) (sym s.same) ∙ rest.clear);
     }
 
-before_close : (line_end : List ℕ) (style : Style) (width : ℕ) {a b u m v : Place} {f : FieldReading} → IsLineEnd line_end → Field longest a f b → b.at ≤ length a.text
-    → Stands u (field_laid_out line_end style a.text width f) m → CloseRead m v → CommaRead (f ∷ []) u v
-before_close line_end style width {a} {b} {u} {m} {v} {f} ends field within s rest =
+before_close : (line_end : List ℕ) (style : Style) (text : List ℕ) (width : ℕ) {a b u m v : Place} {f : FieldReading} → IsLineEnd line_end → Field longest a f b → b.at ≤ length a.text
+    → a.text ≡ text → Stands u (field_laid_out line_end style a.text width f) m → CloseRead m v → CommaRead line_end style text width (f ∷ []) u v
+before_close line_end style text width {a} {b} {u} {m} {v} {f} ends field within old s rest =
     let x = field_read line_end style width ends field within s rest.ending rest.white (stops_at (λ c. c == 35) rest.closes refl) in
     record {
       after = x.after;
@@ -193,6 +218,8 @@ before_close line_end style width {a} {b} {u} {m} {v} {f} ends field within s re
       fields = fields.last x.field (gap.white (record { run = stop; stops = stops_at is_whitespace rest.closes refl }) (stops_at (λ c. c == 37) rest.closes refl));
       closes = rest.closes;
       alike = ap (λ y. y ∷ []) x.alike;
+      again = ap (λ t. t ++ []) (x.again ∙ ap (λ t. field_laid_out line_end style t width f) old);
+      clear = either_false _ _ x.clear (ap (λ n. has_percent u.text n rest.brace.at) x.field.ends ∙ ap (has 37) (none_between (place u.text rest.brace.at)));
     }
 
 -- the last comma, or none
@@ -201,23 +228,23 @@ pub data LastComma : List ℕ → Type 0 where
   none : LastComma []
 
 -- what stands after a field: others, or the end
-pub after_last : (line_end : List ℕ) (style : Style) (width : ℕ) {a b u m v : Place} {f : FieldReading} {last : List ℕ} → IsLineEnd line_end → LastComma last → Field longest a f b → b.at ≤ length a.text
-    → Stands u (field_laid_out line_end style a.text width f) m → Stands m (last ++ (line_end ++ 125 ∷ [])) v → CommaRead (f ∷ []) u v
-after_last line_end style width ends LastComma.comma field within s rest = before_comma line_end style width ends field within s (none_read line_end ends rest)
-after_last line_end style width ends LastComma.none field within s rest = before_close line_end style width ends field within s (close_read line_end ends rest)
+pub after_last : (line_end : List ℕ) (style : Style) (text : List ℕ) (width : ℕ) {a b u m v : Place} {f : FieldReading} {last : List ℕ} → IsLineEnd line_end → LastComma last → Field longest a f b → b.at ≤ length a.text
+    → a.text ≡ text → Stands u (field_laid_out line_end style a.text width f) m → Stands m (last ++ (line_end ++ 125 ∷ [])) v → CommaRead line_end style text width (f ∷ []) u v
+after_last line_end style text width ends LastComma.comma field within old s rest = before_comma line_end style text width ends field within old s (none_read line_end style text width ends rest)
+after_last line_end style text width ends LastComma.none field within old s rest = before_close line_end style text width ends field within old s (close_read line_end ends rest)
 
 -- fields after one that ends here, or the end
 pub fields_read : (line_end : List ℕ) (style : Style) (width : ℕ) (text : List ℕ) (last : List ℕ) {a b c d u m v : Place} {f : FieldReading} {fs : List FieldReading} → IsLineEnd line_end → LastComma last → Field longest a f b → b.at ≤ length a.text
     → a.text ≡ text → Stands u (field_laid_out line_end style a.text width f) m → c.text ≡ text → Fields longest c fs d → d.at ≤ length text → Stands m (flat_map (field_laid_out line_end style text width) fs ++ (last ++ (line_end ++ 125 ∷ []))) v
-    → CommaRead (f ∷ fs) u v
-fields_read line_end style width text last ends way field up old first same (fields.none white) within s = after_last line_end style width ends way field up first s
+    → CommaRead line_end style text width (f ∷ fs) u v
+fields_read line_end style width text last ends way field up old first same (fields.none white) within s = after_last line_end style text width ends way field up old first s
 fields_read line_end style width text last {c = c} {m = m} {v = v} ends way field up old first same (fields.last {v = c1} {f = g} next gap') within s =
     let write = field_laid_out line_end style text width in
     let tail = last ++ (line_end ++ 125 ∷ []) in
     let s' : Stands m (write g ++ tail) v = subst (λ t. Stands m t v) (append_assoc (write g) [] tail) s in
     let size : c1.at ≤ length c.text = omega (arith, within, (ahead_gap gap').at, ap length same) in
     let here = subst (λ t. Stands m (field_laid_out line_end style t width g) (past m (write g))) (sym same) (first_part (write g) tail s') in
-    before_comma line_end style width ends field up first (after_last line_end style width ends way next size here (last_part (write g) tail s'))
+    before_comma line_end style text width ends field up old first (after_last line_end style text width ends way next size same here (last_part (write g) tail s'))
 fields_read line_end style width text last {c = c} {d = d} {m = m} {v = v} ends way field up old first same (fields.more {v = c1} {y = c4} {f = g} {fs = gs} next gap' sep gap'' rest) within s =
     let write = field_laid_out line_end style text width in
     let tail = last ++ (line_end ++ 125 ∷ []) in
@@ -225,5 +252,5 @@ fields_read line_end style width text last {c = c} {d = d} {m = m} {v = v} ends 
     let s' : Stands m (write g ++ (flat_map write gs ++ tail)) v = subst (λ t. Stands m t v) (append_assoc (write g) (flat_map write gs) tail) s in
     let size : c1.at ≤ length c.text = omega (arith, within, past_comma.at, (ahead_fields rest).at, ap length same) in
     let here = subst (λ t. Stands m (field_laid_out line_end style t width g) (past m (write g))) (sym same) (first_part (write g) (flat_map write gs ++ tail) s') in
-    before_comma line_end style width ends field up first
+    before_comma line_end style text width ends field up old first
     (fields_read line_end style width text last {a = c} {b = c1} {c = c4} {d = d} {u = m} {m = past m (write g)} {v = v} {f = g} {fs = gs} ends way next size same here ((ahead_then (ahead_field next) past_comma).text ∙ same) rest within (last_part (write g) (flat_map write gs ++ tail) s'))

@@ -1,5 +1,5 @@
 -- A text in one style, as it is read.
-use Rattle.std.proofs.Common.{◌≡◌, ℕ, ◌+◌, ◌-◌, ◌≤◌, Bool, true, false, cond, List, [], ◌∷◌, ◌++◌, length, drop, take, refl, sym, ap, ◌∙◌, subst, arith, length-drop}
+use Rattle.std.proofs.Common.{◌≡◌, ℕ, ◌+◌, ◌-◌, ◌≤◌, Bool, true, false, cond, List, [], ◌∷◌, ◌++◌, length, drop, take, map, refl, sym, ap, ◌∙◌, subst, arith, length-drop}
 use Rattle.bib_text.specs.Places.{Place, place, between}
 use Rattle.bib_text.proofs.PlaceFacts.{ahead_then, ahead_char, ahead_run, char_left, same_place}
 use Rattle.bib_syntax.specs.Reading.{EntryReading, FileReading, then}
@@ -8,7 +8,7 @@ use Rattle.bib_syntax.specs.Grammar.{File, IsRawReading, longest}
 use Rattle.bib_syntax.specs.Grammar.{File as file}
 use Rattle.bib_syntax.proofs.FieldFacts.{ahead_fields, ahead_gap}
 use Rattle.bib_syntax.proofs.FileFacts.{ahead_head}
-use Rattle.bib_documents.specs.Edits.{moved_file}
+use Rattle.bib_documents.specs.Edits.{moved_entry, moved_file}
 use Rattle.bib_documents.proofs.EditFacts.{text_stands}
 use Rattle.bib_documents.proofs.MovedFacts.{body_within, char_within, file_before_there, file_there}
 use Rattle.bib_documents.proofs.SplitFacts.{FileBefore, ahead_file_before, joined_file}
@@ -19,10 +19,10 @@ use Rattle.bib_format.proofs.ContentFacts.{content_then, file_placeless}
 use Rattle.bib_format.proofs.EntryFacts.{entry_read}
 use Rattle.bib_format.proofs.FieldFacts.{IsLineEnd}
 use Rattle.bib_format.proofs.SplitFacts.{ByEntries, by_entries}
-use Rattle.bib_format.proofs.StandsFacts.{Stands, ascii, copied_before, copy_frame, first_part, past}
+use Rattle.bib_format.proofs.StandsFacts.{Stands, ascii, between_stands, copied_before, copy_frame, first_part, past}
 
 -- how lines end
-line_end_is : (text : List ℕ) → IsLineEnd (line_end_of text)
+pub line_end_is : (text : List ℕ) → IsLineEnd (line_end_of text)
 line_end_is text = by_choice _
   where
     by_choice : (b : Bool) → IsLineEnd (cond b (13 ∷ 10 ∷ []) (10 ∷ []))
@@ -36,10 +36,11 @@ line_end_is text = by_choice _
     }
 
 -- what a file says from a place on, read from a place of another text on
-pub record FileRead (says : FileReading) (u : Place) : Type 0 where
+pub record FileRead (line_end : List ℕ) (style : Style) (says : FileReading) (u : Place) : Type 0 where
   pub reading : FileReading
   pub file : File longest u reading
   pub alike : content reading ≡ content says
+  pub again : rest_in_style line_end style u.text u.at reading.entries ≡ drop u.at u.text
 
 stands_here : (u : Place) (xs ys : List ℕ) → drop u.at u.text ≡ xs ++ ys → Stands u xs (past u xs)
 stands_here u xs ys here = record { same = refl; here = here ∙ ap (λ t. xs ++ t) (sym (text_stands u.text xs ys u.at here)); next = refl }
@@ -48,8 +49,8 @@ stands_here u xs ys here = record { same = refl; here = here ∙ ap (λ t. xs ++
 abbrev rest_frame : Place → Place → Frame
 rest_frame a u = record { old = a.text; new = u.text; move = λ n. n - a.at + u.at; from = a.at; to = u.at; end = length a.text + 1 }
 
-rest_read : {a u : Place} {says : FileReading} → File longest a says → a.at ≤ length a.text → u.at ≤ length u.text → drop u.at u.text ≡ drop a.at a.text → FileRead says u
-rest_read {a} {u} {says} x within within' same =
+rest_read : (line_end : List ℕ) (style : Style) {a u : Place} {says : FileReading} → File longest a says → says.entries ≡ [] → a.at ≤ length a.text → u.at ≤ length u.text → drop u.at u.text ≡ drop a.at a.text → FileRead line_end style says u
+rest_read line_end style {a} {u} {says} x none within within' same =
     let sizes : length a.text + u.at ≡ length u.text + a.at = omega (arith, ap length same, length-drop a.at a.text, length-drop u.at u.text, within, within') in
     let z : Zone (rest_frame a u) = record {
       moves = λ n from below. omega arith;
@@ -62,6 +63,7 @@ rest_read {a} {u} {says} x within within' same =
       reading = moved_file (λ n. n - a.at + u.at) says;
       file = subst (λ p. File longest p (moved_file (λ n. n - a.at + u.at) says)) goes (file_there z refl sizes start x);
       alike = file_placeless (λ n. n - a.at + u.at) says;
+      again = ap (λ es. rest_in_style line_end style u.text u.at (map (moved_entry (λ n. n - a.at + u.at)) es)) none;
     }
 
 alike_then : (move : ℕ → ℕ) (before rest reading : FileReading) (e e' : EntryReading) → entry_content e' ≡ entry_content e → content reading ≡ content rest
@@ -73,8 +75,8 @@ alike_then move before rest reading e e' entry others =
     ∙ sym (content_then before (then (entry_alone e) rest))
 
 pub file_read : (line_end : List ℕ) (style : Style) {a u : Place} {says : FileReading} → IsLineEnd line_end → ByEntries a says → a.at ≤ length a.text → u.at ≤ length u.text
-    → drop u.at u.text ≡ rest_in_style line_end style a.text a.at says.entries → FileRead says u
-file_read line_end style {a} {u} {says} ends (ByEntries.last x none) within within' here = rest_read x within within' (here ∙ ap (λ es. rest_in_style line_end style a.text a.at es) none)
+    → drop u.at u.text ≡ rest_in_style line_end style a.text a.at says.entries → FileRead line_end style says u
+file_read line_end style {a} {u} {says} ends (ByEntries.last x none) within within' here = rest_read line_end style x none within within' (here ∙ ap (λ es. rest_in_style line_end style a.text a.at es) none)
 file_read line_end style {a} {u} ends (ByEntries.more {s = s} {v = v} {before = before} {rest = rest} {e = e} first none x file' others) within within' here =
     let to_start = ahead_file_before first in
     let to_brace = ahead_then (ahead_head x.head) (ahead_then (ahead_run x.key.run) (ahead_then (ahead_run x.white.run) (ahead_then (ahead_char x.comma) (ahead_then (ahead_gap x.gap) (ahead_fields x.fields))))) in
@@ -106,6 +108,12 @@ file_read line_end style {a} {u} ends (ByEntries.more {s = s} {v = v} {before = 
       reading = then (moved_file move before) (then (entry_alone entry.reading) rest_said.reading);
       file = joined_file before' (file.block entry.block rest_said.file);
       alike = alike_then move before rest rest_said.reading e entry.reading entry.alike rest_said.alike;
+      again = ap (λ es. rest_in_style line_end style u.text u.at (map (moved_entry move) es ++ entry.reading ∷ rest_said.reading.entries)) none
+          ∙ ap (λ n. between u (place u.text n) ++ (entry_in_style line_end style u.text entry.reading ++ rest_in_style line_end style u.text (entry.reading.end + 1) rest_said.reading.entries)) entry.starts
+          ∙ ap (λ t. t ++ (entry_in_style line_end style u.text entry.reading ++ rest_in_style line_end style u.text (entry.reading.end + 1) rest_said.reading.entries)) (between_stands (between a s) s0)
+          ∙ ap (λ t. between a s ++ (t ++ rest_in_style line_end style u.text (entry.reading.end + 1) rest_said.reading.entries)) entry.again
+          ∙ ap (λ n. between a s ++ (entry_bytes ++ rest_in_style line_end style u.text n rest_said.reading.entries)) entry.ends
+          ∙ ap (λ t. between a s ++ (entry_bytes ++ t)) rest_said.again ∙ ap (λ t. between a s ++ t) (sym s1.here) ∙ sym s0.here;
     }
 
 pub text_read : (style : Style) (text : List ℕ) (says : FileReading) → IsRawReading text says → IsReadAlike says (text_in_style style text says)

@@ -1,12 +1,17 @@
+pub mod ByteFacts
+pub mod ColumnFacts
 pub mod ContentFacts
 pub mod CutFacts
 pub mod ElementFacts
 pub mod EntryFacts
 pub mod FieldFacts
 pub mod FileFacts
+pub mod LineEndFacts
 pub mod LowerFacts
 pub mod NameFacts
 pub mod PercentFacts
 pub mod SplitFacts
 pub mod StandsFacts
+pub mod TwiceFacts
 pub mod ValueFacts
+pub mod WidthFacts

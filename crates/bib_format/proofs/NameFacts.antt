@@ -13,7 +13,7 @@ use Rattle.bib_format.proofs.ElementFacts.{Ending, parted}
 use Rattle.bib_format.proofs.LowerFacts.{continues_lower, encode_lower, lower_append, starts_lower}
 use Rattle.bib_format.proofs.StandsFacts.{Stands, between_stands, char_stands, first_part, last_part, nothing, past, stands_char}
 
-none_between : (a : Place) → between a a ≡ []
+pub none_between : (a : Place) → between a a ≡ []
 none_between a = let zero : a.at - a.at ≡ 0 = omega arith in ap (λ n. take n (drop a.at a.text)) zero
 
 -- a character, and what stands after it, in lowercase

@@ -9,6 +9,7 @@ mod comments;
 mod entries;
 mod fields;
 pub mod formatting;
+pub mod laws;
 mod layout;
 mod pieces;
 pub mod style;
