@@ -1,5 +1,6 @@
 //! Reads rows, a style and a text in each line, and prints each with the text in that style. A style is the word `format` with what
-//! it has other than the usual one: the spaces before a field, `aligned`, `bare` where no comma stands after the last field.
+//! it has other than the usual one: the spaces before a field, `aligned`, `bare` where no comma stands after the last field, `blank` and
+//! so many blank lines between entries.
 
 use bib_documents::document::RawDocument;
 use bib_format::formatting::format;
@@ -17,7 +18,10 @@ fn style_of(words: &str) -> Option<Style> {
             "" => {}
             "aligned" => style.aligned = true,
             "bare" => style.trailing_comma = false,
-            _ => style.indent = word.parse().ok()?,
+            _ => match word.strip_prefix("blank") {
+                Some(count) => style.blank_lines = Some(count.parse().ok()?),
+                None => style.indent = word.parse().ok()?,
+            },
         }
     }
     Some(style)

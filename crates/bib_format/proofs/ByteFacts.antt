@@ -1,15 +1,15 @@
 -- Bytes that don't stand in a part of a text.
-use Rattle.std.proofs.Common.{◌≡◌, inl, inr, ℕ, ◌+◌, ◌-◌, ◌/◌, ◌<◌, ◌≤◌, Bool, true, false, cond, List, [], ◌∷◌, ◌++◌, length, refl, sym, ap, ◌∙◌, subst, ltb, arith}
+use Rattle.std.proofs.Common.{◌≡◌, inl, inr, ℕ, ◌+◌, ◌/◌, ◌<◌, ◌≤◌, Bool, true, false, cond, List, [], ◌∷◌, ◌++◌, length, refl, ap, ◌∙◌, subst, ltb, arith}
 use Rattle.std.specs.Prelude.{◌==◌, ◌||◌, encode_utf8}
 use Rattle.std.specs.Char.{is_whitespace}
 use Rattle.std.specs.List.{list_any}
 use lib.Utf8.{encode, next}
 use Rattle.std.proofs.lemmas.Bool.{cases_lt, ltb-true, ne_eqb}
-use Rattle.std.proofs.lemmas.List.{list_any-append}
+use Rattle.std.proofs.lemmas.List.Folds.{list_any-append}
 use Rattle.std.proofs.lemmas.Str.{encode_ascii}
-use Rattle.bib_text.specs.Places.{Place, CharAt, Run, between}
+use Rattle.bib_text.specs.Places.{Place, Run, between}
 use Rattle.bib_text.specs.Places.Run.{stop, step}
-use Rattle.bib_text.proofs.PlaceFacts.{Ahead, ahead_char, ahead_run, test_clash}
+use Rattle.bib_text.proofs.PlaceFacts.{ahead_char, ahead_run, test_clash}
 use Rattle.bib_format.proofs.ElementFacts.{parted}
 use Rattle.bib_format.proofs.NameFacts.{none_between}
 use Rattle.bib_format.proofs.StandsFacts.{AreWhite, between_stands, stands_char}
@@ -35,12 +35,15 @@ cons_false b d ds first second = either_false (d == b) (has b ds) first second
 bytes_without : (x y z : Bool) (b c i j k n m l : ℕ) → b < 128 → (x ≡ true → ⊥)
     → has b (cond x (c ∷ []) (cond y ((192 + i) ∷ next n ∷ []) (cond z ((224 + j) ∷ next m ∷ next n ∷ []) ((240 + k) ∷ next l ∷ next m ∷ next n ∷ [])))) ≡ false
 bytes_without true y z b c i j k n m l small other = absurd (other refl)
-bytes_without false true z b c i j k n m l small other = cons_false b _ _ (high b (192 + i) small (omega arith)) (cons_false b _ _ (high b (next n) small (omega arith)) refl)
+bytes_without false true z b c i j k n m l small other =
+    cons_false b (192 + i) (next n ∷ []) (high b (192 + i) small (omega arith)) (cons_false b (next n) [] (high b (next n) small (omega arith)) refl)
 bytes_without false false true b c i j k n m l small other =
-    cons_false b _ _ (high b (224 + j) small (omega arith)) (cons_false b _ _ (high b (next m) small (omega arith)) (cons_false b _ _ (high b (next n) small (omega arith)) refl))
+    cons_false b (224 + j) (next m ∷ next n ∷ []) (high b (224 + j) small (omega arith))
+    (cons_false b (next m) (next n ∷ []) (high b (next m) small (omega arith)) (cons_false b (next n) [] (high b (next n) small (omega arith)) refl))
 bytes_without false false false b c i j k n m l small other =
-    cons_false b _ _ (high b (240 + k) small (omega arith))
-    (cons_false b _ _ (high b (next l) small (omega arith)) (cons_false b _ _ (high b (next m) small (omega arith)) (cons_false b _ _ (high b (next n) small (omega arith)) refl)))
+    cons_false b (240 + k) (next l ∷ next m ∷ next n ∷ []) (high b (240 + k) small (omega arith))
+    (cons_false b (next l) (next m ∷ next n ∷ []) (high b (next l) small (omega arith))
+    (cons_false b (next m) (next n ∷ []) (high b (next m) small (omega arith)) (cons_false b (next n) [] (high b (next n) small (omega arith)) refl)))
 
 wide_without : (b c : ℕ) → b < 128 → 128 ≤ c → has b (encode_utf8 c) ≡ false
 unfolding encode

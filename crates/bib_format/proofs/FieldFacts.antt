@@ -1,8 +1,8 @@
 -- A field, laid out, as it is read.
 use Rattle.std.proofs.Common.{◌≡◌, ℕ, zero, suc, ◌-◌, ◌≤◌, true, false, List, [], ◌∷◌, ◌++◌, length, map, codes, refl, sym, ap, ◌∙◌, subst, arith, append_assoc}
 use Rattle.std.specs.Prelude.{◌==◌, replicate}
-use Rattle.std.specs.Char.{is_whitespace}
-use Rattle.std.specs.List.{flat_map}
+use Rattle.std.specs.Char.{is_ascii_whitespace, is_whitespace}
+use Rattle.std.specs.List.{flat_map, list_all}
 use Rattle.std.specs.Str.{chars, str_to_ascii_lowercase}
 use Rattle.std.proofs.lemmas.Bool.{ne_eqb}
 use Rattle.bib_text.specs.Places.{Place, place, CharAt, Stops, Longest, between}
@@ -29,6 +29,7 @@ use Rattle.bib_format.proofs.WidthFacts.{width_lower}
 -- how lines end: with white space, after which and before a closing brace a value ends
 pub record IsLineEnd (line_end : List ℕ) : Type 0 where
   pub white : AreWhite line_end
+  pub blank : list_all is_ascii_whitespace line_end ≡ true
   pub ending : (u v : Place) → Stands u (line_end ++ 125 ∷ []) v → Ending u
 
 -- a field without places and with its name in lowercase
@@ -162,6 +163,7 @@ close_read line_end {u} {v} ends s =
     }
 
 pub none_read : (line_end : List ℕ) (style : Style) (text : List ℕ) (width : ℕ) {u v : Place} → IsLineEnd line_end → Stands u (44 ∷ (line_end ++ 125 ∷ [])) v → CommaRead line_end style text width [] u v
+unfolding close_read
 none_read line_end style text width {u} {v} ends s =
     let comma = ascii 44 (omega arith) (first_part (44 ∷ []) (line_end ++ 125 ∷ []) s) in
     let rest = last_part (44 ∷ []) (line_end ++ 125 ∷ []) s in

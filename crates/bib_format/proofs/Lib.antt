@@ -6,6 +6,7 @@ pub mod ElementFacts
 pub mod EntryFacts
 pub mod FieldFacts
 pub mod FileFacts
+pub mod GapFacts
 pub mod LineEndFacts
 pub mod LowerFacts
 pub mod NameFacts

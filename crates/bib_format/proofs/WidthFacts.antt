@@ -1,5 +1,5 @@
 -- How many characters a name has in lowercase.
-use Rattle.std.proofs.Common.{◌≡◌, inl, inr, ℕ, zero, suc, ◌+◌, ◌-◌, ◌*◌, Bool, true, false, cond, List, [], ◌∷◌, length, refl, sym, ap, ◌∙◌, arith}
+use Rattle.std.proofs.Common.{◌≡◌, inl, inr, ℕ, zero, suc, ◌+◌, ◌-◌, ◌*◌, ◌<◌, Bool, true, false, cond, List, [], ◌∷◌, length, refl, ap, ◌∙◌, arith}
 use Rattle.std.specs.Prelude.{nat_lt}
 use Rattle.std.specs.Char.{to_ascii_lowercase}
 use Rattle.std.specs.Str.{chars, chars_after, continuation_len, lead_bits, str_to_ascii_lowercase}
@@ -19,6 +19,7 @@ same_continuation b =
   where
     small : (c : ℕ) → c < 128 → nat_lt c 128 ≡ true
     small c below = lt-ltb c 128 below
+
     by_tests : (x y : Bool) (n m : ℕ) → x ≡ true → y ≡ true → cond x 0 n ≡ cond y 0 m
     by_tests true true n m first second = refl
     by_tests false y n m first second = absurd (cc)

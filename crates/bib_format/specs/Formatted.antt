@@ -1,7 +1,8 @@
 -- Meaning: words of public contracts.
--- A text in one style: its entries laid out anew, and what stands between them as it is.
-use Rattle.std.specs.Prelude.{◌≡◌, ◌==◌, ◌&&◌, ◌||◌, ℕ, ◌+◌, ◌-◌, max, Bool, if◌then◌else◌, List, [], ◌∷◌, ◌++◌, codes, cond, drop, fold, length, map, nat_lt, replicate}
-use Rattle.std.specs.List.{before_first, ends_with, flat_map, list_any, position_or_len}
+-- A text in one style: its entries laid out anew, and what stands between them as it is, but for white space where the style asks for blank lines.
+use Rattle.std.specs.Prelude.{◌≡◌, ◌==◌, ◌&&◌, ◌||◌, ℕ, zero, suc, ◌+◌, ◌-◌, max, Bool, if◌then◌else◌, List, [], ◌∷◌, ◌++◌, codes, cond, drop, fold, length, map, nat_lt, replicate, Option, None, Some}
+use Rattle.std.specs.Char.{is_ascii_whitespace}
+use Rattle.std.specs.List.{before_first, ends_with, flat_map, list_all, list_any, position_or_len}
 use Rattle.std.specs.Str.{chars, str_to_ascii_lowercase}
 use lib.Dec.{eqb}
 use Rattle.bib_text.specs.Characters as char
@@ -72,20 +73,30 @@ has_comment text e = has_percent_between text e.key.end e.fields e.end
 abbrev pub entry_in_style : List ℕ → Style → List ℕ → EntryReading → List ℕ
 entry_in_style line_end style text e = cond (has_comment text e) (between (place text e.start) (place text (e.end + 1))) (entry_laid_out line_end style text e)
 
--- a text from a place on, with these entries of it in one style
-abbrev pub rest_in_style : List ℕ → Style → List ℕ → ℕ → List EntryReading → List ℕ
-rest_in_style line_end style text at [] = drop at text
-rest_in_style line_end style text at (e ∷ es) =
-    between (place text at) (place text e.start) ++ (entry_in_style line_end style text e ++ rest_in_style line_end style text (e.end + 1) es)
+-- so many ends of lines
+abbrev pub line_ends : List ℕ → ℕ → List ℕ
+line_ends line_end zero = []
+line_ends line_end (suc count) = line_end ++ line_ends line_end count
+
+-- what stands before an entry: so many blank lines, if they are asked for and only white space of ASCII stands there, else as it is
+abbrev pub gap_in_style : List ℕ → Option ℕ → List ℕ → List ℕ
+gap_in_style line_end None gap = gap
+gap_in_style line_end (Some count) gap = cond (list_all is_ascii_whitespace gap) (line_ends line_end (suc count)) gap
+
+-- a text from a place on, with these entries of it in one style, and before the first so many blank lines, if they are asked for
+abbrev pub rest_in_style : List ℕ → Style → Option ℕ → List ℕ → ℕ → List EntryReading → List ℕ
+rest_in_style line_end style blank_lines text at [] = drop at text
+rest_in_style line_end style blank_lines text at (e ∷ es) =
+    gap_in_style line_end blank_lines (between (place text at) (place text e.start)) ++ (entry_in_style line_end style text e ++ rest_in_style line_end style style.blank_lines text (e.end + 1) es)
 
 -- how the lines of a text end: by a carriage return and a line feed if its first line does, else by a line feed
 abbrev pub line_end_of : List ℕ → List ℕ
 line_end_of text =
     cond (nat_lt (position_or_len (λ b. eqb b char.line_feed) text) (length text) && ends_with eqb (before_first (λ b. eqb b char.line_feed) text) (codes "\r")) (codes "\r\n") (codes "\n")
 
--- a text in one style, of which this is the reading
+-- a text in one style, of which this is the reading; what stands before the first entry stays
 abbrev pub text_in_style : Style → List ℕ → FileReading → List ℕ
-text_in_style style text says = rest_in_style (line_end_of text) style text 0 says.entries
+text_in_style style text says = rest_in_style (line_end_of text) style None text 0 says.entries
 
 -- a part of a text with its ASCII letters in lowercase
 abbrev pub part_in_lowercase : Part → Part

@@ -1,6 +1,6 @@
 //! Files in one style.
 
-ghost use Rattle.std.specs.Prelude.{◌≡◌, IfOk, map};
+ghost use Rattle.std.specs.Prelude.{◌≡◌, IfOk, None, map};
 ghost use Rattle.std.specs.String.{string_bytes};
 ghost use Rattle.bib_syntax.specs.Views.{entry_reading_of};
 ghost use Rattle.bib_format.specs.Cuts.{AreEntriesCut};
@@ -8,6 +8,7 @@ ghost use Rattle.bib_format.specs.Formatted as styled;
 ghost use Rattle.bib_format.specs.Formatted.{IsReadAlike, line_end_of, text_in_style};
 
 use crate::entries::push_entry;
+use crate::gaps::push_gap;
 use crate::layout::Layout;
 use crate::style::Style;
 use bib_documents::document::RawDocument;
@@ -25,7 +26,7 @@ fn line_end(text: &str) -> &'static str
     }
 }
 
-// A text with its entries laid out, and what stands between them as it is.
+// A text with its entries laid out, and what stands between them as it is, or as blank lines.
 fn with_entries(
     alloc: Global,
     layout: &Layout<'_>,
@@ -33,14 +34,21 @@ fn with_entries(
 ) -> Result<String, AllocError>
     requires { AreEntriesCut layout.now.text.now 0 (map entry_reading_of entries.now) }
     ensures { IfOk result (λ new. string_bytes new ≡
-        styled.rest_in_style layout.now.line_end.now layout.now.style layout.now.text.now 0 (map entry_reading_of entries.now)) }
+        styled.rest_in_style layout.now.line_end.now layout.now.style None layout.now.text.now 0 (map entry_reading_of entries.now)) }
 {
     let mut new = String::new(alloc);
     let mut at = 0usize;
+    let mut blank_lines = None;
     'entries: for entry in entries {
-        new.push_str(&layout.text[at..entry.span.start])?;
+        push_gap(
+            &mut new,
+            layout.line_end,
+            blank_lines,
+            &layout.text[at..entry.span.start],
+        )?;
         push_entry(alloc, &mut new, layout, entry)?;
         at = entry.span.end + 1;
+        blank_lines = layout.style.blank_lines;
     }
     new.push_str(&layout.text[at..])?;
     Ok(new)
@@ -57,7 +65,8 @@ fn with_entries(
 ///
 /// Its type and the names of its fields are written in lowercase, as far as they are ASCII, and the elements of its values as they
 /// stand. Everything else stays byte for byte, and so does an entry in which a comment stands between its key, its fields and its
-/// closing brace. Lines that are written end as the file's first line does. Fails only where there is no memory.
+/// closing brace; but where only white space of ASCII stands between two entries the style may ask for blank lines. Lines that are
+/// written end as the file's first line does. Fails only where there is no memory.
 pub fn format(
     alloc: Global,
     document: &RawDocument<'_>,

@@ -1,4 +1,5 @@
-//! One style for a bibliography file: each entry is laid out anew, and everything else stays byte for byte.
+//! One style for a bibliography file: each entry is laid out anew, and everything else stays byte for byte, but for white space between
+//! entries where blank lines are asked for.
 //!
 //! The text is copied up to each entry, the entry is written from its raw reading, and the copying goes on after its closing brace; the
 //! new text isn't read. What it says is proved of the file grammar: what stands between entries is a zone of both texts (`ZoneFacts` of
@@ -9,6 +10,7 @@ mod comments;
 mod entries;
 mod fields;
 pub mod formatting;
+mod gaps;
 pub mod laws;
 mod layout;
 mod pieces;

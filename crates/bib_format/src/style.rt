@@ -1,6 +1,6 @@
 //! What is chosen of how entries are laid out.
 
-ghost use Rattle.std.specs.Prelude.{◌≡◌, true, false};
+ghost use Rattle.std.specs.Prelude.{◌≡◌, true, false, None};
 
 /// How entries are laid out.
 #[derive(Debug, Clone, Copy, PartialEq, Eq)]
@@ -11,16 +11,19 @@ pub struct Style {
     pub aligned: bool,
     /// Whether a comma stands after an entry's last field.
     pub trailing_comma: bool,
+    /// How many blank lines stand between two entries where only white space of ASCII stands there now; `None` keeps that as it is.
+    pub blank_lines: Option<usize>,
 }
 
 impl Default for Style {
-    ghost is_default = { λ style. style ≡ record { indent = 2; aligned = false; trailing_comma = true } };
+    ghost is_default = { λ style. style ≡ record { indent = 2; aligned = false; trailing_comma = true; blank_lines = None } };
 
     fn default() -> Self {
         Style {
             indent: 2,
             aligned: false,
             trailing_comma: true,
+            blank_lines: None,
         }
     }
 }

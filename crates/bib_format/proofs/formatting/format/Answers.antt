@@ -1,4 +1,4 @@
-use Rattle.std.proofs.Common.{◌≡◌, Result, Ok, Err, ℕ, List, map, sym, ap, ◌∙◌, subst}
+use Rattle.std.proofs.Common.{◌≡◌, Result, Ok, Err, ℕ, None, List, map, sym, ap, ◌∙◌, subst}
 use Rattle.std.specs.Prelude.{IfOk}
 use Rattle.std.specs.String.{string_bytes}
 use Rattle.bib_syntax.specs.Grammar.{IsRawReading}
@@ -13,10 +13,10 @@ use Rattle.bib_format.proofs.formatting.format.Goals as goal
 
 -- a text with its lines' end and its entries, by what it says
 formatted_is : {S E : Type 0} (bytes : S → List ℕ) (r : Result S E) (style : Style) (text text' line_end : List ℕ) (says : FileReading) (entries : List EntryReading) → text' ≡ text → line_end ≡ line_end_of text' → entries ≡ says.entries
-    → IfOk r (λ new. bytes new ≡ rest_in_style line_end style text' 0 entries) → IfOk r (λ new. bytes new ≡ text_in_style style text says)
+    → IfOk r (λ new. bytes new ≡ rest_in_style line_end style None text' 0 entries) → IfOk r (λ new. bytes new ≡ text_in_style style text says)
 formatted_is bytes (Err error) style text text' line_end says entries same ends listed all = _
 formatted_is bytes (Ok new) style text text' line_end says entries same ends listed all =
-    all ∙ ap (λ e. rest_in_style e style text' 0 entries) ends ∙ ap (rest_in_style (line_end_of text') style text' 0) listed ∙ ap (λ t. text_in_style style t says) same
+    all ∙ ap (λ e. rest_in_style e style None text' 0 entries) ends ∙ ap (rest_in_style (line_end_of text') style None text' 0) listed ∙ ap (λ t. text_in_style style t says) same
 
 pub with_entries-requires : goal.with_entries-requires
 with_entries-requires c =
