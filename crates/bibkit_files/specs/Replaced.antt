@@ -4,7 +4,7 @@ use Rattle.std.specs.Prelude.{◌≡◌, ◌≢◌, ◌⊎◌, ℕ, ◌+◌, ◌
 use Rattle.std.specs.Fmt.{decimal}
 use Rattle.bibkit_files.specs.Folder.{Disk}
 use Rattle.bibkit_files.specs.declared.replacing.ReplaceError.{ReplaceError}
-use Rattle.bibkit_files.specs.declared.replacing.ReplaceError.TheVariants.{OutOfMemory, NamesTaken, NotReplaced, Unsure}
+use Rattle.bibkit_files.specs.declared.replacing.ReplaceError.TheVariants.{OutOfMemory, NamesTaken, NotReplaced, Unsure, Unsettled}
 
 -- the name of a new file beside another one
 abbrev pub new_name : List ℕ → ℕ → List ℕ
@@ -34,12 +34,13 @@ IsOldOrNew target text old new = (c : Option (List ℕ)) → new.left_since old.
 abbrev pub IsLeft : List ℕ → List ℕ → Disk → Type 0
 IsLeft target text disk = (c : Option (List ℕ)) → disk.may_leave target c → c ≡ Some text
 
--- what the target holds after an error: what it held, or where that is not sure this text
+-- what the target holds after an error: what it held, or by the last two errors either that or this text, or this text
 abbrev pub IsAfterError : List ℕ → List ℕ → Disk → Disk → ReplaceError → Type 0
 IsAfterError target text old new OutOfMemory = new.holds target ≡ old.holds target
 IsAfterError target text old new NamesTaken = new.holds target ≡ old.holds target
 IsAfterError target text old new (NotReplaced e) = new.holds target ≡ old.holds target
 IsAfterError target text old new (Unsure e) = (new.holds target ≡ old.holds target) ⊎ (new.holds target ≡ Some text)
+IsAfterError target text old new (Unsettled e) = new.holds target ≡ Some text
 
 -- a name holds what it held, and a crash leaves of it nothing that it might not have left before
 pub record IsKept (name : List ℕ) (old new : Disk) : Type 0 where
@@ -56,6 +57,7 @@ IsCaused old new OutOfMemory = Unit {0}
 IsCaused old new NamesTaken = Unit {0}
 IsCaused old new (NotReplaced e) = old < 2 ^ 64 - 1 → old < new
 IsCaused old new (Unsure e) = old < 2 ^ 64 - 1 → old < new
+IsCaused old new (Unsettled e) = old < 2 ^ 64 - 1 → old < new
 
 -- two calls have failed, as far as their count goes
 abbrev pub AreTwoFailed : ℕ → ℕ → Type 0

@@ -4,7 +4,7 @@ use Rattle.std.specs.Prelude.{◌≡◌, ◌≢◌, ◌⊎◌, ℕ, ◌+◌, ◌
 use Rattle.bibkit_files.specs.Folder.{Disk, IsAsBefore, IsAsBeforeBut, IsFileOf, IsSaved}
 use Rattle.bibkit_files.specs.Replaced.{new_name, AreTwoFailed}
 use Rattle.bibkit_files.specs.declared.replacing.ReplaceError.{ReplaceError}
-use Rattle.bibkit_files.specs.declared.replacing.ReplaceError.TheVariants.{OutOfMemory, NamesTaken, NotReplaced, Unsure}
+use Rattle.bibkit_files.specs.declared.replacing.ReplaceError.TheVariants.{OutOfMemory, NamesTaken, NotReplaced, Unsure, Unsettled}
 
 -- a run of calls in which a crash left of each name but this one what it would have left before, and leaves it now
 pub record TouchesOnly (name : List ℕ) (old new : Disk) : Type 0 where
@@ -36,6 +36,7 @@ IsCountedOnce old new OutOfMemory = Unit {0}
 IsCountedOnce old new NamesTaken = Unit {0}
 IsCountedOnce old new (NotReplaced e) = new ≡ min (old + 1) (2 ^ 64 - 1)
 IsCountedOnce old new (Unsure e) = ⊥
+IsCountedOnce old new (Unsettled e) = ⊥
 
 -- the file has this text, and a crash leaves it whole wherever it leaves the file
 pub record IsFilled (text name : List ℕ) (new : Disk) : Type 0 where
@@ -62,9 +63,15 @@ pub record IsUnsure (name target : List ℕ) (failures_old failures_new : ℕ) (
   pub either : (new.holds target ≡ old.holds target) ⊎ (new.holds target ≡ old.holds name)
   pub gone : (new.holds name ≡ None) ⊎ AreTwoFailed failures_old failures_new
 
--- the error says that the target has the old text or the new one
-abbrev pub IsUnsureError : ReplaceError → Type 0
-IsUnsureError OutOfMemory = ⊥
-IsUnsureError NamesTaken = ⊥
-IsUnsureError (NotReplaced e) = ⊥
-IsUnsureError (Unsure e) = Unit {0}
+-- it has it now
+pub record IsUnsettled (name target : List ℕ) (old new : Disk) : Type 0 where
+  pub moved : new.holds target ≡ old.holds name
+  pub gone : new.holds name ≡ None
+
+-- what became of it, by the error that is answered
+abbrev pub IsExchangeError : List ℕ → List ℕ → ℕ → ℕ → Disk → Disk → ReplaceError → Type 0
+IsExchangeError name target failures_old failures_new old new OutOfMemory = ⊥
+IsExchangeError name target failures_old failures_new old new NamesTaken = ⊥
+IsExchangeError name target failures_old failures_new old new (NotReplaced e) = ⊥
+IsExchangeError name target failures_old failures_new old new (Unsure e) = IsUnsure name target failures_old failures_new old new
+IsExchangeError name target failures_old failures_new old new (Unsettled e) = IsUnsettled name target old new

@@ -3,7 +3,7 @@
 ghost use Rattle.std.specs.Prelude.{[], ℕ, ◌≡◌, ◌≢◌, ◌⊎◌, ◌+◌, ◌-◌, ◌^◌, ◌<◌, min, string_bytes, IfOk, IfErr, OnOk, OnErr, IsErrOf, IsErrAnd, IsSome, MatchResult};
 ghost use Rattle.bibkit_files.specs.Folder.{OfOpen, IsCounted};
 ghost use Rattle.bibkit_files.specs.Replaced.{new_name, AreTaken, IsNeverTorn, IsOnDisk, IsOldOrNew, IsLeft, IsAfterError, IsKept, OthersHold, IsCaused, AreTwoFailed};
-ghost use Rattle.bibkit_files.specs.Steps.{TouchesOnly, TouchesNothing, IsMadeBeside, IsCountedOnce, IsFilled, IsExchange, IsExchanged, IsUnsure, IsUnsureError};
+ghost use Rattle.bibkit_files.specs.Steps.{TouchesOnly, TouchesNothing, IsMadeBeside, IsCountedOnce, IsFilled, IsExchange, IsExchanged, IsExchangeError};
 ghost use Rattle.bibkit_files.specs.declared.replacing.ReplaceError.TheVariants.{OutOfMemory};
 
 use crate::folder::Folder;
@@ -22,9 +22,10 @@ pub enum ReplaceError {
     NamesTaken,
     /// The text could not be written into a file beside it. The file is as it was.
     NotReplaced(io::Error),
-    /// The text is written into a file beside it, and that could not be put in its place for certain: the file has the old text
-    /// or the new one.
+    /// The file with the text could not take its name for certain: it has the old text or the new one.
     Unsure(io::Error),
+    /// The file has the new text, and a crash may still bring back the old one.
+    Unsettled(io::Error),
 }
 
 impl From<AllocError> for ReplaceError {
@@ -88,10 +89,9 @@ fn exchange<F: Folder>(folder: &mut F, name: &str, target: &str) -> Result<(), R
         IsExchange name.now target.now (F.disk folder.old) (F.disk folder.new) }
     ensures done { (F.disk folder.old).is_known →
         OnOk result (IsExchanged name.now target.now (F.disk folder.old) (F.disk folder.new)) }
-    ensures failed { (F.disk folder.old).is_known →
-        OnErr result (IsUnsure name.now target.now (F.failures folder.old) (F.failures folder.new)
+    ensures failed { (F.disk folder.old).is_known → IfErr result
+        (IsExchangeError name.now target.now (F.failures folder.old) (F.failures folder.new)
         (F.disk folder.old) (F.disk folder.new)) }
-    ensures unsure { IfErr result IsUnsureError }
     ensures counted { IfErr result (IsCaused (F.failures folder.old) (F.failures folder.new)) }
 {
     if let Err(error) = folder.rename(name, target) {
@@ -100,7 +100,7 @@ fn exchange<F: Folder>(folder: &mut F, name: &str, target: &str) -> Result<(), R
     }
     match folder.sync_folder() {
         Ok(()) => Ok(()),
-        Err(error) => Err(ReplaceError::Unsure(error)),
+        Err(error) => Err(ReplaceError::Unsettled(error)),
     }
 }
 
