@@ -68,7 +68,7 @@ OnUnmade (Ok false) p = p
 OnUnmade (Err e) p = p
 
 -- The name was free, and has an empty file, which is open. Of that name a crash may leave anything.
-pub record IsMade (name : List ℕ) (old new : Disk) : Type 0 where
+pub record IsNewFile (name : List ℕ) (old new : Disk) : Type 0 where
   pub free : old.holds name ≡ None
   pub empty : new.holds name ≡ Some []
   pub is_open : new.open_name ≡ Some name

@@ -11,8 +11,8 @@ abbrev pub new_name : List ℕ → ℕ → List ℕ
 new_name target number = target ++ (codes ".bibkit-" ++ decimal number)
 
 -- the first of these names of new files are taken
-abbrev pub AreTaken : List ℕ → ℕ → Disk → Type 0
-AreTaken target number disk = (k : ℕ) → k < number → IsSome (disk.holds (new_name target k))
+abbrev pub AreNamesTaken : List ℕ → ℕ → Disk → Type 0
+AreNamesTaken target number disk = (k : ℕ) → k < number → IsSome (disk.holds (new_name target k))
 
 -- At each moment from the old one to the new one a crash leaves of the target what it would have left at the old one, or this
 -- text, whole.

@@ -1,7 +1,7 @@
 //! The files of a folder, as a call on them sees them and as a crash may leave them.
 
 ghost use Rattle.std.specs.Prelude.{◌≡◌, ◌≢◌, ◌⊎◌, ℕ, IsSome, OnOk, OnErr};
-ghost use Rattle.bibkit_files.specs.Folder.{Disk, Elapses, IsAsBefore, IsAsBeforeBut, OnMade, OnTaken, OnUnmade, IsMade, OfOpen, IsAppended, IsSaved, IsRenamed, IsCrashOfRename, IsCrashOfRemoval, IsLeftAsNow, IsCounted};
+ghost use Rattle.bibkit_files.specs.Folder.{Disk, Elapses, IsAsBefore, IsAsBeforeBut, OnMade, OnTaken, OnUnmade, IsNewFile, OfOpen, IsAppended, IsSaved, IsRenamed, IsCrashOfRename, IsCrashOfRemoval, IsLeftAsNow, IsCounted};
 
 use std::io;
 
@@ -17,7 +17,7 @@ pub trait Folder {
     fn create_new(&mut self, name: &str) -> io::Result<bool>
         ensures known { (disk self.old).is_known → (disk self.new).is_known }
         ensures made { (disk self.old).is_known →
-            OnMade result (IsMade name.now (disk self.old) (disk self.new)) }
+            OnMade result (IsNewFile name.now (disk self.old) (disk self.new)) }
         ensures taken { (disk self.old).is_known →
             OnTaken result (IsSome ((disk self.old).holds name.now)) }
         ensures unmade { (disk self.old).is_known →

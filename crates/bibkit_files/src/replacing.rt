@@ -2,7 +2,7 @@
 
 ghost use Rattle.std.specs.Prelude.{[], ℕ, ◌≡◌, ◌≢◌, ◌⊎◌, ◌+◌, ◌-◌, ◌^◌, ◌<◌, min, string_bytes, IfOk, IfErr, OnOk, OnErr, IsErrOf, IsErrAnd, IsSome, MatchResult};
 ghost use Rattle.bibkit_files.specs.Folder.{OfOpen, IsCounted};
-ghost use Rattle.bibkit_files.specs.Replaced.{new_name, AreTaken, IsNeverTorn, IsOnDisk, IsOldOrNew, IsLeft, IsAfterError, IsKept, OthersHold, IsCaused, AreTwoFailed};
+ghost use Rattle.bibkit_files.specs.Replaced.{new_name, AreNamesTaken, IsNeverTorn, IsOnDisk, IsOldOrNew, IsLeft, IsAfterError, IsKept, OthersHold, IsCaused, AreTwoFailed};
 ghost use Rattle.bibkit_files.specs.Steps.{TouchesOnly, TouchesNothing, IsMadeBeside, IsCountedOnce, IsFilled, IsExchange, IsExchanged, IsExchangeError};
 ghost use Rattle.bibkit_files.specs.declared.replacing.ReplaceError.TheVariants.{OutOfMemory};
 
@@ -55,7 +55,7 @@ fn make_beside<F: Folder>(
     ensures unmade { (F.disk folder.old).is_known →
         OnErr result (TouchesNothing (F.disk folder.old) (F.disk folder.new)) }
     ensures taken { (F.disk folder.old).is_known → IsErrOf result ReplaceError.NamesTaken →
-        AreTaken target.now 100 (F.disk folder.old) }
+        AreNamesTaken target.now 100 (F.disk folder.old) }
     ensures counted { MatchResult result (λ _. F.failures folder.new ≡ F.failures folder.old)
         (IsCountedOnce (F.failures folder.old) (F.failures folder.new)) }
 {
@@ -142,7 +142,7 @@ pub fn replace<F: Folder>(
 
     // It doesn't give up by itself.
     ensures names_taken { (F.disk folder.old).is_known → IsErrOf result ReplaceError.NamesTaken →
-        AreTaken target.now 100 (F.disk folder.old) }
+        AreNamesTaken target.now 100 (F.disk folder.old) }
     ensures caused { IfErr result (IsCaused (F.failures folder.old) (F.failures folder.new)) }
 {
     let name = make_beside(alloc, folder, target)?;

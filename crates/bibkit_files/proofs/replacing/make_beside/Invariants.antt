@@ -1,5 +1,5 @@
 use Rattle.std.proofs.Common.{◌≡◌}
-use Rattle.bibkit_files.specs.Replaced.{AreTaken}
+use Rattle.bibkit_files.specs.Replaced.{AreNamesTaken}
 use Rattle.bibkit_files.specs.Steps.{TouchesNothing}
 use Rattle.bibkit_files.proofs.replacing.make_beside.Given as goal
 
@@ -7,6 +7,6 @@ use Rattle.bibkit_files.proofs.replacing.make_beside.Given as goal
 abbrev pub invariant-loop-number : goal.invariant-loop-number
 invariant-loop-number g l = record {
   touched : (g.F.Folder.disk l.initial.folder).is_known → TouchesNothing (g.F.Folder.disk l.initial.folder) (g.F.Folder.disk l.folder);
-  taken : (g.F.Folder.disk l.initial.folder).is_known → AreTaken l.target l.number (g.F.Folder.disk l.initial.folder);
+  taken : (g.F.Folder.disk l.initial.folder).is_known → AreNamesTaken l.target l.number (g.F.Folder.disk l.initial.folder);
   counted : g.F.Folder.failures l.folder ≡ g.F.Folder.failures l.initial.folder;
 }
