@@ -6,6 +6,11 @@ ghost use Rattle.bibkit_files.specs.Folder.{Disk, Elapses, IsAsBefore, IsAsBefor
 use std::io;
 
 /// The files of a folder, one of which may be open for writing.
+///
+/// What is said of a call is said where something is known of the files. Of the system's files no contract of std says what they
+/// hold, so an adapter over them has `unknown_disk`: of it only the count of the calls that failed is proved. That each of its
+/// methods makes the call of the system that it is named after, that the system does then what is said here, which is no more
+/// than POSIX promises, and that nobody else changes these files meanwhile, is assumed and not proved.
 pub trait Folder {
     // What is known of the files at this moment.
     ghost disk: { Self → Disk };
