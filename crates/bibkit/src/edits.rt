@@ -11,6 +11,7 @@ use bibkit_core::files::Files;
 use bibkit_edits::edit::{Edit, Refusal};
 use bibkit_edits::editing::edited_file;
 use bibkit_edits::printing::{Unprinted, print_edited};
+use bibkit_files::replacing::ReplaceError;
 use std::alloc::{AllocError, AllocFailed, Global};
 use std::io;
 use std::io::ErrorKind;
@@ -213,14 +214,36 @@ fn write_reason(kind: ErrorKind) -> &'static str {
     }
 }
 
+// What is said of a file that isn't written, or not for certain.
+fn unwritten_line(alloc: Global, name: &str, error: &ReplaceError) -> Result<String, AllocError> {
+    let reason = match error {
+        ReplaceError::NotReplaced(error) | ReplaceError::Unsure(error) => {
+            write_reason(error.kind())
+        }
+        ReplaceError::Unsettled(_) => "it is written, but the disk may not have it yet",
+        _ => "it can't be written",
+    };
+    format!(in alloc; "bibkit: {name}: {reason}\n")
+}
+
+// An error of a file that isn't written, unless it says that there was no memory.
+fn unless_out_of_memory(error: ReplaceError) -> Result<ReplaceError, AllocError> {
+    match error {
+        ReplaceError::OutOfMemory => Err(AllocError),
+        ReplaceError::NotReplaced(error) if error.kind() == ErrorKind::OutOfMemory => {
+            Err(AllocError)
+        }
+        error => Ok(error),
+    }
+}
+
 // Writes a text into a file.
 fn write(rt: &HostRuntime, name: &str, text: &str) -> Result<(), Stop> {
     match replace(rt, name, text) {
         Ok(()) => Ok(()),
-        Err(error) if error.kind() == ErrorKind::OutOfMemory => Err(Stop::OutOfMemory),
         Err(error) => {
-            let reason = write_reason(error.kind());
-            let said = format!(in rt.alloc(); "bibkit: {name}: {reason}\n")?;
+            let error = unless_out_of_memory(error)?;
+            let said = unwritten_line(rt.alloc(), name, &error)?;
             Err(Stop::Said(said, 2))
         }
     }

@@ -1,0 +1,4 @@
+mod Beside
+mod Outcomes
+mod Results
+mod Touching

@@ -1,0 +1,4 @@
+pub mod Folder
+pub mod Possible
+pub mod Replaced
+pub mod Steps
