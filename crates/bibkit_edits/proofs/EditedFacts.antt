@@ -1,8 +1,5 @@
 -- Edits of a text, one after another.
 use Rattle.std.proofs.Common.{◌≡◌, ◌<◌, ◌+◌, ◌⊎◌, ℕ, List, [], ◌∷◌, ◌++◌, length, take, drop, get_or, refl, sym, ap, subst, ◌∙◌, inl, inr, append_assoc, ◌≤◌, arith}
-use Rattle.std.specs.Prelude.{MatchOption, None, Option, Some}
-use Rattle.std.specs.Str.{IsUtf8}
-use Rattle.bib_encoding.specs.Encoding.{IsFirstInvalid, without_byte_order_mark}
 use Rattle.std.proofs.lemmas.List.{length-take-le, take_more, take-append-drop}
 use Rattle.bib_syntax.specs.SyntaxErrors.{IsReported}
 use Rattle.bib_syntax.specs.declared.raw.ParseError.{ParseError}
@@ -128,13 +125,3 @@ step_refused edit text index d (step.Refused why) read refused = edit_refused ed
 -- adding a text that is read
 pub adds_made : {d : Document} {text new : List ℕ} (more : Document) → IsDocumentOf text more → IsEdited (EntriesAdded d more) new → IsEdited (TextAdded d text) new
 adds_made more read made = record { document = made.document; outcome = record { more = more; read = read; added = made.outcome }; is = made.is; read = made.read }
-
--- the first byte that isn't UTF-8, where there is one
-pub invalid_at : (bytes : List ℕ) (found : Option ℕ) (at : ℕ) → found ≡ Some at → MatchOption found (IsUtf8 (without_byte_order_mark bytes)) (IsFirstInvalid bytes) → IsFirstInvalid bytes at
-invalid_at bytes found at is holds = let R : Option ℕ → Type 0 = λ o. MatchOption o (IsUtf8 (without_byte_order_mark bytes)) (IsFirstInvalid bytes) in subst R is holds
-
--- where there is none, all are
-pub all_valid : (bytes : List ℕ) (found : Option ℕ) → ((at : ℕ) → found ≡ Some at → ⊥) → MatchOption found (IsUtf8 (without_byte_order_mark bytes)) (IsFirstInvalid bytes)
-    → IsUtf8 (without_byte_order_mark bytes)
-all_valid bytes None other holds = holds
-all_valid bytes (Some at) other holds = absurd (other at refl)

@@ -1,6 +1,8 @@
 -- Machinery: words of private contracts.
 -- Why one edit is refused.
-use Rattle.std.specs.Prelude.{◌≡◌, ◌⊎◌, ⊤, ℕ, List}
+use Rattle.std.specs.Prelude.{◌≡◌, ◌⊎◌, ⊤, ℕ, List, Option, Some, None}
+use Rattle.std.specs.String.{string_bytes}
+use Rattle.std.specs.declared.string.String.{String}
 use Rattle.bib_syntax.specs.Errors.{out_of_memory}
 use Rattle.bib_syntax.specs.SyntaxErrors.{IsReported}
 use Rattle.bib_syntax.specs.declared.raw.ParseError.{ParseError}
@@ -69,6 +71,11 @@ IsTextRefused edit text index (refusal.File e) = IsReported text e
 IsTextRefused edit text index (refusal.Added e) = AddsError edit e
 IsTextRefused edit text index (refusal.Edit at why) = (at ≡ index) × IsRefusedAt edit text why
 IsTextRefused edit text index refusal.OutOfMemory = ⊤
+
+-- the text that is edited next: the one that the last edit made, and where none is made yet the first
+abbrev pub latest : {A : Type 0} → Option (String A) → List ℕ → List ℕ
+latest (Some new) first = string_bytes new
+latest None first = first
 
 -- first edits are made of a text, which is as it was or is read
 pub record AreFirstMade (edits : List Edit) (text new : List ℕ) : Type 0 where

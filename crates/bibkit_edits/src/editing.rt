@@ -1,17 +1,17 @@
 //! Edits of a file's text, one after another.
 
-ghost use Rattle.std.specs.Prelude.{◌≡◌, ◌≢◌, ◌++◌, IfErr, IfOk, OnErr};
+ghost use Rattle.std.specs.Prelude.{◌≡◌, ◌≢◌, IfErr, IfOk, OnErr};
 ghost use Rattle.std.specs.String.{string_bytes};
 ghost use Rattle.bib_documents.specs.Documents.{IsEdited};
 ghost use Rattle.bib_documents.specs.declared.errors.EditError.TheVariants.{OutOfMemory};
-ghost use Rattle.bibkit_edits.specs.Edited.{AreMade, AreRefused, EditOutcome, IsFileMade, IsFileRefused, IsInStyle, IsMade, mark_of};
+ghost use Rattle.bibkit_edits.specs.Edited.{AreMade, AreRefused, EditOutcome, IsFileMade, IsFileRefused, IsInStyle, IsMade};
 ghost use Rattle.bibkit_edits.specs.declared.editing.Step.TheVariants.{Added, Refused};
-ghost use Rattle.bibkit_edits.specs.Steps.{IsTextRefused, StepIsRefused, added_refusal, edit_refusal, file_refusal, refusal_at};
+ghost use Rattle.bibkit_edits.specs.Steps.{IsTextRefused, StepIsRefused, added_refusal, edit_refusal, file_refusal, latest, refusal_at};
 
 use crate::edit::{Edit, Refusal};
+use crate::reading::{text_after_mark, with_mark};
 use bib_documents::document::RawDocument;
 use bib_documents::errors::EditError;
-use bib_encoding::decoding::decode;
 use bib_format::formatting::format;
 use bib_format::style::Style;
 use bib_syntax::raw::ParseError;
@@ -133,36 +133,29 @@ fn edited_once(alloc: Global, text: &str, edit: &Edit<'_>, index: usize) -> Resu
     }
 }
 
+// The text that is edited next: the one that the last edit made, and where none is made yet the first.
+fn latest<'a>(new: &'a Option<String>, first: &'a str) -> &'a str
+    ensures { result.now ≡ latest new.now first.now }
+{
+    match new {
+        Some(new) => new,
+        None => first,
+    }
+}
+
 /// The text that edits make of a text: each is of the text that the one before made. All of them are made, or none.
 pub fn edited(alloc: Global, text: &str, edits: &[Edit<'_>]) -> Result<String, Refusal>
     ensures made { IfOk result (λ new. AreMade edits.now text.now (string_bytes new)) }
     ensures refused { IfErr result (AreRefused edits.now text.now) }
 {
-    let mut new = String::from_str(alloc, text)?;
+    let mut new = None;
     'edits: for (index, edit) in edits.iter().enumerate() {
-        new = edited_once(alloc, &new, edit, index)?;
+        new = Some(edited_once(alloc, latest(&new, text), edit, index)?);
     }
-    Ok(new)
-}
-
-// The byte order mark that a file begins with, if it does.
-fn mark(bytes: &[u8]) -> &'static str
-    ensures { result.now ≡ mark_of bytes.now }
-{
-    if bytes.starts_with(b"\xEF\xBB\xBF") {
-        "\u{FEFF}"
-    } else {
-        ""
+    match new {
+        Some(new) => Ok(new),
+        None => Ok(String::from_str(alloc, text)?),
     }
-}
-
-// Two texts, one after the other.
-fn joined(alloc: Global, first: &str, second: &str) -> Result<String, AllocError>
-    ensures { IfOk result (λ text. string_bytes text ≡ first.now ++ second.now) }
-{
-    let mut text = String::from_str(alloc, first)?;
-    text.push_str(second)?;
-    Ok(text)
 }
 
 /// What edits make of a file's bytes, which have to be UTF-8: a byte order mark at their start stays, and the text after it is
@@ -171,10 +164,11 @@ pub fn edited_file(alloc: Global, bytes: &[u8], edits: &[Edit<'_>]) -> Result<St
     ensures made { IfOk result (λ new. IsFileMade edits.now bytes.now (string_bytes new)) }
     ensures refused { IfErr result (IsFileRefused edits.now bytes.now) }
 {
-    let decoded = decode(alloc, bytes)?;
-    if let Some(at) = decoded.invalid {
-        return Err(Refusal::NotUtf8 { at });
+    match text_after_mark(bytes) {
+        Ok(text) => {
+            let new = edited(alloc, text, edits)?;
+            Ok(with_mark(alloc, bytes, new)?)
+        }
+        Err(at) => Err(Refusal::NotUtf8 { at }),
     }
-    let new = edited(alloc, &decoded.text, edits)?;
-    Ok(joined(alloc, mark(bytes), &new)?)
 }

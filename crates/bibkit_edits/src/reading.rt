@@ -1,0 +1,54 @@
+//! The text of a file's bytes, and its byte order mark.
+
+ghost use Rattle.std.specs.Prelude.{◌≡◌, ◌≤◌, ◌++◌, length, IfErr, IfOk, string_bytes};
+ghost use Rattle.std.specs.Str.{IsUtf8};
+ghost use Rattle.bib_encoding.specs.Encoding.{IsFirstInvalid, mark_length, without_byte_order_mark};
+ghost use Rattle.bibkit_edits.specs.Edited.{mark_of};
+
+use std::alloc::{AllocError, Global};
+use std::str::from_utf8;
+
+// How many bytes the byte order mark has that a file begins with.
+fn mark_length(bytes: &[u8]) -> usize
+    ensures value { result ≡ mark_length bytes.now }
+    ensures within { result ≤ length bytes.now }
+{
+    if bytes.starts_with(b"\xEF\xBB\xBF") {
+        3
+    } else {
+        0
+    }
+}
+
+/// The text of a file's bytes after its byte order mark, or the index of the first byte at which no character of UTF-8 begins.
+pub fn text_after_mark(bytes: &[u8]) -> Result<&str, usize>
+    ensures text { IfOk result (λ text. text.now ≡ without_byte_order_mark bytes.now) }
+    ensures utf8 { IfOk result (λ _. IsUtf8 (without_byte_order_mark bytes.now)) }
+    ensures invalid { IfErr result (IsFirstInvalid bytes.now) }
+{
+    let start = mark_length(bytes);
+    match from_utf8(&bytes[start..]) {
+        Ok(text) => Ok(text),
+        Err(error) => Err(start + error.valid_up_to()),
+    }
+}
+
+// Two texts, one after the other.
+fn joined(alloc: Global, first: &str, second: &str) -> Result<String, AllocError>
+    ensures { IfOk result (λ text. string_bytes text ≡ first.now ++ second.now) }
+{
+    let mut text = String::from_str(alloc, first)?;
+    text.push_str(second)?;
+    Ok(text)
+}
+
+/// A text after the byte order mark that a file begins with, if it does.
+pub fn with_mark(alloc: Global, bytes: &[u8], text: String) -> Result<String, AllocError>
+    ensures { IfOk result (λ whole. string_bytes whole ≡ mark_of bytes.now ++ string_bytes text) }
+{
+    if mark_length(bytes) == 0 {
+        Ok(text)
+    } else {
+        joined(alloc, "\u{FEFF}", &text)
+    }
+}
