@@ -39,7 +39,7 @@ _bibkit() {
     if [[ $current == -* ]]; then
         local options='--help'
         [[ $command =~ ^(set|unset|rename|remove|add)$ ]] && options='--file --write --help'
-        [ "$command" = fmt ] && options='--indent --align --no-trailing-comma --check --write --help'
+        [ "$command" = fmt ] && options='--indent --align --no-align --trailing-comma --no-trailing-comma --check --write --help'
         [ "$command" = lint ] && options='--only --ignore --explain --format --cited --unused --color --help'
         mapfile -t COMPREPLY < <(compgen -W "$options" -- "$current")
         return

@@ -30,6 +30,8 @@ complete -c bibkit -n '__fish_seen_subcommand_from lint' -l unused -d 'Report en
 complete -c bibkit -n '__fish_seen_subcommand_from lint' -x -l color -a 'auto always never' -d 'Whether colours are printed'
 complete -c bibkit -n '__fish_seen_subcommand_from fmt' -x -l indent -a '0 1 2 3 4 5 6 7 8' -d 'Spaces before a field'
 complete -c bibkit -n '__fish_seen_subcommand_from fmt' -l align -d 'Put the equals signs of an entry in one column'
+complete -c bibkit -n '__fish_seen_subcommand_from fmt' -l no-align -d 'Put them after the names'
+complete -c bibkit -n '__fish_seen_subcommand_from fmt' -l trailing-comma -d 'Write a comma after the last field'
 complete -c bibkit -n '__fish_seen_subcommand_from fmt' -l no-trailing-comma -d 'Write no comma after the last field'
 complete -c bibkit -n '__fish_seen_subcommand_from fmt' -l check -d 'Say which files are not in this style'
 complete -c bibkit -n '__fish_seen_subcommand_from fmt' -l write -d 'Write the new texts into the files'

@@ -433,6 +433,55 @@ run 'settings that are no TOML' 2 '' lint project/one.bib
 printf '\xff' >project/bibkit.toml
 run 'settings that are not UTF-8' 2 '' lint project/one.bib
 run 'other commands read no settings' 0 $'test\n' keys project/one.bib
+
+# settings of a style
+mkdir -p styled/below
+printf '@Book{a, title={X}, YEAR=1999}\n' >styled/a.bib
+cp styled/a.bib styled/below/b.bib
+printf '@book{a,\n  title = {X},\n  year = 1999,\n}\n' >usual.bib
+printf '@book{a,\n    title = {X},\n    year  = 1999\n}\n' >other.bib
+printf '@book{a, title={X}, year=1999}\n' >one-line.bib
+printf '[fmt]\nindent = 4\nalign = true\ntrailing-comma = false\n' >styled/bibkit.toml
+run 'a style of settings' 0 "$(cat other.bib)"$'\n' fmt styled/a.bib
+run 'a style of settings above the file' 0 "$(cat other.bib)"$'\n' fmt styled/below/b.bib
+run 'the first file says which settings hold' 0 "$(cat other.bib other.bib)"$'\n' fmt styled/a.bib one-line.bib
+run 'the first file says which settings hold, and there are none' 0 "$(cat usual.bib usual.bib)"$'\n' fmt one-line.bib styled/a.bib
+run 'a style of the command line wins' 0 "$(cat usual.bib)"$'\n' fmt --indent 2 --no-align --trailing-comma styled/a.bib
+run 'a part of a style of the command line wins' 0 $'@book{a,\n  title = {X},\n  year  = 1999\n}\n' fmt --indent 2 styled/a.bib
+run 'the last of two options wins' 0 $'@book{a,\n    title = {X},\n    year = 1999,\n}\n' fmt --align --no-align --no-trailing-comma --trailing-comma styled/a.bib
+run 'the last of two options wins, the other way' 0 "$(cat other.bib)"$'\n' fmt --no-align --align --trailing-comma --no-trailing-comma styled/a.bib
+(cd styled && "$program" fmt <a.bib >../output)
+count 'a style of settings of the current folder' $? 0 "$(cat other.bib)"$'\n'
+run 'a file that is in the style of settings' 1 '' fmt --check styled/a.bib
+cp other.bib styled/a.bib
+run 'a file that is in the style of settings' 0 '' fmt --check styled/a.bib
+run 'lint passes over the style' 0 $'errors: 0, warnings: 0\n' lint --only syntax styled/a.bib
+printf '[fmt]\nindent = 0\n' >styled/bibkit.toml
+run 'a part of a style' 0 $'@book{a,\ntitle = {X},\nyear = 1999,\n}\n' fmt styled/a.bib
+# settings of a style that are wrong: the key, what stands there, and what it has to be
+while IFS='|' read -r key value wanted; do
+    printf '[fmt]\n%s = %s\n' "$key" "$value" >styled/bibkit.toml
+    run "a wrong setting, $key = $value" 2 '' fmt styled/a.bib
+    holds "a wrong setting, $key = $value: what is said" messages_have "styled/bibkit.toml: $wanted"
+    run "lint passes over it, $key = $value" 0 $'errors: 0, warnings: 0\n' lint --only syntax styled/a.bib
+done <<'ROWS'
+indent|9|fmt.indent has to be a number from 0 to 8
+indent|-1|fmt.indent has to be a number from 0 to 8
+indent|"4"|fmt.indent has to be a number from 0 to 8
+align|1|fmt.align has to be true or false
+trailing-comma|"no"|fmt.trailing-comma has to be true or false
+aligned|true|there is no setting fmt.aligned
+ROWS
+printf 'fmt = true\n' >styled/bibkit.toml
+run 'a style that is no table' 2 '' fmt styled/a.bib
+holds 'a style that is no table: what is said' messages_have 'styled/bibkit.toml: fmt has to be a table'
+printf 'indent = 4\n' >styled/bibkit.toml
+run 'a setting of no table' 2 '' fmt styled/a.bib
+holds 'a setting of no table: what is said' messages_have 'styled/bibkit.toml: there is no setting indent'
+printf 'ignore = ["unknown-field"]\nonly = ["no-code"]\ncolor = "never"\nformat = "text"\n' >styled/bibkit.toml
+run 'fmt passes over settings of lint' 0 "$(cat usual.bib)"$'\n' fmt styled/a.bib
+printf '[fmt]\nindent = 9\n' >styled/bibkit.toml
+run 'edits read no settings' 0 $'@book{a,\n    title = {X},\n    year  = {2000}\n}\n' set a year=2000 -f styled/a.bib
 run_start 'meanings read no settings' 0 'syntax (error): ' lint --explain syntax project/one.bib
 
 # colours, on no terminal
@@ -536,6 +585,8 @@ in_bash 'bibkit lint --color ne' $'never\n'
 in_bash 'bibkit keys refe' $'references.bib\n'
 in_bash 'bibkit rem' $'remove\n'
 in_bash 'bibkit set --wr' $'--write\n'
+in_bash 'bibkit fmt --no-al' $'--no-align\n'
+in_bash 'bibkit fmt --tr' $'--trailing-comma\n'
 in_bash 'bibkit remove --file refe' $'references.bib\n'
 if command -v fish >/dev/null; then
     in_fish 'bibkit li' $'lint\n'

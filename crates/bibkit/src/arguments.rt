@@ -4,15 +4,14 @@ use crate::commands::{command, is_editing};
 use crate::edits::{Editing, Edits, Mode};
 use bib_excerpts::request::{Request as Excerpts, Search};
 use bib_findings::codes::Code;
-use bib_format::style::Style;
 use bibkit_core::request::{Cited, Request};
 use bibkit_core::settings::{Color, Format, Settings};
 use bibkit_edits::edit::Edit;
+use bibkit_edits::style_settings::StyleSettings;
 use clap::{ArgMatches, Error};
 use std::alloc::{AllocError, Global};
 
-/// What a command line asks for: of findings only which document they are compared with, since how they are printed depends on
-/// settings.
+/// What a command line asks for. How findings are printed, and which style files are put in, depends on settings of a project too.
 #[derive(Drop)]
 pub enum Asked<'a> {
     /// What is wrong in files, with these settings.
@@ -26,8 +25,8 @@ pub enum Asked<'a> {
     Edits(Editing<'a>),
     /// Files in one style.
     Format {
-        /// How entries are laid out.
-        style: Style,
+        /// The settings of the command line.
+        settings: StyleSettings,
         /// What is done with the new text of each file.
         mode: Mode,
     },
@@ -177,15 +176,29 @@ fn editing_of<'a>(
     })
 }
 
-// How many spaces are to stand before a field.
-fn indent_of(matches: &ArgMatches<'_>) -> usize {
-    match matches.get_str("indent") {
-        Some(word) => word.parse::<usize>().unwrap_or(0),
-        None => Style::default().indent,
+// What is chosen by two options of which one says yes and the other no.
+fn chosen(matches: &ArgMatches<'_>, yes: &str, no: &str) -> Option<bool> {
+    if matches.get_flag(yes) {
+        Some(true)
+    } else if matches.get_flag(no) {
+        Some(false)
+    } else {
+        None
     }
 }
 
-// The style that `fmt` was asked for, and what for.
+// What is set of the style that `fmt` was asked for.
+fn style_settings(matches: &ArgMatches<'_>) -> StyleSettings {
+    StyleSettings {
+        indent: matches
+            .get_str("indent")
+            .and_then(|word| word.parse::<usize>().ok()),
+        aligned: chosen(matches, "align", "no-align"),
+        trailing_comma: chosen(matches, "trailing-comma", "no-trailing-comma"),
+    }
+}
+
+// What `fmt` was asked for.
 fn format_asked<'a>(matches: &ArgMatches<'a>) -> Asked<'a> {
     let mode = if matches.get_flag("check") {
         Mode::Check
@@ -194,12 +207,8 @@ fn format_asked<'a>(matches: &ArgMatches<'a>) -> Asked<'a> {
     } else {
         Mode::Print
     };
-    let style = Style {
-        indent: indent_of(matches),
-        aligned: matches.get_flag("align"),
-        trailing_comma: !matches.get_flag("no-trailing-comma"),
-    };
-    Asked::Format { style, mode }
+    let settings = style_settings(matches);
+    Asked::Format { settings, mode }
 }
 
 // What a command was asked for.

@@ -35,6 +35,8 @@ enum Takes {
     Nothing,
     // Nothing: it is an option beside the one of this name.
     NothingBeside(&'static str),
+    // Nothing: it is an option by itself, and undoes an earlier one of this name.
+    NothingAfter(&'static str),
 }
 
 // An argument: by its place where it has to be there, and else an option.
@@ -266,7 +268,8 @@ output that can't be written, 3 out of memory";
 // What stands at the end of the help of `fmt`.
 const FMT_HELP: &str = "\
 Each entry is written anew: its type and its fields in lowercase, a field a line, the elements of values as they stand. Everything else
-stays as it is, and so does an entry in which a comment stands.
+stays as it is, and so does an entry in which a comment stands. A style that is the same for a whole project stands in a table [fmt] of a
+file bibkit.toml in the folder of the first file, or one above it: indent, align and trailing-comma.
 
 Example:
   bibkit fmt --align --write refs.bib
@@ -278,20 +281,30 @@ output that can't be written, 3 out of memory";
 static INDENTS: [&str; 9] = ["0", "1", "2", "3", "4", "5", "6", "7", "8"];
 
 // What `fmt` takes.
-const FMT: [Argument; 5] = [
+const FMT: [Argument; 7] = [
     Argument {
         name: "indent",
         takes: Takes::Indent,
-        help: "Spaces before a field; 2 where there is no such option",
+        help: "Spaces before a field; 2 where nothing else is set",
     },
     Argument {
         name: "align",
-        takes: Takes::Nothing,
+        takes: Takes::NothingAfter("no-align"),
         help: "Put the equals signs of an entry in one column",
     },
     Argument {
+        name: "no-align",
+        takes: Takes::NothingAfter("align"),
+        help: "Put them after the names, where settings say otherwise",
+    },
+    Argument {
+        name: "trailing-comma",
+        takes: Takes::NothingAfter("no-trailing-comma"),
+        help: "Write a comma after the last field, where settings say otherwise",
+    },
+    Argument {
         name: "no-trailing-comma",
-        takes: Takes::Nothing,
+        takes: Takes::NothingAfter("trailing-comma"),
         help: "Write no comma after the last field of an entry",
     },
     Argument {
@@ -464,6 +477,9 @@ fn argument_of<'a>(alloc: Global, row: &'static Argument) -> Result<Arg<'a>, All
         Takes::NothingBeside(other) => option(alloc, row)
             .action(ArgAction::SetTrue)
             .requires_arg(other),
+        Takes::NothingAfter(other) => option(alloc, row)
+            .action(ArgAction::SetTrue)
+            .overrides_with(other),
     }
 }
 

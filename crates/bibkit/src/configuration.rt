@@ -2,12 +2,41 @@
 
 use bib_findings::codes::Code;
 use bibkit_core::settings::{Color, Format, Settings};
+use bibkit_edits::style_settings::StyleSettings;
 use std::alloc::{AllocError, AllocFailed, Global};
 use std::fs;
 use std::io::ErrorKind;
 use std::path::Path;
 use std::rt::Files;
 use toml::{Table, Value};
+
+/// What the settings of a project are read for: a command looks at its own settings alone.
+#[derive(Clone, Copy, PartialEq, Eq)]
+pub enum Reader {
+    /// The command `lint`.
+    Lint,
+    /// The command `fmt`.
+    Fmt,
+}
+
+/// The settings of a project.
+#[derive(Drop)]
+pub struct Project {
+    /// What is set for `lint`.
+    pub lint: Settings,
+    /// What is set for `fmt`.
+    pub style: StyleSettings,
+}
+
+impl Project {
+    // Nothing is set.
+    fn none() -> Self {
+        Project {
+            lint: Settings::none(),
+            style: StyleSettings::none(),
+        }
+    }
+}
 
 /// Why the settings of a project can't be read.
 #[derive(Debug, Drop)]
@@ -68,8 +97,13 @@ fn codes(alloc: Global, key: &str, value: &Value) -> Result<Option<Vec<Code>>, C
     Ok(Some(codes))
 }
 
-// Sets what a key of the file sets.
-fn set(
+// There is no setting of this name.
+fn unknown<T: Drop>(alloc: Global, key: &str) -> Result<T, ConfigurationError> {
+    Err(ConfigurationError::Wrong(format!(in alloc; "there is no setting {key}")?))
+}
+
+// Sets what a key of the file sets for `lint`.
+fn set_lint(
     alloc: Global,
     settings: &mut Settings,
     key: &str,
@@ -86,27 +120,98 @@ fn set(
             Some(format) => settings.format = Some(format),
             None => return wrong(alloc, key, "\"text\" or \"json\""),
         },
-        _ => return Err(ConfigurationError::Wrong(format!(in alloc; "there is no setting {key}")?)),
+        _ => return unknown(alloc, key),
     }
     Ok(())
 }
 
-// The settings of a table.
-fn settings_of(alloc: Global, table: &Table) -> Result<Settings, ConfigurationError> {
-    let mut settings = Settings::none();
+// The number of spaces that a value says.
+fn indent(alloc: Global, value: &Value) -> Result<Option<usize>, ConfigurationError> {
+    match value.as_integer().map(usize::try_from) {
+        Some(Ok(spaces)) if spaces <= 8 => Ok(Some(spaces)),
+        _ => wrong(alloc, "fmt.indent", "a number from 0 to 8"),
+    }
+}
+
+// Whether a value says yes.
+fn choice(alloc: Global, key: &str, value: &Value) -> Result<Option<bool>, ConfigurationError> {
+    match value.as_bool() {
+        Some(yes) => Ok(Some(yes)),
+        None => wrong(alloc, key, "true or false"),
+    }
+}
+
+// Sets what a key of the table `fmt` sets.
+fn set_style(
+    alloc: Global,
+    settings: &mut StyleSettings,
+    key: &str,
+    value: &Value,
+) -> Result<(), ConfigurationError> {
+    match key {
+        "indent" => settings.indent = indent(alloc, value)?,
+        "align" => settings.aligned = choice(alloc, "fmt.align", value)?,
+        "trailing-comma" => settings.trailing_comma = choice(alloc, "fmt.trailing-comma", value)?,
+        _ => {
+            let key = format!(in alloc; "fmt.{key}")?;
+            return unknown(alloc, &key);
+        }
+    }
+    Ok(())
+}
+
+// The settings of the table `fmt`.
+fn style_of(alloc: Global, value: &Value) -> Result<StyleSettings, ConfigurationError> {
+    let Some(table) = value.as_table() else {
+        return wrong(alloc, "fmt", "a table");
+    };
+    let mut settings = StyleSettings::none();
     'keys: for (key, value) in table {
-        set(alloc, &mut settings, key.as_str(), value)?;
+        set_style(alloc, &mut settings, key.as_str(), value)?;
     }
     Ok(settings)
 }
 
+// Sets what a key of the file sets, if it is for this command.
+fn set(
+    alloc: Global,
+    project: &mut Project,
+    reader: Reader,
+    key: &str,
+    value: &Value,
+) -> Result<(), ConfigurationError> {
+    match (reader, key) {
+        (Reader::Lint, "fmt") => Ok(()),
+        (Reader::Lint, _) => set_lint(alloc, &mut project.lint, key, value),
+        (Reader::Fmt, "only" | "ignore" | "color" | "format") => Ok(()),
+        (Reader::Fmt, "fmt") => {
+            project.style = style_of(alloc, value)?;
+            Ok(())
+        }
+        (Reader::Fmt, _) => unknown(alloc, key),
+    }
+}
+
+// The settings of a table.
+fn settings_of(
+    alloc: Global,
+    reader: Reader,
+    table: &Table,
+) -> Result<Project, ConfigurationError> {
+    let mut project = Project::none();
+    'keys: for (key, value) in table {
+        set(alloc, &mut project, reader, key.as_str(), value)?;
+    }
+    Ok(project)
+}
+
 // The settings of a file's bytes.
-fn read(alloc: Global, bytes: Vec<u8>) -> Result<Settings, ConfigurationError> {
+fn read(alloc: Global, reader: Reader, bytes: Vec<u8>) -> Result<Project, ConfigurationError> {
     let Ok(text) = String::from_utf8(bytes) else {
         return Err(ConfigurationError::Wrong(String::from_str(alloc, "it is not UTF-8")?));
     };
     match toml::table_from_str(alloc, text.as_str()) {
-        Ok(table) => settings_of(alloc, &table),
+        Ok(table) => settings_of(alloc, reader, &table),
         Err(error) => Err(ConfigurationError::Wrong(format!(in alloc; "{error}")?)),
     }
 }
@@ -122,11 +227,12 @@ fn folder(name: &str) -> Path<'_> {
 // The settings of a file that is there, and none where it isn't.
 fn settings_at<R: Files + AllocGlobal>(
     rt: &R,
+    reader: Reader,
     name: &str,
-) -> Result<Option<Settings>, ConfigurationError> {
+) -> Result<Option<Project>, ConfigurationError> {
     let alloc = rt.alloc();
     match fs::read(rt, name) {
-        Ok(bytes) => Ok(Some(read(alloc, bytes)?)),
+        Ok(bytes) => Ok(Some(read(alloc, reader, bytes)?)),
         Err(error) => match error.kind() {
             ErrorKind::NotFound => Ok(None),
             ErrorKind::OutOfMemory => Err(ConfigurationError::OutOfMemory),
@@ -138,29 +244,31 @@ fn settings_at<R: Files + AllocGlobal>(
 // The settings of the file `bibkit.toml` of a folder, and none where it has no such file.
 fn settings_in<R: Files + AllocGlobal>(
     rt: &R,
+    reader: Reader,
     folder: Path<'_>,
-) -> Result<Option<Settings>, ConfigurationError> {
+) -> Result<Option<Project>, ConfigurationError> {
     let path = folder.join(rt.alloc(), "bibkit.toml")?;
     let name = path.to_string_lossy();
-    match settings_at(rt, name) {
+    match settings_at(rt, reader, name) {
         Ok(settings) => Ok(settings),
         Err(error) => Err(error.of_file(rt.alloc(), name)?),
     }
 }
 
-/// The settings of the project that a file belongs to: those of `bibkit.toml` in its folder, or in the nearest one above it that
-/// has one.
+/// The settings for a command of the project that a file belongs to: those of `bibkit.toml` in its folder, or in the nearest one
+/// above it that has one.
 pub fn project_settings<R: Files + AllocGlobal>(
     rt: &R,
+    reader: Reader,
     name: &str,
-) -> Result<Settings, ConfigurationError> {
+) -> Result<Project, ConfigurationError> {
     let Ok(start) = fs::canonicalize(rt, folder(name)) else {
-        return Ok(Settings::none());
+        return Ok(Project::none());
     };
     'folders: for folder in start.ancestors() {
-        if let Some(settings) = settings_in(rt, folder)? {
+        if let Some(settings) = settings_in(rt, reader, folder)? {
             return Ok(settings);
         }
     }
-    Ok(Settings::none())
+    Ok(Project::none())
 }

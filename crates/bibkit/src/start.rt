@@ -1,14 +1,15 @@
 //! The start of the program, from the arguments as they came.
 
 use crate::arguments::{Asked, Words, read};
-use crate::configuration::{ConfigurationError, project_settings};
-use crate::edits::run_edits;
+use crate::configuration::{ConfigurationError, Reader, project_settings};
+use crate::edits::{Mode, run_edits};
 use crate::files::SystemFiles;
 use crate::formatting::run_format;
 use crate::streams::Output;
 use bibkit_core::request::{Call, Cited, Request};
 use bibkit_core::run::run;
 use bibkit_core::settings::Settings;
+use bibkit_edits::style_settings::StyleSettings;
 use clap::error::ErrorKind;
 use std::io::IsTerminal;
 use std::{env, io};
@@ -49,6 +50,11 @@ fn are_colors_shown(rt: &HostRuntime) -> bool {
     rt.stdout().is_terminal() && rt.stderr().is_terminal() && !refuses_color(rt)
 }
 
+// The name of the file to whose project a call belongs.
+fn first<'a>(names: &[&'a str]) -> &'a str {
+    names.first().copied().unwrap_or("-")
+}
+
 // What is asked of findings, with the settings of the project that the first file belongs to.
 fn lint_request<'a>(
     rt: &HostRuntime,
@@ -56,11 +62,10 @@ fn lint_request<'a>(
     cited: Option<Cited<'a>>,
     names: &[&str],
 ) -> Result<Request<'a>, ConfigurationError> {
-    let name = names.first().copied().unwrap_or("-");
-    let project = project_settings(rt, name)?;
+    let project = project_settings(rt, Reader::Lint, first(names))?;
     Ok(Request::Lint(
         settings
-            .over(project)
+            .over(project.lint)
             .lint(rt.alloc(), are_colors_shown(rt), cited),
     ))
 }
@@ -78,6 +83,17 @@ fn run_request<'a>(rt: &HostRuntime, request: Request<'a>, names: Vec<&'a str>) 
     run(rt.alloc(), &call, &mut files, &mut output, messages)
 }
 
+// Says why settings can't be read, and answers the status.
+fn refuse_settings(rt: &HostRuntime, error: ConfigurationError) -> u8 {
+    match error {
+        ConfigurationError::OutOfMemory => out_of_memory(rt),
+        ConfigurationError::Wrong(reason) => {
+            let _ = eprintln!(rt; "bibkit: {reason}");
+            2
+        }
+    }
+}
+
 // Runs what a command line asks for of findings, and answers the status.
 fn run_lint<'a>(
     rt: &HostRuntime,
@@ -87,11 +103,15 @@ fn run_lint<'a>(
 ) -> u8 {
     match lint_request(rt, settings, cited, &names) {
         Ok(request) => run_request(rt, request, names),
-        Err(ConfigurationError::OutOfMemory) => out_of_memory(rt),
-        Err(ConfigurationError::Wrong(reason)) => {
-            let _ = eprintln!(rt; "bibkit: {reason}");
-            2
-        }
+        Err(error) => refuse_settings(rt, error),
+    }
+}
+
+// Puts files in one style, with the settings of the project that the first file belongs to, and answers the status.
+fn run_style(rt: &HostRuntime, settings: StyleSettings, mode: Mode, names: &[&str]) -> u8 {
+    match project_settings(rt, Reader::Fmt, first(names)) {
+        Ok(project) => run_format(rt, settings.over(project.style).style(), mode, names),
+        Err(error) => refuse_settings(rt, error),
     }
 }
 
@@ -101,7 +121,7 @@ fn answer(rt: &HostRuntime, words: Words<'_>) -> u8 {
     match asked {
         Asked::Lint { settings, cited } => run_lint(rt, settings, cited, names),
         Asked::Edits(editing) => run_edits(rt, &editing),
-        Asked::Format { style, mode } => run_format(rt, style, mode, &names),
+        Asked::Format { settings, mode } => run_style(rt, settings, mode, &names),
         Asked::Other(request) => run_request(rt, request, names),
     }
 }

@@ -1,3 +1,4 @@
 pub mod Edited
 pub mod Printing
 pub mod Steps
+pub mod StyleSettings

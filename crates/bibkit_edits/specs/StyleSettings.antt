@@ -1,0 +1,29 @@
+-- Meaning: words of public contracts.
+-- Settings of one style, of a command line and of a project's file, and the style that they make.
+use Rattle.std.specs.Prelude.{None, true, false}
+use Rattle.std.specs.Option.{option_or, unwrap_or}
+use Rattle.bib_format.specs.declared.style.Style.{Style}
+use Rattle.bibkit_edits.specs.declared.style_settings.StyleSettings.{StyleSettings}
+
+-- nothing is set
+abbrev pub no_style_settings : StyleSettings
+no_style_settings = record { indent = None; aligned = None; trailing_comma = None }
+
+-- the settings of a command line, and where it doesn't set one that of a project
+abbrev pub over_project : StyleSettings → StyleSettings → StyleSettings
+over_project given project =
+    record {
+      indent = option_or given.indent project.indent;
+      aligned = option_or given.aligned project.aligned;
+      trailing_comma = option_or given.trailing_comma project.trailing_comma;
+    }
+
+-- the style of settings: where one isn't set fields are indented by two spaces, equals signs aren't put in one column, and a comma
+-- stands after the last field
+abbrev pub style_set : StyleSettings → Style
+style_set set =
+    record {
+      indent = unwrap_or set.indent 2;
+      aligned = unwrap_or set.aligned false;
+      trailing_comma = unwrap_or set.trailing_comma true;
+    }
