@@ -27,6 +27,10 @@ _bibkit() {
             mapfile -t COMPREPLY < <(compgen -W '0 1 2 3 4 5 6 7 8' -- "$current")
             return
             ;;
+        --blank-lines)
+            mapfile -t COMPREPLY < <(compgen -W 'keep 0 1 2 3' -- "$current")
+            return
+            ;;
         --color)
             mapfile -t COMPREPLY < <(compgen -W 'auto always never' -- "$current")
             return
@@ -39,7 +43,7 @@ _bibkit() {
     if [[ $current == -* ]]; then
         local options='--help'
         [[ $command =~ ^(set|unset|rename|remove|add)$ ]] && options='--file --write --help'
-        [ "$command" = fmt ] && options='--indent --align --no-align --trailing-comma --no-trailing-comma --check --write --help'
+        [ "$command" = fmt ] && options='--indent --align --no-align --trailing-comma --no-trailing-comma --blank-lines --check --write --help'
         [ "$command" = lint ] && options='--only --ignore --explain --format --cited --unused --color --help'
         mapfile -t COMPREPLY < <(compgen -W "$options" -- "$current")
         return

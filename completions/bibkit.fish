@@ -33,6 +33,7 @@ complete -c bibkit -n '__fish_seen_subcommand_from fmt' -l align -d 'Put the equ
 complete -c bibkit -n '__fish_seen_subcommand_from fmt' -l no-align -d 'Put them after the names'
 complete -c bibkit -n '__fish_seen_subcommand_from fmt' -l trailing-comma -d 'Write a comma after the last field'
 complete -c bibkit -n '__fish_seen_subcommand_from fmt' -l no-trailing-comma -d 'Write no comma after the last field'
+complete -c bibkit -n '__fish_seen_subcommand_from fmt' -x -l blank-lines -a 'keep 0 1 2 3' -d 'Blank lines between entries'
 complete -c bibkit -n '__fish_seen_subcommand_from fmt' -l check -d 'Say which files are not in this style'
 complete -c bibkit -n '__fish_seen_subcommand_from fmt' -l write -d 'Write the new texts into the files'
 complete -c bibkit -n "__fish_seen_subcommand_from $edits" -r -s f -l file -d 'The file to edit'

@@ -218,6 +218,11 @@ rest=$'text % c\n@misc{b, % note\n x={1}}\n'
 laid_out=$'@book{a,\n  title = {X} # "y",\n  author = jan,\n  year = 1999,\n}\n'$rest
 run 'a file in one style' 0 "$laid_out" fmt style.bib
 run 'a file in another style' 0 $'@book{a,\n    title  = {X} # "y",\n    author = jan,\n    year   = 1999\n}\n'"$rest" fmt --indent 4 --align --no-trailing-comma style.bib
+printf '@misc{a,}@misc{b,}\n\n\n@misc{c,}\n' >close.bib
+run 'entries without blank lines between them' 0 $'@misc{a,\n}@misc{b,\n}\n\n\n@misc{c,\n}\n' fmt close.bib
+run 'entries with a blank line between them' 0 $'@misc{a,\n}\n\n@misc{b,\n}\n\n@misc{c,\n}\n' fmt --blank-lines 1 close.bib
+run 'entries that follow one another' 0 $'@misc{a,\n}\n@misc{b,\n}\n@misc{c,\n}\n' fmt --blank-lines 0 close.bib
+run 'a number of blank lines that is none' 2 '' fmt --blank-lines 4 close.bib
 cp style.bib input
 run 'standard input in one style' 0 "$laid_out" fmt
 run 'two files in one style' 0 "$laid_out$laid_out" fmt style.bib style.bib
@@ -456,6 +461,12 @@ run 'a file that is in the style of settings' 1 '' fmt --check styled/a.bib
 cp other.bib styled/a.bib
 run 'a file that is in the style of settings' 0 '' fmt --check styled/a.bib
 run 'lint passes over the style' 0 $'errors: 0, warnings: 0\n' lint --only syntax styled/a.bib
+printf '[fmt]\nblank-lines = 1\n' >styled/bibkit.toml
+cp close.bib styled/close.bib
+run 'blank lines of settings' 0 $'@misc{a,\n}\n\n@misc{b,\n}\n\n@misc{c,\n}\n' fmt styled/close.bib
+run 'blank lines of the command line win' 0 $'@misc{a,\n}@misc{b,\n}\n\n\n@misc{c,\n}\n' fmt --blank-lines keep styled/close.bib
+printf '[fmt]\nblank-lines = "keep"\n' >styled/bibkit.toml
+run 'settings that keep what stands between entries' 0 $'@misc{a,\n}@misc{b,\n}\n\n\n@misc{c,\n}\n' fmt styled/close.bib
 printf '[fmt]\nindent = 0\n' >styled/bibkit.toml
 run 'a part of a style' 0 $'@book{a,\ntitle = {X},\nyear = 1999,\n}\n' fmt styled/a.bib
 # settings of a style that are wrong: the key, what stands there, and what it has to be
@@ -470,6 +481,8 @@ indent|-1|fmt.indent has to be a number from 0 to 8
 indent|"4"|fmt.indent has to be a number from 0 to 8
 align|1|fmt.align has to be true or false
 trailing-comma|"no"|fmt.trailing-comma has to be true or false
+blank-lines|4|fmt.blank-lines has to be "keep" or a number from 0 to 3
+blank-lines|"one"|fmt.blank-lines has to be "keep" or a number from 0 to 3
 aligned|true|there is no setting fmt.aligned
 ROWS
 printf 'fmt = true\n' >styled/bibkit.toml

@@ -195,6 +195,9 @@ fn style_settings(matches: &ArgMatches<'_>) -> StyleSettings {
             .and_then(|word| word.parse::<usize>().ok()),
         aligned: chosen(matches, "align", "no-align"),
         trailing_comma: chosen(matches, "trailing-comma", "no-trailing-comma"),
+        blank_lines: matches
+            .get_str("blank-lines")
+            .map(|word| word.parse::<usize>().ok()),
     }
 }
 

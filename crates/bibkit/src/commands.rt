@@ -31,6 +31,8 @@ enum Takes {
     Document,
     // How many spaces stand before a field.
     Indent,
+    // How many blank lines stand between entries.
+    BlankLines,
     // Nothing: it is an option by itself.
     Nothing,
     // Nothing: it is an option beside the one of this name.
@@ -269,7 +271,8 @@ output that can't be written, 3 out of memory";
 const FMT_HELP: &str = "\
 Each entry is written anew: its type and its fields in lowercase, a field a line, the elements of values as they stand. Everything else
 stays as it is, and so does an entry in which a comment stands. A style that is the same for a whole project stands in a table [fmt] of a
-file bibkit.toml in the folder of the first file, or one above it: indent, align and trailing-comma.
+file bibkit.toml in the folder of the first file, or one above it: indent, align,
+trailing-comma and blank-lines.
 
 Example:
   bibkit fmt --align --write refs.bib
@@ -280,8 +283,11 @@ output that can't be written, 3 out of memory";
 // How many spaces may be asked for before a field.
 static INDENTS: [&str; 9] = ["0", "1", "2", "3", "4", "5", "6", "7", "8"];
 
+// How many blank lines may be asked for between entries, or that what stands there stays.
+static BLANK_LINES: [&str; 5] = ["keep", "0", "1", "2", "3"];
+
 // What `fmt` takes.
-const FMT: [Argument; 7] = [
+const FMT: [Argument; 8] = [
     Argument {
         name: "indent",
         takes: Takes::Indent,
@@ -306,6 +312,11 @@ const FMT: [Argument; 7] = [
         name: "no-trailing-comma",
         takes: Takes::NothingAfter("trailing-comma"),
         help: "Write no comma after the last field of an entry",
+    },
+    Argument {
+        name: "blank-lines",
+        takes: Takes::BlankLines,
+        help: "Blank lines between entries, where only white space stands; keep leaves it",
     },
     Argument {
         name: "check",
@@ -473,6 +484,7 @@ fn argument_of<'a>(alloc: Global, row: &'static Argument) -> Result<Arg<'a>, All
         Takes::Color => Ok(value(alloc, row, "WHEN").value_parser(Color::names())),
         Takes::Document => Ok(value(alloc, row, "DOCUMENT")),
         Takes::Indent => Ok(value(alloc, row, "SPACES").value_parser(INDENTS.as_slice())),
+        Takes::BlankLines => Ok(value(alloc, row, "LINES").value_parser(BLANK_LINES.as_slice())),
         Takes::Nothing => Ok(option(alloc, row).action(ArgAction::SetTrue)),
         Takes::NothingBeside(other) => option(alloc, row)
             .action(ArgAction::SetTrue)

@@ -133,6 +133,17 @@ fn indent(alloc: Global, value: &Value) -> Result<Option<usize>, ConfigurationEr
     }
 }
 
+// The number of blank lines that a value says, or that what stands between entries stays.
+fn blank_lines(alloc: Global, value: &Value) -> Result<Option<Option<usize>>, ConfigurationError> {
+    if value.as_str() == Some("keep") {
+        return Ok(Some(None));
+    }
+    match value.as_integer().map(usize::try_from) {
+        Some(Ok(lines)) if lines <= 3 => Ok(Some(Some(lines))),
+        _ => wrong(alloc, "fmt.blank-lines", "\"keep\" or a number from 0 to 3"),
+    }
+}
+
 // Whether a value says yes.
 fn choice(alloc: Global, key: &str, value: &Value) -> Result<Option<bool>, ConfigurationError> {
     match value.as_bool() {
@@ -152,6 +163,7 @@ fn set_style(
         "indent" => settings.indent = indent(alloc, value)?,
         "align" => settings.aligned = choice(alloc, "fmt.align", value)?,
         "trailing-comma" => settings.trailing_comma = choice(alloc, "fmt.trailing-comma", value)?,
+        "blank-lines" => settings.blank_lines = blank_lines(alloc, value)?,
         _ => {
             let key = format!(in alloc; "fmt.{key}")?;
             return unknown(alloc, &key);

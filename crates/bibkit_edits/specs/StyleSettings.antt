@@ -7,7 +7,7 @@ use Rattle.bibkit_edits.specs.declared.style_settings.StyleSettings.{StyleSettin
 
 -- nothing is set
 abbrev pub no_style_settings : StyleSettings
-no_style_settings = record { indent = None; aligned = None; trailing_comma = None }
+no_style_settings = record { indent = None; aligned = None; trailing_comma = None; blank_lines = None }
 
 -- the settings of a command line, and where it doesn't set one that of a project
 abbrev pub over_project : StyleSettings → StyleSettings → StyleSettings
@@ -16,14 +16,16 @@ over_project given project =
       indent = option_or given.indent project.indent;
       aligned = option_or given.aligned project.aligned;
       trailing_comma = option_or given.trailing_comma project.trailing_comma;
+      blank_lines = option_or given.blank_lines project.blank_lines;
     }
 
--- the style of settings: where one isn't set fields are indented by two spaces, equals signs aren't put in one column, and a comma
--- stands after the last field
+-- the style of settings: where one isn't set fields are indented by two spaces, equals signs aren't put in one column, a comma
+-- stands after the last field, and what stands between entries stays
 abbrev pub style_set : StyleSettings → Style
 style_set set =
     record {
       indent = unwrap_or set.indent 2;
       aligned = unwrap_or set.aligned false;
       trailing_comma = unwrap_or set.trailing_comma true;
+      blank_lines = unwrap_or set.blank_lines None;
     }

@@ -14,6 +14,8 @@ pub struct StyleSettings {
     pub aligned: Option<bool>,
     /// Whether a comma stands after an entry's last field.
     pub trailing_comma: Option<bool>,
+    /// How many blank lines stand between two entries, or `None` that what stands there stays.
+    pub blank_lines: Option<Option<usize>>,
 }
 
 impl StyleSettings {
@@ -25,6 +27,7 @@ impl StyleSettings {
             indent: None,
             aligned: None,
             trailing_comma: None,
+            blank_lines: None,
         }
     }
 
@@ -36,6 +39,7 @@ impl StyleSettings {
             indent: self.indent.or(project.indent),
             aligned: self.aligned.or(project.aligned),
             trailing_comma: self.trailing_comma.or(project.trailing_comma),
+            blank_lines: self.blank_lines.or(project.blank_lines),
         }
     }
 
@@ -48,6 +52,7 @@ impl StyleSettings {
             indent: self.indent.unwrap_or(usual.indent),
             aligned: self.aligned.unwrap_or(usual.aligned),
             trailing_comma: self.trailing_comma.unwrap_or(usual.trailing_comma),
+            blank_lines: self.blank_lines.unwrap_or(usual.blank_lines),
         }
     }
 }
