@@ -78,7 +78,7 @@ pub record IsNewFile (name : List ℕ) (old new : Disk) : Type 0 where
 abbrev pub OfOpen : Disk → (List ℕ → Type 0) → Type 0
 OfOpen disk p = (name : List ℕ) → disk.open_name ≡ Some name → p name
 
--- the text stands behind the bytes of the file
+-- the text stands after the bytes of the file
 abbrev pub IsAppended : List ℕ → List ℕ → Disk → Disk → Type 0
 IsAppended text name old new = (bytes : List ℕ) → old.holds name ≡ Some bytes → new.holds name ≡ Some (bytes ++ text)
 

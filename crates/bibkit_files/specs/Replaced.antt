@@ -51,7 +51,7 @@ pub record IsKept (name : List ℕ) (old new : Disk) : Type 0 where
 abbrev pub OthersHold : List ℕ → Disk → Disk → Type 0
 OthersHold target old new = (other : List ℕ) → other ≢ target → new.holds other ≡ old.holds other
 
--- an error of a folder is told only where a call of it has failed, as far as its count goes
+-- an error of a folder is reported only where a call of it has failed, as far as its count goes
 abbrev pub IsCaused : ℕ → ℕ → ReplaceError → Type 0
 IsCaused old new OutOfMemory = Unit {0}
 IsCaused old new NamesTaken = Unit {0}

@@ -30,7 +30,7 @@ pub trait Folder {
         ensures time { (disk self.old).is_known → Elapses (disk self.old) (disk self.new) }
         ensures counted { IsCounted (failures self.old) (failures self.new) result };
 
-    /// Writes a text behind what the open file has. Until a sync a crash may leave any bytes in it.
+    /// Writes a text after what the open file has. Until a sync a crash may leave any bytes in it.
     fn write(&mut self, text: &str) -> io::Result<()>
         ensures known { (disk self.old).is_known → (disk self.new).is_known }
         ensures written { (disk self.old).is_known → OnOk result (OfOpen (disk self.old)

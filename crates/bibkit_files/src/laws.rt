@@ -10,7 +10,7 @@ pub fn makes(name: &str)
         (loose_disk files None) (loose_disk (with_file files name.now (Some [])) (Some name.now)) }
 {}
 
-/// A text can be written behind what the open file has, and saved.
+/// A text can be written after what the open file has, and saved.
 pub fn writes(name: &str, text: &str)
     ensures written { (files : Files) (bytes : _) → files name.now ≡ Some bytes →
         IsAppended text.now name.now (loose_disk files (Some name.now))
