@@ -1,0 +1,3 @@
+mod ComparisonFacts
+mod HunkFacts
+mod LineFacts

@@ -1,0 +1,18 @@
+use Rattle.std.proofs.Common.{length, ◌-◌, ◌≤◌, ◌++◌, List, ℕ, map, take, ◌+◌}
+use Rattle.bibkit_diff.specs.Comparison.{new_side, old_side}
+use Rattle.bibkit_diff.specs.Shown.{hunk_of}
+use Rattle.bibkit_diff.specs.Hunks.{Hunk, Make}
+use Rattle.bibkit_diff.proofs.hunks.hunks.Given as goal
+
+-- what hunks after these make of the lines after these, all make of all
+abbrev pub invariant-hunks : goal.invariant-hunks
+invariant-hunks l = record {
+  make : (more : List Hunk) (rest rest' : List (List ℕ)) → Make l.old l.new more rest rest'
+      → Make 1 1 (map hunk_of l.hunks.items ++ more) (old_side (take l.at l.lines) ++ rest) (new_side (take l.at l.lines) ++ rest');
+  within : l.at ≤ length l.lines;
+  old_within : l.old ≤ l.at + 1;
+  new_within : l.new ≤ l.at + 1;
+}
+
+abbrev pub decreases-hunks : goal.decreases-hunks
+decreases-hunks l = length l.lines - l.at

@@ -1,0 +1,49 @@
+-- Meaning: words of public contracts.
+-- The unified format of GNU diff, which patch reads.
+use Rattle.std.specs.Prelude.{◌≡◌, ℕ, ◌-◌, List, [], ◌∷◌, ◌++◌, codes, cond, length, nat_eq}
+use Rattle.std.specs.Fmt.{decimal}
+use Rattle.std.specs.List.{ends_with, flat_map}
+use lib.Dec.{eqb}
+use Rattle.bibkit_diff.specs.Comparison.{old_side, new_side}
+use Rattle.bibkit_diff.specs.Hunks.{Hunk, Make}
+use Rattle.bibkit_diff.specs.Lines.{lines_of}
+use Rattle.bibkit_diff.specs.declared.comparison.Line.{Line}
+use Rattle.bibkit_diff.specs.declared.comparison.Line.TheVariants.{Context, Removed, Added}
+
+-- what stands after a line: nothing, or where no line feed ends it, one, and a line that says so
+abbrev pub line_end : List ℕ → List ℕ
+line_end line = cond (ends_with eqb line (codes "\n")) [] (codes "\n\\ No newline at end of file\n")
+
+-- a line after a sign
+abbrev pub signed : List ℕ → List ℕ → List ℕ
+signed sign line = sign ++ (line ++ line_end line)
+
+-- a line after the sign that says where it stands
+abbrev pub row : Line → List ℕ
+row (Context line) = signed (codes " ") line.now
+row (Removed line) = signed (codes "-") line.now
+row (Added line) = signed (codes "+") line.now
+
+-- a line's number and how many lines there are; where there is none, the number of the line before
+abbrev pub extent : ℕ → ℕ → List ℕ
+extent number count = decimal (cond (nat_eq count 0) (number - 1) number) ++ (codes "," ++ decimal count)
+
+-- the line before a hunk's lines
+abbrev pub hunk_header : Hunk → List ℕ
+hunk_header hunk =
+    codes "@@ -" ++ (extent hunk.old (length (old_side hunk.lines)) ++ (codes " +" ++ (extent hunk.new (length (new_side hunk.lines)) ++ codes " @@\n")))
+
+-- a hunk
+abbrev pub hunk_text : Hunk → List ℕ
+hunk_text hunk = hunk_header hunk ++ flat_map row hunk.lines
+
+-- hunks of a file after its name, or nothing where there is none
+abbrev pub unified_text : List ℕ → List Hunk → List ℕ
+unified_text name [] = []
+unified_text name (hunk ∷ hunks) = codes "--- " ++ (name ++ (codes "\n+++ " ++ (name ++ (codes "\n" ++ flat_map hunk_text (hunk ∷ hunks)))))
+
+-- a text is hunks that make the lines of the new text of those of the old one
+pub record IsDiff (name old new text : List ℕ) : Type 0 where
+  pub hunks : List Hunk
+  pub make : Make 1 1 hunks (lines_of old) (lines_of new)
+  pub is : text ≡ unified_text name hunks
