@@ -136,10 +136,10 @@ def definitions(file):
 
 
 def check_definitions():
-    """A word that stands inside a definition, as a case of it does, is said there."""
+    """A word that stands inside a definition, as a case of it does, is said there; those of a file of views are said at its head."""
     commented, within = set(), set()
     for file in CRATES.glob("*/specs/*.antt"):
-        commented |= {word for word, said in definitions(file) if said}
+        commented |= {word for word, said in definitions(file) if said or file.stem == "Views"}
         within |= set(re.findall(r"(?m)^  (?:pub )?([A-Za-z_][\w']*) :", file.read_text()))
     for file in sorted(CRATES.glob("*/src/**/*.rt")):
         for word in sorted(set(cited(file)) - commented - within):

@@ -95,10 +95,13 @@ abbrev pub work_text : List ℕ → List ℕ → List ℕ → List ℕ
 work_text title person year =
     if length title == 0 || length person == 0 || length year == 0 then [] else title ++ (codes "{" ++ (person ++ (codes "{" ++ year)))
 
+-- the words of the first person of an entry, an author or else an editor, a space after each
+abbrev pub first_person_of : EntryReading → List ℕ
+first_person_of said = first_person (or_else (own_literal said (codes "author")) (own_literal said (codes "editor")))
+
 -- the title, the first person and the year of an entry
 abbrev pub work_of : EntryReading → List ℕ
-work_of said =
-    work_text (title_of said) (first_person (or_else (own_literal said (codes "author")) (own_literal said (codes "editor")))) (year_of said)
+work_of said = work_text (title_of said) (first_person_of said) (year_of said)
 
 -- the identity of this kind, where there is a text
 abbrev pub identity : List ℕ → List ℕ → Names

@@ -3,7 +3,7 @@
 ghost use Rattle.std.specs.Prelude.{◌≡◌, ◌++◌, map, IfOk, OnOk, [], encode_utf8_all};
 ghost use Rattle.std.specs.String.{string_bytes};
 ghost use Rattle.bib_syntax.specs.Views.{entry_reading_of, piece_of};
-ghost use Rattle.bib_findings.specs.Identities.{doi_of, first_four, first_person, identities, identity, is_brace, isbn_of, literal_text, or_else, plain_words, squeezed, own_literal, title_of, without_prefixes, work_of, work_text, year_of};
+ghost use Rattle.bib_findings.specs.Identities.{doi_of, first_four, first_person, identities, identity, is_brace, isbn_of, literal_text, or_else, first_person_of, plain_words, squeezed, own_literal, title_of, without_prefixes, work_of, work_text, year_of};
 ghost use Rattle.bib_findings.specs.Words.{ends_before, spaced_word, without_braces, words_text};
 
 use crate::places::last_named;
@@ -163,8 +163,9 @@ pub(crate) fn isbn(alloc: Global, said: &Spanned<RawEntry<'_>>) -> Result<String
     text.as_str().chars().filter(|c| *c != '-').collect(alloc)
 }
 
-// The year of an entry.
-fn year(alloc: Global, said: &Spanned<RawEntry<'_>>) -> Result<String, AllocError>
+/// The year of an entry, its field `year` or else the first four characters of its date, as its words in lowercase with a space after
+/// each; braces are passed over. Nothing where it has none.
+pub fn year(alloc: Global, said: &Spanned<RawEntry<'_>>) -> Result<String, AllocError>
     ensures { IfOk result (λ text. string_bytes text ≡ year_of (entry_reading_of said.now)) }
 {
     let of_date = first_four(alloc, own_literal(said, "date"))?;
@@ -188,13 +189,21 @@ pub(crate) fn title(alloc: Global, said: &Spanned<RawEntry<'_>>) -> Result<Strin
     plain_words(alloc, own_literal(said, "title"))
 }
 
+/// The words of the first person of an entry's authors, or else of its editors, in lowercase with a space after each; braces are
+/// passed over. Nothing where it has none.
+pub fn person(alloc: Global, said: &Spanned<RawEntry<'_>>) -> Result<String, AllocError>
+    ensures { IfOk result (λ text. string_bytes text ≡ first_person_of (entry_reading_of said.now)) }
+{
+    let people = or_else(own_literal(said, "author"), own_literal(said, "editor"));
+    first_person(alloc, people)
+}
+
 // The title, the first person and the year of an entry.
 fn work(alloc: Global, said: &Spanned<RawEntry<'_>>) -> Result<String, AllocError>
     ensures { IfOk result (λ text. string_bytes text ≡ work_of (entry_reading_of said.now)) }
 {
     let title = title(alloc, said)?;
-    let people = or_else(own_literal(said, "author"), own_literal(said, "editor"));
-    let person = first_person(alloc, people)?;
+    let person = person(alloc, said)?;
     let year = year(alloc, said)?;
     work_text(alloc, title.as_str(), person.as_str(), year.as_str())
 }

@@ -15,7 +15,7 @@ mod entries;
 mod errors;
 pub mod finding;
 pub mod findings;
-mod identities;
+pub mod identities;
 mod marks;
 mod names;
 mod places;

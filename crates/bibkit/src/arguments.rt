@@ -159,6 +159,19 @@ fn edits_of<'a>(
     }
 }
 
+// What is done with new texts.
+fn mode_of(matches: &ArgMatches<'_>, is_check: bool) -> Mode {
+    if matches.get_flag("diff") {
+        Mode::Diff { is_check }
+    } else if is_check {
+        Mode::Check
+    } else if matches.get_flag("write") {
+        Mode::Write
+    } else {
+        Mode::Print
+    }
+}
+
 // What a command that edits asks for.
 fn editing_of<'a>(
     alloc: Global,
@@ -168,11 +181,7 @@ fn editing_of<'a>(
     Ok(Editing {
         edits: edits_of(alloc, name, matches)?,
         name: matches.get_str("file").unwrap_or("-"),
-        mode: if matches.get_flag("write") {
-            Mode::Write
-        } else {
-            Mode::Print
-        },
+        mode: mode_of(matches, false),
     })
 }
 
@@ -203,15 +212,10 @@ fn style_settings(matches: &ArgMatches<'_>) -> StyleSettings {
 
 // What `fmt` was asked for.
 fn format_asked<'a>(matches: &ArgMatches<'a>) -> Asked<'a> {
-    let mode = if matches.get_flag("check") {
-        Mode::Check
-    } else if matches.get_flag("write") {
-        Mode::Write
-    } else {
-        Mode::Print
-    };
-    let settings = style_settings(matches);
-    Asked::Format { settings, mode }
+    Asked::Format {
+        settings: style_settings(matches),
+        mode: mode_of(matches, matches.get_flag("check")),
+    }
 }
 
 // What a command was asked for.

@@ -158,8 +158,14 @@ const WRITE: Argument = Argument {
     help: "Write the new text into the file, in place of printing it",
 };
 
+const DIFF: Argument = Argument {
+    name: "diff",
+    takes: Takes::NothingAfter("write"),
+    help: "Print how the new text differs, in place of printing it",
+};
+
 // What `set` takes.
-const SET: [Argument; 4] = [
+const SET: [Argument; 5] = [
     Argument {
         name: "KEY",
         takes: Takes::Text,
@@ -172,10 +178,11 @@ const SET: [Argument; 4] = [
     },
     FILE,
     WRITE,
+    DIFF,
 ];
 
 // What `unset` takes.
-const UNSET: [Argument; 4] = [
+const UNSET: [Argument; 5] = [
     Argument {
         name: "KEY",
         takes: Takes::Text,
@@ -188,10 +195,11 @@ const UNSET: [Argument; 4] = [
     },
     FILE,
     WRITE,
+    DIFF,
 ];
 
 // What `rename` takes.
-const RENAME: [Argument; 4] = [
+const RENAME: [Argument; 5] = [
     Argument {
         name: "OLD",
         takes: Takes::Text,
@@ -204,10 +212,11 @@ const RENAME: [Argument; 4] = [
     },
     FILE,
     WRITE,
+    DIFF,
 ];
 
 // What `remove` takes.
-const REMOVE: [Argument; 3] = [
+const REMOVE: [Argument; 4] = [
     Argument {
         name: "KEYS",
         takes: Takes::WordsOrTexts,
@@ -215,16 +224,18 @@ const REMOVE: [Argument; 3] = [
     },
     FILE,
     WRITE,
+    DIFF,
 ];
 
 // What `add` takes.
-const ADD: [Argument; 2] = [
+const ADD: [Argument; 3] = [
     Argument {
         name: "file",
         takes: Takes::AnEditedFile,
         help: "The file to which the entries of standard input are added",
     },
     WRITE,
+    DIFF,
 ];
 
 // What stands at the end of the help of `set`.
@@ -287,7 +298,7 @@ static INDENTS: [&str; 9] = ["0", "1", "2", "3", "4", "5", "6", "7", "8"];
 static BLANK_LINES: [&str; 5] = ["keep", "0", "1", "2", "3"];
 
 // What `fmt` takes.
-const FMT: [Argument; 8] = [
+const FMT: [Argument; 9] = [
     Argument {
         name: "indent",
         takes: Takes::Indent,
@@ -328,6 +339,7 @@ const FMT: [Argument; 8] = [
         takes: Takes::Nothing,
         help: "Write the new texts into the files, in place of printing them",
     },
+    DIFF,
 ];
 
 // The commands, in the order of help.

@@ -10,7 +10,7 @@ use bib_syntax::raw::ParseError;
 use bibkit_core::files::Files;
 use bibkit_edits::edit::{Edit, Refusal};
 use bibkit_edits::editing::edited_file;
-use bibkit_edits::printing::{Unprinted, print_edited};
+use bibkit_edits::printing::{Unprinted, print_difference, print_edited};
 use bibkit_files::replacing::ReplaceError;
 use std::alloc::{AllocError, AllocFailed, Global};
 use std::io;
@@ -47,6 +47,11 @@ pub enum Mode {
     Write,
     /// It is compared with the old one.
     Check,
+    /// How it differs from the old one is printed.
+    Diff {
+        /// Whether a difference has a status of its own.
+        is_check: bool,
+    },
 }
 
 // Why an edit has no answer, with the message and the status.
@@ -284,13 +289,35 @@ fn write_edited(
     }
 }
 
+// Says that a file isn't in the style that is asked for.
+fn not_in_style(alloc: Global, name: &str) -> Result<Stop, AllocError> {
+    let said = format!(in alloc; "bibkit: {name}: not in this style\n")?;
+    Ok(Stop::Said(said, 1))
+}
+
 // Says whether edits would change a file's bytes.
 fn check_edited(alloc: Global, name: &str, bytes: &[u8], edits: &[Edit<'_>]) -> Result<(), Stop> {
     let new = new_text(alloc, name, bytes, edits)?;
     if new.as_bytes() == bytes {
         Ok(())
     } else {
-        Err(Stop::Said(format!(in alloc; "bibkit: {name}: not in this style\n")?, 1))
+        Err(not_in_style(alloc, name)?)
+    }
+}
+
+// Prints how edits would change a file's text.
+fn show_difference(
+    rt: &HostRuntime,
+    name: &str,
+    bytes: &[u8],
+    edits: &[Edit<'_>],
+    is_check: bool,
+) -> Result<(), Stop> {
+    let mut output = Output::new(io::writer(rt));
+    match print_difference(rt.alloc(), name, bytes, edits, &mut output) {
+        Ok(true) if is_check => Err(not_in_style(rt.alloc(), name)?),
+        Ok(_) => Ok(()),
+        Err(why) => Err(unprinted(rt.alloc(), name, bytes, edits, &why)?),
     }
 }
 
@@ -301,6 +328,7 @@ fn edit(rt: &HostRuntime, editing: &Editing<'_>, edits: &[Edit<'_>]) -> Result<(
         Mode::Print => print(rt, editing.name, &bytes, edits),
         Mode::Write => write_edited(rt, editing.name, &bytes, edits),
         Mode::Check => check_edited(rt.alloc(), editing.name, &bytes, edits),
+        Mode::Diff { is_check } => show_difference(rt, editing.name, &bytes, edits, is_check),
     }
 }
 

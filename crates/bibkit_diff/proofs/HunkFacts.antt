@@ -7,7 +7,7 @@ use Rattle.std.proofs.lemmas.List.{drop_more, get_or-drop, get_or-take, length-t
 use Rattle.bibkit_diff.specs.Comparison.{new_side, old_side}
 use Rattle.bibkit_diff.specs.Hunks.{Hunk, Make}
 use Rattle.bibkit_diff.specs.Hunks.{Make as make}
-use Rattle.bibkit_diff.specs.Shown.{AreContext, is_changed, is_shown, near}
+use Rattle.bibkit_diff.specs.Visible.{AreContext, is_changed, is_visible, near}
 use Rattle.bibkit_diff.specs.declared.comparison.Line.{Line}
 use Rattle.bibkit_diff.specs.declared.comparison.Line.TheVariants.{Context, Removed, Added}
 use Rattle.bibkit_diff.proofs.ComparisonFacts.{new_append, old_append}
@@ -78,7 +78,7 @@ none_at p (x ∷ xs) zero d low none = (neither (p x) (list_any p xs) none).0
 none_at p (x ∷ xs) (suc i) d low none = none_at p xs i d (omega (arith, low)) (neither (p x) (list_any p xs) none).1
 
 -- a line that isn't shown hasn't changed
-unshown : (lines : List Line) (index : ℕ) (d : Line) → index < length lines → is_shown lines index ≡ false → is_changed (get_or lines index d) ≡ false
+unshown : (lines : List Line) (index : ℕ) (d : Line) → index < length lines → is_visible lines index ≡ false → is_changed (get_or lines index d) ≡ false
 unshown lines index d within hidden =
     let count = min (length lines) (index + 4) - (index - 3) in
     let offset = index - (index - 3) in
@@ -88,7 +88,7 @@ unshown lines index d within hidden =
     ap is_changed (sym (get_or-take count (drop (index - 3) lines) offset d low ∙ get_or-drop (index - 3) lines offset d ∙ ap (λ n. get_or lines n d) at))
     ∙ none_at is_changed (near lines index) offset d long hidden
 
-pub hidden_context : (lines : List Line) (start count : ℕ) → start + count ≤ length lines → ((i : ℕ) → start ≤ i → i < start + count → is_shown lines i ≡ false)
+pub hidden_context : (lines : List Line) (start count : ℕ) → start + count ≤ length lines → ((i : ℕ) → start ≤ i → i < start + count → is_visible lines i ≡ false)
     → AreContext (take count (drop start lines))
 hidden_context lines start zero within hidden = _
 hidden_context [] start (suc count) within hidden = let no : ⊥ = omega (arith, within) in absurd no

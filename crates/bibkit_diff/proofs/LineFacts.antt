@@ -4,7 +4,7 @@ use Rattle.std.proofs.lemmas.Bool.{eq-eqb, ne_eqb}
 use Rattle.std.proofs.lemmas.List.{drop_more, take_more, get_or-drop}
 use Rattle.std.specs.Prelude.{◌==◌}
 use Rattle.std.specs.List.{concat}
-use Rattle.bibkit_diff.specs.Lines.{before_first_line, line_feed, lines_of}
+use Rattle.bibkit_diff.specs.Lines.{before_first_line, lines_of}
 
 -- lines with bytes before the first of them
 abbrev pub after : List ℕ → List (List ℕ) → List (List ℕ)
@@ -40,7 +40,7 @@ concat_choice false byte lines = concat_before byte lines
 
 pub lines_are_the_text : (text : List ℕ) → concat (lines_of text) ≡ text
 lines_are_the_text [] = refl
-lines_are_the_text (byte ∷ bytes) = concat_choice (byte == line_feed) byte (lines_of bytes) ∙ ap (λ bs. byte ∷ bs) (lines_are_the_text bytes)
+lines_are_the_text (byte ∷ bytes) = concat_choice (byte == 10) byte (lines_of bytes) ∙ ap (λ bs. byte ∷ bs) (lines_are_the_text bytes)
 
 -- the bytes of a line up to one of a text, and that one
 next_taken : (text : List ℕ) (start index : ℕ) → start ≤ index → index < length text

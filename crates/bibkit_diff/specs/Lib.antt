@@ -1,5 +1,5 @@
 pub mod Comparison
 pub mod Hunks
 pub mod Lines
-pub mod Shown
 pub mod Unified
+pub mod Visible

@@ -15,14 +15,14 @@ abbrev pub line_end : List ℕ → List ℕ
 line_end line = cond (ends_with eqb line (codes "\n")) [] (codes "\n\\ No newline at end of file\n")
 
 -- a line after a sign
-abbrev pub signed : List ℕ → List ℕ → List ℕ
-signed sign line = sign ++ (line ++ line_end line)
+abbrev pub line_after : List ℕ → List ℕ → List ℕ
+line_after sign line = sign ++ (line ++ line_end line)
 
 -- a line after the sign that says where it stands
-abbrev pub row : Line → List ℕ
-row (Context line) = signed (codes " ") line.now
-row (Removed line) = signed (codes "-") line.now
-row (Added line) = signed (codes "+") line.now
+abbrev pub diff_line : Line → List ℕ
+diff_line (Context line) = line_after (codes " ") line.now
+diff_line (Removed line) = line_after (codes "-") line.now
+diff_line (Added line) = line_after (codes "+") line.now
 
 -- a line's number and how many lines there are; where there is none, the number of the line before
 abbrev pub extent : ℕ → ℕ → List ℕ
@@ -35,7 +35,7 @@ hunk_header hunk =
 
 -- a hunk
 abbrev pub hunk_text : Hunk → List ℕ
-hunk_text hunk = hunk_header hunk ++ flat_map row hunk.lines
+hunk_text hunk = hunk_header hunk ++ flat_map diff_line hunk.lines
 
 -- hunks of a file after its name, or nothing where there is none
 abbrev pub unified_text : List ℕ → List Hunk → List ℕ

@@ -2,8 +2,8 @@
 
 ghost use Rattle.std.specs.Prelude.{◌≡◌, ◌≤◌, ◌<◌, ◌-◌, ◌∷◌, [], false, IfOk, drop, length, map, take};
 ghost use Rattle.bibkit_diff.specs.Comparison.{new_side, old_side};
-ghost use Rattle.bibkit_diff.specs.Shown.{AreContext, hunk_of};
-ghost use Rattle.bibkit_diff.specs.Shown as shown;
+ghost use Rattle.bibkit_diff.specs.Visible.{AreContext, hunk_of};
+ghost use Rattle.bibkit_diff.specs.Visible as visible;
 ghost use Rattle.bibkit_diff.specs.Hunks.{Make};
 
 use crate::comparison::Line;
@@ -19,7 +19,7 @@ pub(crate) struct Hunk<'c, 't> {
 
 // Whether a line has changed.
 fn is_changed(line: &Line<'_>) -> bool
-    ensures { result ≡ shown.is_changed line.now }
+    ensures { result ≡ visible.is_changed line.now }
 {
     match line {
         Line::Context(_) => false,
@@ -28,9 +28,9 @@ fn is_changed(line: &Line<'_>) -> bool
 }
 
 // Whether a line is shown: one has changed that stands at most three lines from it.
-fn is_shown(lines: &[Line<'_>], index: usize) -> bool
+fn is_visible(lines: &[Line<'_>], index: usize) -> bool
     requires { index < length lines.now }
-    ensures { result ≡ shown.is_shown lines.now index }
+    ensures { result ≡ visible.is_visible lines.now index }
 {
     let start = index.saturating_sub(3);
     let end = lines.len().min(index + 4);
@@ -43,16 +43,16 @@ fn is_shown(lines: &[Line<'_>], index: usize) -> bool
 }
 
 // Where lines end that are shown, or that aren't, from an index on.
-fn run_end(lines: &[Line<'_>], start: usize, are_shown: bool) -> usize
+fn run_end(lines: &[Line<'_>], start: usize, are_visible: bool) -> usize
     requires { start ≤ length lines.now }
     ensures after { start ≤ result }
     ensures within { result ≤ length lines.now }
-    ensures hidden { are_shown ≡ false → AreContext (take (result - start) (drop start lines.now)) }
-    ensures moved { start < length lines.now → shown.is_shown lines.now start ≡ are_shown → start < result }
-    ensures ended { result < length lines.now → shown.is_shown lines.now result ≡ are_shown → ⊥ }
+    ensures hidden { are_visible ≡ false → AreContext (take (result - start) (drop start lines.now)) }
+    ensures moved { start < length lines.now → visible.is_visible lines.now start ≡ are_visible → start < result }
+    ensures ended { result < length lines.now → visible.is_visible lines.now result ≡ are_visible → ⊥ }
 {
     'lines: for index in start..lines.len() {
-        if is_shown(lines, index) != are_shown {
+        if is_visible(lines, index) != are_visible {
             return index;
         }
     }

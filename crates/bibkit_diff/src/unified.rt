@@ -3,8 +3,8 @@
 ghost use Rattle.std.specs.Prelude.{◌≡◌, ◌++◌, codes, IfOk, OnOk, map};
 ghost use Rattle.std.specs.List.{flat_map};
 ghost use Rattle.std.specs.String.{string_bytes};
-ghost use Rattle.bibkit_diff.specs.Shown.{hunk_of};
-ghost use Rattle.bibkit_diff.specs.Unified.{IsDiff, extent, hunk_header, hunk_text, row, signed, unified_text};
+ghost use Rattle.bibkit_diff.specs.Visible.{hunk_of};
+ghost use Rattle.bibkit_diff.specs.Unified.{IsDiff, extent, hunk_header, hunk_text, diff_line, line_after, unified_text};
 
 use crate::comparison::{Line, compared};
 use crate::hunks::{Hunk, hunks, new_count, old_count};
@@ -13,8 +13,8 @@ use crate::partners::found_partners;
 use std::alloc::{AllocError, Global};
 
 // Adds a line after a sign.
-fn push_signed(diff: &mut String, sign: &str, line: &str) -> Result<(), AllocError>
-    ensures { OnOk result (string_bytes diff.new ≡ string_bytes diff.old ++ signed sign.now line.now) }
+fn push_line_after(diff: &mut String, sign: &str, line: &str) -> Result<(), AllocError>
+    ensures { OnOk result (string_bytes diff.new ≡ string_bytes diff.old ++ line_after sign.now line.now) }
 {
     diff.push_str(sign)?;
     diff.push_str(line)?;
@@ -25,13 +25,13 @@ fn push_signed(diff: &mut String, sign: &str, line: &str) -> Result<(), AllocErr
 }
 
 // Adds a line after the sign that says where it stands.
-fn push_row(diff: &mut String, line: &Line<'_>) -> Result<(), AllocError>
-    ensures { OnOk result (string_bytes diff.new ≡ string_bytes diff.old ++ row line.now) }
+fn push_diff_line(diff: &mut String, line: &Line<'_>) -> Result<(), AllocError>
+    ensures { OnOk result (string_bytes diff.new ≡ string_bytes diff.old ++ diff_line line.now) }
 {
     match line {
-        Line::Context(line) => push_signed(diff, " ", line),
-        Line::Removed(line) => push_signed(diff, "-", line),
-        Line::Added(line) => push_signed(diff, "+", line),
+        Line::Context(line) => push_line_after(diff, " ", line),
+        Line::Removed(line) => push_line_after(diff, "-", line),
+        Line::Added(line) => push_line_after(diff, "+", line),
     }
 }
 
@@ -67,7 +67,7 @@ fn push_hunk(alloc: Global, diff: &mut String, hunk: &Hunk<'_, '_>) -> Result<()
 {
     push_header(alloc, diff, hunk)?;
     'lines: for line in hunk.lines {
-        push_row(diff, line)?;
+        push_diff_line(diff, line)?;
     }
     Ok(())
 }

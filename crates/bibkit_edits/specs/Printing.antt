@@ -1,7 +1,8 @@
 -- Meaning: words of public contracts.
 -- What is printed of a file that is edited, and the status.
-use Rattle.std.specs.Prelude.{◌≡◌, ℕ, Bool, false, List, Option}
+use Rattle.std.specs.Prelude.{◌≡◌, ℕ, Bool, false, not, List, Option, bytes_eq}
 use Rattle.std.specs.Io.KnownBytes.{Appends}
+use Rattle.bibkit_diff.specs.Unified.{IsDiff}
 use Rattle.bibkit_edits.specs.Edited.{IsFileMade, IsFileRefused}
 use Rattle.bibkit_edits.specs.declared.edit.Edit.{Edit}
 use Rattle.bibkit_edits.specs.declared.edit.Refusal.{Refusal}
@@ -30,6 +31,28 @@ pub record IsRefusedUnprinted {K : Type 0} (edits : List Edit) (bytes : List ℕ
 abbrev pub IsNotPrinted : {K : Type 0} → (K → List ℕ → Bool → K → Type 0) → List Edit → List ℕ → K → K → Unprinted → Type 0
 IsNotPrinted hands_over edits bytes old new (unprinted.Refused why) = IsRefusedUnprinted edits bytes why old new
 IsNotPrinted hands_over edits bytes old new unprinted.NotTaken = IsNotTaken hands_over edits bytes old new
+
+-- the output takes how what edits make of a file's bytes differs from them, if it does
+pub record HasPrintedDifference {K : Type 0} (taken : K → Option (List ℕ)) (name : List ℕ) (edits : List Edit) (bytes : List ℕ) (differs : Bool) (old new : K) : Type 0 where
+  pub text : List ℕ
+  pub made : IsFileMade edits bytes text
+  pub diff : List ℕ
+  pub is : IsDiff name bytes text diff
+  pub differ : differs ≡ not (bytes_eq text bytes)
+  pub printed : Appends (taken old) (taken new) diff
+
+-- the output refuses how what edits make of a file's bytes differs from them, at the only call
+pub record IsDifferenceNotTaken {K : Type 0} (hands_over : K → List ℕ → Bool → K → Type 0) (name : List ℕ) (edits : List Edit) (bytes : List ℕ) (old new : K) : Type 0 where
+  pub text : List ℕ
+  pub made : IsFileMade edits bytes text
+  pub diff : List ℕ
+  pub is : IsDiff name bytes text diff
+  pub handed : hands_over old diff false new
+
+-- why how what edits make of a file's bytes differs from them isn't printed
+abbrev pub IsDifferenceNotPrinted : {K : Type 0} → (K → List ℕ → Bool → K → Type 0) → List ℕ → List Edit → List ℕ → K → K → Unprinted → Type 0
+IsDifferenceNotPrinted hands_over name edits bytes old new (unprinted.Refused why) = IsRefusedUnprinted edits bytes why old new
+IsDifferenceNotPrinted hands_over name edits bytes old new unprinted.NotTaken = IsDifferenceNotTaken hands_over name edits bytes old new
 
 -- the status where edits are refused
 abbrev pub refusal_status : Refusal → ℕ

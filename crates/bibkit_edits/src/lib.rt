@@ -7,6 +7,7 @@
 
 pub mod edit;
 pub mod editing;
+pub mod order;
 pub mod printing;
 mod reading;
 pub mod style_settings;

@@ -3,7 +3,7 @@ use Rattle.std.proofs.lemmas.List.{append-nil, length-take, map-append, take_all
 use Rattle.bibkit_diff.specs.Comparison.{new_side, old_side}
 use Rattle.bibkit_diff.specs.Hunks.{Make}
 use Rattle.bibkit_diff.specs.Hunks.{Make as make}
-use Rattle.bibkit_diff.specs.Shown.{hunk_of}
+use Rattle.bibkit_diff.specs.Visible.{hunk_of}
 use Rattle.bibkit_diff.proofs.HunkFacts.{last_lines, next_hunk}
 use Rattle.bibkit_diff.proofs.hunks.hunks.Goals as goal
 

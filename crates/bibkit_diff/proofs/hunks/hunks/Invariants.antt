@@ -1,6 +1,6 @@
 use Rattle.std.proofs.Common.{length, ◌-◌, ◌≤◌, ◌++◌, List, ℕ, map, take, ◌+◌}
 use Rattle.bibkit_diff.specs.Comparison.{new_side, old_side}
-use Rattle.bibkit_diff.specs.Shown.{hunk_of}
+use Rattle.bibkit_diff.specs.Visible.{hunk_of}
 use Rattle.bibkit_diff.specs.Hunks.{Hunk, Make}
 use Rattle.bibkit_diff.proofs.hunks.hunks.Given as goal
 

@@ -2,8 +2,8 @@ use Rattle.std.proofs.Common.{◌-◌, length, ◌∙◌, arith}
 use Rattle.bibkit_diff.proofs.HunkFacts.{hidden_context}
 use Rattle.bibkit_diff.proofs.hunks.run_end.Goals as goal
 
-pub returns-then-is_shown-are_shown-clause-hidden : goal.returns-then-is_shown-are_shown-clause-hidden
-returns-then-is_shown-are_shown-clause-hidden c = λ hidden.
+pub returns-then-is_visible-are_visible-clause-hidden : goal.returns-then-is_visible-are_visible-clause-hidden
+returns-then-is_visible-are_visible-clause-hidden c = λ hidden.
     hidden_context c.args.lines.now c.args.start (c.lines.index - c.args.start) (omega arith) (λ i low high. c.lines.invariant i low (omega (arith, low, high)) ∙ hidden)
 
 pub returns-clause-hidden : goal.returns-clause-hidden

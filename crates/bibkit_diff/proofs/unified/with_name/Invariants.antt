@@ -2,7 +2,7 @@ use Rattle.std.proofs.Common.{◌≡◌, ◌++◌, map, take}
 use Rattle.std.specs.List.{flat_map}
 use Rattle.std.specs.String.{string_bytes}
 use Rattle.bibkit_diff.specs.Unified.{hunk_text}
-use Rattle.bibkit_diff.specs.Shown.{hunk_of}
+use Rattle.bibkit_diff.specs.Visible.{hunk_of}
 use Rattle.bibkit_diff.proofs.unified.with_name.Given as goal
 
 abbrev pub invariant-hunks : goal.invariant-hunks

@@ -1,7 +1,7 @@
 use Rattle.std.proofs.Common.{◌++◌, [], codes, cond, sym, ap, ◌∙◌, append_assoc}
 use Rattle.std.specs.String.{string_bytes}
 use Rattle.std.proofs.lemmas.Str.Pattern.{ends_text}
-use Rattle.bibkit_diff.proofs.unified.push_signed.Goals as goal
+use Rattle.bibkit_diff.proofs.unified.push_line_after.Goals as goal
 
 pub returns-in_ok-push_str-3 : goal.returns-in_ok-push_str-3
 returns-in_ok-push_str-3 c =

@@ -18,8 +18,8 @@ abbrev pub near : List Line → ℕ → List Line
 near lines index = take (min (length lines) (index + 4) - (index - 3)) (drop (index - 3) lines)
 
 -- whether a line is shown: one has changed that stands at most three lines from it
-abbrev pub is_shown : List Line → ℕ → Bool
-is_shown lines index = list_any is_changed (near lines index)
+abbrev pub is_visible : List Line → ℕ → Bool
+is_visible lines index = list_any is_changed (near lines index)
 
 -- lines stand in both texts
 abbrev pub AreContext : List Line → Type 0
