@@ -1,1 +1,2 @@
 pub mod EditedFacts
+mod OrderFacts

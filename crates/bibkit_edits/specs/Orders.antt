@@ -1,6 +1,6 @@
 -- Meaning: words of public contracts.
 -- What entries are ordered by: a text for each, by its bytes.
-use Rattle.std.specs.Prelude.{ℕ, Bool, ◌==◌, ◌-◌, List, ◌++◌, codes, encode_utf8, length, take, if◌then◌else◌}
+use Rattle.std.specs.Prelude.{ℕ, Bool, ◌==◌, ◌-◌, List, [], ◌∷◌, ◌++◌, codes, length, take, if◌then◌else◌}
 use Rattle.std.specs.List.{after_last, list_any}
 use Rattle.std.specs.Str.{str_to_ascii_lowercase, trim_end}
 use Rattle.bib_findings.specs.Identities.{first_person_of, year_of}
@@ -29,9 +29,13 @@ family_first person = if has_comma (trim_end person) then trim_end person else l
 abbrev pub author_text : EntryReading → List ℕ
 author_text e = if length (first_person_of e) == 0 then first_person_of e else family_first (first_person_of e)
 
--- a text, or where it is empty the last character of Unicode, which stands after all others
+-- the last character of Unicode, U+10FFFF, which stands after all other texts
+abbrev pub last_text : List ℕ
+last_text = 0xF4 ∷ 0x8F ∷ 0xBF ∷ 0xBF ∷ []
+
+-- a text, or where it is empty the last of all
 abbrev pub or_last : List ℕ → List ℕ
-or_last text = if length text == 0 then encode_utf8 0x10FFFF else text
+or_last text = if length text == 0 then last_text else text
 
 -- what an entry is ordered by
 abbrev pub order_text : Order → EntryReading → List ℕ

@@ -57,7 +57,7 @@ fn family_first(alloc: Global, person: &str) -> Result<String, AllocError>
 fn or_last(alloc: Global, text: String) -> Result<String, AllocError>
     ensures { IfOk result (λ found. string_bytes found ≡ orders.or_last (string_bytes text)) }
 {
-    if text.is_empty() {
+    if text.as_str().is_empty() {
         String::from_str(alloc, "\u{10FFFF}")
     } else {
         Ok(text)
@@ -69,7 +69,7 @@ fn author_text(alloc: Global, entry: &Spanned<RawEntry<'_>>) -> Result<String, A
     ensures { IfOk result (λ text. string_bytes text ≡ orders.author_text (entry_reading_of entry.now)) }
 {
     let person = person(alloc, entry)?;
-    if person.is_empty() {
+    if person.as_str().is_empty() {
         return Ok(person);
     }
     family_first(alloc, &person)
