@@ -1,10 +1,10 @@
 //! Reads rows, a style and a text in each line, and prints each with the text in that style. A style is the word `format` with what
 //! it has other than the usual one: the spaces before a field, `aligned`, `bare` where no comma stands after the last field, `blank` and
-//! so many blank lines between entries.
+//! so many blank lines between entries, `braces` or `quotes` where literals come to stand in these.
 
 use bib_documents::document::RawDocument;
 use bib_format::formatting::format;
-use bib_format::style::Style;
+use bib_format::style::{Delimiters, Style};
 use std::alloc::{AllocError, Global};
 use crate::support::rows::Calls;
 
@@ -18,6 +18,8 @@ fn style_of(words: &str) -> Option<Style> {
             "" => {}
             "aligned" => style.aligned = true,
             "bare" => style.trailing_comma = false,
+            "braces" => style.delimiters = Delimiters::Braces,
+            "quotes" => style.delimiters = Delimiters::Quotes,
             _ => match word.strip_prefix("blank") {
                 Some(count) => style.blank_lines = Some(count.parse().ok()?),
                 None => style.indent = word.parse().ok()?,

@@ -16,14 +16,14 @@ use Rattle.bib_syntax.specs.Grammar.{Gap as gap}
 use Rattle.bib_syntax.proofs.FieldFacts.{ahead_identifier, ahead_elements, ahead_field, ahead_gap, ahead_fields}
 use Rattle.bib_syntax.proofs.LawFacts.{start_not_white}
 use Rattle.bib_documents.specs.Edits.{moved_field, moved_piece}
-use Rattle.bib_format.specs.Formatted.{field_in_lowercase, field_laid_out, has_percent, has_percent_between, spaces, value_laid_out}
+use Rattle.bib_format.specs.Formatted.{elements_as_written, field_in_lowercase, field_laid_out, has_percent, has_percent_between, spaces, value_laid_out}
 use Rattle.bib_format.specs.declared.style.Style.{Style}
 use Rattle.bib_format.proofs.ByteFacts.{either_false, has, white_without}
 use Rattle.bib_format.proofs.ElementFacts.{Ending}
 use Rattle.bib_format.proofs.LowerFacts.{lower_lower}
 use Rattle.bib_format.proofs.NameFacts.{name_read, none_between}
 use Rattle.bib_format.proofs.StandsFacts.{AreWhite, Stands, ascii, between_stands, first_part, joined, last_part, past, run_white, spaces_white, white_append}
-use Rattle.bib_format.proofs.ValueFacts.{not_opened_run, not_opened_sign, not_opened_white, signed, unsigned, value_read}
+use Rattle.bib_format.proofs.ValueFacts.{in_line, not_opened_run, not_opened_sign, not_opened_white, signed, unsigned, value_read, written}
 use Rattle.bib_format.proofs.WidthFacts.{width_lower}
 
 -- how lines end: with white space, after which and before a closing brace a value ends
@@ -67,8 +67,10 @@ field_read line_end style width {a} {b} {u} {v} {w} {f} ends field within s endi
     let same : field.value_start.text ≡ a.text = to_start.text in
     let old = field.value_start in
     let es = f.value.pieces in
-    let rest_bytes = unsigned old.text es in
-    let value_is : value_laid_out (codes " = ") a.text es ≡ 32 ∷ 61 ∷ 32 ∷ rest_bytes = signed (codes " = ") a.text field.elements ∙ ap (λ t. codes " = " ++ unsigned t es) (sym same) in
+    let way = style.delimiters in
+    let next = codes " # " in
+    let rest_bytes = unsigned next (written way old.text es) in
+    let value_is : value_laid_out (codes " = ") next (elements_as_written style a.text f) ≡ 32 ∷ 61 ∷ 32 ∷ rest_bytes = signed (codes " = ") next way a.text field.elements ∙ ap (λ t. codes " = " ++ unsigned next (written way t es)) (sym same) in
     let padded = replicate n 32 ++ 32 ∷ 61 ∷ 32 ∷ rest_bytes in
     let s0 : Stands u (44 ∷ (line_end ++ (indent ++ (name ++ padded)))) v = subst (λ t. Stands u (44 ∷ (line_end ++ (indent ++ (name ++ (replicate n 32 ++ t))))) v) value_is s in
     let comma = ascii 44 (omega arith) (first_part (44 ∷ []) (line_end ++ (indent ++ (name ++ padded))) s0) in
@@ -94,10 +96,10 @@ field_read line_end style width {a} {b} {u} {v} {w} {f} ends field within s endi
     let space' = ascii 32 (omega arith) (first_part (32 ∷ []) rest_bytes s7) in
     let s8 = last_part (32 ∷ []) rest_bytes s7 in
     let opened = not_opened_run (not_opened_sign 61 (omega arith) (λ clash. omega arith) (λ clash. omega arith) field.sign) field.white'.run in
-    let value = value_read field.elements opened (omega (arith, within, ap length same)) s8 (not_opened_white space' refl) ending over no_hash in
+    let value = value_read way in_line field.elements opened (omega (arith, within, ap length same)) s8 (not_opened_white space' refl) ending over no_hash in
     let text_is : between u3 u4 ≡ name = between_stands name named in
-    let value_again : value_laid_out (codes " = ") u.text value.reading ≡ value_laid_out (codes " = ") a.text es =
-    signed (codes " = ") u.text value.elements ∙ ap (λ t. 32 ∷ 61 ∷ 32 ∷ t) value.again ∙ sym value_is in
+    let laid_out = λ (ts : List (List ℕ)). value_laid_out (codes " = ") next ts in
+    let value_again : written way u.text value.reading ≡ written way a.text es = value.again ∙ ap (λ t. written way t es) same in
     let write = λ (t : List ℕ) (k : ℕ) (rest : List ℕ). 44 ∷ (line_end ++ (indent ++ (t ++ (spaces (width - k) ++ rest)))) in
     let before_name : between u u3 ≡ 44 ∷ (line_end ++ indent) =
     between_stands (44 ∷ (line_end ++ indent)) (joined (44 ∷ []) (line_end ++ indent) (first_part (44 ∷ []) (line_end ++ (indent ++ (name ++ padded))) s0)
@@ -123,9 +125,9 @@ field_read line_end style width {a} {b} {u} {v} {w} {f} ends field within s endi
         ends = refl;
       };
       alike = ap (λ t. build (str_to_ascii_lowercase t) (map (moved_piece (λ n. 0)) value.reading)) text_is ∙ ap (λ t. build t (map (moved_piece (λ n. 0)) value.reading)) (lower_lower f.name.text) ∙ ap (build name) value.alike;
-      again = ap (λ t. write (str_to_ascii_lowercase t) (length (chars t)) (value_laid_out (codes " = ") u.text value.reading)) text_is
-          ∙ ap (λ t. write t (length (chars name)) (value_laid_out (codes " = ") u.text value.reading)) (lower_lower f.name.text)
-          ∙ ap (λ k. write name k (value_laid_out (codes " = ") u.text value.reading)) (width_lower f.name.text) ∙ ap (write name (length (chars f.name.text))) value_again;
+      again = ap (λ t. write (str_to_ascii_lowercase t) (length (chars t)) (laid_out (written way u.text value.reading))) text_is
+          ∙ ap (λ t. write t (length (chars name)) (laid_out (written way u.text value.reading))) (lower_lower f.name.text)
+          ∙ ap (λ k. write name k (laid_out (written way u.text value.reading))) (width_lower f.name.text) ∙ ap (λ ts. write name (length (chars f.name.text)) (laid_out ts)) value_again;
       clear = ap (has 37) before_name ∙ white_without (line_end ++ indent) (white_append line_end indent ends.white (spaces_white style.indent));
     }
 

@@ -8,26 +8,19 @@ use lib.Dec.{eqb}
 use Rattle.bib_text.specs.Characters as char
 use Rattle.bib_text.specs.Places.{between, place}
 use Rattle.bib_syntax.specs.Grammar.{IsRawReading}
-use Rattle.bib_syntax.specs.Reading.{Part, Piece, FieldReading, EntryReading, FileReading}
-use Rattle.bib_syntax.specs.Reading.Piece.{literal, abbreviation}
+use Rattle.bib_syntax.specs.Reading.{Part, FieldReading, EntryReading, FileReading}
 use Rattle.bib_documents.specs.Edits.{moved_entry, moved_field}
+use Rattle.bib_format.specs.Delimited.{piece_as_written}
 use Rattle.bib_format.specs.declared.style.Style.{Style}
 
--- a literal with the delimiters that it has in its text, by what stands before it there: braces, quotes or, at a number, none
-abbrev pub delimited : List ℕ → List ℕ → List ℕ
-delimited before content =
-    cond (ends_with eqb before (codes "{")) (codes "{" ++ (content ++ codes "}"))
-    (cond (ends_with eqb before (codes "\"")) (codes "\"" ++ (content ++ codes "\"")) content)
+-- the elements of a value, as they are written, with a sign before the first, and one before each other
+abbrev pub value_laid_out : List ℕ → List ℕ → List (List ℕ) → List ℕ
+value_laid_out first next [] = []
+value_laid_out first next (t ∷ ts) = first ++ (t ++ value_laid_out next next ts)
 
--- an element of a value as it stands in its text
-abbrev pub piece_as_written : List ℕ → Piece → List ℕ
-piece_as_written text (literal p) = delimited (between (place text 0) (place text p.start)) p.text
-piece_as_written text (abbreviation p) = p.text
-
--- the elements of a value, with a sign before the first, and # before each other
-abbrev pub value_laid_out : List ℕ → List ℕ → List Piece → List ℕ
-value_laid_out sign text [] = []
-value_laid_out sign text (p ∷ ps) = sign ++ (piece_as_written text p ++ value_laid_out (codes " # ") text ps)
+-- the elements of a field's value, as they are written
+abbrev pub elements_as_written : Style → List ℕ → FieldReading → List (List ℕ)
+elements_as_written style text f = map (piece_as_written style.delimiters text) f.value.pieces
 
 -- so many spaces
 abbrev pub spaces : ℕ → List ℕ
@@ -44,7 +37,7 @@ padded_width style fields = if style.aligned then longest_name fields else 0
 -- a field after a comma, in a line of its own
 abbrev pub field_laid_out : List ℕ → Style → List ℕ → ℕ → FieldReading → List ℕ
 field_laid_out line_end style text width f =
-    codes "," ++ (line_end ++ (spaces style.indent ++ (str_to_ascii_lowercase f.name.text ++ (spaces (width - length (chars f.name.text)) ++ value_laid_out (codes " = ") text f.value.pieces))))
+    codes "," ++ (line_end ++ (spaces style.indent ++ (str_to_ascii_lowercase f.name.text ++ (spaces (width - length (chars f.name.text)) ++ value_laid_out (codes " = ") (codes " # ") (elements_as_written style text f)))))
 
 -- the comma after the last field, or after the key where there is no field
 abbrev pub last_comma : Style → List FieldReading → List ℕ

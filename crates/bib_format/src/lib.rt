@@ -7,6 +7,7 @@
 #![tactic(auto)]
 
 mod comments;
+mod delimiters;
 mod entries;
 mod fields;
 pub mod formatting;

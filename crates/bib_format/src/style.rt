@@ -1,6 +1,19 @@
 //! What is chosen of how entries are laid out.
 
 ghost use Rattle.std.specs.Prelude.{◌≡◌, true, false, None};
+ghost use Rattle.bib_format.specs.declared.style.Delimiters.TheVariants.{Keep};
+
+/// Between which delimiters the literals of values stand. The text between them stays byte for byte, and numbers and names of
+/// abbreviations have none.
+#[derive(Debug, Clone, Copy, PartialEq, Eq)]
+pub enum Delimiters {
+    /// Each literal stands between those that it has.
+    Keep,
+    /// In braces; a text in quotes in which a brace isn't closed, or closes none, stays there, since in braces it would end elsewhere.
+    Braces,
+    /// In quotes; a text in braces in which a quote stands that no backslash hides stays there, since in quotes it would end at that.
+    Quotes,
+}
 
 /// How entries are laid out.
 #[derive(Debug, Clone, Copy, PartialEq, Eq)]
@@ -13,10 +26,12 @@ pub struct Style {
     pub trailing_comma: bool,
     /// How many blank lines stand between two entries where only white space of ASCII stands there now; `None` keeps that as it is.
     pub blank_lines: Option<usize>,
+    /// Between which delimiters the literals of values stand.
+    pub delimiters: Delimiters,
 }
 
 impl Default for Style {
-    ghost is_default = { λ style. style ≡ record { indent = 2; aligned = false; trailing_comma = true; blank_lines = None } };
+    ghost is_default = { λ style. style ≡ record { indent = 2; aligned = false; trailing_comma = true; blank_lines = None; delimiters = Keep } };
 
     fn default() -> Self {
         Style {
@@ -24,6 +39,7 @@ impl Default for Style {
             aligned: false,
             trailing_comma: true,
             blank_lines: None,
+            delimiters: Delimiters::Keep,
         }
     }
 }
