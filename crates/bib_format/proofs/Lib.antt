@@ -12,6 +12,7 @@ pub mod GapFacts
 pub mod LineEndFacts
 pub mod LowerFacts
 pub mod NameFacts
+pub mod OrderFacts
 pub mod PercentFacts
 pub mod PieceFacts
 pub mod SplitFacts

@@ -11,11 +11,12 @@ use Rattle.bib_syntax.specs.Grammar.{Braced, Identifier, NoDigit, Number, Quoted
 use Rattle.bib_syntax.specs.Grammar.{Element as element}
 use Rattle.bib_syntax.proofs.FieldFacts.{ahead_identifier, ahead_parts, ahead_quoted_parts}
 use Rattle.bib_syntax.proofs.WordFacts.{ahead_number}
+use Rattle.bib_documents.specs.Documents.{in_braces}
 use Rattle.bib_documents.specs.Edits.{moved_part, moved_piece}
 use Rattle.bib_documents.proofs.GrammarFacts.{below_char, quoted_parts_there}
 use Rattle.bib_documents.proofs.MovedFacts.{char_within}
 use Rattle.bib_documents.proofs.ZoneFacts.{char_back, inside_between, parts_there, there}
-use Rattle.bib_format.specs.Delimited.{braced_in_style, can_stand_in_braces, can_stand_in_quotes, goes_in_braces, goes_in_quotes, in_braces, in_quotes, piece_as_written, quoted_in_style}
+use Rattle.bib_format.specs.Delimited.{braced_in_style, can_stand_in_braces, can_stand_in_quotes, goes_in_braces, goes_in_quotes, in_quotes, piece_as_written, quoted_in_style}
 use Rattle.bib_format.specs.declared.style.Delimiters.{Delimiters}
 use Rattle.bib_format.specs.declared.style.Delimiters.TheVariants.{Keep, Braces, Quotes}
 use Rattle.bib_format.proofs.DelimiterFacts.{parts_of_quoted, quoted_of_parts}

@@ -5,6 +5,7 @@ use Rattle.std.specs.List.{ends_with}
 use lib.Dec.{eqb}
 use Rattle.bib_text.specs.Characters as char
 use Rattle.bib_text.specs.Places.{between, place}
+use Rattle.bib_documents.specs.Documents.{in_braces}
 use Rattle.bib_syntax.specs.Reading.{Piece}
 use Rattle.bib_syntax.specs.Reading.Piece.{literal, abbreviation}
 use Rattle.bib_format.specs.declared.style.Delimiters.{Delimiters}
@@ -44,10 +45,6 @@ abbrev pub goes_in_quotes : Delimiters → List ℕ → Bool
 goes_in_quotes Keep content = false
 goes_in_quotes Braces content = false
 goes_in_quotes Quotes content = can_stand_in_quotes content
-
--- a text in braces
-abbrev pub in_braces : List ℕ → List ℕ
-in_braces content = codes "{" ++ (content ++ codes "}")
 
 -- a text in quotes
 abbrev pub in_quotes : List ℕ → List ℕ

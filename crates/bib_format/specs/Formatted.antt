@@ -11,6 +11,7 @@ use Rattle.bib_syntax.specs.Grammar.{IsRawReading}
 use Rattle.bib_syntax.specs.Reading.{Part, FieldReading, EntryReading, FileReading}
 use Rattle.bib_documents.specs.Edits.{moved_entry, moved_field}
 use Rattle.bib_format.specs.Delimited.{piece_as_written}
+use Rattle.bib_format.specs.Ordered.{in_order, order_of}
 use Rattle.bib_format.specs.declared.style.Style.{Style}
 
 -- the elements of a value, as they are written, with a sign before the first, and one before each other
@@ -44,10 +45,10 @@ abbrev pub last_comma : Style → List FieldReading → List ℕ
 last_comma style [] = codes ","
 last_comma style (f ∷ fs) = if style.trailing_comma then codes "," else []
 
--- an entry laid out: its type and its key, its fields, and its brace in a line of its own
+-- an entry laid out: its type and its key, its fields in the order of the style, and its brace in a line of its own
 abbrev pub entry_laid_out : List ℕ → Style → List ℕ → EntryReading → List ℕ
 entry_laid_out line_end style text e =
-    codes "@" ++ (str_to_ascii_lowercase e.kind.text ++ (codes "{" ++ (e.key.text ++ (flat_map (field_laid_out line_end style text (padded_width style e.fields)) e.fields ++ (last_comma style e.fields ++ (line_end ++ codes "}"))))))
+    codes "@" ++ (str_to_ascii_lowercase e.kind.text ++ (codes "{" ++ (e.key.text ++ (flat_map (field_laid_out line_end style text (padded_width style e.fields)) (in_order (order_of style) e.fields) ++ (last_comma style e.fields ++ (line_end ++ codes "}"))))))
 
 -- whether a percent sign stands between two places of a text
 abbrev pub has_percent : List ℕ → ℕ → ℕ → Bool
@@ -90,6 +91,14 @@ line_end_of text =
 -- a text in one style, of which this is the reading; what stands before the first entry stays
 abbrev pub text_in_style : Style → List ℕ → FileReading → List ℕ
 text_in_style style text says = rest_in_style (line_end_of text) style None text 0 says.entries
+
+-- an entry, its fields in the order of the style if it is laid out
+abbrev pub entry_in_order : Style → List ℕ → EntryReading → EntryReading
+entry_in_order style text e = cond (has_comment text e) e (record e { fields = in_order (order_of style) e.fields })
+
+-- what a text says, the fields of each entry that is laid out in the order of the style
+abbrev pub says_in_order : Style → List ℕ → FileReading → FileReading
+says_in_order style text says = record says { entries = map (entry_in_order style text) says.entries }
 
 -- a part of a text with its ASCII letters in lowercase
 abbrev pub part_in_lowercase : Part → Part

@@ -2,6 +2,7 @@
 
 ghost use Rattle.std.specs.Prelude.{◌≡◌, ◌++◌, OnOk};
 ghost use Rattle.std.specs.String.{string_bytes};
+ghost use Rattle.bib_documents.specs.Documents.{in_braces};
 ghost use Rattle.bib_format.specs.Delimited as styled;
 
 use crate::style::Delimiters;
@@ -71,7 +72,7 @@ fn goes_in_quotes(delimiters: Delimiters, content: &str) -> bool
 
 // Adds a text in braces.
 fn push_in_braces(new: &mut String, content: &str) -> Result<(), AllocError>
-    ensures { OnOk result (string_bytes new.new ≡ string_bytes new.old ++ styled.in_braces content.now) }
+    ensures { OnOk result (string_bytes new.new ≡ string_bytes new.old ++ in_braces content.now) }
 {
     new.push_str("{")?;
     new.push_str(content)?;

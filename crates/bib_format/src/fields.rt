@@ -1,7 +1,6 @@
 //! The fields of entries.
 
 ghost use Rattle.std.specs.Prelude.{◌≡◌, ◌++◌, length, map, OnOk};
-ghost use Rattle.std.specs.List.{AllByRecursion, flat_map};
 ghost use Rattle.std.specs.Str.{chars};
 ghost use Rattle.std.specs.String.{string_bytes};
 ghost use Rattle.bib_syntax.specs.Views.{field_of};
@@ -34,7 +33,7 @@ fn longest_name(fields: &[Pair<'_>]) -> usize
 }
 
 // How many characters names are padded to.
-fn padded_width(style: &Style, fields: &[Pair<'_>]) -> usize
+pub(crate) fn padded_width(style: &Style<'_>, fields: &[Pair<'_>]) -> usize
     ensures { result ≡ styled.padded_width style.now (map field_of fields.now) }
 {
     if style.aligned {
@@ -55,10 +54,10 @@ fn push_spaces(new: &mut String, count: usize) -> Result<(), AllocError>
 }
 
 // Adds a field in a line of its own, after a comma.
-fn push_field(
+pub(crate) fn push_field(
     alloc: Global,
     new: &mut String,
-    layout: &Layout<'_>,
+    layout: &Layout<'_, '_>,
     width: usize,
     field: &Pair<'_>,
 ) -> Result<(), AllocError>
@@ -73,23 +72,5 @@ fn push_field(
     new.push_str(name.as_str())?;
     push_spaces(new, width.saturating_sub(name_width(field.key.v)))?;
     push_value(new, layout, &field.value.v)?;
-    Ok(())
-}
-
-// Adds fields, each in a line of its own.
-pub(crate) fn push_fields(
-    alloc: Global,
-    new: &mut String,
-    layout: &Layout<'_>,
-    fields: &[Pair<'_>],
-) -> Result<(), AllocError>
-    requires { AllByRecursion (ArePiecesCut layout.now.text.now) (map field_of fields.now) }
-    ensures { OnOk result (string_bytes new.new ≡ string_bytes new.old ++
-        flat_map (field_laid_out layout.now.line_end.now layout.now.style layout.now.text.now (styled.padded_width layout.now.style (map field_of fields.now))) (map field_of fields.now)) }
-{
-    let width = padded_width(&layout.style, fields);
-    'fields: for field in fields {
-        push_field(alloc, new, layout, width, field)?;
-    }
     Ok(())
 }

@@ -14,5 +14,6 @@ pub mod formatting;
 mod gaps;
 pub mod laws;
 mod layout;
+mod order;
 mod pieces;
 pub mod style;

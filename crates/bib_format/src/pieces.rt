@@ -17,7 +17,7 @@ use std::alloc::AllocError;
 // Adds an element, a literal between the delimiters of the style.
 fn push_piece(
     new: &mut String,
-    layout: &Layout<'_>,
+    layout: &Layout<'_, '_>,
     piece: &Spanned<RawChunk<'_>>,
 ) -> Result<(), AllocError>
     requires { IsPieceCut layout.now.text.now (piece_of piece.now) }
@@ -46,7 +46,7 @@ fn sign_before(is_first: bool) -> &'static str
 // Adds a value: its elements, an equals sign before the first and `#` before each other.
 pub(crate) fn push_value(
     new: &mut String,
-    layout: &Layout<'_>,
+    layout: &Layout<'_, '_>,
     pieces: &[Spanned<RawChunk<'_>>],
 ) -> Result<(), AllocError>
     requires { AllByRecursion (IsPieceCut layout.now.text.now) (map piece_of pieces.now) }

@@ -1,7 +1,6 @@
 //! What is chosen of how entries are laid out.
 
-ghost use Rattle.std.specs.Prelude.{◌≡◌, true, false, None};
-ghost use Rattle.bib_format.specs.declared.style.Delimiters.TheVariants.{Keep};
+ghost use Rattle.bib_format.specs.Usual.{IsUsual};
 
 /// Between which delimiters the literals of values stand. The text between them stays byte for byte, and numbers and names of
 /// abbreviations have none.
@@ -17,7 +16,7 @@ pub enum Delimiters {
 
 /// How entries are laid out.
 #[derive(Debug, Clone, Copy, PartialEq, Eq)]
-pub struct Style {
+pub struct Style<'a> {
     /// How many spaces stand before a field.
     pub indent: usize,
     /// Whether the equals signs of an entry stand in one column: names are padded to the longest name of the entry, in characters.
@@ -28,10 +27,14 @@ pub struct Style {
     pub blank_lines: Option<usize>,
     /// Between which delimiters the literals of values stand.
     pub delimiters: Delimiters,
+    /// Names of fields, in any ASCII case. The fields of an entry that have one come first, in the order of the names, and the others
+    /// after them; fields of one name, and those that have none of these, stay in the order that they have, so that the last of two
+    /// fields with one name is the last again. An entry in which a comment stands keeps its order, as it keeps the rest.
+    pub order: &'a [&'a str],
 }
 
-impl Default for Style {
-    ghost is_default = { λ style. style ≡ record { indent = 2; aligned = false; trailing_comma = true; blank_lines = None; delimiters = Keep } };
+impl<'a> Default for Style<'a> {
+    ghost is_default = { IsUsual };
 
     fn default() -> Self {
         Style {
@@ -40,6 +43,7 @@ impl Default for Style {
             trailing_comma: true,
             blank_lines: None,
             delimiters: Delimiters::Keep,
+            order: &[],
         }
     }
 }
