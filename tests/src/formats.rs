@@ -1,7 +1,7 @@
 //! Reads rows, a style and a text in each line, and prints each with the text in that style. A style is the word `format` with what
 //! it has other than the usual one: the spaces before a field, `aligned`, `bare` where no comma stands after the last field, `blank` and
 //! so many blank lines between entries, `braces` or `quotes` where literals come to stand in these, `first:` and names of fields, with
-//! commas between them, that come first.
+//! commas between them, that come first, `width` and how many characters a field's line has at most.
 
 use bib_documents::document::RawDocument;
 use bib_format::formatting::format;
@@ -40,10 +40,15 @@ fn style_of<'a>(words: &str, order: &'a [&'a str]) -> Option<Style<'a>> {
             "bare" => style.trailing_comma = false,
             "braces" => style.delimiters = Delimiters::Braces,
             "quotes" => style.delimiters = Delimiters::Quotes,
-            _ => match word.strip_prefix("blank") {
-                Some(count) => style.blank_lines = Some(count.parse().ok()?),
-                None => style.indent = word.parse().ok()?,
-            },
+            _ => {
+                if let Some(count) = word.strip_prefix("blank") {
+                    style.blank_lines = Some(count.parse().ok()?);
+                } else if let Some(count) = word.strip_prefix("width") {
+                    style.width = Some(count.parse().ok()?);
+                } else {
+                    style.indent = word.parse().ok()?;
+                }
+            }
         }
     }
     Some(style)

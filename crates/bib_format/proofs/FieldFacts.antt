@@ -1,6 +1,6 @@
 -- A field, laid out, as it is read.
-use Rattle.std.proofs.Common.{◌≡◌, ℕ, zero, suc, ◌-◌, ◌≤◌, true, false, List, [], ◌∷◌, ◌++◌, length, map, codes, refl, sym, ap, ◌∙◌, subst, arith, append_assoc}
-use Rattle.std.specs.Prelude.{◌==◌, bytes_eq, replicate}
+use Rattle.std.proofs.Common.{◌≡◌, ℕ, zero, suc, ◌-◌, ◌≤◌, Bool, true, false, List, [], ◌∷◌, ◌++◌, length, map, codes, refl, sym, ap, ◌∙◌, subst, arith, append_assoc}
+use Rattle.std.specs.Prelude.{◌==◌, ◌&&◌, bytes_eq, cond, max, nat_lt, replicate}
 use Rattle.std.specs.Char.{is_ascii_whitespace, is_whitespace}
 use Rattle.std.specs.List.{AllByRecursion, AllZip, flat_map, list_all}
 use Rattle.std.specs.Str.{chars, str_to_ascii_lowercase}
@@ -16,7 +16,7 @@ use Rattle.bib_syntax.specs.Grammar.{Gap as gap}
 use Rattle.bib_syntax.proofs.FieldFacts.{ahead_identifier, ahead_elements, ahead_field, ahead_gap, ahead_fields}
 use Rattle.bib_syntax.proofs.LawFacts.{start_not_white}
 use Rattle.bib_documents.specs.Edits.{moved_field, moved_piece}
-use Rattle.bib_format.specs.Formatted.{elements_as_written, field_in_lowercase, field_laid_out, has_percent, has_percent_between, spaces, value_laid_out}
+use Rattle.bib_format.specs.Formatted.{elements_as_written, field_in_lowercase, field_laid_out, has_percent, has_percent_between, is_broken, is_too_long, next_line, next_sign, spaces, value_laid_out}
 use Rattle.bib_format.specs.Ordered.{is_named}
 use Rattle.bib_format.specs.declared.style.Style.{Style}
 use Rattle.bib_format.proofs.ByteFacts.{either_false, has, white_without}
@@ -24,14 +24,14 @@ use Rattle.bib_format.proofs.ElementFacts.{Ending}
 use Rattle.bib_format.proofs.LowerFacts.{lower_lower}
 use Rattle.bib_format.proofs.NameFacts.{name_read, none_between}
 use Rattle.bib_format.proofs.StandsFacts.{AreWhite, Stands, ascii, between_stands, first_part, joined, last_part, past, run_white, spaces_white, white_append}
-use Rattle.bib_format.proofs.ValueFacts.{in_line, not_opened_run, not_opened_sign, not_opened_white, signed, unsigned, value_read, written}
+use Rattle.bib_format.proofs.ValueFacts.{IsSeparator, in_line, not_opened_run, not_opened_sign, not_opened_white, signed, unsigned, value_read, written}
 use Rattle.bib_format.proofs.WidthFacts.{width_lower}
 
 -- how lines end: with white space, after which and before a closing brace a value ends
 pub record IsLineEnd (line_end : List ℕ) : Type 0 where
   pub white : AreWhite line_end
   pub blank : list_all is_ascii_whitespace line_end ≡ true
-  pub ending : (u v : Place) → Stands u (line_end ++ 125 ∷ []) v → Ending u
+  pub ending : (u v : Place) (rest : List ℕ) → Stands u (line_end ++ rest) v → Ending u
 
 -- a field without places and with its name in lowercase
 abbrev pub field_content : FieldReading → FieldReading
@@ -56,6 +56,40 @@ pub record FieldRead (line_end : List ℕ) (style : Style) (text : List ℕ) (wi
   pub again : field_laid_out line_end style u.text width reading ≡ field_laid_out line_end style text width f
   pub clear : has_percent u.text u.at reading.name.start ≡ false
 
+-- what stands before each element of a value but the first, in a line of its own
+abbrev pub at_column : List ℕ → ℕ → ℕ → List ℕ
+at_column line_end indent column = line_end ++ (spaces indent ++ (spaces column ++ codes "   # "))
+
+in_next_line : (line_end : List ℕ) (indent column : ℕ) → IsLineEnd line_end → IsSeparator (at_column line_end indent column)
+in_next_line line_end indent column ends =
+    let sign : List ℕ = 35 ∷ 32 ∷ [] in
+    let blank : List ℕ = 32 ∷ 32 ∷ 32 ∷ [] in
+    let before : List ℕ = spaces column ++ blank in
+    let before' : List ℕ = spaces indent ++ before in
+    record {
+      white = line_end ++ before';
+      is = ap (λ t. line_end ++ (spaces indent ++ t)) (sym (append_assoc (spaces column) blank sign)) ∙ ap (λ t. line_end ++ t) (sym (append_assoc (spaces indent) before sign)) ∙ sym (append_assoc line_end before' sign);
+      all = white_append line_end before' ends.white (white_append (spaces indent) before (spaces_white indent) (white_append (spaces column) blank (spaces_white column) (spaces_white 3)));
+      ending = λ u v rest s. ends.ending u v ((spaces indent ++ (spaces column ++ codes "   # ")) ++ rest) (subst (λ t. Stands u t v) (append_assoc line_end (spaces indent ++ (spaces column ++ codes "   # ")) rest) s);
+    }
+
+-- what stands before each element but the first
+separates : (line_end : List ℕ) (style : Style) (width : ℕ) (name : List ℕ) (elements : List (List ℕ)) → IsLineEnd line_end → IsSeparator (next_sign line_end style width name elements)
+separates line_end style width name elements ends = by_choice (is_broken style width name elements)
+  where
+    by_choice : (b : Bool) → IsSeparator (cond b (next_line line_end style width name) (codes " # "))
+    by_choice true = in_next_line line_end style.indent (max width (length (chars name))) ends
+    by_choice false = in_line
+
+-- a field's line, and a field, by its name in lowercase, how many characters that has, and its elements
+abbrev line_of : Style → ℕ → List ℕ → List ℕ → ℕ → List (List ℕ) → List ℕ
+line_of style width next name count elements = spaces style.indent ++ (name ++ (spaces (width - count) ++ value_laid_out (codes " = ") next elements))
+
+abbrev field_by : List ℕ → Style → ℕ → List ℕ → ℕ → List (List ℕ) → List ℕ
+field_by line_end style width name count elements =
+    let next : List ℕ = cond (nat_lt 1 (length elements) && is_too_long style.width (line_of style width (codes " # ") name count elements)) (at_column line_end style.indent (max width count)) (codes " # ") in
+    44 ∷ (line_end ++ line_of style width next name count elements)
+
 pub field_read : (line_end : List ℕ) (style : Style) (width : ℕ) {a b u v w : Place} {f : FieldReading} → IsLineEnd line_end → Field longest a f b → b.at ≤ length a.text → Stands u (field_laid_out line_end style a.text width f) v
     → Ending v → Longest is_whitespace v w → Stops (λ c. c == 35) w → FieldRead line_end style a.text width f u w
 field_read line_end style width {a} {b} {u} {v} {w} {f} ends field within s ending over no_hash =
@@ -69,7 +103,7 @@ field_read line_end style width {a} {b} {u} {v} {w} {f} ends field within s endi
     let old = field.value_start in
     let es = f.value.pieces in
     let way = style.delimiters in
-    let next = codes " # " in
+    let next = next_sign line_end style width f.name.text (elements_as_written style a.text f) in
     let rest_bytes = unsigned next (written way old.text es) in
     let value_is : value_laid_out (codes " = ") next (elements_as_written style a.text f) ≡ 32 ∷ 61 ∷ 32 ∷ rest_bytes = signed (codes " = ") next way a.text field.elements ∙ ap (λ t. codes " = " ++ unsigned next (written way t es)) (sym same) in
     let padded = replicate n 32 ++ 32 ∷ 61 ∷ 32 ∷ rest_bytes in
@@ -97,11 +131,10 @@ field_read line_end style width {a} {b} {u} {v} {w} {f} ends field within s endi
     let space' = ascii 32 (omega arith) (first_part (32 ∷ []) rest_bytes s7) in
     let s8 = last_part (32 ∷ []) rest_bytes s7 in
     let opened = not_opened_run (not_opened_sign 61 (omega arith) (λ clash. omega arith) (λ clash. omega arith) field.sign) field.white'.run in
-    let value = value_read way in_line field.elements opened (omega (arith, within, ap length same)) s8 (not_opened_white space' refl) ending over no_hash in
+    let value = value_read way (separates line_end style width f.name.text (elements_as_written style a.text f) ends) field.elements opened (omega (arith, within, ap length same)) s8 (not_opened_white space' refl) ending over no_hash in
     let text_is : between u3 u4 ≡ name = between_stands name named in
-    let laid_out = λ (ts : List (List ℕ)). value_laid_out (codes " = ") next ts in
     let value_again : written way u.text value.reading ≡ written way a.text es = value.again ∙ ap (λ t. written way t es) same in
-    let write = λ (t : List ℕ) (k : ℕ) (rest : List ℕ). 44 ∷ (line_end ++ (indent ++ (t ++ (spaces (width - k) ++ rest)))) in
+    let write = field_by line_end style width in
     let before_name : between u u3 ≡ 44 ∷ (line_end ++ indent) =
     between_stands (44 ∷ (line_end ++ indent)) (joined (44 ∷ []) (line_end ++ indent) (first_part (44 ∷ []) (line_end ++ (indent ++ (name ++ padded))) s0)
     (joined line_end indent (first_part line_end (indent ++ (name ++ padded)) s1) (first_part indent (name ++ padded) s2))) in
@@ -126,9 +159,9 @@ field_read line_end style width {a} {b} {u} {v} {w} {f} ends field within s endi
         ends = refl;
       };
       alike = ap (λ t. build (str_to_ascii_lowercase t) (map (moved_piece (λ n. 0)) value.reading)) text_is ∙ ap (λ t. build t (map (moved_piece (λ n. 0)) value.reading)) (lower_lower f.name.text) ∙ ap (build name) value.alike;
-      again = ap (λ t. write (str_to_ascii_lowercase t) (length (chars t)) (laid_out (written way u.text value.reading))) text_is
-          ∙ ap (λ t. write t (length (chars name)) (laid_out (written way u.text value.reading))) (lower_lower f.name.text)
-          ∙ ap (λ k. write name k (laid_out (written way u.text value.reading))) (width_lower f.name.text) ∙ ap (λ ts. write name (length (chars f.name.text)) (laid_out ts)) value_again;
+      again = ap (λ t. write (str_to_ascii_lowercase t) (length (chars t)) (written way u.text value.reading)) text_is
+          ∙ ap (λ t. write t (length (chars name)) (written way u.text value.reading)) (lower_lower f.name.text)
+          ∙ ap (λ k. write name k (written way u.text value.reading)) (width_lower f.name.text) ∙ ap (λ ts. write name (length (chars f.name.text)) ts) value_again;
       clear = ap (has 37) before_name ∙ white_without (line_end ++ indent) (white_append line_end indent ends.white (spaces_white style.indent));
     }
 
@@ -182,7 +215,7 @@ close_read line_end {u} {v} ends s =
     let brace = ascii 125 (omega arith) (last_part line_end (125 ∷ []) s) in
     record {
       brace = past u line_end;
-      ending = ends.ending u v s;
+      ending = ends.ending u v (125 ∷ []) s;
       white = record { run = run_white line_end ends.white (first_part line_end (125 ∷ []) s); stops = stops_at is_whitespace brace refl };
       closes = brace;
     }

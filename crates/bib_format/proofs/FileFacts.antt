@@ -30,12 +30,12 @@ line_end_is text = by_choice _
     by_choice true = record {
       white = ((omega arith, refl), ((omega arith, refl), _));
       blank = refl;
-      ending = λ u v s. record { char = 13; next = _; here = ascii 13 (omega arith) (first_part (13 ∷ []) (10 ∷ 125 ∷ []) s); no_name = refl; no_digit = refl; no_point = refl };
+      ending = λ u v rest s. record { char = 13; next = _; here = ascii 13 (omega arith) (first_part (13 ∷ []) (10 ∷ rest) s); no_name = refl; no_digit = refl; no_point = refl };
     }
     by_choice false = record {
       white = ((omega arith, refl), _);
       blank = refl;
-      ending = λ u v s. record { char = 10; next = _; here = ascii 10 (omega arith) (first_part (10 ∷ []) (125 ∷ []) s); no_name = refl; no_digit = refl; no_point = refl };
+      ending = λ u v rest s. record { char = 10; next = _; here = ascii 10 (omega arith) (first_part (10 ∷ []) rest s); no_name = refl; no_digit = refl; no_point = refl };
     }
 
 -- what a file says from a place on, read from a place of another text on

@@ -1,6 +1,6 @@
 -- Meaning: words of public contracts.
 -- A text in one style: its entries laid out anew, and what stands between them as it is, but for white space where the style asks for blank lines.
-use Rattle.std.specs.Prelude.{◌≡◌, ◌==◌, ◌&&◌, ◌||◌, ℕ, zero, suc, ◌+◌, ◌-◌, max, Bool, if◌then◌else◌, List, [], ◌∷◌, ◌++◌, codes, cond, drop, fold, length, map, nat_lt, replicate, Option, None, Some}
+use Rattle.std.specs.Prelude.{◌≡◌, ◌==◌, ◌&&◌, ◌||◌, ℕ, zero, suc, ◌+◌, ◌-◌, max, Bool, false, if◌then◌else◌, List, [], ◌∷◌, ◌++◌, codes, cond, drop, fold, length, map, nat_lt, replicate, Option, None, Some}
 use Rattle.std.specs.Char.{is_ascii_whitespace}
 use Rattle.std.specs.List.{before_first, ends_with, flat_map, list_all, list_any, position_or_len}
 use Rattle.std.specs.Str.{chars, str_to_ascii_lowercase}
@@ -35,10 +35,32 @@ longest_name fields = fold (λ width f. max (length (chars f.name.text)) width) 
 abbrev pub padded_width : Style → List FieldReading → ℕ
 padded_width style fields = if style.aligned then longest_name fields else 0
 
--- a field after a comma, in a line of its own
+-- a field's line: its name, padded, and the elements of its value, with this before each but the first
+abbrev pub line_laid_out : Style → ℕ → List ℕ → List ℕ → List (List ℕ) → List ℕ
+line_laid_out style width next name elements =
+    spaces style.indent ++ (str_to_ascii_lowercase name ++ (spaces (width - length (chars name)) ++ value_laid_out (codes " = ") next elements))
+
+-- whether a line, and a comma after it, have more characters than this
+abbrev pub is_too_long : Option ℕ → List ℕ → Bool
+is_too_long None line = false
+is_too_long (Some most) line = nat_lt most (length (chars line) + 1)
+
+-- whether each element but the first begins a new line: where in one line they are too long
+abbrev pub is_broken : Style → ℕ → List ℕ → List (List ℕ) → Bool
+is_broken style width name elements = nat_lt 1 (length elements) && is_too_long style.width (line_laid_out style width (codes " # ") name elements)
+
+-- the end of a line, as many spaces as stand before the value of a field, and #
+abbrev pub next_line : List ℕ → Style → ℕ → List ℕ → List ℕ
+next_line line_end style width name = line_end ++ (spaces style.indent ++ (spaces (max width (length (chars name))) ++ codes "   # "))
+
+-- what stands before each element but the first
+abbrev pub next_sign : List ℕ → Style → ℕ → List ℕ → List (List ℕ) → List ℕ
+next_sign line_end style width name elements = cond (is_broken style width name elements) (next_line line_end style width name) (codes " # ")
+
+-- a field after a comma, in a line of its own, or in one for each element
 abbrev pub field_laid_out : List ℕ → Style → List ℕ → ℕ → FieldReading → List ℕ
 field_laid_out line_end style text width f =
-    codes "," ++ (line_end ++ (spaces style.indent ++ (str_to_ascii_lowercase f.name.text ++ (spaces (width - length (chars f.name.text)) ++ value_laid_out (codes " = ") (codes " # ") (elements_as_written style text f)))))
+    codes "," ++ (line_end ++ line_laid_out style width (next_sign line_end style width f.name.text (elements_as_written style text f)) f.name.text (elements_as_written style text f))
 
 -- the comma after the last field, or after the key where there is no field
 abbrev pub last_comma : Style → List FieldReading → List ℕ

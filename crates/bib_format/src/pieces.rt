@@ -37,25 +37,26 @@ fn push_piece(
 }
 
 // The sign before an element of a value, and white space round it.
-fn sign_before(is_first: bool) -> &'static str
-    ensures { result.now ≡ cond is_first (codes " = ") (codes " # ") }
+fn sign_before<'a>(is_first: bool, next: &'a str) -> &'a str
+    ensures { result.now ≡ cond is_first (codes " = ") next.now }
 {
-    if is_first { " = " } else { " # " }
+    if is_first { " = " } else { next }
 }
 
-// Adds a value: its elements, an equals sign before the first and `#` before each other.
+// Adds a value: its elements, an equals sign before the first, and this before each other.
 pub(crate) fn push_value(
     new: &mut String,
     layout: &Layout<'_, '_>,
+    next: &str,
     pieces: &[Spanned<RawChunk<'_>>],
 ) -> Result<(), AllocError>
     requires { AllByRecursion (IsPieceCut layout.now.text.now) (map piece_of pieces.now) }
     ensures { OnOk result (string_bytes new.new ≡ string_bytes new.old ++
-        value_laid_out (codes " = ") (codes " # ") (map (piece_as_written layout.now.style.delimiters layout.now.text.now) (map piece_of pieces.now))) }
+        value_laid_out (codes " = ") next.now (map (piece_as_written layout.now.style.delimiters layout.now.text.now) (map piece_of pieces.now))) }
 {
     let mut is_first = true;
     'pieces: for piece in pieces {
-        new.push_str(sign_before(is_first))?;
+        new.push_str(sign_before(is_first, next))?;
         push_piece(new, layout, piece)?;
         is_first = false;
     }

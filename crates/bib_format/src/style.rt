@@ -31,6 +31,10 @@ pub struct Style<'a> {
     /// after them; fields of one name, and those that have none of these, stay in the order that they have, so that the last of two
     /// fields with one name is the last again. An entry in which a comment stands keeps its order, as it keeps the rest.
     pub order: &'a [&'a str],
+    /// How many characters a field's line has at most, with the comma after it, where its value has several elements: in a longer line
+    /// each but the first begins a new line, with as many spaces before its `#` as stand before the first. A value of one element is
+    /// never broken, since its text stays; `None` breaks none.
+    pub width: Option<usize>,
 }
 
 impl<'a> Default for Style<'a> {
@@ -44,6 +48,7 @@ impl<'a> Default for Style<'a> {
             blank_lines: None,
             delimiters: Delimiters::Keep,
             order: &[],
+            width: None,
         }
     }
 }
