@@ -1,34 +1,61 @@
 //! Reads rows, a style and a text in each line, and prints each with the text in that style. A style is the word `format` with what
 //! it has other than the usual one: the spaces before a field, `aligned`, `bare` where no comma stands after the last field, `blank` and
-//! so many blank lines between entries.
+//! so many blank lines between entries, `braces` or `quotes` where literals come to stand in these, `first:` and names of fields, with
+//! commas between them, that come first, `width` and how many characters a field's line has at most.
 
 use bib_documents::document::RawDocument;
 use bib_format::formatting::format;
-use bib_format::style::Style;
+use bib_format::style::{Delimiters, Style};
 use std::alloc::{AllocError, Global};
 use crate::support::rows::Calls;
 
 pub struct Formats;
 
-// The style that words name.
-fn style_of(words: &str) -> Option<Style> {
-    let mut style = Style::default();
+// The names of fields that words have in an order.
+fn names_of(alloc: Global, words: &str) -> Result<Vec<&str>, AllocError> {
+    let mut names = Vec::new(alloc);
     for word in words.split(' ') {
+        if let Some(list) = word.strip_prefix("first:") {
+            for name in list.split(',') {
+                names.push(name)?;
+            }
+        }
+    }
+    Ok(names)
+}
+
+// The style that words name, with the order of these names.
+fn style_of<'a>(words: &str, order: &'a [&'a str]) -> Option<Style<'a>> {
+    let mut style = Style {
+        order,
+        ..Style::default()
+    };
+    for word in words.split(' ') {
+        if word.starts_with("first:") {
+            continue;
+        }
         match word {
             "" => {}
             "aligned" => style.aligned = true,
             "bare" => style.trailing_comma = false,
-            _ => match word.strip_prefix("blank") {
-                Some(count) => style.blank_lines = Some(count.parse().ok()?),
-                None => style.indent = word.parse().ok()?,
-            },
+            "braces" => style.delimiters = Delimiters::Braces,
+            "quotes" => style.delimiters = Delimiters::Quotes,
+            _ => {
+                if let Some(count) = word.strip_prefix("blank") {
+                    style.blank_lines = Some(count.parse().ok()?);
+                } else if let Some(count) = word.strip_prefix("width") {
+                    style.width = Some(count.parse().ok()?);
+                } else {
+                    style.indent = word.parse().ok()?;
+                }
+            }
         }
     }
     Some(style)
 }
 
 // A text in a style.
-fn formatted(alloc: Global, text: &str, style: &Style) -> Result<String, AllocError> {
+fn formatted(alloc: Global, text: &str, style: &Style<'_>) -> Result<String, AllocError> {
     match RawDocument::parse(alloc, text) {
         Ok(document) => format(alloc, &document, style),
         Err(_) => String::from_str(alloc, "no bibliography"),
@@ -44,7 +71,8 @@ impl Calls for Formats {
         let Some(words) = call.strip_prefix("format") else {
             return Ok(None);
         };
-        let Some(style) = style_of(words) else {
+        let names = names_of(alloc, words)?;
+        let Some(style) = style_of(words, &names) else {
             return Ok(None);
         };
         let new = formatted(alloc, text, &style)?;

@@ -1,8 +1,8 @@
 -- An entry in one style, as it is read.
-use Rattle.std.proofs.Common.{◌≡◌, inl, inr, ℕ, ◌+◌, ◌-◌, ◌<◌, ◌≤◌, Bool, true, false, cond, List, [], ◌∷◌, ◌++◌, length, drop, take, map, refl, sym, ap, ◌∙◌, subst, arith, append_assoc}
+use Rattle.std.proofs.Common.{◌≡◌, inl, inr, ℕ, ◌+◌, ◌-◌, ◌<◌, ◌≤◌, Bool, true, false, cond, List, [], ◌∷◌, ◌++◌, length, drop, take, map, refl, sym, ap, ◌∙◌, subst, arith}
 use Rattle.std.specs.Prelude.{◌==◌, ◌&&◌, ◌||◌, not}
 use Rattle.std.specs.Char.{is_whitespace, is_control}
-use Rattle.std.specs.List.{flat_map}
+use Rattle.std.specs.List.{AllByRecursion, flat_map}
 use Rattle.std.specs.Str.{str_to_ascii_lowercase}
 use Rattle.std.proofs.lemmas.Bool.{cases_lt, not-true}
 use Rattle.std.proofs.lemmas.Simd.{map-map}
@@ -22,15 +22,17 @@ use Rattle.bib_documents.proofs.GrammarFacts.{block_there}
 use Rattle.bib_documents.proofs.MovedFacts.{char_within}
 use Rattle.bib_documents.proofs.SplitFacts.{EntryBlock, block_of}
 use Rattle.bib_documents.proofs.ZoneFacts.{Frame, Inside, Zone, between_there, inside_between, run_there, there}
-use Rattle.bib_format.specs.Formatted.{entry_content, entry_in_style, entry_laid_out, field_in_lowercase, field_laid_out, has_comment, has_percent, has_percent_between, last_comma, padded_width}
+use Rattle.bib_format.specs.Formatted.{entry_content, entry_in_order, entry_in_style, entry_laid_out, field_in_lowercase, field_laid_out, has_comment, has_percent, has_percent_between, last_comma, padded_width}
+use Rattle.bib_format.specs.Ordered.{in_order, order_of}
 use Rattle.bib_format.specs.declared.style.Style.{Style}
 use Rattle.bib_format.proofs.ByteFacts.{has}
 use Rattle.bib_format.proofs.ColumnFacts.{same_last, same_padded}
 use Rattle.bib_format.proofs.ContentFacts.{entry_placeless}
 use Rattle.bib_format.proofs.ElementFacts.{one_byte, parted}
-use Rattle.bib_format.proofs.FieldFacts.{CommaRead, IsLineEnd, LastComma, after_last, fields_read, none_read}
+use Rattle.bib_format.proofs.FieldFacts.{CommaRead, FieldIn, IsLaidOutAlike, IsLineEnd, LastComma, field_content, fields_in, fields_read, none_read, same_named, zip_again, zip_alike}
 use Rattle.bib_format.proofs.LowerFacts.{kind_lower, lower_lower}
 use Rattle.bib_format.proofs.NameFacts.{name_read}
+use Rattle.bib_format.proofs.OrderFacts.{in_order_all, in_order_twice, in_order_zip, last_ordered, padded_ordered}
 use Rattle.bib_format.proofs.StandsFacts.{Stands, ascii, between_stands, copied, copied_before, copy_frame, first_part, last_part, past}
 
 abbrev contents : List FieldReading → List FieldReading
@@ -45,24 +47,10 @@ last_of style f fs = by_choice style.trailing_comma
     by_choice true = LastComma.comma
     by_choice false = LastComma.none
 
-key_read : (line_end : List ℕ) (style : Style) (width : ℕ) (text : List ℕ) {a b u v : Place} {fs : List FieldReading} → IsLineEnd line_end → a.text ≡ text → Fields longest a fs b → b.at ≤ length text
+key_read : (line_end : List ℕ) (style : Style) (width : ℕ) (text : List ℕ) {u v : Place} (fs : List FieldReading) → IsLineEnd line_end → AllByRecursion (FieldIn text) fs
     → Stands u (flat_map (field_laid_out line_end style text width) fs ++ (last_comma style fs ++ (line_end ++ 125 ∷ []))) v → CommaRead line_end style text width fs u v
-key_read line_end style width text ends same (fields.none white) within s = none_read line_end style text width ends s
-key_read line_end style width text {a} {b} {u} {v} ends same (fields.last {v = a1} {f = f} field g) within s =
-    let write = field_laid_out line_end style text width in
-    let tail = last_comma style (f ∷ []) ++ (line_end ++ 125 ∷ []) in
-    let s' : Stands u (write f ++ tail) v = subst (λ t. Stands u t v) (append_assoc (write f) [] tail) s in
-    let up : a1.at ≤ length a.text = omega (arith, within, (ahead_gap g).at, ap length same) in
-    let here = subst (λ t. Stands u (field_laid_out line_end style t width f) (past u (write f))) (sym same) (first_part (write f) tail s') in
-    after_last line_end style text width ends (last_of style f []) field up same here (last_part (write f) tail s')
-key_read line_end style width text {a} {b} {u} {v} ends same (fields.more {v = a1} {y = a4} {f = f} {fs = fs} field g sep g' rest) within s =
-    let write = field_laid_out line_end style text width in
-    let tail = last_comma style (f ∷ fs) ++ (line_end ++ 125 ∷ []) in
-    let past_comma = ahead_then (ahead_gap g) (ahead_then (ahead_char sep) (ahead_gap g')) in
-    let s' : Stands u (write f ++ (flat_map write fs ++ tail)) v = subst (λ t. Stands u t v) (append_assoc (write f) (flat_map write fs) tail) s in
-    let up : a1.at ≤ length a.text = omega (arith, within, past_comma.at, (ahead_fields rest).at, ap length same) in
-    let here = subst (λ t. Stands u (field_laid_out line_end style t width f) (past u (write f))) (sym same) (first_part (write f) (flat_map write fs ++ tail) s') in
-    fields_read line_end style width text (last_comma style (f ∷ fs)) ends (last_of style f fs) field up same here ((ahead_then (ahead_field field) past_comma).text ∙ same) rest within (last_part (write f) (flat_map write fs ++ tail) s')
+key_read line_end style width text [] ends stand s = none_read line_end style text width ends s
+key_read line_end style width text (f ∷ fs) ends stand s = fields_read line_end style width text (last_comma style (f ∷ fs)) f fs ends (last_of style f fs) stand.0 stand.1 s
 
 -- ---- an entry
 
@@ -86,11 +74,18 @@ stops_key : {u v : Place} → Run is_key u v → Stops is_whitespace v → Stops
 stops_key stop stops = stops
 stops_key (step {c = c} char passes rest) stops = stops_at is_whitespace char (key_dark c passes)
 
-laid_out_read : (line_end : List ℕ) (style : Style) {a b u v : Place} {e : EntryReading} → IsLineEnd line_end → EntryBlock a e b → Stands u (entry_laid_out line_end style a.text e) v → EntryRead line_end style (entry_laid_out line_end style a.text e) e u v
+-- an entry with its fields in the order of the style
+abbrev ordered : Style → EntryReading → EntryReading
+ordered style e = record e { fields = in_order (order_of style) e.fields }
+
+laid_out_read : (line_end : List ℕ) (style : Style) {a b u v : Place} {e : EntryReading} → IsLineEnd line_end → EntryBlock a e b → Stands u (entry_laid_out line_end style a.text e) v
+    → EntryRead line_end style (entry_laid_out line_end style a.text e) (ordered style e) u v
 laid_out_read line_end style {a} {b} {u} {v} {e} ends x s =
     let width = padded_width style e.fields in
+    let names = order_of style in
+    let fs = in_order names e.fields in
     let kind = str_to_ascii_lowercase e.kind.text in
-    let listed = flat_map (field_laid_out line_end style a.text width) e.fields ++ (last_comma style e.fields ++ (line_end ++ 125 ∷ [])) in
+    let listed = flat_map (field_laid_out line_end style a.text width) fs ++ (last_comma style e.fields ++ (line_end ++ 125 ∷ [])) in
     let from_fields = ahead_then (ahead_fields x.fields) (ahead_char x.closes) in
     let from_key = ahead_then (ahead_run x.key.run) (ahead_then (ahead_run x.white.run) (ahead_then (ahead_char x.comma) (ahead_then (ahead_gap x.gap) from_fields))) in
     let from_name = ahead_then (ahead_run x.head.white.run) (ahead_then (ahead_char x.head.opens) (ahead_run x.head.white'.run)) in
@@ -113,7 +108,15 @@ laid_out_read line_end style {a} {b} {u} {v} {e} ends x s =
     let s4 = last_part e.key.text listed s3 in
     let fields_text : x.fields_start.text ≡ a.text = (ahead_then (ahead_run x.key.run) (ahead_then (ahead_run x.white.run) (ahead_then (ahead_char x.comma) (ahead_gap x.gap)))).text ∙ inside_text in
     let brace_within : x.brace.at ≤ length a.text = omega (arith, (ahead_char x.closes).at, end_within, ap length end_text, ap length inside_text) in
-    let list = key_read line_end style width a.text ends fields_text x.fields brace_within s4 in
+    let last : last_comma style fs ≡ last_comma style e.fields = last_ordered style names e.fields in
+    let stand = in_order_all (FieldIn a.text) names e.fields (fields_in a.text fields_text x.fields brace_within) in
+    let list = key_read line_end style width a.text fs ends stand (subst (λ t. Stands u4 (flat_map (field_laid_out line_end style a.text width) fs ++ (t ++ (line_end ++ 125 ∷ []))) v) (sym last) s4) in
+    let alike : map field_content list.reading ≡ map field_content fs = zip_alike line_end style u.text a.text width list.reading fs list.each in
+    let zip = in_order_zip (IsLaidOutAlike line_end style u.text a.text width) (λ n f g are. same_named n f g are.alike) names list.reading fs list.each in
+    let again : flat_map (field_laid_out line_end style u.text width) (in_order names list.reading) ≡ flat_map (field_laid_out line_end style a.text width) fs =
+    zip_again line_end style u.text a.text width (in_order names list.reading) (in_order names fs) zip ∙ ap (flat_map (field_laid_out line_end style a.text width)) (in_order_twice names e.fields) in
+    let same_width : padded_width style list.reading ≡ width = same_padded style list.reading fs alike ∙ padded_ordered style names e.fields in
+    let same_comma : last_comma style list.reading ≡ last_comma style e.fields = same_last style list.reading fs alike ∙ last in
     let kind_is : kind ≡ str_to_ascii_lowercase (between x.head.name_start x.head.name_end) = ap (λ p. str_to_ascii_lowercase p.text) x.head.name.reading in
     let name_within : x.head.name_end.at ≤ length x.head.name_start.text =
     omega (arith, from_name.at, from_key.at, end_within, ap length end_text, ap length inside_text, ap length x.head.sign.same) in
@@ -159,7 +162,7 @@ laid_out_read line_end style {a} {b} {u} {v} {e} ends x s =
       ends = refl;
     } in
     let write = λ (t k fields last : List ℕ). 64 ∷ (t ++ (123 ∷ (k ++ (fields ++ (last ++ (line_end ++ 125 ∷ [])))))) in
-    let from = λ (n : ℕ). flat_map (field_laid_out line_end style u.text n) list.reading in
+    let from = λ (n : ℕ). flat_map (field_laid_out line_end style u.text n) (in_order names list.reading) in
     let next : v.at ≡ list.brace.at + 1 = list.closes.next in
     let build = λ (k t : List ℕ) (fs : List FieldReading). let r : EntryReading = record { key = record { text = k; start = 0; end = 0 }; kind = record { text = t; start = 0; end = 0 }; fields = fs; start = 0; end = 0 } in r in
     record {
@@ -168,14 +171,14 @@ laid_out_read line_end style {a} {b} {u} {v} {e} ends x s =
       alike = ap (λ k. build k (str_to_ascii_lowercase (between u1 u2)) (contents list.reading)) key_text
           ∙ ap (λ t. build e.key.text (str_to_ascii_lowercase t) (contents list.reading)) kind_text
           ∙ ap (λ t. build e.key.text t (contents list.reading)) (lower_lower e.kind.text)
-          ∙ ap (build e.key.text kind) (map-map (moved_field (λ n. 0)) field_in_lowercase list.reading ∙ list.alike ∙ sym (map-map (moved_field (λ n. 0)) field_in_lowercase e.fields));
+          ∙ ap (build e.key.text kind) (map-map (moved_field (λ n. 0)) field_in_lowercase list.reading ∙ alike ∙ sym (map-map (moved_field (λ n. 0)) field_in_lowercase fs));
       again = ap (λ c. cond c (between (place u.text u.at) (place u.text (list.brace.at + 1))) (entry_laid_out line_end style u.text e')) list.clear
           ∙ ap (λ t. write (str_to_ascii_lowercase t) (between u3 u4) (from (padded_width style list.reading)) (last_comma style list.reading)) kind_text
           ∙ ap (λ t. write t (between u3 u4) (from (padded_width style list.reading)) (last_comma style list.reading)) (lower_lower e.kind.text)
           ∙ ap (λ k. write kind k (from (padded_width style list.reading)) (last_comma style list.reading)) key_text
-          ∙ ap (λ n. write kind e.key.text (from n) (last_comma style list.reading)) (same_padded style list.reading e.fields list.alike)
-          ∙ ap (λ t. write kind e.key.text t (last_comma style list.reading)) list.again
-          ∙ ap (write kind e.key.text (flat_map (field_laid_out line_end style a.text width) e.fields)) (same_last style list.reading e.fields list.alike);
+          ∙ ap (λ n. write kind e.key.text (from n) (last_comma style list.reading)) same_width
+          ∙ ap (λ t. write kind e.key.text t (last_comma style list.reading)) again
+          ∙ ap (write kind e.key.text (flat_map (field_laid_out line_end style a.text width) fs)) same_comma;
       starts = refl;
       ends = sym next;
     }
@@ -268,10 +271,11 @@ kept_read line_end style {a} {b} {u} {v} {e} commented x s =
 
 -- ---- either
 
-pub entry_read : (line_end : List ℕ) (style : Style) (text : List ℕ) {a b u v : Place} {e : EntryReading} → IsLineEnd line_end → a.text ≡ text → EntryBlock a e b → Stands u (entry_in_style line_end style text e) v → EntryRead line_end style (entry_in_style line_end style text e) e u v
+pub entry_read : (line_end : List ℕ) (style : Style) (text : List ℕ) {a b u v : Place} {e : EntryReading} → IsLineEnd line_end → a.text ≡ text → EntryBlock a e b → Stands u (entry_in_style line_end style text e) v
+    → EntryRead line_end style (entry_in_style line_end style text e) (entry_in_order style text e) u v
 entry_read line_end style text {a} {b} {u} {v} {e} ends same x s = by_comment (has_comment text e) refl
   where
-    by_comment : (c : Bool) → has_comment text e ≡ c → EntryRead line_end style (entry_in_style line_end style text e) e u v
+    by_comment : (c : Bool) → has_comment text e ≡ c → EntryRead line_end style (entry_in_style line_end style text e) (entry_in_order style text e) u v
     by_comment true is =
         let from : e.start ≡ a.at = x.starts in
         let next : b.at ≡ x.brace.at + 1 = x.closes.next in
@@ -280,8 +284,12 @@ entry_read line_end style text {a} {b} {u} {v} {e} ends same x s = by_comment (h
         ap (λ c. cond c (between (place text e.start) (place text (e.end + 1))) (entry_laid_out line_end style text e)) is
         ∙ ap (λ n. between (place text n) (place text (e.end + 1))) from ∙ ap (λ n. take (n - a.at) (drop a.at text)) to ∙ ap (λ t. take (b.at - a.at) (drop a.at t)) (sym same) in
         let commented : has_comment a.text e ≡ true = ap (λ t. has_comment t e) same ∙ is in
-        subst (λ t. EntryRead line_end style t e u v) (sym kept) (kept_read line_end style commented x (subst (λ t. Stands u t v) kept s))
+        let as_it_was : entry_in_order style text e ≡ e = ap (λ c. cond c e (ordered style e)) is in
+        subst (λ r. EntryRead line_end style (entry_in_style line_end style text e) r u v) (sym as_it_was)
+        (subst (λ t. EntryRead line_end style t e u v) (sym kept) (kept_read line_end style commented x (subst (λ t. Stands u t v) kept s)))
     by_comment false is =
         let laid_out : entry_in_style line_end style text e ≡ entry_laid_out line_end style a.text e =
         ap (λ c. cond c (between (place text e.start) (place text (e.end + 1))) (entry_laid_out line_end style text e)) is ∙ ap (λ t. entry_laid_out line_end style t e) (sym same) in
-        subst (λ t. EntryRead line_end style t e u v) (sym laid_out) (laid_out_read line_end style ends x (subst (λ t. Stands u t v) laid_out s))
+        let in_its_order : entry_in_order style text e ≡ ordered style e = ap (λ c. cond c e (ordered style e)) is in
+        subst (λ r. EntryRead line_end style (entry_in_style line_end style text e) r u v) (sym in_its_order)
+        (subst (λ t. EntryRead line_end style t (ordered style e) u v) (sym laid_out) (laid_out_read line_end style ends x (subst (λ t. Stands u t v) laid_out s)))

@@ -13,7 +13,7 @@ use Rattle.bib_documents.proofs.EditFacts.{text_stands}
 use Rattle.bib_documents.proofs.MovedFacts.{body_within, char_within, file_there}
 use Rattle.bib_documents.proofs.SplitFacts.{ahead_file_before, joined_file}
 use Rattle.bib_documents.proofs.ZoneFacts.{Frame, Inside, Zone, there}
-use Rattle.bib_format.specs.Formatted.{IsReadAlike, content, entry_content, entry_in_style, gap_in_style, line_end_of, rest_in_style, text_in_style}
+use Rattle.bib_format.specs.Formatted.{IsReadAlike, content, entry_content, entry_in_order, entry_in_style, gap_in_style, line_end_of, rest_in_style, says_in_order, text_in_style}
 use Rattle.bib_format.specs.declared.style.Style.{Style}
 use Rattle.bib_format.proofs.ContentFacts.{content_then, file_placeless}
 use Rattle.bib_format.proofs.EntryFacts.{entry_read}
@@ -30,12 +30,12 @@ line_end_is text = by_choice _
     by_choice true = record {
       white = ((omega arith, refl), ((omega arith, refl), _));
       blank = refl;
-      ending = λ u v s. record { char = 13; next = _; here = ascii 13 (omega arith) (first_part (13 ∷ []) (10 ∷ 125 ∷ []) s); no_name = refl; no_digit = refl; no_point = refl };
+      ending = λ u v rest s. record { char = 13; next = _; here = ascii 13 (omega arith) (first_part (13 ∷ []) (10 ∷ rest) s); no_name = refl; no_digit = refl; no_point = refl };
     }
     by_choice false = record {
       white = ((omega arith, refl), _);
       blank = refl;
-      ending = λ u v s. record { char = 10; next = _; here = ascii 10 (omega arith) (first_part (10 ∷ []) (125 ∷ []) s); no_name = refl; no_digit = refl; no_point = refl };
+      ending = λ u v rest s. record { char = 10; next = _; here = ascii 10 (omega arith) (first_part (10 ∷ []) rest s); no_name = refl; no_digit = refl; no_point = refl };
     }
 
 -- what a file says from a place on, read from a place of another text on
@@ -52,7 +52,7 @@ stands_here u xs ys here = record { same = refl; here = here ∙ ap (λ t. xs ++
 abbrev rest_frame : Place → Place → Frame
 rest_frame a u = record { old = a.text; new = u.text; move = λ n. n - a.at + u.at; from = a.at; to = u.at; end = length a.text + 1 }
 
-rest_read : (line_end : List ℕ) (style : Style) (blank_lines : Option ℕ) {a u : Place} {says : FileReading} → File longest a says → says.entries ≡ [] → a.at ≤ length a.text → u.at ≤ length u.text → drop u.at u.text ≡ drop a.at a.text → FileRead line_end style blank_lines says u
+rest_read : (line_end : List ℕ) (style : Style) (blank_lines : Option ℕ) {a u : Place} {says : FileReading} → File longest a says → says.entries ≡ [] → a.at ≤ length a.text → u.at ≤ length u.text → drop u.at u.text ≡ drop a.at a.text → FileRead line_end style blank_lines (says_in_order style a.text says) u
 rest_read line_end style blank_lines {a} {u} {says} x none within within' same =
     let sizes : length a.text + u.at ≡ length u.text + a.at = omega (arith, ap length same, length-drop a.at a.text, length-drop u.at u.text, within, within') in
     let z : Zone (rest_frame a u) = record {
@@ -65,7 +65,7 @@ rest_read line_end style blank_lines {a} {u} {says} x none within within' same =
     record {
       reading = moved_file (λ n. n - a.at + u.at) says;
       file = subst (λ p. File longest p (moved_file (λ n. n - a.at + u.at) says)) goes (file_there z refl sizes start x);
-      alike = file_placeless (λ n. n - a.at + u.at) says;
+      alike = file_placeless (λ n. n - a.at + u.at) says ∙ ap (λ es. content (record says { entries = es })) (none ∙ sym (ap (map (entry_in_order style a.text)) none));
       again = ap (λ es. rest_in_style line_end style blank_lines u.text u.at (map (moved_entry (λ n. n - a.at + u.at)) es)) none;
     }
 
@@ -77,8 +77,16 @@ alike_then gap before rest reading e e' between_entries entry others =
     ∙ ap (then (content before)) (content_then (entry_alone e') reading ∙ ap (λ y. then (entry_alone y) (content reading)) entry ∙ ap (then (entry_alone (entry_content e))) others ∙ sym (content_then (entry_alone e) rest))
     ∙ sym (content_then before (then (entry_alone e) rest))
 
+-- what is said with fields in order, from its parts
+then_in_order : (style : Style) (text : List ℕ) (before rest : FileReading) (e : EntryReading) → before.entries ≡ []
+    → content (then before (then (entry_alone (entry_in_order style text e)) (says_in_order style text rest))) ≡ content (says_in_order style text (then before (then (entry_alone e) rest)))
+then_in_order style text before rest e none =
+    let ordered = entry_in_order style text in
+    ap (λ es. content (record (then before (then (entry_alone e) rest)) { entries = es }))
+    (ap (λ es. es ++ ordered e ∷ map ordered rest.entries) none ∙ sym (ap (λ es. map ordered (es ++ e ∷ rest.entries)) none))
+
 pub file_read : (line_end : List ℕ) (style : Style) (blank_lines : Option ℕ) {a u : Place} {says : FileReading} → IsLineEnd line_end → ByEntries a says → a.at ≤ length a.text → u.at ≤ length u.text
-    → drop u.at u.text ≡ rest_in_style line_end style blank_lines a.text a.at says.entries → FileRead line_end style blank_lines says u
+    → drop u.at u.text ≡ rest_in_style line_end style blank_lines a.text a.at says.entries → FileRead line_end style blank_lines (says_in_order style a.text says) u
 file_read line_end style blank_lines {a} {u} {says} ends (ByEntries.last x none) within within' here = rest_read line_end style blank_lines x none within within' (here ∙ ap (λ es. rest_in_style line_end style blank_lines a.text a.at es) none)
 file_read line_end style blank_lines {a} {u} ends (ByEntries.more {s = s} {v = v} {before = before} {rest = rest} {e = e} first none x file' others) within within' here =
     let to_start = ahead_file_before first in
@@ -111,7 +119,9 @@ file_read line_end style blank_lines {a} {u} ends (ByEntries.more {s = s} {v = v
     record {
       reading = then before'.reading (then (entry_alone entry.reading) rest_said.reading);
       file = joined_file before'.file (file.block entry.block rest_said.file);
-      alike = alike_then before'.reading before rest rest_said.reading e entry.reading before'.alike entry.alike rest_said.alike;
+      alike = alike_then before'.reading before (says_in_order style a.text rest) rest_said.reading (entry_in_order style a.text e) entry.reading before'.alike entry.alike
+          (rest_said.alike ∙ ap (λ t. content (says_in_order style t rest)) end_text)
+          ∙ then_in_order style a.text before rest e none;
       again = ap (λ es. rest_in_style line_end style blank_lines u.text u.at (es ++ entry.reading ∷ rest_said.reading.entries)) before'.none
           ∙ ap (λ n. gap_in_style line_end blank_lines (between u (place u.text n)) ++ (entry_again ++ rest_again (entry.reading.end + 1))) entry.starts
           ∙ ap (λ t. gap_in_style line_end blank_lines t ++ (entry_again ++ rest_again (entry.reading.end + 1))) (between_stands gap s0)
@@ -120,7 +130,7 @@ file_read line_end style blank_lines {a} {u} ends (ByEntries.more {s = s} {v = v
           ∙ ap (λ t. gap ++ (entry_bytes ++ t)) rest_said.again ∙ ap (λ t. gap ++ t) (sym s1.here) ∙ sym s0.here;
     }
 
-pub text_read : (style : Style) (text : List ℕ) (says : FileReading) → IsRawReading text says → IsReadAlike says (text_in_style style text says)
+pub text_read : (style : Style) (text : List ℕ) (says : FileReading) → IsRawReading text says → IsReadAlike (says_in_order style text says) (text_in_style style text says)
 text_read style text says read =
     let new = text_in_style style text says in
     let r = file_read (line_end_of text) style None {a = place text 0} {u = place new 0} {says = says} (line_end_is text) (by_entries read) (omega arith) (omega arith) refl in

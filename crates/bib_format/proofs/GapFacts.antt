@@ -20,8 +20,8 @@ use Rattle.bib_documents.proofs.SplitFacts.{FileBefore, ahead_file_before}
 use Rattle.bib_documents.proofs.ZoneFacts.{there}
 use Rattle.bib_format.specs.Formatted.{content, gap_in_style, line_ends}
 use Rattle.bib_format.proofs.ContentFacts.{file_placeless}
-use Rattle.bib_format.proofs.ElementFacts.{parted}
-use Rattle.bib_format.proofs.StandsFacts.{Stands, ascii, between_stands, copied_before, copy_frame, first_part, last_part, nothing, past, stands_char}
+use Rattle.bib_format.proofs.ElementFacts.{char_parted}
+use Rattle.bib_format.proofs.StandsFacts.{Stands, ascii, copied_before, copy_frame, first_part, last_part, nothing, past}
 
 -- ---- white space of ASCII
 
@@ -68,9 +68,6 @@ blank_read {u} {v} [] all s = subst (λ p. FileBefore u empty_reading p) (nothin
 blank_read {u} {v} (b ∷ bs) all s =
     let is = and_both (is_ascii_whitespace b) (are_blank bs) all in
     FileBefore.skipped (ascii b (blank_small b is.0) (first_part (b ∷ []) bs s)) (blank_skipped b is.0) (blank_read {u = past u (b ∷ [])} {v = v} bs is.1 (last_part (b ∷ []) bs s))
-
-char_parted : {u w v : Place} {c : ℕ} → CharAt u c w → Ahead w v → v.at ≤ length u.text → between u v ≡ encode_utf8 c ++ between w v
-char_parted {u} {w} {v} {c} char ahead within = parted (ahead_char char) ahead within ∙ ap (λ t. t ++ between w v) (between_stands (encode_utf8 c) (stands_char char))
 
 not_blank : (c : ℕ) (rest : List ℕ) → c < 128 → is_ascii_whitespace c ≡ false → are_blank (encode_utf8 c ++ rest) ≡ true → ⊥
 not_blank c rest small dark all =

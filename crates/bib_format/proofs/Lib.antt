@@ -1,7 +1,9 @@
 pub mod ByteFacts
+pub mod ByteStepFacts
 pub mod ColumnFacts
 pub mod ContentFacts
 pub mod CutFacts
+pub mod DelimiterFacts
 pub mod ElementFacts
 pub mod EntryFacts
 pub mod FieldFacts
@@ -10,7 +12,9 @@ pub mod GapFacts
 pub mod LineEndFacts
 pub mod LowerFacts
 pub mod NameFacts
+pub mod OrderFacts
 pub mod PercentFacts
+pub mod PieceFacts
 pub mod SplitFacts
 pub mod StandsFacts
 pub mod TwiceFacts

@@ -20,10 +20,12 @@ use Rattle.bib_syntax.proofs.FileFacts.{ahead_head}
 use Rattle.bib_documents.proofs.MovedFacts.{char_within}
 use Rattle.bib_documents.proofs.SplitFacts.{EntryBlock, ahead_file_before}
 use Rattle.bib_format.specs.Formatted.{entry_in_style, entry_laid_out, field_laid_out, gap_in_style, has_comment, last_comma, line_end_of, line_ends, padded_width, rest_in_style}
+use Rattle.bib_format.specs.Ordered.{in_order, order_of}
 use Rattle.bib_format.specs.declared.style.Style.{Style}
 use Rattle.bib_format.proofs.ByteFacts.{char_without, either_false, has, none_append, other_char, run_without}
 use Rattle.bib_format.proofs.ElementFacts.{ends_last, one_byte, parted}
 use Rattle.bib_format.proofs.GapFacts.{are_blank}
+use Rattle.bib_format.proofs.OrderFacts.{last_ordered}
 use Rattle.bib_format.proofs.SplitFacts.{ByEntries}
 use Rattle.bib_format.proofs.StandsFacts.{between_stands, stands_between, stands_char}
 
@@ -180,10 +182,14 @@ record FirstLine (line_end start bytes following : List ℕ) (e : EntryReading) 
 
 entry_line : (line_end : List ℕ) (style : Style) (text start following : List ℕ) (e : EntryReading) → FirstLine line_end start (entry_laid_out line_end style text e) following e
 entry_line line_end style text start following e =
-    let c = comma_first line_end style text (padded_width style e.fields) e.fields (125 ∷ []) in
+    let names = order_of style in
+    let fs = in_order names e.fields in
+    let write = field_laid_out line_end style text (padded_width style e.fields) in
+    let c = comma_first line_end style text (padded_width style e.fields) fs (125 ∷ []) in
     let kind = str_to_ascii_lowercase e.kind.text in
     let whole : entry_laid_out line_end style text e ≡ head_of e ++ 44 ∷ (line_end ++ c.rest) =
-    ap (λ t. 64 ∷ (kind ++ (123 ∷ (e.key.text ++ t)))) c.is ∙ ap (λ t. 64 ∷ t) (sym (append_assoc kind (123 ∷ e.key.text) (44 ∷ (line_end ++ c.rest)))) in
+    ap (λ t. 64 ∷ (kind ++ (123 ∷ (e.key.text ++ (flat_map write fs ++ (t ++ (line_end ++ 125 ∷ []))))))) (sym (last_ordered style names e.fields))
+    ∙ ap (λ t. 64 ∷ (kind ++ (123 ∷ (e.key.text ++ t)))) c.is ∙ ap (λ t. 64 ∷ t) (sym (append_assoc kind (123 ∷ e.key.text) (44 ∷ (line_end ++ c.rest)))) in
     record {
       rest = c.rest ++ following;
       is = ap (λ t. start ++ (t ++ following)) whole ∙ ap (λ t. start ++ t) (append_assoc (head_of e) (44 ∷ (line_end ++ c.rest)) following)

@@ -1,5 +1,5 @@
 -- A value, laid out, as it is read.
-use Rattle.std.proofs.Common.{◌≡◌, inl, inr, ℕ, ◌+◌, ◌-◌, ◌<◌, ◌≤◌, Bool, true, false, List, [], ◌∷◌, ◌++◌, length, drop, map, codes, refl, sym, ap, ◌∙◌, subst, arith, append_assoc, length-append}
+use Rattle.std.proofs.Common.{◌≡◌, inl, inr, ℕ, ◌+◌, ◌<◌, ◌≤◌, Bool, true, false, List, [], ◌∷◌, ◌++◌, length, drop, map, codes, refl, sym, ap, ◌∙◌, subst, arith, append_assoc, length-append}
 use Rattle.std.specs.Prelude.{◌==◌}
 use Rattle.std.specs.Char.{is_whitespace, is_ascii_digit, len_utf8}
 use Rattle.std.specs.List.{ends_with}
@@ -10,11 +10,10 @@ use Rattle.std.proofs.lemmas.Bool.Decides.{nat_tests}
 use Rattle.std.proofs.lemmas.List.{append-nil, drop_at}
 use Rattle.std.proofs.lemmas.Slice.Eq.{ends_is}
 use Rattle.std.proofs.lemmas.Str.{len_utf8_bounds}
-use Rattle.bib_text.specs.Places.{Place, place, CharAt, Run, Stops, Longest, between}
+use Rattle.bib_text.specs.Places.{Place, place, CharAt, Run, Stops, Longest}
 use Rattle.bib_text.specs.Places.Run.{stop, step}
 use Rattle.bib_text.proofs.PlaceFacts.{ahead_then, ahead_char, ahead_run, same_char, same_place, stops_at, test_clash}
 use Rattle.bib_syntax.specs.Reading.{Piece}
-use Rattle.bib_syntax.specs.Reading.Piece.{literal, abbreviation}
 use Rattle.bib_syntax.specs.Grammar.{Element, Elements, longest}
 use Rattle.bib_syntax.specs.Grammar.{Number as number}
 use Rattle.bib_syntax.specs.Grammar.{Element as element}
@@ -25,9 +24,12 @@ use Rattle.bib_documents.specs.Edits.{moved_piece}
 use Rattle.bib_documents.proofs.BoundaryFacts.{not_over}
 use Rattle.bib_documents.proofs.EditFacts.{ascii_stands}
 use Rattle.bib_documents.proofs.MovedFacts.{char_within}
-use Rattle.bib_format.specs.Formatted.{piece_as_written, value_laid_out}
-use Rattle.bib_format.proofs.ElementFacts.{Ending, NotOpened, before, element_stands, element_written, start_stands}
-use Rattle.bib_format.proofs.StandsFacts.{Stands, ascii, between_stands, first_part, last_part, past}
+use Rattle.bib_format.specs.Delimited.{piece_as_written}
+use Rattle.bib_format.specs.Formatted.{value_laid_out}
+use Rattle.bib_format.specs.declared.style.Delimiters.{Delimiters}
+use Rattle.bib_format.proofs.ElementFacts.{Ending, NotOpened, before, start_stands}
+use Rattle.bib_format.proofs.PieceFacts.{piece_read}
+use Rattle.bib_format.proofs.StandsFacts.{AreWhite, Stands, ascii, first_part, last_part, past, run_white}
 
 -- ---- what stands before an element
 
@@ -85,44 +87,77 @@ element_dark (element.named none i) = stops_at is_whitespace i.here (start_not_w
 element_dark (element.braced b) = stops_at is_whitespace b.opens refl
 element_dark (element.quoted q) = stops_at is_whitespace q.opens refl
 
--- a value without the sign before its first element
-abbrev pub unsigned : List ℕ → List Piece → List ℕ
-unsigned text [] = []
-unsigned text (p ∷ ps) = piece_as_written text p ++ value_laid_out (codes " # ") text ps
+-- ---- what stands between two elements
 
-pub signed : {u v : Place} {es : List Piece} (sign text : List ℕ) → Elements longest u es v → value_laid_out sign text es ≡ sign ++ unsigned text es
-signed sign text (elements.last e white ends) = refl
-signed sign text (elements.more e white hash white' rest) = refl
+-- white space, the sign and a space
+pub record IsSeparator (next : List ℕ) : Type 0 where
+  pub white : List ℕ
+  pub is : next ≡ white ++ 35 ∷ 32 ∷ []
+  pub all : AreWhite white
+  pub ending : (u v : Place) (rest : List ℕ) → Stands u (next ++ rest) v → Ending u
+
+pub in_line : IsSeparator (codes " # ")
+in_line = record {
+  white = 32 ∷ [];
+  is = refl;
+  all = ((omega arith, refl), _);
+  ending = λ u v rest s. record { char = 32; next = _; here = ascii 32 (omega arith) (first_part (32 ∷ []) (35 ∷ 32 ∷ rest) s); no_name = refl; no_digit = refl; no_point = refl };
+}
+
+-- what stands between two elements, in a text
+record Separated (u v : Place) : Type 0 where
+  to_hash : Place
+  past_hash : Place
+  before_space : Run is_whitespace u to_hash
+  hash : CharAt to_hash 35 past_hash
+  space : CharAt past_hash 32 v
+
+separated : {next : List ℕ} {u v : Place} → IsSeparator next → Stands u next v → Separated u v
+separated {next} {u} {v} sep s =
+    let s' : Stands u (sep.white ++ 35 ∷ 32 ∷ []) v = subst (λ t. Stands u t v) sep.is s in
+    let rest = last_part sep.white (35 ∷ 32 ∷ []) s' in
+    record {
+      to_hash = past u sep.white;
+      past_hash = past (past u sep.white) (35 ∷ []);
+      before_space = run_white sep.white sep.all (first_part sep.white (35 ∷ 32 ∷ []) s');
+      hash = ascii 35 (omega arith) (first_part (35 ∷ []) (32 ∷ []) rest);
+      space = ascii 32 (omega arith) (last_part (35 ∷ []) (32 ∷ []) rest);
+    }
+
+-- a value without the sign before its first element
+abbrev pub unsigned : List ℕ → List (List ℕ) → List ℕ
+unsigned next [] = []
+unsigned next (t ∷ ts) = t ++ value_laid_out next next ts
+
+-- elements, as they are written
+abbrev pub written : Delimiters → List ℕ → List Piece → List (List ℕ)
+written way text es = map (piece_as_written way text) es
+
+pub signed : {u v : Place} {es : List Piece} (first next : List ℕ) (way : Delimiters) (text : List ℕ) → Elements longest u es v → value_laid_out first next (written way text es) ≡ first ++ unsigned next (written way text es)
+signed first next way text (elements.last e white ends) = refl
+signed first next way text (elements.more e white hash white' rest) = refl
 
 -- the elements of a value in a text, read in another
-pub record ValueRead (text : List ℕ) (es : List Piece) (u v : Place) : Type 0 where
+pub record ValueRead (way : Delimiters) (text : List ℕ) (es : List Piece) (u v : Place) : Type 0 where
   pub reading : List Piece
   pub elements : Elements longest u reading v
   pub alike : map (moved_piece (λ n. 0)) reading ≡ map (moved_piece (λ n. 0)) es
-  pub again : unsigned u.text reading ≡ unsigned text es
+  pub again : written way u.text reading ≡ written way text es
   pub dark : Stops is_whitespace u
 
--- an element's places
-placeless : (move : ℕ → ℕ) (e : Piece) → moved_piece (λ n. 0) (moved_piece move e) ≡ moved_piece (λ n. 0) e
-placeless move (literal p) = refl
-placeless move (abbreviation p) = refl
-
-pub value_read : {a b u v w : Place} {es : List Piece} → Elements longest a es b → NotOpened a → b.at ≤ length a.text → Stands u (unsigned a.text es) v → NotOpened u → Ending v → Longest is_whitespace v w → Stops (λ c. c == 35) w
-    → ValueRead a.text es u w
-value_read {a} {b} {u} {v} {w} (elements.last {v = a'} {e = e} x white ends) opened within s opened' ending over no_hash =
+pub value_read : {next : List ℕ} (way : Delimiters) {a b u v w : Place} {es : List Piece} → IsSeparator next → Elements longest a es b → NotOpened a → b.at ≤ length a.text → Stands u (unsigned next (written way a.text es)) v → NotOpened u → Ending v
+    → Longest is_whitespace v w → Stops (λ c. c == 35) w → ValueRead way a.text es u w
+value_read {next} way {a} {b} {u} {v} {w} sep (elements.last {v = a'} {e = e} x white ends) opened within s opened' ending over no_hash =
     let up : a'.at ≤ length a.text = omega (arith, within, (ahead_run white.run).at) in
-    let bytes : piece_as_written a.text e ++ [] ≡ between a a' = append-nil (piece_as_written a.text e) ∙ element_written x opened in
-    let stands : Stands u (between a a') v = subst (λ t. Stands u t v) bytes s in
-    let x' = element_stands x up stands ending in
-    let e' = moved_piece (λ n. n - a.at + u.at) e in
+    let p = piece_read way x opened up (subst (λ t. Stands u t v) (append-nil (piece_as_written way a.text e)) s) opened' ending in
     record {
-      reading = e' ∷ [];
-      elements = elements.last x' over no_hash;
-      alike = ap (λ p. p ∷ []) (placeless (λ n. n - a.at + u.at) e);
-      again = ap (λ t. t ++ []) (element_written x' opened' ∙ between_stands (between a a') stands ∙ sym (element_written x opened));
-      dark = element_dark x';
+      reading = p.reading ∷ [];
+      elements = elements.last p.element over no_hash;
+      alike = ap (λ q. q ∷ []) p.alike;
+      again = ap (λ t. t ∷ []) p.again;
+      dark = element_dark p.element;
     }
-value_read {a} {b} {u} {v} {w} (elements.more {v = a1} {w = a2} {x = a3} {y = a4} {e = e} {es = es} x white hash white' rest) opened within s opened' ending over no_hash =
+value_read {next} way {a} {b} {u} {v} {w} sep (elements.more {v = a1} {w = a2} {x = a3} {y = a4} {e = e} {es = es} x white hash white' rest) opened within s opened' ending over no_hash =
     let to_hash = ahead_run white.run in
     let past_hash = ahead_then (ahead_char hash) (ahead_run white'.run) in
     let to_rest = ahead_then (ahead_element x) (ahead_then to_hash past_hash) in
@@ -130,28 +165,21 @@ value_read {a} {b} {u} {v} {w} (elements.more {v = a1} {w = a2} {x = a3} {y = a4
     let same : a4.text ≡ a.text = to_rest.text in
     let within' : b.at ≤ length a4.text = omega (arith, within, ap length same) in
     let opened_rest : NotOpened a4 = not_opened_run (not_opened_sign 35 (omega arith) (λ clash. omega arith) (λ clash. omega arith) hash) white'.run in
-    let signs : List ℕ = codes " # " in
-    let text_is : unsigned a.text (e ∷ es) ≡ between a a1 ++ (signs ++ unsigned a4.text es) =
-    ap (λ t. t ++ value_laid_out signs a.text es) (element_written x opened) ∙ ap (λ t. between a a1 ++ t) (signed signs a.text rest ∙ ap (λ t. signs ++ unsigned t es) (sym same)) in
-    let s0 : Stands u (between a a1 ++ (signs ++ unsigned a4.text es)) v = subst (λ t. Stands u t v) text_is s in
-    let first = first_part (between a a1) (signs ++ unsigned a4.text es) s0 in
-    let p1 = past u (between a a1) in
-    let s1 : Stands p1 (signs ++ unsigned a4.text es) v = last_part (between a a1) (signs ++ unsigned a4.text es) s0 in
-    let space = ascii 32 (omega arith) (first_part (32 ∷ []) (35 ∷ 32 ∷ unsigned a4.text es) s1) in
-    let s2 = last_part (32 ∷ []) (35 ∷ 32 ∷ unsigned a4.text es) s1 in
-    let sign = ascii 35 (omega arith) (first_part (35 ∷ []) (32 ∷ unsigned a4.text es) s2) in
-    let s3 = last_part (35 ∷ []) (32 ∷ unsigned a4.text es) s2 in
-    let space' = ascii 32 (omega arith) (first_part (32 ∷ []) (unsigned a4.text es) s3) in
-    let s4 = last_part (32 ∷ []) (unsigned a4.text es) s3 in
-    let others = value_read rest opened_rest within' s4 (not_opened_white space' refl) ending over no_hash in
-    let x' = element_stands x up first (record { char = 32; next = _; here = space; no_name = refl; no_digit = refl; no_point = refl }) in
-    let move = λ (n : ℕ). n - a.at + u.at in
-    let e' = moved_piece move e in
+    let piece : List ℕ = piece_as_written way a.text e in
+    let others : List ℕ = unsigned next (written way a4.text es) in
+    let text_is : unsigned next (written way a.text (e ∷ es)) ≡ piece ++ (next ++ others) = ap (λ t. piece ++ t) (signed next next way a.text rest ∙ ap (λ t. next ++ unsigned next (written way t es)) (sym same)) in
+    let s0 : Stands u (piece ++ (next ++ others)) v = subst (λ t. Stands u t v) text_is s in
+    let s1 = last_part piece (next ++ others) s0 in
+    let p1 = past u piece in
+    let p2 = past p1 next in
+    let between_them = separated sep (first_part next others s1) in
+    let more = value_read way sep rest opened_rest within' (last_part next others s1) (not_opened_white between_them.space refl) ending over no_hash in
+    let p = piece_read way x opened up (first_part piece (next ++ others) s0) opened' (sep.ending p1 v others s1) in
     record {
-      reading = e' ∷ others.reading;
-      elements = elements.more x' (record { run = step space refl stop; stops = stops_at is_whitespace sign refl }) sign (record { run = step space' refl stop; stops = others.dark }) others.elements;
-      alike = ap (λ p. p ∷ map (moved_piece (λ n. 0)) others.reading) (placeless move e) ∙ ap (λ ps. moved_piece (λ n. 0) e ∷ ps) others.alike;
-      again = ap (λ t. t ++ value_laid_out signs u.text others.reading) (element_written x' opened' ∙ between_stands (between a a1) first)
-          ∙ ap (λ t. between a a1 ++ t) (signed signs u.text others.elements ∙ ap (λ t. signs ++ t) others.again) ∙ sym text_is;
-      dark = element_dark x';
+      reading = p.reading ∷ more.reading;
+      elements = elements.more p.element (record { run = between_them.before_space; stops = stops_at is_whitespace between_them.hash refl }) between_them.hash
+          (record { run = step between_them.space refl stop; stops = more.dark }) more.elements;
+      alike = ap (λ q. q ∷ map (moved_piece (λ n. 0)) more.reading) p.alike ∙ ap (λ qs. moved_piece (λ n. 0) e ∷ qs) more.alike;
+      again = ap (λ t. t ∷ written way u.text more.reading) p.again ∙ ap (λ ts. piece ∷ ts) (more.again ∙ ap (λ t. written way t es) same);
+      dark = element_dark p.element;
     }

@@ -1,6 +1,6 @@
 -- Meaning: words of public contracts.
 -- A text in one style: its entries laid out anew, and what stands between them as it is, but for white space where the style asks for blank lines.
-use Rattle.std.specs.Prelude.{◌≡◌, ◌==◌, ◌&&◌, ◌||◌, ℕ, zero, suc, ◌+◌, ◌-◌, max, Bool, if◌then◌else◌, List, [], ◌∷◌, ◌++◌, codes, cond, drop, fold, length, map, nat_lt, replicate, Option, None, Some}
+use Rattle.std.specs.Prelude.{◌≡◌, ◌==◌, ◌&&◌, ◌||◌, ℕ, zero, suc, ◌+◌, ◌-◌, max, Bool, false, if◌then◌else◌, List, [], ◌∷◌, ◌++◌, codes, cond, drop, fold, length, map, nat_lt, replicate, Option, None, Some}
 use Rattle.std.specs.Char.{is_ascii_whitespace}
 use Rattle.std.specs.List.{before_first, ends_with, flat_map, list_all, list_any, position_or_len}
 use Rattle.std.specs.Str.{chars, str_to_ascii_lowercase}
@@ -8,26 +8,20 @@ use lib.Dec.{eqb}
 use Rattle.bib_text.specs.Characters as char
 use Rattle.bib_text.specs.Places.{between, place}
 use Rattle.bib_syntax.specs.Grammar.{IsRawReading}
-use Rattle.bib_syntax.specs.Reading.{Part, Piece, FieldReading, EntryReading, FileReading}
-use Rattle.bib_syntax.specs.Reading.Piece.{literal, abbreviation}
+use Rattle.bib_syntax.specs.Reading.{Part, FieldReading, EntryReading, FileReading}
 use Rattle.bib_documents.specs.Edits.{moved_entry, moved_field}
+use Rattle.bib_format.specs.Delimited.{piece_as_written}
+use Rattle.bib_format.specs.Ordered.{in_order, order_of}
 use Rattle.bib_format.specs.declared.style.Style.{Style}
 
--- a literal with the delimiters that it has in its text, by what stands before it there: braces, quotes or, at a number, none
-abbrev pub delimited : List ℕ → List ℕ → List ℕ
-delimited before content =
-    cond (ends_with eqb before (codes "{")) (codes "{" ++ (content ++ codes "}"))
-    (cond (ends_with eqb before (codes "\"")) (codes "\"" ++ (content ++ codes "\"")) content)
+-- the elements of a value, as they are written, with a sign before the first, and one before each other
+abbrev pub value_laid_out : List ℕ → List ℕ → List (List ℕ) → List ℕ
+value_laid_out first next [] = []
+value_laid_out first next (t ∷ ts) = first ++ (t ++ value_laid_out next next ts)
 
--- an element of a value as it stands in its text
-abbrev pub piece_as_written : List ℕ → Piece → List ℕ
-piece_as_written text (literal p) = delimited (between (place text 0) (place text p.start)) p.text
-piece_as_written text (abbreviation p) = p.text
-
--- the elements of a value, with a sign before the first, and # before each other
-abbrev pub value_laid_out : List ℕ → List ℕ → List Piece → List ℕ
-value_laid_out sign text [] = []
-value_laid_out sign text (p ∷ ps) = sign ++ (piece_as_written text p ++ value_laid_out (codes " # ") text ps)
+-- the elements of a field's value, as they are written
+abbrev pub elements_as_written : Style → List ℕ → FieldReading → List (List ℕ)
+elements_as_written style text f = map (piece_as_written style.delimiters text) f.value.pieces
 
 -- so many spaces
 abbrev pub spaces : ℕ → List ℕ
@@ -41,20 +35,42 @@ longest_name fields = fold (λ width f. max (length (chars f.name.text)) width) 
 abbrev pub padded_width : Style → List FieldReading → ℕ
 padded_width style fields = if style.aligned then longest_name fields else 0
 
--- a field after a comma, in a line of its own
+-- a field's line: its name, padded, and the elements of its value, with this before each but the first
+abbrev pub line_laid_out : Style → ℕ → List ℕ → List ℕ → List (List ℕ) → List ℕ
+line_laid_out style width next name elements =
+    spaces style.indent ++ (str_to_ascii_lowercase name ++ (spaces (width - length (chars name)) ++ value_laid_out (codes " = ") next elements))
+
+-- whether a line, and a comma after it, have more characters than this
+abbrev pub is_too_long : Option ℕ → List ℕ → Bool
+is_too_long None line = false
+is_too_long (Some most) line = nat_lt most (length (chars line) + 1)
+
+-- whether each element but the first begins a new line: where in one line they are too long
+abbrev pub is_broken : Style → ℕ → List ℕ → List (List ℕ) → Bool
+is_broken style width name elements = nat_lt 1 (length elements) && is_too_long style.width (line_laid_out style width (codes " # ") name elements)
+
+-- the end of a line, as many spaces as stand before the value of a field, and #
+abbrev pub next_line : List ℕ → Style → ℕ → List ℕ → List ℕ
+next_line line_end style width name = line_end ++ (spaces style.indent ++ (spaces (max width (length (chars name))) ++ codes "   # "))
+
+-- what stands before each element but the first
+abbrev pub next_sign : List ℕ → Style → ℕ → List ℕ → List (List ℕ) → List ℕ
+next_sign line_end style width name elements = cond (is_broken style width name elements) (next_line line_end style width name) (codes " # ")
+
+-- a field after a comma, in a line of its own, or in one for each element
 abbrev pub field_laid_out : List ℕ → Style → List ℕ → ℕ → FieldReading → List ℕ
 field_laid_out line_end style text width f =
-    codes "," ++ (line_end ++ (spaces style.indent ++ (str_to_ascii_lowercase f.name.text ++ (spaces (width - length (chars f.name.text)) ++ value_laid_out (codes " = ") text f.value.pieces))))
+    codes "," ++ (line_end ++ line_laid_out style width (next_sign line_end style width f.name.text (elements_as_written style text f)) f.name.text (elements_as_written style text f))
 
 -- the comma after the last field, or after the key where there is no field
 abbrev pub last_comma : Style → List FieldReading → List ℕ
 last_comma style [] = codes ","
 last_comma style (f ∷ fs) = if style.trailing_comma then codes "," else []
 
--- an entry laid out: its type and its key, its fields, and its brace in a line of its own
+-- an entry laid out: its type and its key, its fields in the order of the style, and its brace in a line of its own
 abbrev pub entry_laid_out : List ℕ → Style → List ℕ → EntryReading → List ℕ
 entry_laid_out line_end style text e =
-    codes "@" ++ (str_to_ascii_lowercase e.kind.text ++ (codes "{" ++ (e.key.text ++ (flat_map (field_laid_out line_end style text (padded_width style e.fields)) e.fields ++ (last_comma style e.fields ++ (line_end ++ codes "}"))))))
+    codes "@" ++ (str_to_ascii_lowercase e.kind.text ++ (codes "{" ++ (e.key.text ++ (flat_map (field_laid_out line_end style text (padded_width style e.fields)) (in_order (order_of style) e.fields) ++ (last_comma style e.fields ++ (line_end ++ codes "}"))))))
 
 -- whether a percent sign stands between two places of a text
 abbrev pub has_percent : List ℕ → ℕ → ℕ → Bool
@@ -97,6 +113,14 @@ line_end_of text =
 -- a text in one style, of which this is the reading; what stands before the first entry stays
 abbrev pub text_in_style : Style → List ℕ → FileReading → List ℕ
 text_in_style style text says = rest_in_style (line_end_of text) style None text 0 says.entries
+
+-- an entry, its fields in the order of the style if it is laid out
+abbrev pub entry_in_order : Style → List ℕ → EntryReading → EntryReading
+entry_in_order style text e = cond (has_comment text e) e (record e { fields = in_order (order_of style) e.fields })
+
+-- what a text says, the fields of each entry that is laid out in the order of the style
+abbrev pub says_in_order : Style → List ℕ → FileReading → FileReading
+says_in_order style text says = record says { entries = map (entry_in_order style text) says.entries }
 
 -- a part of a text with its ASCII letters in lowercase
 abbrev pub part_in_lowercase : Part → Part

@@ -1,2 +1,6 @@
 pub mod Cuts
+pub mod Delimited
 pub mod Formatted
+pub mod Ordered
+pub mod Unlisted
+pub mod Usual

@@ -10,8 +10,8 @@ ghost use Rattle.bib_format.specs.Formatted as styled;
 ghost use Rattle.bib_format.specs.Formatted.{entry_in_style, entry_laid_out};
 
 use crate::comments::has_comment;
-use crate::fields::push_fields;
 use crate::layout::Layout;
+use crate::order::push_fields;
 use crate::style::Style;
 use bib_syntax::raw::{Pair, RawEntry};
 use bib_text::spanned::Spanned;
@@ -31,7 +31,7 @@ fn push_head(alloc: Global, new: &mut String, kind: &str, key: &str) -> Result<(
 }
 
 // The comma after the last field, or after the key where no field follows.
-fn last_comma(style: &Style, fields: &[Pair<'_>]) -> &'static str
+fn last_comma(style: &Style<'_>, fields: &[Pair<'_>]) -> &'static str
     ensures { result.now ≡ styled.last_comma style.now (map field_of fields.now) }
 {
     match fields {
@@ -44,7 +44,7 @@ fn last_comma(style: &Style, fields: &[Pair<'_>]) -> &'static str
 fn push_laid_out(
     alloc: Global,
     new: &mut String,
-    layout: &Layout<'_>,
+    layout: &Layout<'_, '_>,
     entry: &Spanned<RawEntry<'_>>,
 ) -> Result<(), AllocError>
     requires { AllByRecursion (ArePiecesCut layout.now.text.now) (entry_reading_of entry.now).fields }
@@ -63,7 +63,7 @@ fn push_laid_out(
 pub(crate) fn push_entry(
     alloc: Global,
     new: &mut String,
-    layout: &Layout<'_>,
+    layout: &Layout<'_, '_>,
     entry: &Spanned<RawEntry<'_>>,
 ) -> Result<(), AllocError>
     requires { IsEntryCut layout.now.text.now (entry_reading_of entry.now) }

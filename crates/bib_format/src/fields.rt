@@ -1,13 +1,12 @@
 //! The fields of entries.
 
-ghost use Rattle.std.specs.Prelude.{◌≡◌, ◌++◌, length, map, OnOk};
-ghost use Rattle.std.specs.List.{AllByRecursion, flat_map};
+ghost use Rattle.std.specs.Prelude.{◌≡◌, ◌++◌, codes, length, map, IfOk, OnOk};
 ghost use Rattle.std.specs.Str.{chars};
 ghost use Rattle.std.specs.String.{string_bytes};
 ghost use Rattle.bib_syntax.specs.Views.{field_of};
 ghost use Rattle.bib_format.specs.Cuts.{ArePiecesCut};
 ghost use Rattle.bib_format.specs.Formatted as styled;
-ghost use Rattle.bib_format.specs.Formatted.{field_laid_out, spaces};
+ghost use Rattle.bib_format.specs.Formatted.{elements_as_written, field_laid_out, spaces};
 
 use crate::layout::Layout;
 use crate::pieces::push_value;
@@ -15,11 +14,11 @@ use crate::style::Style;
 use bib_syntax::raw::Pair;
 use std::alloc::{AllocError, Global};
 
-// The characters of a name.
-fn name_width(name: &str) -> usize
-    ensures { result ≡ length (chars name.now) }
+// How many characters a text has.
+fn character_count(text: &str) -> usize
+    ensures { result ≡ length (chars text.now) }
 {
-    name.chars().count()
+    text.chars().count()
 }
 
 // The characters of the longest name of fields.
@@ -28,13 +27,13 @@ fn longest_name(fields: &[Pair<'_>]) -> usize
 {
     let mut longest = 0usize;
     'fields: for field in fields {
-        longest = name_width(field.key.v).max(longest);
+        longest = character_count(field.key.v).max(longest);
     }
     longest
 }
 
 // How many characters names are padded to.
-fn padded_width(style: &Style, fields: &[Pair<'_>]) -> usize
+pub(crate) fn padded_width(style: &Style<'_>, fields: &[Pair<'_>]) -> usize
     ensures { result ≡ styled.padded_width style.now (map field_of fields.now) }
 {
     if style.aligned {
@@ -54,11 +53,89 @@ fn push_spaces(new: &mut String, count: usize) -> Result<(), AllocError>
     Ok(())
 }
 
-// Adds a field in a line of its own, after a comma.
-fn push_field(
+// Adds a field's line: its name, padded, and its value, with this before each element but the first.
+fn push_line(
     alloc: Global,
     new: &mut String,
-    layout: &Layout<'_>,
+    layout: &Layout<'_, '_>,
+    width: usize,
+    next: &str,
+    field: &Pair<'_>,
+) -> Result<(), AllocError>
+    requires { ArePiecesCut layout.now.text.now (field_of field.now) }
+    ensures { OnOk result (string_bytes new.new ≡ string_bytes new.old ++
+        styled.line_laid_out layout.now.style width next.now (field_of field.now).name.text
+        (elements_as_written layout.now.style layout.now.text.now (field_of field.now))) }
+{
+    let name = field.key.v.to_ascii_lowercase(alloc)?;
+    push_spaces(new, layout.style.indent)?;
+    new.push_str(name.as_str())?;
+    push_spaces(new, width.saturating_sub(character_count(field.key.v)))?;
+    push_value(new, layout, next, &field.value.v)?;
+    Ok(())
+}
+
+// Whether a field in one line, and a comma after it, have more characters than the style has it.
+fn is_too_long(
+    alloc: Global,
+    layout: &Layout<'_, '_>,
+    width: usize,
+    field: &Pair<'_>,
+) -> Result<bool, AllocError>
+    requires { ArePiecesCut layout.now.text.now (field_of field.now) }
+    ensures { IfOk result (λ is. is ≡ styled.is_too_long layout.now.style.width
+        (styled.line_laid_out layout.now.style width (codes " # ") (field_of field.now).name.text
+        (elements_as_written layout.now.style layout.now.text.now (field_of field.now)))) }
+{
+    match layout.style.width {
+        None => Ok(false),
+        Some(most) => {
+            let mut line = String::new(alloc);
+            push_line(alloc, &mut line, layout, width, " # ", field)?;
+            Ok(most <= character_count(line.as_str()))
+        }
+    }
+}
+
+// Whether each element of a field's value but the first begins a new line.
+fn is_broken(
+    alloc: Global,
+    layout: &Layout<'_, '_>,
+    width: usize,
+    field: &Pair<'_>,
+) -> Result<bool, AllocError>
+    requires { ArePiecesCut layout.now.text.now (field_of field.now) }
+    ensures { IfOk result (λ is. is ≡ styled.is_broken layout.now.style width (field_of field.now).name.text
+        (elements_as_written layout.now.style layout.now.text.now (field_of field.now))) }
+{
+    if field.value.v.len() < 2 {
+        return Ok(false);
+    }
+    is_too_long(alloc, layout, width, field)
+}
+
+// The end of a line, as many spaces as stand before the value of a field, and `#`.
+fn next_line(
+    alloc: Global,
+    layout: &Layout<'_, '_>,
+    width: usize,
+    name: &str,
+) -> Result<String, AllocError>
+    ensures { IfOk result (λ next. string_bytes next ≡ styled.next_line layout.now.line_end.now layout.now.style width name.now) }
+{
+    let mut next = String::new(alloc);
+    next.push_str(layout.line_end)?;
+    push_spaces(&mut next, layout.style.indent)?;
+    push_spaces(&mut next, character_count(name).max(width))?;
+    next.push_str("   # ")?;
+    Ok(next)
+}
+
+// Adds a field after a comma, in a line of its own, or in one for each element.
+pub(crate) fn push_field(
+    alloc: Global,
+    new: &mut String,
+    layout: &Layout<'_, '_>,
     width: usize,
     field: &Pair<'_>,
 ) -> Result<(), AllocError>
@@ -66,30 +143,11 @@ fn push_field(
     ensures { OnOk result (string_bytes new.new ≡ string_bytes new.old ++
         field_laid_out layout.now.line_end.now layout.now.style layout.now.text.now width (field_of field.now)) }
 {
-    let name = field.key.v.to_ascii_lowercase(alloc)?;
     new.push_str(",")?;
     new.push_str(layout.line_end)?;
-    push_spaces(new, layout.style.indent)?;
-    new.push_str(name.as_str())?;
-    push_spaces(new, width.saturating_sub(name_width(field.key.v)))?;
-    push_value(new, layout, &field.value.v)?;
-    Ok(())
-}
-
-// Adds fields, each in a line of its own.
-pub(crate) fn push_fields(
-    alloc: Global,
-    new: &mut String,
-    layout: &Layout<'_>,
-    fields: &[Pair<'_>],
-) -> Result<(), AllocError>
-    requires { AllByRecursion (ArePiecesCut layout.now.text.now) (map field_of fields.now) }
-    ensures { OnOk result (string_bytes new.new ≡ string_bytes new.old ++
-        flat_map (field_laid_out layout.now.line_end.now layout.now.style layout.now.text.now (styled.padded_width layout.now.style (map field_of fields.now))) (map field_of fields.now)) }
-{
-    let width = padded_width(&layout.style, fields);
-    'fields: for field in fields {
-        push_field(alloc, new, layout, width, field)?;
+    if is_broken(alloc, layout, width, field)? {
+        let next = next_line(alloc, layout, width, field.key.v)?;
+        return push_line(alloc, new, layout, width, next.as_str(), field);
     }
-    Ok(())
+    push_line(alloc, new, layout, width, " # ", field)
 }

@@ -5,7 +5,7 @@ ghost use Rattle.std.specs.String.{string_bytes};
 ghost use Rattle.bib_syntax.specs.Views.{entry_reading_of};
 ghost use Rattle.bib_format.specs.Cuts.{AreEntriesCut};
 ghost use Rattle.bib_format.specs.Formatted as styled;
-ghost use Rattle.bib_format.specs.Formatted.{IsReadAlike, line_end_of, text_in_style};
+ghost use Rattle.bib_format.specs.Formatted.{IsReadAlike, line_end_of, says_in_order, text_in_style};
 
 use crate::entries::push_entry;
 use crate::gaps::push_gap;
@@ -29,7 +29,7 @@ fn line_end(text: &str) -> &'static str
 // A text with its entries laid out, and what stands between them as it is, or as blank lines.
 fn with_entries(
     alloc: Global,
-    layout: &Layout<'_>,
+    layout: &Layout<'_, '_>,
     entries: &[Spanned<RawEntry<'_>>],
 ) -> Result<String, AllocError>
     requires { AreEntriesCut layout.now.text.now 0 (map entry_reading_of entries.now) }
@@ -64,16 +64,17 @@ fn with_entries(
 /// ```
 ///
 /// Its type and the names of its fields are written in lowercase, as far as they are ASCII, and the elements of its values as they
-/// stand. Everything else stays byte for byte, and so does an entry in which a comment stands between its key, its fields and its
-/// closing brace; but where only white space of ASCII stands between two entries the style may ask for blank lines. Lines that are
-/// written end as the file's first line does. Fails only where there is no memory.
+/// stand, or between other delimiters; its fields stand in the order that they have, or in the style's. Everything else stays byte for
+/// byte, and so does an entry in which a comment stands between its key, its fields and its closing brace; but where only white space of
+/// ASCII stands between two entries the style may ask for blank lines. Lines that are written end as the file's first line does. Fails
+/// only where there is no memory.
 pub fn format(
     alloc: Global,
     document: &RawDocument<'_>,
-    style: &Style,
+    style: &Style<'_>,
 ) -> Result<String, AllocError>
     ensures text { IfOk result (λ new. string_bytes new ≡ text_in_style style.now document.now.text document.now.says) }
-    ensures read { IfOk result (λ new. IsReadAlike document.now.says (string_bytes new)) }
+    ensures read { IfOk result (λ new. IsReadAlike (says_in_order style.now document.now.text document.now.says) (string_bytes new)) }
 {
     let text = document.text();
     let layout = Layout {

@@ -4,8 +4,8 @@ use crate::style::Style;
 
 // A text, how its lines end, and how its entries are laid out.
 #[derive(Clone, Copy)]
-pub(crate) struct Layout<'a> {
+pub(crate) struct Layout<'a, 'style> {
     pub(crate) text: &'a str,
     pub(crate) line_end: &'a str,
-    pub(crate) style: Style,
+    pub(crate) style: Style<'style>,
 }

@@ -7,11 +7,13 @@
 #![tactic(auto)]
 
 mod comments;
+mod delimiters;
 mod entries;
 mod fields;
 pub mod formatting;
 mod gaps;
 pub mod laws;
 mod layout;
+mod order;
 mod pieces;
 pub mod style;

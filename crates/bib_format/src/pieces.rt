@@ -5,66 +5,59 @@ ghost use Rattle.std.specs.List.{AllByRecursion};
 ghost use Rattle.std.specs.String.{string_bytes};
 ghost use Rattle.bib_syntax.specs.Views.{piece_of};
 ghost use Rattle.bib_format.specs.Cuts.{IsPieceCut};
-ghost use Rattle.bib_format.specs.Formatted.{delimited, piece_as_written, value_laid_out};
+ghost use Rattle.bib_format.specs.Delimited.{piece_as_written};
+ghost use Rattle.bib_format.specs.Formatted.{value_laid_out};
 
+use crate::delimiters::push_literal;
 use crate::layout::Layout;
 use bib_syntax::raw::RawChunk;
 use bib_text::spanned::Spanned;
 use std::alloc::AllocError;
 
-// Adds the text of a literal with the delimiters that it has in the file, by what stands before it there.
-fn push_literal(new: &mut String, before: &str, content: &str) -> Result<(), AllocError>
-    ensures { OnOk result (string_bytes new.new ≡ string_bytes new.old ++ delimited before.now content.now) }
-{
-    if before.ends_with("{") {
-        new.push_str("{")?;
-        new.push_str(content)?;
-        new.push_str("}")?;
-        return Ok(());
-    }
-    if before.ends_with("\"") {
-        new.push_str("\"")?;
-        new.push_str(content)?;
-        new.push_str("\"")?;
-        return Ok(());
-    }
-    new.push_str(content)?;
-    Ok(())
-}
-
-// Adds an element as it stands in the file.
-fn push_piece(new: &mut String, text: &str, piece: &Spanned<RawChunk<'_>>) -> Result<(), AllocError>
-    requires { IsPieceCut text.now (piece_of piece.now) }
-    ensures { OnOk result (string_bytes new.new ≡ string_bytes new.old ++ piece_as_written text.now (piece_of piece.now)) }
+// Adds an element, a literal between the delimiters of the style.
+fn push_piece(
+    new: &mut String,
+    layout: &Layout<'_, '_>,
+    piece: &Spanned<RawChunk<'_>>,
+) -> Result<(), AllocError>
+    requires { IsPieceCut layout.now.text.now (piece_of piece.now) }
+    ensures { OnOk result (string_bytes new.new ≡ string_bytes new.old ++
+        piece_as_written layout.now.style.delimiters layout.now.text.now (piece_of piece.now)) }
 {
     match piece.v {
-        RawChunk::Normal(content) => push_literal(new, &text[..piece.span.start], content)?,
+        RawChunk::Normal(content) => push_literal(
+            new,
+            layout.style.delimiters,
+            &layout.text[..piece.span.start],
+            content,
+        )?,
         RawChunk::Abbreviation(name) => new.push_str(name)?,
     }
     Ok(())
 }
 
 // The sign before an element of a value, and white space round it.
-fn sign_before(is_first: bool) -> &'static str
-    ensures { result.now ≡ cond is_first (codes " = ") (codes " # ") }
+fn sign_before<'a>(is_first: bool, next: &'a str) -> &'a str
+    ensures { result.now ≡ cond is_first (codes " = ") next.now }
 {
-    if is_first { " = " } else { " # " }
+    if is_first { " = " } else { next }
 }
 
-// Adds a value: its elements, an equals sign before the first and `#` before each other.
+// Adds a value: its elements, an equals sign before the first, and this before each other.
 pub(crate) fn push_value(
     new: &mut String,
-    layout: &Layout<'_>,
+    layout: &Layout<'_, '_>,
+    next: &str,
     pieces: &[Spanned<RawChunk<'_>>],
 ) -> Result<(), AllocError>
     requires { AllByRecursion (IsPieceCut layout.now.text.now) (map piece_of pieces.now) }
     ensures { OnOk result (string_bytes new.new ≡ string_bytes new.old ++
-        value_laid_out (codes " = ") layout.now.text.now (map piece_of pieces.now)) }
+        value_laid_out (codes " = ") next.now (map (piece_as_written layout.now.style.delimiters layout.now.text.now) (map piece_of pieces.now))) }
 {
     let mut is_first = true;
     'pieces: for piece in pieces {
-        new.push_str(sign_before(is_first))?;
-        push_piece(new, layout.text, piece)?;
+        new.push_str(sign_before(is_first, next))?;
+        push_piece(new, layout, piece)?;
         is_first = false;
     }
     Ok(())

@@ -1,2 +1,4 @@
 pub mod AlikeFacts
+pub mod FoundFacts
 pub mod ReadAlikeFacts
+pub mod ReorderedFacts

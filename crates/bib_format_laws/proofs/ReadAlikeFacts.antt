@@ -19,7 +19,8 @@ use Rattle.bib_entry_types.specs.declared.mechanics.EntryType.{EntryType}
 use Rattle.bib_entry_types.specs.declared.mechanics.EntryType.TheVariants.{Unknown}
 use Rattle.bib_file_entries.specs.Bibliography.{Bibliography, aliases, appended, claims, empty_bibliography}
 use Rattle.bib_file_entries.specs.Loaded.{AllCanBeRead, AreEntries, CanBeRead, FieldSays, IsEntry, IsFirstErrorOfEntries, IsFirstErrorOfFields, definition_in, field_in, is_claimed, loaded_after, name_of}
-use Rattle.bib_format.specs.Formatted.{content, entry_content, field_in_lowercase}
+use Rattle.bib_format.specs.Formatted.{content, entry_content, entry_in_order, field_in_lowercase, says_in_order}
+use Rattle.bib_format.specs.declared.style.Style.{Style}
 use Rattle.bib_graph.specs.Graph.{Graph, HasNoCycle, Leads, refs_of}
 use Rattle.bib_inheritance.specs.InheritableDate.{looks_for_date}
 use Rattle.bib_inheritance.specs.Sources.{Source, fields_of}
@@ -33,13 +34,16 @@ use Rattle.bib_text.specs.declared.spanned.Spanned.{Spanned}
 use Rattle.biblatex.specs.Resolved.{AreOwn, IsAccepted, IsFirstErrorOf, IsLoaded, graph_of, names_of}
 use Rattle.biblatex.proofs.ResolvedFacts.{graphs_by, solutions_same, source_same}
 use Rattle.bib_format_laws.proofs.AlikeFacts.{Alike, AreAlikeAbbreviations, AreAlikeFields, DefineAlike, FoundAlike, alike_back, definitions_alike, evaluates_alike, field_alike, readable_alike}
+use Rattle.bib_format_laws.proofs.ReorderedFacts.{IsReordered, entry_reordered}
 use Rattle.bib_format_laws.specs.Alike.{AreAlike}
 
--- an entry with the same key, a type of the same name in any case, and fields alike
+-- an entry with the same key, a type of the same name in any case, and fields alike, in some order
 pub record AreAlikeEntries (one other : EntryReading) : Type 0 where
   pub key : one.key.text ≡ other.key.text
   pub kind : entry_type_of one.kind.text ≡ entry_type_of other.kind.text
-  pub fields : AllZip AreAlikeFields one.fields other.fields
+  pub ordered : List FieldReading
+  pub reordered : IsReordered one.fields ordered
+  pub fields : AllZip AreAlikeFields ordered other.fields
 
 -- files with entries and abbreviations alike
 pub record AreAlikeFiles (one other : FileReading) : Type 0 where
@@ -92,24 +96,28 @@ type_of_lowercase : (name other : List ℕ) → str_to_ascii_lowercase name ≡ 
 unfolding entry_type_of named_or_alias
 type_of_lowercase name other same = ap (λ l. unwrap_or (named_or_alias l) (Unknown l)) same
 
-entries_alike : (es gs : List EntryReading) → map entry_content es ≡ map entry_content gs → AllZip AreAlikeEntries es gs
-entries_alike [] [] is = tt
-entries_alike [] (g ∷ gs) is = cc
-entries_alike (e ∷ es) [] is = cc
-entries_alike (e ∷ es) (g ∷ gs) is =
-    let first : entry_content e ≡ entry_content g = cons_head _ _ is in (
+entries_alike : (style : Style) (text : List ℕ) (es gs : List EntryReading) → map entry_content (map (entry_in_order style text) es) ≡ map entry_content gs → AllZip AreAlikeEntries es gs
+entries_alike style text [] [] is = tt
+entries_alike style text [] (g ∷ gs) is = cc
+entries_alike style text (e ∷ es) [] is = cc
+entries_alike style text (e ∷ es) (g ∷ gs) is =
+    let o = entry_in_order style text e in
+    let same = entry_reordered style text e in
+    let first : entry_content o ≡ entry_content g = cons_head _ _ is in (
       record {
-        key = ap (λ (h : EntryReading). h.key.text) first;
-        kind = type_of_lowercase e.kind.text g.kind.text (ap (λ (h : EntryReading). h.kind.text) first);
-        fields = fields_alike e.fields g.fields (ap (λ (h : EntryReading). h.fields) first);
+        key = ap (λ (p : Part). p.text) (sym same.key) ∙ ap (λ (h : EntryReading). h.key.text) first;
+        kind = ap (λ (p : Part). entry_type_of p.text) (sym same.kind) ∙ type_of_lowercase o.kind.text g.kind.text (ap (λ (h : EntryReading). h.kind.text) first);
+        ordered = o.fields;
+        reordered = same.fields;
+        fields = fields_alike o.fields g.fields (ap (λ (h : EntryReading). h.fields) first);
       },
-      entries_alike es gs (cons_tail is),
+      entries_alike style text es gs (cons_tail is),
     )
 
--- files with the same content are alike
-pub files_alike : (one other : FileReading) → content one ≡ content other → AreAlikeFiles one other
-files_alike one other is = record {
-  entries = entries_alike one.entries other.entries (ap (λ (h : FileReading). h.entries) is);
+-- files with the same content, but for the order of fields, are alike
+pub files_alike : (style : Style) (text : List ℕ) (one other : FileReading) → content (says_in_order style text one) ≡ content other → AreAlikeFiles one other
+files_alike style text one other is = record {
+  entries = entries_alike style text one.entries other.entries (ap (λ (h : FileReading). h.entries) is);
   abbreviations = abbreviations_alike one.abbreviations other.abbreviations (ap (λ (h : FileReading). h.abbreviations) is);
 }
 
@@ -135,7 +143,9 @@ module _ {one other : Definitions} (both : DefineAlike one other) where
 
   module _ {said tells : EntryReading} (a b : Entry) (are : AreAlikeEntries said tells) (first : IsEntry one said a) (second : IsEntry other tells b) where
     texts_alike : (name : List ℕ) → option_map styled (by_name.get a.fields name) ≡ option_map styled (by_name.get b.fields name)
-    texts_alike name = found_alike (by_name.get a.fields name) (by_name.get b.fields name) (field_alike said.fields tells.fields name are.fields) (first.fields name) (second.fields name)
+    texts_alike name =
+        found_alike (by_name.get a.fields name) (by_name.get b.fields name)
+        (subst (λ o. FoundAlike AreAlikeFields o (field_in tells.fields name)) (are.reordered.found name) (field_alike are.ordered tells.fields name are.fields)) (first.fields name) (second.fields name)
 
     source_alike : source_of_entry a ≡ source_of_entry b
     source_alike = source_same a.entry_type b.entry_type (fields_of a.fields) (fields_of b.fields) (first.kind ∙ are.kind ∙ sym second.kind) texts_alike
@@ -178,7 +188,7 @@ module _ {one other : Definitions} (both : DefineAlike one other) where
   entries_faultless earlier [] (t ∷ tells) are read error = absurd are
   entries_faultless earlier (s ∷ said) [] are read error = absurd are
   entries_faultless earlier (s ∷ said) (t ∷ tells) are (AreEntries.next fresh read rest) (IsFirstErrorOfEntries.duplicate was is) = both_ways _ (sym (ap (is_claimed earlier) are.0.key) ∙ fresh) was
-  entries_faultless earlier (s ∷ said) (t ∷ tells) are (AreEntries.next fresh read rest) (IsFirstErrorOfEntries.unreadable fresh' error) = fields_faultless s.fields t.fields are.0.fields read.readable error
+  entries_faultless earlier (s ∷ said) (t ∷ tells) are (AreEntries.next fresh read rest) (IsFirstErrorOfEntries.unreadable fresh' error) = fields_faultless are.0.ordered t.fields are.0.fields (are.0.reordered.readable one read.readable) error
   entries_faultless earlier (s ∷ said) (t ∷ tells) {e = e} are (AreEntries.next {entry = a} fresh read rest) (IsFirstErrorOfEntries.following {entry = b} fresh' read' error) =
       entries_faultless (earlier ++ claims a) said tells are.1 rest (subst (λ names. IsFirstErrorOfEntries other (earlier ++ names) tells e) (sym (claims_alike a b are.0 read read')) error)
 

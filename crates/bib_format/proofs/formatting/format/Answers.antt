@@ -5,7 +5,7 @@ use Rattle.bib_syntax.specs.Grammar.{IsRawReading}
 use Rattle.bib_syntax.specs.Reading.{EntryReading, FileReading}
 use Rattle.bib_syntax.specs.Views.{entry_reading_of}
 use Rattle.bib_format.specs.Cuts.{AreEntriesCut}
-use Rattle.bib_format.specs.Formatted.{IsReadAlike, line_end_of, rest_in_style, text_in_style}
+use Rattle.bib_format.specs.Formatted.{IsReadAlike, line_end_of, rest_in_style, says_in_order, text_in_style}
 use Rattle.bib_format.specs.declared.style.Style.{Style}
 use Rattle.bib_format.proofs.CutFacts.{document_cut}
 use Rattle.bib_format.proofs.FileFacts.{text_read}
@@ -34,9 +34,9 @@ returns-clause-text c =
 
 -- a text that is read alike, if there was memory
 read_is : {S E : Type 0} (bytes : S → List ℕ) (r : Result S E) (style : Style) (text : List ℕ) (says : FileReading) → IsRawReading text says
-    → IfOk r (λ new. bytes new ≡ text_in_style style text says) → IfOk r (λ new. IsReadAlike says (bytes new))
+    → IfOk r (λ new. bytes new ≡ text_in_style style text says) → IfOk r (λ new. IsReadAlike (says_in_order style text says) (bytes new))
 read_is bytes (Err error) style text says read all = _
-read_is bytes (Ok new) style text says read all = subst (λ t. IsReadAlike says t) (sym all) (text_read style text says read)
+read_is bytes (Ok new) style text says read all = subst (λ t. IsReadAlike (says_in_order style text says) t) (sym all) (text_read style text says read)
 
 pub returns-clause-read : goal.returns-clause-read
 returns-clause-read c =

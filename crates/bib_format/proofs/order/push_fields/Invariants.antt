@@ -1,0 +1,14 @@
+use Rattle.std.proofs.Common.{◌≡◌, ◌++◌, drop, map, take}
+use Rattle.std.specs.List.{flat_map}
+use Rattle.std.specs.String.{string_bytes}
+use Rattle.bib_syntax.specs.Views.{field_of}
+use Rattle.bib_format.specs.Formatted.{field_laid_out}
+use Rattle.bib_format.specs.Ordered.{in_order}
+use Rattle.bib_format.specs.Unlisted.{texts, unlisted}
+use Rattle.bib_format.proofs.order.push_fields.Given as goal
+
+-- what is left to write
+abbrev pub invariant-names : goal.invariant-names
+invariant-names l =
+    string_bytes l.new ++ flat_map (field_laid_out l.layout.line_end.now l.layout.style l.layout.text.now l.width) (in_order (texts (drop l.index l.order)) (unlisted (texts (take l.index l.order)) (map field_of l.fields)))
+    ≡ string_bytes l.initial.new ++ flat_map (field_laid_out l.layout.line_end.now l.layout.style l.layout.text.now l.width) (in_order (texts l.order) (map field_of l.fields))
