@@ -1,1 +1,3 @@
+pub mod LineFacts
+pub mod PlainFacts
 pub mod SetFacts

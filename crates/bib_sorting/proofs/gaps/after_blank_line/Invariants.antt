@@ -9,7 +9,7 @@ abbrev pub invariant-lines : goal.invariant-lines
 invariant-lines l = record {
   kept_text : shadow (Utf8 l.kept);
   rest_text : shadow (Utf8 l.rest);
-  left : sorted.after_blank_line true l.kept l.rest ≡ sorted.after_blank_line true l.fn.gap l.fn.gap;
+  left : sorted.after_blank_line true l.kept l.rest ≡ sorted.after_blank_line true l.gap l.gap;
 }
 
 abbrev pub decreases-lines : goal.decreases-lines
