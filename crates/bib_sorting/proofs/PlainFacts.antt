@@ -73,8 +73,8 @@ or_right true y is = absurd (cc)
 or_right false y is = is
 
 none_later : {u w s : Place} → Ahead u w → Ahead w s → s.at ≤ length u.text → has_byte 64 (between u s) ≡ false → has_byte 64 (between w s) ≡ false
-none_later {u} {w} {s} first rest within none =
-    or_right (has_byte 64 (between u w)) (has_byte 64 (between w s)) (sym (list_any-append (λ b. b == 64) (between u w) (between w s)) ∙ sym (ap (has_byte 64) (parted first rest within)) ∙ none)
+none_later {u} {w} {s} first rest within clear =
+    or_right (has_byte 64 (between u w)) (has_byte 64 (between w s)) (sym (list_any-append (λ b. b == 64) (between u w) (between w s)) ∙ sym (ap (has_byte 64) (parted first rest within)) ∙ clear)
 
 sign_there : {u w s : Place} → CharAt u 64 w → Ahead w s → s.at ≤ length u.text → has_byte 64 (between u s) ≡ true
 sign_there {u} {w} {s} sign rest within = ap (has_byte 64) (parted (ahead_char sign) rest within) ∙ ap (λ t. has_byte 64 (t ++ between w s)) (one_byte 64 (omega arith) sign)
@@ -86,19 +86,19 @@ block_there b rest within =
     sign_there head.sign (ahead_then from_name (ahead_then (ahead_body b.body) rest)) within
 
 pub before_plain : {u s x : Place} {says : FileReading} → FileBefore u says s → CharAt s 64 x → s.at ≤ length u.text → has_byte 64 (between u s) ≡ false → Plain u s × (says ≡ empty_reading)
-before_plain FileBefore.none sign within none = (Plain.none, refl)
-before_plain (FileBefore.skipped char passes others) sign within none =
-    let rest = before_plain others sign (omega (arith, within, ap length char.same)) (none_later (ahead_char char) (ahead_file_before others) within none) in
+before_plain FileBefore.none sign within clear = (Plain.none, refl)
+before_plain (FileBefore.skipped char passes others) sign within clear =
+    let rest = before_plain others sign (omega (arith, within, ap length char.same)) (none_later (ahead_char char) (ahead_file_before others) within clear) in
     (Plain.skipped char passes rest.0, rest.1)
-before_plain (FileBefore.line_comment m FileBefore.none) sign within none = absurd (test_clash (in_line 64) refl (m.line.stops 64 _ sign))
-before_plain {u} {s} (FileBefore.line_comment m (FileBefore.skipped {v = w} {c = c} char passes others)) sign within none =
+before_plain (FileBefore.line_comment m FileBefore.none) sign within clear = absurd (test_clash (in_line 64) refl (m.line.stops 64 _ sign))
+before_plain {u} {s} (FileBefore.line_comment {v = v} m (FileBefore.skipped {v = w} {c = c} char passes others)) sign within clear =
     let over = ahead_then (ahead_char m.sign) (ahead_then (ahead_run m.line.run) (ahead_char char)) in
-    let rest = before_plain others sign (omega (arith, within, ap length over.text)) (none_later over (ahead_file_before others) within none) in
+    let rest = before_plain others sign (omega (arith, within, ap length over.text)) (none_later over (ahead_file_before others) within clear) in
     let feed : c ≡ 10 = eqb-true c 10 (not-false (c == 10) (m.line.stops c w char)) in
-    (Plain.line_comment m.sign m.line.run (subst (λ d. CharAt _ d w) feed char) rest.0, rest.1)
-before_plain (FileBefore.line_comment m (FileBefore.line_comment m' others)) sign within none = absurd (test_clash (in_line 37) refl (m.line.stops 37 _ m'.sign))
-before_plain (FileBefore.line_comment m (FileBefore.block b others)) sign within none = absurd (test_clash (in_line 64) refl (m.line.stops 64 _ b.head.sign))
-before_plain (FileBefore.block b others) sign within none = absurd (test_clash (has_byte 64 _) (block_there b (ahead_file_before others) within) none)
+    (Plain.line_comment m.sign m.line.run (subst (λ d. CharAt v d w) feed char) rest.0, rest.1)
+before_plain (FileBefore.line_comment m (FileBefore.line_comment m' others)) sign within clear = absurd (test_clash (in_line 37) refl (m.line.stops 37 _ m'.sign))
+before_plain (FileBefore.line_comment m (FileBefore.block b others)) sign within clear = absurd (test_clash (in_line 64) refl (m.line.stops 64 _ b.head.sign))
+before_plain {u} {s} (FileBefore.block b others) sign within clear = absurd (test_clash (has_byte 64 (between u s)) (block_there b (ahead_file_before others) within) clear)
 
 -- ---- plain text that is cut after white space at its start, and after a line feed
 
