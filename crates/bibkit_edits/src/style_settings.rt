@@ -1,13 +1,14 @@
 //! Settings of one style: those of a command line, and those of a project's file.
 
 ghost use Rattle.std.specs.Prelude.{◌≡◌};
-ghost use Rattle.bibkit_edits.specs.StyleSettings.{no_style_settings, over_project, style_set};
+ghost use Rattle.bibkit_edits.specs.StyleSettings.{no_style_settings, over_project, sort_set, style_set};
 
-use bib_format::style::Style;
+use crate::order::Order;
+use bib_format::style::{Delimiters, Style};
 
-/// What is set of how entries are laid out, where it is.
+/// What is set of how a file is laid out, where it is.
 #[derive(Debug, Clone, Copy, PartialEq, Eq)]
-pub struct StyleSettings {
+pub struct StyleSettings<'a> {
     /// How many spaces stand before a field.
     pub indent: Option<usize>,
     /// Whether the equals signs of an entry stand in one column.
@@ -16,9 +17,17 @@ pub struct StyleSettings {
     pub trailing_comma: Option<bool>,
     /// How many blank lines stand between two entries, or `None` that what stands there stays.
     pub blank_lines: Option<Option<usize>>,
+    /// Between which delimiters the literals of values stand.
+    pub delimiters: Option<Delimiters>,
+    /// The names of fields that come first, in this order.
+    pub order: Option<&'a [&'a str]>,
+    /// How many characters a line with the elements of a value may have, or `None` that it may have any number.
+    pub width: Option<Option<usize>>,
+    /// What entries are ordered by, or `None` that they keep their order.
+    pub sort: Option<Option<Order>>,
 }
 
-impl StyleSettings {
+impl<'a> StyleSettings<'a> {
     /// Nothing is set.
     pub fn none() -> Self
         ensures { result ≡ no_style_settings }
@@ -28,6 +37,10 @@ impl StyleSettings {
             aligned: None,
             trailing_comma: None,
             blank_lines: None,
+            delimiters: None,
+            order: None,
+            width: None,
+            sort: None,
         }
     }
 
@@ -40,11 +53,15 @@ impl StyleSettings {
             aligned: self.aligned.or(project.aligned),
             trailing_comma: self.trailing_comma.or(project.trailing_comma),
             blank_lines: self.blank_lines.or(project.blank_lines),
+            delimiters: self.delimiters.or(project.delimiters),
+            order: self.order.or(project.order),
+            width: self.width.or(project.width),
+            sort: self.sort.or(project.sort),
         }
     }
 
     /// The style of these settings.
-    pub fn style(self) -> Style
+    pub fn style(self) -> Style<'a>
         ensures { result ≡ style_set self }
     {
         let usual = Style::default();
@@ -53,6 +70,16 @@ impl StyleSettings {
             aligned: self.aligned.unwrap_or(usual.aligned),
             trailing_comma: self.trailing_comma.unwrap_or(usual.trailing_comma),
             blank_lines: self.blank_lines.unwrap_or(usual.blank_lines),
+            delimiters: self.delimiters.unwrap_or(usual.delimiters),
+            order: self.order.unwrap_or(usual.order),
+            width: self.width.unwrap_or(usual.width),
         }
+    }
+
+    /// What entries are ordered by in these settings, if they are.
+    pub fn sort(self) -> Option<Order>
+        ensures { result ≡ sort_set self }
+    {
+        self.sort.unwrap_or(None)
     }
 }
