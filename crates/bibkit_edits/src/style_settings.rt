@@ -1,7 +1,7 @@
 //! Settings of one style: those of a command line, and those of a project's file.
 
 ghost use Rattle.std.specs.Prelude.{◌≡◌};
-ghost use Rattle.bibkit_edits.specs.StyleSettings.{no_style_settings, over_project, style_set};
+ghost use Rattle.bibkit_edits.specs.StyleSettings.{IsStyleSet, no_style_settings, over_project};
 
 use bib_format::style::Style;
 
@@ -44,8 +44,8 @@ impl StyleSettings {
     }
 
     /// The style of these settings.
-    pub fn style(self) -> Style
-        ensures { result ≡ style_set self }
+    pub fn style(self) -> Style<'static>
+        ensures { IsStyleSet self result }
     {
         let usual = Style::default();
         Style {
@@ -53,6 +53,7 @@ impl StyleSettings {
             aligned: self.aligned.unwrap_or(usual.aligned),
             trailing_comma: self.trailing_comma.unwrap_or(usual.trailing_comma),
             blank_lines: self.blank_lines.unwrap_or(usual.blank_lines),
+            ..usual
         }
     }
 }
