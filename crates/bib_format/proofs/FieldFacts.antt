@@ -15,9 +15,9 @@ use Rattle.bib_syntax.specs.Grammar.{Fields as fields}
 use Rattle.bib_syntax.specs.Grammar.{Gap as gap}
 use Rattle.bib_syntax.proofs.FieldFacts.{ahead_identifier, ahead_elements, ahead_field, ahead_gap, ahead_fields}
 use Rattle.bib_syntax.proofs.LawFacts.{start_not_white}
+use Rattle.bib_documents.specs.Documents.{has_name}
 use Rattle.bib_documents.specs.Edits.{moved_field, moved_piece}
 use Rattle.bib_format.specs.Formatted.{elements_as_written, field_in_lowercase, field_laid_out, has_percent, has_percent_between, is_broken, is_too_long, next_line, next_sign, spaces, value_laid_out}
-use Rattle.bib_format.specs.Ordered.{is_named}
 use Rattle.bib_format.specs.declared.style.Style.{Style}
 use Rattle.bib_format.proofs.ByteFacts.{either_false, has, white_without}
 use Rattle.bib_format.proofs.ElementFacts.{Ending}
@@ -324,5 +324,5 @@ zip_again line_end style new old width (f ∷ fs) (g ∷ gs) all =
     ap (λ t. t ++ flat_map (field_laid_out line_end style new width) fs) all.0.again ∙ ap (λ t. field_laid_out line_end style old width g ++ t) (zip_again line_end style new old width fs gs all.1)
 
 -- names that are the same in lowercase are alike in any order
-pub same_named : (n : List ℕ) (f g : FieldReading) → field_content f ≡ field_content g → is_named n f ≡ is_named n g
+pub same_named : (n : List ℕ) (f g : FieldReading) → field_content f ≡ field_content g → has_name n f ≡ has_name n g
 same_named n f g same = ap (λ h. bytes_eq h.name.text (str_to_ascii_lowercase n)) same

@@ -8,8 +8,9 @@ use Rattle.std.proofs.lemmas.List.Elements.{filter-append}
 use Rattle.std.proofs.lemmas.List.Folds.{list_any-append}
 use Rattle.bib_syntax.specs.Reading.{FieldReading}
 use Rattle.bib_format.specs.Formatted.{last_comma, padded_width}
-use Rattle.bib_format.specs.Ordered.{in_order, is_named}
-use Rattle.bib_format.specs.Unlisted.{is_first_named, is_listed, unlisted}
+use Rattle.bib_documents.specs.Documents.{has_name}
+use Rattle.bib_format.specs.Ordered.{in_order}
+use Rattle.bib_format.specs.Unlisted.{has_name_first, has_one_of, unlisted}
 use Rattle.bib_format.specs.declared.style.Style.{Style}
 
 -- ---- what passes a test
@@ -76,37 +77,37 @@ zip_append R (a ∷ as') (b ∷ bs) xs ys all others = (all.0, zip_append R as' 
 
 -- the fields that haven't a name
 abbrev others_than : List ℕ → List FieldReading → List FieldReading
-others_than name fs = filter (λ f. not (is_named name f)) fs
+others_than name fs = filter (λ f. not (has_name name f)) fs
 
 pub in_order_all : (P : FieldReading → Type 0) (names : List (List ℕ)) (fs : List FieldReading) → AllByRecursion P fs → AllByRecursion P (in_order names fs)
 in_order_all P [] fs all = all
 in_order_all P (n ∷ ns) fs all =
-    all_append P (filter (is_named n) fs) (in_order ns (others_than n fs)) (all_filter P (is_named n) fs all) (in_order_all P ns (others_than n fs) (all_filter P (λ f. not (is_named n f)) fs all))
+    all_append P (filter (has_name n) fs) (in_order ns (others_than n fs)) (all_filter P (has_name n) fs all) (in_order_all P ns (others_than n fs) (all_filter P (λ f. not (has_name n f)) fs all))
 
 -- fields that are in an order stay as they are
 pub in_order_twice : (names : List (List ℕ)) (fs : List FieldReading) → in_order names (in_order names fs) ≡ in_order names fs
 in_order_twice [] fs = refl
 in_order_twice (n ∷ ns) fs =
-    let named = filter (is_named n) fs in
+    let named = filter (has_name n) fs in
     let rest = others_than n fs in
     let ordered = in_order ns rest in
-    let all_named : AllByRecursion (λ f. is_named n f ≡ true) named = passing (is_named n) fs in
-    let all_other : AllByRecursion (λ f. not (is_named n f) ≡ true) ordered = in_order_all (λ f. not (is_named n f) ≡ true) ns rest (passing (λ f. not (is_named n f)) fs) in
-    let first : filter (is_named n) (named ++ ordered) ≡ named =
-    filter-append (is_named n) named ordered ∙ ap (λ t. t ++ filter (is_named n) ordered) (all_pass (is_named n) named all_named)
-    ∙ ap (λ t. named ++ t) (none_pass (is_named n) ordered (unturned (is_named n) ordered all_other)) ∙ append-nil named in
+    let all_named : AllByRecursion (λ f. has_name n f ≡ true) named = passing (has_name n) fs in
+    let all_other : AllByRecursion (λ f. not (has_name n f) ≡ true) ordered = in_order_all (λ f. not (has_name n f) ≡ true) ns rest (passing (λ f. not (has_name n f)) fs) in
+    let first : filter (has_name n) (named ++ ordered) ≡ named =
+    filter-append (has_name n) named ordered ∙ ap (λ t. t ++ filter (has_name n) ordered) (all_pass (has_name n) named all_named)
+    ∙ ap (λ t. named ++ t) (none_pass (has_name n) ordered (unturned (has_name n) ordered all_other)) ∙ append-nil named in
     let second : others_than n (named ++ ordered) ≡ ordered =
-    filter-append (λ f. not (is_named n f)) named ordered ∙ ap (λ t. t ++ others_than n ordered) (none_pass (λ f. not (is_named n f)) named (turned (is_named n) true named all_named))
-    ∙ all_pass (λ f. not (is_named n f)) ordered all_other in
+    filter-append (λ f. not (has_name n f)) named ordered ∙ ap (λ t. t ++ others_than n ordered) (none_pass (λ f. not (has_name n f)) named (turned (has_name n) true named all_named))
+    ∙ all_pass (λ f. not (has_name n f)) ordered all_other in
     ap (λ t. t ++ in_order ns (others_than n (named ++ ordered))) first ∙ ap (λ t. named ++ in_order ns t) second ∙ ap (λ t. named ++ t) (in_order_twice ns rest)
 
 -- fields of the same names are put in the same order
-pub in_order_zip : (R : FieldReading → FieldReading → Type 0) → ((n : List ℕ) (f g : FieldReading) → R f g → is_named n f ≡ is_named n g) → (names : List (List ℕ)) (fs gs : List FieldReading) → AllZip R fs gs → AllZip R (in_order names fs) (in_order names gs)
+pub in_order_zip : (R : FieldReading → FieldReading → Type 0) → ((n : List ℕ) (f g : FieldReading) → R f g → has_name n f ≡ has_name n g) → (names : List (List ℕ)) (fs gs : List FieldReading) → AllZip R fs gs → AllZip R (in_order names fs) (in_order names gs)
 in_order_zip R same [] fs gs all = all
 in_order_zip R same (n ∷ ns) fs gs all =
-    zip_append R (filter (is_named n) fs) (filter (is_named n) gs) (in_order ns (others_than n fs)) (in_order ns (others_than n gs))
-    (zip_filter R (is_named n) (same n) fs gs all)
-    (in_order_zip R same ns (others_than n fs) (others_than n gs) (zip_filter R (λ f. not (is_named n f)) (λ f g is. ap not (same n f g is)) fs gs all))
+    zip_append R (filter (has_name n) fs) (filter (has_name n) gs) (in_order ns (others_than n fs)) (in_order ns (others_than n gs))
+    (zip_filter R (has_name n) (same n) fs gs all)
+    (in_order_zip R same ns (others_than n fs) (others_than n gs) (zip_filter R (λ f. not (has_name n f)) (λ f g is. ap not (same n f g is)) fs gs all))
 
 -- ---- how many there are
 
@@ -163,7 +164,7 @@ widest_parted p (f ∷ fs) = by_test (p f) (widest_parted p fs) (widest_from (ma
 widest_ordered : (names : List (List ℕ)) (fs : List FieldReading) → widest 0 (in_order names fs) ≡ widest 0 fs
 widest_ordered [] fs = refl
 widest_ordered (n ∷ ns) fs =
-    widest_append (filter (is_named n) fs) (in_order ns (others_than n fs)) ∙ ap (max (widest 0 (filter (is_named n) fs))) (widest_ordered ns (others_than n fs)) ∙ widest_parted (is_named n) fs
+    widest_append (filter (has_name n) fs) (in_order ns (others_than n fs)) ∙ ap (max (widest 0 (filter (has_name n) fs))) (widest_ordered ns (others_than n fs)) ∙ widest_parted (has_name n) fs
 
 -- the order of fields is nothing to the column of their signs
 pub padded_ordered : (style : Style) (names : List (List ℕ)) (fs : List FieldReading) → padded_width style (in_order names fs) ≡ padded_width style fs
@@ -173,9 +174,9 @@ padded_ordered style names fs = ap (λ n. if style.aligned then n else 0) (wides
 some_pass : (names : List (List ℕ)) (fs : List FieldReading) → length (in_order names fs) ≡ length fs
 some_pass [] fs = refl
 some_pass (n ∷ ns) fs =
-    let parts = length-append (filter (is_named n) fs) (in_order ns (others_than n fs)) in
+    let parts = length-append (filter (has_name n) fs) (in_order ns (others_than n fs)) in
     let rest = some_pass ns (others_than n fs) in
-    let both = parted_length (is_named n) fs in
+    let both = parted_length (has_name n) fs in
     omega (arith, parts, rest, both)
 
 pub last_ordered : (style : Style) (names : List (List ℕ)) (fs : List FieldReading) → last_comma style (in_order names fs) ≡ last_comma style fs
@@ -190,24 +191,24 @@ last_ordered style names fs = by_length (in_order names fs) fs (some_pass names 
 -- ---- fields name by name
 
 -- the fields that have a name and none of those before it
-named_first : (before : List (List ℕ)) (n : List ℕ) (fs : List FieldReading) → filter (is_named n) (unlisted before fs) ≡ filter (is_first_named before n) fs
+named_first : (before : List (List ℕ)) (n : List ℕ) (fs : List FieldReading) → filter (has_name n) (unlisted before fs) ≡ filter (has_name_first before n) fs
 named_first before n [] = refl
-named_first before n (f ∷ fs) = by_tests (is_named n f) refl (is_listed before f) (named_first before n fs)
+named_first before n (f ∷ fs) = by_tests (has_name n f) refl (has_one_of before f) (named_first before n fs)
   where
     rest : List FieldReading
     rest = unlisted before fs
 
     firsts : List FieldReading
-    firsts = filter (is_first_named before n) fs
+    firsts = filter (has_name_first before n) fs
 
-    by_tests : (c : Bool) → is_named n f ≡ c → (d : Bool) → filter (is_named n) rest ≡ firsts → filter (is_named n) (cond (not d) (f ∷ rest) rest) ≡ cond (is_named n f && not d) (f ∷ firsts) firsts
-    by_tests true is false same = ap (λ b. cond b (f ∷ filter (is_named n) rest) (filter (is_named n) rest)) is ∙ ap (λ t. f ∷ t) same ∙ sym (ap (λ b. cond (b && true) (f ∷ firsts) firsts) is)
-    by_tests false is false same = ap (λ b. cond b (f ∷ filter (is_named n) rest) (filter (is_named n) rest)) is ∙ same ∙ sym (ap (λ b. cond (b && true) (f ∷ firsts) firsts) is)
+    by_tests : (c : Bool) → has_name n f ≡ c → (d : Bool) → filter (has_name n) rest ≡ firsts → filter (has_name n) (cond (not d) (f ∷ rest) rest) ≡ cond (has_name n f && not d) (f ∷ firsts) firsts
+    by_tests true is false same = ap (λ b. cond b (f ∷ filter (has_name n) rest) (filter (has_name n) rest)) is ∙ ap (λ t. f ∷ t) same ∙ sym (ap (λ b. cond (b && true) (f ∷ firsts) firsts) is)
+    by_tests false is false same = ap (λ b. cond b (f ∷ filter (has_name n) rest) (filter (has_name n) rest)) is ∙ same ∙ sym (ap (λ b. cond (b && true) (f ∷ firsts) firsts) is)
     by_tests true is true same = same ∙ sym (ap (λ b. cond (b && false) (f ∷ firsts) firsts) is)
     by_tests false is true same = same ∙ sym (ap (λ b. cond (b && false) (f ∷ firsts) firsts) is)
 
-listed_more : (before : List (List ℕ)) (n : List ℕ) (f : FieldReading) → is_listed (before ++ n ∷ []) f ≡ (is_listed before f || is_named n f)
-listed_more before n f = list_any-append (λ name. is_named name f) before (n ∷ []) ∙ ap (λ b. is_listed before f || b) (either_right (is_named n f))
+listed_more : (before : List (List ℕ)) (n : List ℕ) (f : FieldReading) → has_one_of (before ++ n ∷ []) f ≡ (has_one_of before f || has_name n f)
+listed_more before n f = list_any-append (λ name. has_name name f) before (n ∷ []) ∙ ap (λ b. has_one_of before f || b) (either_right (has_name n f))
   where
     either_right : (b : Bool) → (b || false) ≡ b
     either_right true = refl
@@ -216,7 +217,7 @@ listed_more before n f = list_any-append (λ name. is_named name f) before (n �
 -- the fields that have neither a name nor any of those before it
 neither_named : (before : List (List ℕ)) (n : List ℕ) (fs : List FieldReading) → others_than n (unlisted before fs) ≡ unlisted (before ++ n ∷ []) fs
 neither_named before n [] = refl
-neither_named before n (f ∷ fs) = by_tests (is_named n f) refl (is_listed before f) (neither_named before n fs) ∙ ap (λ b. cond (not b) (f ∷ unlisted (before ++ n ∷ []) fs) (unlisted (before ++ n ∷ []) fs)) (sym (listed_more before n f))
+neither_named before n (f ∷ fs) = by_tests (has_name n f) refl (has_one_of before f) (neither_named before n fs) ∙ ap (λ b. cond (not b) (f ∷ unlisted (before ++ n ∷ []) fs) (unlisted (before ++ n ∷ []) fs)) (sym (listed_more before n f))
   where
     rest : List FieldReading
     rest = unlisted before fs
@@ -224,19 +225,19 @@ neither_named before n (f ∷ fs) = by_tests (is_named n f) refl (is_listed befo
     others : List FieldReading
     others = unlisted (before ++ n ∷ []) fs
 
-    by_tests : (c : Bool) → is_named n f ≡ c → (d : Bool) → others_than n rest ≡ others → others_than n (cond (not d) (f ∷ rest) rest) ≡ cond (not (d || is_named n f)) (f ∷ others) others
+    by_tests : (c : Bool) → has_name n f ≡ c → (d : Bool) → others_than n rest ≡ others → others_than n (cond (not d) (f ∷ rest) rest) ≡ cond (not (d || has_name n f)) (f ∷ others) others
     by_tests true is false same = ap (λ b. cond (not b) (f ∷ others_than n rest) (others_than n rest)) is ∙ same ∙ sym (ap (λ b. cond (not b) (f ∷ others) others) is)
     by_tests false is false same = ap (λ b. cond (not b) (f ∷ others_than n rest) (others_than n rest)) is ∙ ap (λ t. f ∷ t) same ∙ sym (ap (λ b. cond (not b) (f ∷ others) others) is)
     by_tests c is true same = same
 
 pub one_name : (before : List (List ℕ)) (n : List ℕ) (ns : List (List ℕ)) (fs : List FieldReading)
-    → in_order (n ∷ ns) (unlisted before fs) ≡ filter (is_first_named before n) fs ++ in_order ns (unlisted (before ++ n ∷ []) fs)
+    → in_order (n ∷ ns) (unlisted before fs) ≡ filter (has_name_first before n) fs ++ in_order ns (unlisted (before ++ n ∷ []) fs)
 one_name before n ns fs =
-    ap (λ t. t ++ in_order ns (others_than n (unlisted before fs))) (named_first before n fs) ∙ ap (λ t. filter (is_first_named before n) fs ++ in_order ns t) (neither_named before n fs)
+    ap (λ t. t ++ in_order ns (others_than n (unlisted before fs))) (named_first before n fs) ∙ ap (λ t. filter (has_name_first before n) fs ++ in_order ns t) (neither_named before n fs)
 
 pub none_listed : (fs : List FieldReading) → unlisted [] fs ≡ fs
-none_listed fs = all_pass (λ f. not (is_listed [] f)) fs (all fs)
+none_listed fs = all_pass (λ f. not (has_one_of [] f)) fs (all fs)
   where
-    all : (fs : List FieldReading) → AllByRecursion (λ f. not (is_listed [] f) ≡ true) fs
+    all : (fs : List FieldReading) → AllByRecursion (λ f. not (has_one_of [] f) ≡ true) fs
     all [] = _
     all (f ∷ fs) = (refl, all fs)

@@ -4,20 +4,20 @@ use Rattle.std.specs.Prelude.{◌&&◌, ℕ, Bool, List, map, not}
 use Rattle.std.specs.Borrow.{Bor}
 use Rattle.std.specs.List.{filter, list_any}
 use Rattle.bib_syntax.specs.Reading.{FieldReading}
-use Rattle.bib_format.specs.Ordered.{is_named}
+use Rattle.bib_documents.specs.Documents.{has_name}
 
 -- names, as texts
-abbrev pub texts : List (Bor (List ℕ)) → List (List ℕ)
-texts names = map (λ name. name.now) names
+abbrev pub name_texts : List (Bor (List ℕ)) → List (List ℕ)
+name_texts names = map (λ name. name.now) names
 
 -- whether a field has one of some names
-abbrev pub is_listed : List (List ℕ) → FieldReading → Bool
-is_listed names f = list_any (λ name. is_named name f) names
+abbrev pub has_one_of : List (List ℕ) → FieldReading → Bool
+has_one_of names f = list_any (λ name. has_name name f) names
 
 -- whether a field has this name, and none of the names before it
-abbrev pub is_first_named : List (List ℕ) → List ℕ → FieldReading → Bool
-is_first_named before name f = is_named name f && not (is_listed before f)
+abbrev pub has_name_first : List (List ℕ) → List ℕ → FieldReading → Bool
+has_name_first before name f = has_name name f && not (has_one_of before f)
 
 -- the fields that have none of some names
 abbrev pub unlisted : List (List ℕ) → List FieldReading → List FieldReading
-unlisted names fields = filter (λ f. not (is_listed names f)) fields
+unlisted names fields = filter (λ f. not (has_one_of names f)) fields

@@ -64,10 +64,10 @@ fn with_entries(
 /// ```
 ///
 /// Its type and the names of its fields are written in lowercase, as far as they are ASCII, and the elements of its values as they
-/// stand, or between other delimiters; its fields stand in the order that they have, or in the style's. Everything else stays byte for
-/// byte, and so does an entry in which a comment stands between its key, its fields and its closing brace; but where only white space of
-/// ASCII stands between two entries the style may ask for blank lines. Lines that are written end as the file's first line does. Fails
-/// only where there is no memory.
+/// stand. The style may ask for other delimiters round these, for a line for each element of a long value, and for an order of fields.
+/// Everything else stays byte for byte, and so does an entry in which a comment stands between its key, its fields and its closing
+/// brace; but where only white space of ASCII stands between two entries the style may ask for blank lines. Lines that are written end
+/// as the file's first line does. Fails only where there is no memory.
 pub fn format(
     alloc: Global,
     document: &RawDocument<'_>,

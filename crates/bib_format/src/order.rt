@@ -4,12 +4,13 @@ ghost use Rattle.std.specs.Prelude.{◌≡◌, ◌++◌, map, OnOk};
 ghost use Rattle.std.specs.List.{AllByRecursion, filter, flat_map};
 ghost use Rattle.std.specs.String.{string_bytes};
 ghost use Rattle.bib_syntax.specs.Views.{field_of};
+ghost use Rattle.bib_documents.specs.Documents.{has_name};
 ghost use Rattle.bib_format.specs.Cuts.{ArePiecesCut};
 ghost use Rattle.bib_format.specs.Formatted as styled;
 ghost use Rattle.bib_format.specs.Formatted.{field_laid_out};
 ghost use Rattle.bib_format.specs.Ordered as ordered;
 ghost use Rattle.bib_format.specs.Unlisted as listed;
-ghost use Rattle.bib_format.specs.Unlisted.{texts, unlisted};
+ghost use Rattle.bib_format.specs.Unlisted.{name_texts, unlisted};
 
 use crate::fields::{padded_width, push_field};
 use crate::layout::Layout;
@@ -17,18 +18,18 @@ use bib_syntax::raw::Pair;
 use std::alloc::{AllocError, Global};
 
 // Whether a field has this name, in any ASCII case.
-fn is_named(name: &str, field: &Pair<'_>) -> bool
-    ensures { result ≡ ordered.is_named name.now (field_of field.now) }
+fn has_name(name: &str, field: &Pair<'_>) -> bool
+    ensures { result ≡ has_name name.now (field_of field.now) }
 {
     field.key.v.eq_ignore_ascii_case(name)
 }
 
 // Whether a field has one of some names.
-fn is_listed(names: &[&str], field: &Pair<'_>) -> bool
-    ensures { result ≡ listed.is_listed (texts names.now) (field_of field.now) }
+fn has_one_of(names: &[&str], field: &Pair<'_>) -> bool
+    ensures { result ≡ listed.has_one_of (name_texts names.now) (field_of field.now) }
 {
     'names: for name in names {
-        if is_named(name, field) {
+        if has_name(name, field) {
             return true;
         }
     }
@@ -36,10 +37,10 @@ fn is_listed(names: &[&str], field: &Pair<'_>) -> bool
 }
 
 // Whether a field has this name, and none of the names before it.
-fn is_first_named(before: &[&str], name: &str, field: &Pair<'_>) -> bool
-    ensures { result ≡ listed.is_first_named (texts before.now) name.now (field_of field.now) }
+fn has_name_first(before: &[&str], name: &str, field: &Pair<'_>) -> bool
+    ensures { result ≡ listed.has_name_first (name_texts before.now) name.now (field_of field.now) }
 {
-    is_named(name, field) && !is_listed(before, field)
+    has_name(name, field) && !has_one_of(before, field)
 }
 
 // Adds the fields of a name that have none of the names before it.
@@ -55,10 +56,10 @@ fn push_named(
     requires { AllByRecursion (ArePiecesCut layout.now.text.now) (map field_of fields.now) }
     ensures { OnOk result (string_bytes new.new ≡ string_bytes new.old ++
         flat_map (field_laid_out layout.now.line_end.now layout.now.style layout.now.text.now width)
-        (filter (listed.is_first_named (texts before.now) name.now) (map field_of fields.now))) }
+        (filter (listed.has_name_first (name_texts before.now) name.now) (map field_of fields.now))) }
 {
     'fields: for field in fields {
-        if is_first_named(before, name, field) {
+        if has_name_first(before, name, field) {
             push_field(alloc, new, layout, width, field)?;
         }
     }
@@ -77,10 +78,10 @@ fn push_unlisted(
     requires { AllByRecursion (ArePiecesCut layout.now.text.now) (map field_of fields.now) }
     ensures { OnOk result (string_bytes new.new ≡ string_bytes new.old ++
         flat_map (field_laid_out layout.now.line_end.now layout.now.style layout.now.text.now width)
-        (unlisted (texts names.now) (map field_of fields.now))) }
+        (unlisted (name_texts names.now) (map field_of fields.now))) }
 {
     'fields: for field in fields {
-        if !is_listed(names, field) {
+        if !has_one_of(names, field) {
             push_field(alloc, new, layout, width, field)?;
         }
     }

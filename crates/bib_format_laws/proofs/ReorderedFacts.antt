@@ -8,10 +8,11 @@ use Rattle.std.proofs.lemmas.List.{reverse-append}
 use Rattle.std.proofs.lemmas.List.Folds.{find-append}
 use Rattle.std.proofs.lemmas.Slice.Eq.{bytes_eq-Decides}
 use Rattle.bib_abbreviations.specs.Abbreviations.{Definitions}
+use Rattle.bib_documents.specs.Documents.{has_name}
 use Rattle.bib_file_entries.specs.Loaded.{AllCanBeRead, CanBeRead, field_in, name_of}
 use Rattle.bib_syntax.specs.Reading.{EntryReading, FieldReading}
 use Rattle.bib_format.specs.Formatted.{entry_in_order, has_comment}
-use Rattle.bib_format.specs.Ordered.{in_order, is_named, order_of}
+use Rattle.bib_format.specs.Ordered.{in_order, order_of}
 use Rattle.bib_format.specs.declared.style.Style.{Style}
 use Rattle.bib_format.proofs.OrderFacts.{in_order_all}
 use Rattle.bib_format_laws.proofs.FoundFacts.{find_failing, find_passing, or_nothing, reverse_filter}
@@ -22,24 +23,24 @@ pub record IsReordered (fs gs : List FieldReading) : Type 0 where
   pub readable : (definitions : Definitions) → AllCanBeRead definitions fs → AllCanBeRead definitions gs
 
 -- a field of a name has another name where this name has it
-named_alike : (n name : List ℕ) (f : FieldReading) → bytes_eq name (name_of f) ≡ true → is_named n f ≡ bytes_eq name (str_to_ascii_lowercase n)
+named_alike : (n name : List ℕ) (f : FieldReading) → bytes_eq name (name_of f) ≡ true → has_name n f ≡ bytes_eq name (str_to_ascii_lowercase n)
 named_alike n name f is = ap (λ t. bytes_eq t (str_to_ascii_lowercase n)) (sym ((bytes_eq-Decides name (name_of f)).0 is))
 
 field_append : (fs gs : List FieldReading) (name : List ℕ) → field_in (fs ++ gs) name ≡ option_or (field_in gs name) (field_in fs name)
 field_append fs gs name = ap (find (λ f. bytes_eq name (name_of f))) (reverse-append fs gs) ∙ find-append (λ f. bytes_eq name (name_of f)) (reverse gs) (reverse fs)
 
 -- the fields of a name, and the others
-field_parted : (n name : List ℕ) (fs : List FieldReading) → option_or (field_in (filter (λ f. not (is_named n f)) fs) name) (field_in (filter (is_named n) fs) name) ≡ field_in fs name
+field_parted : (n name : List ℕ) (fs : List FieldReading) → option_or (field_in (filter (λ f. not (has_name n f)) fs) name) (field_in (filter (has_name n) fs) name) ≡ field_in fs name
 field_parted n name fs = by_name (bytes_eq name (str_to_ascii_lowercase n)) refl
   where
     test : FieldReading → Bool
     test f = bytes_eq name (name_of f)
 
     named : FieldReading → Bool
-    named f = is_named n f
+    named f = has_name n f
 
     other : FieldReading → Bool
-    other f = not (is_named n f)
+    other f = not (has_name n f)
 
     by_name : (b : Bool) → bytes_eq name (str_to_ascii_lowercase n) ≡ b → option_or (find test (reverse (filter other fs))) (find test (reverse (filter named fs))) ≡ find test (reverse fs)
     by_name true is =
@@ -56,8 +57,8 @@ field_parted n name fs = by_name (bytes_eq name (str_to_ascii_lowercase n)) refl
 pub order_found : (names : List (List ℕ)) (fs : List FieldReading) (name : List ℕ) → field_in (in_order names fs) name ≡ field_in fs name
 order_found [] fs name = refl
 order_found (n ∷ ns) fs name =
-    let rest = filter (λ f. not (is_named n f)) fs in
-    field_append (filter (is_named n) fs) (in_order ns rest) name ∙ ap (λ o. option_or o (field_in (filter (is_named n) fs) name)) (order_found ns rest name) ∙ field_parted n name fs
+    let rest = filter (λ f. not (has_name n f)) fs in
+    field_append (filter (has_name n) fs) (in_order ns rest) name ∙ ap (λ o. option_or o (field_in (filter (has_name n) fs) name)) (order_found ns rest name) ∙ field_parted n name fs
 
 each_read : (definitions : Definitions) (fs : List FieldReading) → AllCanBeRead definitions fs → AllByRecursion (CanBeRead definitions) fs
 each_read definitions [] all = _

@@ -9,7 +9,7 @@ use Rattle.bib_syntax.proofs.FileFailureFacts.{file_unread}
 use Rattle.bib_documents.specs.Documents.{Document, EntriesAdded, IsEdited}
 use Rattle.bib_documents.specs.declared.errors.EditError.{EditError}
 use Rattle.bib_documents.specs.declared.errors.EditError.TheVariants as error
-use Rattle.bib_format.specs.Formatted.{IsReadAlike, text_in_style}
+use Rattle.bib_format.specs.Formatted.{IsReadAlike, says_in_order, text_in_style}
 use Rattle.bib_format.specs.declared.style.Style.{Style}
 use Rattle.bibkit_edits.specs.Edited.{AreMade, AreRefused, IsEditRefused, IsInStyle, IsMade, IsDocumentOf, TextAdded}
 use Rattle.bibkit_edits.specs.Edited.AreMade.{none, next}
@@ -21,7 +21,7 @@ use Rattle.bibkit_edits.specs.declared.editing.Step.{Step}
 use Rattle.bibkit_edits.specs.declared.editing.Step.TheVariants as step
 
 -- a text in one style, which is read like the old one
-pub style_made : (style : Style) (d : Document) (new : List ℕ) → new ≡ text_in_style style d.text d.says → IsReadAlike d.says new → IsEdited (IsInStyle style d) new
+pub style_made : (style : Style) (d : Document) (new : List ℕ) → new ≡ text_in_style style d.text d.says → IsReadAlike (says_in_order style d.text d.says) new → IsEdited (IsInStyle style d) new
 style_made style d new is alike = record {
   document = record { text = new; says = alike.tells };
   outcome = record { text = is; alike = alike.alike };

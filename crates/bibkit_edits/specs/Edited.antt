@@ -9,7 +9,7 @@ use Rattle.bib_encoding.specs.Encoding.{IsFirstInvalid, byte_order_mark, without
 use Rattle.bib_documents.specs.Documents.{Document, EntriesAdded, EntriesAreRefused, EntryIsRefused, EntryRemoved, FieldSet, FieldUnset, IsDocument, IsEdited, SetIsRefused}
 use Rattle.bib_documents.specs.References.{KeyRenamed, RenameIsRefused}
 use Rattle.bib_documents.specs.declared.errors.EditError.{EditError}
-use Rattle.bib_format.specs.Formatted.{content, text_in_style}
+use Rattle.bib_format.specs.Formatted.{content, says_in_order, text_in_style}
 use Rattle.bib_format.specs.declared.style.Style.{Style}
 use Rattle.bibkit_edits.specs.declared.edit.Edit.{Edit}
 use Rattle.bibkit_edits.specs.declared.edit.Edit.TheVariants.{Set, Unset, Rename, Remove, Add, Format}
@@ -27,11 +27,11 @@ pub record TextAdded (d : Document) (text : List ℕ) (after : Document) : Type 
   pub read : IsDocumentOf text more
   pub added : EntriesAdded d more after
 
--- what comes of putting a document in one style: its text is in that style, and says the same but for places and the case of types
--- and names
+-- what comes of putting a document in one style: its text is in that style, and says the same but for places, the case of types and
+-- names, and the order of fields, which is the style's
 pub record IsInStyle (style : Style) (d after : Document) : Type 0 where
   pub text : after.text ≡ text_in_style style d.text d.says
-  pub alike : content after.says ≡ content d.says
+  pub alike : content after.says ≡ content (says_in_order style d.text d.says)
 
 -- what comes of an edit of a document
 abbrev pub EditOutcome : Edit → Document → Document → Type 0

@@ -1,7 +1,9 @@
 -- Meaning: words of public contracts.
 -- Settings of one style, of a command line and of a project's file, and the style that they make.
-use Rattle.std.specs.Prelude.{None, true, false}
+use Rattle.std.specs.Prelude.{◌≡◌, [], None, true, false}
 use Rattle.std.specs.Option.{option_or, unwrap_or}
+use Rattle.bib_format.specs.Ordered.{order_of}
+use Rattle.bib_format.specs.declared.style.Delimiters.TheVariants.{Keep}
 use Rattle.bib_format.specs.declared.style.Style.{Style}
 use Rattle.bibkit_edits.specs.declared.style_settings.StyleSettings.{StyleSettings}
 
@@ -20,12 +22,12 @@ over_project given project =
     }
 
 -- the style of settings: where one isn't set fields are indented by two spaces, equals signs aren't put in one column, a comma
--- stands after the last field, and what stands between entries stays
-abbrev pub style_set : StyleSettings → Style
-style_set set =
-    record {
-      indent = unwrap_or set.indent 2;
-      aligned = unwrap_or set.aligned false;
-      trailing_comma = unwrap_or set.trailing_comma true;
-      blank_lines = unwrap_or set.blank_lines None;
-    }
+-- stands after the last field, and what stands between entries stays; delimiters and the order of fields stay, and no line is broken
+pub record IsStyleSet (set : StyleSettings) (style : Style) : Type 0 where
+  pub indent : style.indent ≡ unwrap_or set.indent 2
+  pub aligned : style.aligned ≡ unwrap_or set.aligned false
+  pub trailing_comma : style.trailing_comma ≡ unwrap_or set.trailing_comma true
+  pub blank_lines : style.blank_lines ≡ unwrap_or set.blank_lines None
+  pub delimiters : style.delimiters ≡ Keep
+  pub order : order_of style ≡ []
+  pub width : style.width ≡ None

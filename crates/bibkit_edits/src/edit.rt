@@ -47,7 +47,7 @@ pub enum Edit<'a> {
     /// Puts the text in one style.
     Format {
         /// How entries are laid out.
-        style: Style,
+        style: Style<'a>,
     },
 }
 

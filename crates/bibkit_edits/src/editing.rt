@@ -43,7 +43,11 @@ impl From<EditError> for Step {
 }
 
 // The text of a document in one style.
-fn in_style(alloc: Global, document: &RawDocument<'_>, style: &Style) -> Result<String, EditError>
+fn in_style(
+    alloc: Global,
+    document: &RawDocument<'_>,
+    style: &Style<'_>,
+) -> Result<String, EditError>
     ensures made { IfOk result (λ new. IsEdited (IsInStyle style.now document.now) (string_bytes new)) }
     ensures refused { IfErr result (λ why. why ≡ OutOfMemory) }
 {
