@@ -71,6 +71,9 @@ first_refused done rest edit {new = new} (refusal.Added e) first refused = AreRe
 first_refused done rest edit {text} {new} (refusal.Edit at why) first refused =
     subst (λ i. AreRefused (done ++ edit ∷ rest) text (refusal.Edit i why)) (sym refused.0)
     (AreRefused.refused edit done rest new refused.1.document refl first.made refused.1.read refused.1.refused)
+first_refused done rest edit {text} {new} (refusal.Cycle at definition) first refused =
+    subst (λ i. AreRefused (done ++ edit ∷ rest) text (refusal.Cycle i definition)) (sym refused.0)
+    (AreRefused.cycle edit done rest new refused.1.document refl first.made refused.1.read refused.1.meets)
 first_refused done rest edit refusal.OutOfMemory first refused = AreRefused.no_memory
 
 -- the same of edits by the index of the one that is refused
@@ -121,6 +124,7 @@ edit_refused edit text index d error.NotInBraces read refused = (refl, record { 
 pub step_refused : (edit : Edit) (text : List ℕ) (index : ℕ) (d : Document) (s : Step) → IsDocumentOf text d → StepIsRefused edit d s → IsTextRefused edit text index (refusal_at s index)
 step_refused edit text index d (step.Added e) read refused = added_refused edit text index e e.kind refl refused
 step_refused edit text index d (step.Refused why) read refused = edit_refused edit text index d why read refused
+step_refused edit text index d (step.Cycle definition) read refused = (refl, record { document = d; read = read; meets = refused })
 
 -- adding a text that is read
 pub adds_made : {d : Document} {text new : List ℕ} (more : Document) → IsDocumentOf text more → IsEdited (EntriesAdded d more) new → IsEdited (TextAdded d text) new

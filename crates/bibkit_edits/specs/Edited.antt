@@ -1,6 +1,6 @@
 -- Meaning: words of public contracts.
 -- What edits make of a bibliography file, and why they are refused.
-use Rattle.std.specs.Prelude.{◌≡◌, ℕ, length, if◌then◌else◌, List, [], ◌∷◌, ◌++◌, nat_eq}
+use Rattle.std.specs.Prelude.{◌≡◌, ℕ, length, map, if◌then◌else◌, List, [], ◌∷◌, ◌++◌, nat_eq}
 use Rattle.std.specs.List.{starts_with}
 use Rattle.std.specs.Str.{IsUtf8}
 use Rattle.bib_syntax.specs.SyntaxErrors.{IsReported}
@@ -11,8 +11,13 @@ use Rattle.bib_documents.specs.References.{KeyRenamed, RenameIsRefused}
 use Rattle.bib_documents.specs.declared.errors.EditError.{EditError}
 use Rattle.bib_format.specs.Formatted.{content, says_in_order, text_in_style}
 use Rattle.bib_format.specs.declared.style.Style.{Style}
+use Rattle.bib_sorting.specs.Sorted.{IsSortedText}
+use Rattle.bib_strings.specs.Expanded.{ExpandIsRefused, IsExpanded}
+use Rattle.bib_strings.specs.declared.errors.ExpandError.TheVariants as expand_error
+use Rattle.bibkit_edits.specs.Orders.{order_text}
 use Rattle.bibkit_edits.specs.declared.edit.Edit.{Edit}
-use Rattle.bibkit_edits.specs.declared.edit.Edit.TheVariants.{Set, Unset, Rename, Remove, Add, Format}
+use Rattle.bibkit_edits.specs.declared.order.Order.{Order}
+use Rattle.bibkit_edits.specs.declared.edit.Edit.TheVariants.{Set, Unset, Rename, Remove, Add, Sort, Expand, Format}
 use Rattle.bibkit_edits.specs.declared.edit.Refusal.{Refusal}
 use Rattle.bibkit_edits.specs.declared.edit.Refusal.TheVariants as refusal
 
@@ -33,6 +38,15 @@ pub record IsInStyle (style : Style) (d after : Document) : Type 0 where
   pub text : after.text ≡ text_in_style style d.text d.says
   pub alike : content after.says ≡ content (says_in_order style d.text d.says)
 
+-- what comes of putting the entries of a document in an order: its text has them in that order, and says the same but for that and places
+pub record IsInOrder (order : Order) (d after : Document) : Type 0 where
+  pub text : IsSortedText d (map (order_text order) d.says.entries) after.text
+  pub alike : IsSorted d (map (order_text order) d.says.entries) after.says
+
+-- what comes of writing out the abbreviations of a document
+abbrev pub IsWrittenOut : Document → Document → Type 0
+IsWrittenOut d after = IsExpanded d after.text
+
 -- what comes of an edit of a document
 abbrev pub EditOutcome : Edit → Document → Document → Type 0
 EditOutcome (Set key name value) d = FieldSet d key.now name.now value.now
@@ -40,6 +54,8 @@ EditOutcome (Unset key name) d = FieldUnset d key.now name.now
 EditOutcome (Rename old new) d = KeyRenamed d old.now new.now
 EditOutcome (Remove key) d = EntryRemoved d key.now
 EditOutcome (Add text) d = TextAdded d text.now
+EditOutcome (Sort order) d = IsInOrder order d
+EditOutcome Expand d = IsWrittenOut d
 EditOutcome (Format style) d = IsInStyle style d
 
 -- what an edit makes of a text
@@ -66,7 +82,20 @@ IsEditRefused (Unset key name) d why = EntryIsRefused d key.now why
 IsEditRefused (Rename old new) d why = RenameIsRefused d old.now new.now why
 IsEditRefused (Remove key) d why = EntryIsRefused d key.now why
 IsEditRefused (Add text) d why = TextIsRefused d text.now why
+IsEditRefused (Sort order) d why = ⊥
+IsEditRefused Expand d why = ⊥
 IsEditRefused (Format style) d why = ⊥
+
+-- an edit of a document writes its abbreviations out, and the definition at this index refers to itself
+abbrev pub MeetsCycle : Edit → Document → ℕ → Type 0
+MeetsCycle (Set key name value) d definition = ⊥
+MeetsCycle (Unset key name) d definition = ⊥
+MeetsCycle (Rename old new) d definition = ⊥
+MeetsCycle (Remove key) d definition = ⊥
+MeetsCycle (Add text) d definition = ⊥
+MeetsCycle (Sort order) d definition = ⊥
+MeetsCycle Expand d definition = ExpandIsRefused d (expand_error.Cycle definition)
+MeetsCycle (Format style) d definition = ⊥
 
 -- an edit adds the entries of this text
 abbrev pub AddsText : Edit → List ℕ → Type 0
@@ -75,16 +104,20 @@ AddsText (Unset key name) added = ⊥
 AddsText (Rename old new) added = ⊥
 AddsText (Remove key) added = ⊥
 AddsText (Add text) added = added ≡ text.now
+AddsText (Sort order) added = ⊥
+AddsText Expand added = ⊥
 AddsText (Format style) added = ⊥
 
 -- why edits of a text are refused: the text isn't one of the file grammar; or first edits are made, and the next adds a text
--- that isn't, or is refused; or there was no memory
+-- that isn't, or is refused, or meets a definition that refers to itself; or there was no memory
 pub data AreRefused (edits : List Edit) (text : List ℕ) : Refusal → Type 0 where
   file : {e : ParseError} → IsReported text e → AreRefused edits text (refusal.File e)
   added : {e : ParseError} (edit : Edit) (done rest : List Edit) (between more : List ℕ) → edits ≡ done ++ edit ∷ rest → AreMade done text between → AddsText edit more → IsReported more e
       → AreRefused edits text (refusal.Added e)
   refused : {why : EditError} (edit : Edit) (done rest : List Edit) (between : List ℕ) (d : Document) → edits ≡ done ++ edit ∷ rest → AreMade done text between → IsDocumentOf between d
       → IsEditRefused edit d why → AreRefused edits text (refusal.Edit (length done) why)
+  cycle : {definition : ℕ} (edit : Edit) (done rest : List Edit) (between : List ℕ) (d : Document) → edits ≡ done ++ edit ∷ rest → AreMade done text between → IsDocumentOf between d
+      → MeetsCycle edit d definition → AreRefused edits text (refusal.Cycle (length done) definition)
   no_memory : AreRefused edits text refusal.OutOfMemory
 
 -- the byte order mark that bytes begin with, if they do

@@ -11,7 +11,9 @@ use Rattle.bib_syntax.specs.declared.raw.ParseErrorKind.TheVariants as kind
 use Rattle.bib_documents.specs.Documents.{Document}
 use Rattle.bib_documents.specs.declared.errors.EditError.{EditError}
 use Rattle.bib_documents.specs.declared.errors.EditError.TheVariants as error
-use Rattle.bibkit_edits.specs.Edited.{AddsText, AreMade, IsEditRefused, IsDocumentOf}
+use Rattle.bib_strings.specs.declared.errors.ExpandError.{ExpandError}
+use Rattle.bib_strings.specs.declared.errors.ExpandError.TheVariants as expand_error
+use Rattle.bibkit_edits.specs.Edited.{AddsText, AreMade, IsEditRefused, IsDocumentOf, MeetsCycle}
 use Rattle.bibkit_edits.specs.declared.edit.Edit.{Edit}
 use Rattle.bibkit_edits.specs.declared.edit.Refusal.{Refusal}
 use Rattle.bibkit_edits.specs.declared.edit.Refusal.TheVariants as refusal
@@ -28,6 +30,7 @@ pub record AddsUnread (edit : Edit) (e : ParseError) : Type 0 where
 abbrev pub StepIsRefused : Edit → Document → Step → Type 0
 StepIsRefused edit d (step.Added e) = AddsUnread edit e
 StepIsRefused edit d (step.Refused why) = IsEditRefused edit d why ⊎ (why ≡ error.OutOfMemory)
+StepIsRefused edit d (step.Cycle definition) = MeetsCycle edit d definition
 
 -- this refusal, or out of memory where that is the kind of an error
 abbrev pub unless_no_memory : ParseErrorKind → Refusal → Refusal
@@ -42,6 +45,11 @@ added_refusal e = unless_no_memory e.kind (refusal.Added e)
 abbrev pub file_refusal : ParseError → Refusal
 file_refusal e = unless_no_memory e.kind (refusal.File e)
 
+-- why writing abbreviations out is refused
+abbrev pub step_of : ExpandError → Step
+step_of (expand_error.Cycle definition) = step.Cycle definition
+step_of expand_error.OutOfMemory = step.Refused error.OutOfMemory
+
 -- why edits are refused, where the one at an index is
 abbrev pub edit_refusal : EditError → ℕ → Refusal
 edit_refusal error.OutOfMemory index = refusal.OutOfMemory
@@ -51,12 +59,19 @@ edit_refusal other index = refusal.Edit index other
 abbrev pub refusal_at : Step → ℕ → Refusal
 refusal_at (step.Added e) index = added_refusal e
 refusal_at (step.Refused why) index = edit_refusal why index
+refusal_at (step.Cycle definition) index = refusal.Cycle index definition
 
 -- an edit is refused, of a text that is read as this document
 pub record IsRefusedAt (edit : Edit) (text : List ℕ) (why : EditError) : Type 0 where
   pub document : Document
   pub read : IsDocumentOf text document
   pub refused : IsEditRefused edit document why
+
+-- an edit of a text that is read as this document meets a definition that refers to itself
+pub record MeetsCycleAt (edit : Edit) (text : List ℕ) (definition : ℕ) : Type 0 where
+  pub document : Document
+  pub read : IsDocumentOf text document
+  pub meets : MeetsCycle edit document definition
 
 -- the text to be added by an edit has an error
 pub record AddsError (edit : Edit) (e : ParseError) : Type 0 where
@@ -70,6 +85,7 @@ IsTextRefused edit text index (refusal.NotUtf8 at) = ⊥
 IsTextRefused edit text index (refusal.File e) = IsReported text e
 IsTextRefused edit text index (refusal.Added e) = AddsError edit e
 IsTextRefused edit text index (refusal.Edit at why) = (at ≡ index) × IsRefusedAt edit text why
+IsTextRefused edit text index (refusal.Cycle at definition) = (at ≡ index) × MeetsCycleAt edit text definition
 IsTextRefused edit text index refusal.OutOfMemory = ⊤
 
 -- the text that is edited next: the one that the last edit made, and where none is made yet the first

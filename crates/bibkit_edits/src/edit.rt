@@ -3,6 +3,7 @@
 ghost use Rattle.std.specs.Prelude.{◌≡◌};
 ghost use Rattle.bibkit_edits.specs.declared.edit.Refusal.TheVariants.{OutOfMemory};
 
+use crate::order::Order;
 use bib_documents::errors::EditError;
 use bib_format::style::Style;
 use bib_syntax::raw::ParseError;
@@ -44,6 +45,13 @@ pub enum Edit<'a> {
         /// The text.
         text: &'a str,
     },
+    /// Puts the entries in an order.
+    Sort {
+        /// What they are ordered by.
+        order: Order,
+    },
+    /// Writes abbreviations out.
+    Expand,
     /// Puts the text in one style.
     Format {
         /// How entries are laid out.
@@ -69,6 +77,13 @@ pub enum Refusal {
         index: usize,
         /// Why it is refused.
         why: EditError,
+    },
+    /// An edit that writes abbreviations out is refused, since a definition refers to itself.
+    Cycle {
+        /// The index of the edit.
+        index: usize,
+        /// The index of the definition among those of the text.
+        definition: usize,
     },
     /// There was no memory.
     OutOfMemory,

@@ -4,16 +4,21 @@ ghost use Rattle.std.specs.Prelude.{◌≡◌, ◌≢◌, IfErr, IfOk, OnErr};
 ghost use Rattle.std.specs.String.{string_bytes};
 ghost use Rattle.bib_documents.specs.Documents.{IsEdited};
 ghost use Rattle.bib_documents.specs.declared.errors.EditError.TheVariants.{OutOfMemory};
-ghost use Rattle.bibkit_edits.specs.Edited.{AreMade, AreRefused, EditOutcome, IsFileMade, IsFileRefused, IsInStyle, IsMade};
+ghost use Rattle.bibkit_edits.specs.Edited.{AreMade, AreRefused, EditOutcome, IsFileMade, IsFileRefused, IsInOrder, IsInStyle, IsMade, IsWrittenOut};
+ghost use Rattle.bib_strings.specs.Expanded.{ExpandIsRefused};
 ghost use Rattle.bibkit_edits.specs.declared.editing.Step.TheVariants.{Added, Refused};
-ghost use Rattle.bibkit_edits.specs.Steps.{IsTextRefused, StepIsRefused, added_refusal, edit_refusal, file_refusal, latest, refusal_at};
+ghost use Rattle.bibkit_edits.specs.Steps.{IsTextRefused, StepIsRefused, added_refusal, edit_refusal, file_refusal, latest, refusal_at, step_of};
 
 use crate::edit::{Edit, Refusal};
+use crate::order::{Order, order_texts};
 use crate::reading::{text_after_mark, with_mark};
 use bib_documents::document::RawDocument;
 use bib_documents::errors::EditError;
 use bib_format::formatting::format;
 use bib_format::style::Style;
+use bib_sorting::sorting::sort_entries;
+use bib_strings::errors::ExpandError;
+use bib_strings::expanding::expand;
 use bib_syntax::raw::ParseError;
 use std::alloc::{AllocError, Global};
 
@@ -24,6 +29,8 @@ enum Step {
     Added(ParseError),
     // The edit is refused.
     Refused(EditError),
+    // The edit meets a definition that refers to itself, the one at this index.
+    Cycle(usize),
 }
 
 impl From<ParseError> for Step {
@@ -40,6 +47,34 @@ impl From<EditError> for Step {
     fn from(error: EditError) -> Self {
         Step::Refused(error)
     }
+}
+
+impl From<ExpandError> for Step {
+    ghost from_gives = { λ error step. step ≡ step_of error };
+
+    fn from(error: ExpandError) -> Self {
+        match error {
+            ExpandError::Cycle(definition) => Step::Cycle(definition),
+            ExpandError::OutOfMemory => Step::Refused(EditError::from(AllocError)),
+        }
+    }
+}
+
+// The text of a document with its entries in an order.
+fn in_order(alloc: Global, document: &RawDocument<'_>, order: Order) -> Result<String, EditError>
+    ensures made { IfOk result (λ new. IsEdited (IsInOrder order document.now) (string_bytes new)) }
+    ensures refused { IfErr result (λ why. why ≡ OutOfMemory) }
+{
+    let texts = order_texts(alloc, order, &document.raw().entries)?;
+    Ok(sort_entries(alloc, document, &texts)?)
+}
+
+// The text of a document with its abbreviations written out.
+fn written_out(alloc: Global, document: &RawDocument<'_>) -> Result<String, ExpandError>
+    ensures made { IfOk result (λ new. IsEdited (IsWrittenOut document.now) (string_bytes new)) }
+    ensures refused { IfErr result (ExpandIsRefused document.now) }
+{
+    expand(alloc, document)
 }
 
 // The text of a document in one style.
@@ -68,6 +103,8 @@ fn edit_document(alloc: Global, document: &RawDocument<'_>, edit: &Edit<'_>) -> 
             let more = RawDocument::parse(alloc, text)?;
             Ok(document.add_entries(alloc, &more)?)
         }
+        Edit::Sort { order } => Ok(in_order(alloc, document, order)?),
+        Edit::Expand => Ok(written_out(alloc, document)?),
         Edit::Format { style } => Ok(in_style(alloc, document, &style)?),
     }
 }
@@ -120,6 +157,7 @@ fn refusal(step: Step, index: usize) -> Refusal
     match step {
         Step::Added(error) => added_refusal(error),
         Step::Refused(why) => edit_refusal(why, index),
+        Step::Cycle(definition) => Refusal::Cycle { index, definition },
     }
 }
 

@@ -1,7 +1,7 @@
 //! Settings of one style: those of a command line, and those of a project's file.
 
 ghost use Rattle.std.specs.Prelude.{◌≡◌};
-ghost use Rattle.bibkit_edits.specs.StyleSettings.{no_style_settings, over_project, sort_set, style_set};
+ghost use Rattle.bibkit_edits.specs.StyleSettings.{IsStyleSet, no_style_settings, over_project, sort_set};
 
 use crate::order::Order;
 use bib_format::style::{Delimiters, Style};
@@ -62,7 +62,7 @@ impl<'a> StyleSettings<'a> {
 
     /// The style of these settings.
     pub fn style(self) -> Style<'a>
-        ensures { result ≡ style_set self }
+        ensures { IsStyleSet self result }
     {
         let usual = Style::default();
         Style {
