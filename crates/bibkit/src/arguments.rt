@@ -7,7 +7,8 @@ use bib_findings::codes::Code;
 use bibkit_core::request::{Cited, Request};
 use bibkit_core::settings::{Color, Format, Settings};
 use bibkit_edits::edit::Edit;
-use bibkit_edits::style_settings::StyleSettings;
+use bibkit_edits::order::Order;
+use bibkit_edits::style_settings::{StyleSettings, delimiters_named, width_of};
 use clap::{ArgMatches, Error};
 use std::alloc::{AllocError, Global};
 
@@ -25,8 +26,10 @@ pub enum Asked<'a> {
     Edits(Editing<'a>),
     /// Files in one style.
     Format {
-        /// The settings of the command line.
-        settings: StyleSettings,
+        /// The settings of the command line, but for the order of fields.
+        settings: StyleSettings<'a>,
+        /// The names of fields that come first, if they are set.
+        order: Option<Vec<&'a str>>,
         /// What is done with the new text of each file.
         mode: Mode,
     },
@@ -53,6 +56,25 @@ fn texts<'a>(
         Some(texts) => Vec::from_slice(alloc, texts),
         None => Ok(Vec::new(alloc)),
     }
+}
+
+// The texts that an option was given, if it was.
+fn given_texts<'a>(
+    alloc: Global,
+    matches: &ArgMatches<'a>,
+    id: &str,
+) -> Result<Option<Vec<&'a str>>, AllocError> {
+    match matches.get_strs(id) {
+        Some(texts) => Ok(Some(Vec::from_slice(alloc, texts)?)),
+        None => Ok(None),
+    }
+}
+
+// The number that an option was given, if it was.
+fn number(matches: &ArgMatches<'_>, id: &str) -> Option<usize> {
+    matches
+        .get_str(id)
+        .and_then(|word| word.parse::<usize>().ok())
 }
 
 // The codes that an option was given.
@@ -130,6 +152,17 @@ fn removed<'a>(alloc: Global, keys: &[&'a str]) -> Result<Vec<Edit<'a>>, AllocEr
     Ok(edits)
 }
 
+// Edits of abbreviations.
+fn strings_edits<'a>(alloc: Global, matches: &ArgMatches<'a>) -> Result<Edits<'a>, AllocError> {
+    if matches.get_flag("expand") {
+        return Ok(Edits::These(vec![in alloc; Edit::Expand]?));
+    }
+    Ok(Edits::Collect {
+        fields: given_texts(alloc, matches, "fields")?,
+        at_least: number(matches, "at-least").unwrap_or(2),
+    })
+}
+
 // The edits that a command asks for.
 fn edits_of<'a>(
     alloc: Global,
@@ -150,6 +183,7 @@ fn edits_of<'a>(
             let keys = texts(alloc, matches, "KEYS")?;
             Ok(Edits::These(removed(alloc, &keys)?))
         }
+        "strings" => strings_edits(alloc, matches),
         "rename" => {
             let old = text(matches, "OLD");
             let new = text(matches, "NEW");
@@ -197,25 +231,28 @@ fn chosen(matches: &ArgMatches<'_>, yes: &str, no: &str) -> Option<bool> {
 }
 
 // What is set of the style that `fmt` was asked for.
-fn style_settings(matches: &ArgMatches<'_>) -> StyleSettings {
+fn style_settings<'a>(matches: &ArgMatches<'a>) -> StyleSettings<'a> {
     StyleSettings {
-        indent: matches
-            .get_str("indent")
-            .and_then(|word| word.parse::<usize>().ok()),
+        indent: number(matches, "indent"),
         aligned: chosen(matches, "align", "no-align"),
         trailing_comma: chosen(matches, "trailing-comma", "no-trailing-comma"),
         blank_lines: matches
             .get_str("blank-lines")
             .map(|word| word.parse::<usize>().ok()),
+        delimiters: matches.get_str("delimiters").and_then(delimiters_named),
+        order: None,
+        width: number(matches, "width").map(width_of),
+        sort: matches.get_str("sort").map(Order::named),
     }
 }
 
 // What `fmt` was asked for.
-fn format_asked<'a>(matches: &ArgMatches<'a>) -> Asked<'a> {
-    Asked::Format {
+fn format_asked<'a>(alloc: Global, matches: &ArgMatches<'a>) -> Result<Asked<'a>, AllocError> {
+    Ok(Asked::Format {
         settings: style_settings(matches),
+        order: given_texts(alloc, matches, "order")?,
         mode: mode_of(matches, matches.get_flag("check")),
-    }
+    })
 }
 
 // What a command was asked for.
@@ -226,7 +263,7 @@ fn request_of<'a>(
 ) -> Result<Asked<'a>, AllocError> {
     let request = match name {
         "lint" => return lint_asked(alloc, matches),
-        "fmt" => return Ok(format_asked(matches)),
+        "fmt" => return format_asked(alloc, matches),
         "get" => Request::Entries(Excerpts::Get(texts(alloc, matches, "KEYS")?)),
         "grep" => Request::Entries(Excerpts::Grep(Search {
             field: matches.get_str("FIELD").unwrap_or(""),

@@ -1,6 +1,7 @@
 //! The commands of the program, and what each of them takes.
 
 use bibkit_core::settings::{Color, Format, code_names};
+use clap::builder::ValueParser;
 use clap::{Arg, ArgAction, Command};
 use std::alloc::{AllocError, Global};
 
@@ -33,12 +34,24 @@ enum Takes {
     Indent,
     // How many blank lines stand between entries.
     BlankLines,
+    // Between which delimiters texts stand.
+    Delimiters,
+    // Names of fields, separated by commas.
+    FieldNames,
+    // How many characters a line has at most.
+    Width,
+    // What entries are ordered by.
+    Order,
+    // How often a text stands in a file.
+    Times,
     // Nothing: it is an option by itself.
     Nothing,
     // Nothing: it is an option beside the one of this name.
     NothingBeside(&'static str),
     // Nothing: it is an option by itself, and undoes an earlier one of this name.
     NothingAfter(&'static str),
+    // Nothing: it is an option by itself, which has to be there unless the one of this name is.
+    NothingOr(&'static str),
 }
 
 // An argument: by its place where it has to be there, and else an option.
@@ -238,6 +251,33 @@ const ADD: [Argument; 3] = [
     DIFF,
 ];
 
+// What `strings` takes.
+const STRINGS: [Argument; 7] = [
+    Argument {
+        name: "expand",
+        takes: Takes::NothingOr("collect"),
+        help: "Write abbreviations out in the entries that use them",
+    },
+    Argument {
+        name: "collect",
+        takes: Takes::NothingOr("expand"),
+        help: "Make abbreviations of texts that stand in several entries",
+    },
+    Argument {
+        name: "fields",
+        takes: Takes::FieldNames,
+        help: "The fields whose texts are collected",
+    },
+    Argument {
+        name: "at-least",
+        takes: Takes::Times,
+        help: "How often a text has to stand there; 2 where nothing is said",
+    },
+    FILE,
+    WRITE,
+    DIFF,
+];
+
 // What stands at the end of the help of `set`.
 const SET_HELP: &str = "\
 Example:
@@ -278,12 +318,24 @@ Example:
 Status: 0 done, 1 an edit is refused or the file has errors, 2 wrong usage, a file that can't be read, edited or written, or an
 output that can't be written, 3 out of memory";
 
+// What stands at the end of the help of `strings`.
+const STRINGS_HELP: &str = "\
+Definitions stay where they are, also where nothing uses them any more; those of collected texts stand at the start of the file. Where
+nothing else is said the texts of journal, journaltitle, publisher, series, institution, school, organization, address and location are
+collected.
+
+Example:
+  bibkit strings --collect --fields journaltitle,publisher --file refs.bib --write
+
+Status: 0 done, 1 an abbreviation uses itself or the file has errors, 2 wrong usage, a file that can't be read, edited or written, or an
+output that can't be written, 3 out of memory";
+
 // What stands at the end of the help of `fmt`.
 const FMT_HELP: &str = "\
 Each entry is written anew: its type and its fields in lowercase, a field a line, the elements of values as they stand. Everything else
 stays as it is, and so does an entry in which a comment stands. A style that is the same for a whole project stands in a table [fmt] of a
 file bibkit.toml in the folder of the first file, or one above it: indent, align,
-trailing-comma and blank-lines.
+trailing-comma, blank-lines, delimiters, order, width and sort.
 
 Example:
   bibkit fmt --align --write refs.bib
@@ -297,8 +349,14 @@ static INDENTS: [&str; 9] = ["0", "1", "2", "3", "4", "5", "6", "7", "8"];
 // How many blank lines may be asked for between entries, or that what stands there stays.
 static BLANK_LINES: [&str; 5] = ["keep", "0", "1", "2", "3"];
 
+// Between which delimiters texts may be asked for.
+static DELIMITERS: [&str; 3] = ["keep", "braces", "quotes"];
+
+// What entries may be ordered by, or that they keep their order.
+static ORDERS: [&str; 5] = ["keep", "key", "year", "author", "type"];
+
 // What `fmt` takes.
-const FMT: [Argument; 9] = [
+const FMT: [Argument; 13] = [
     Argument {
         name: "indent",
         takes: Takes::Indent,
@@ -330,6 +388,26 @@ const FMT: [Argument; 9] = [
         help: "Blank lines between entries, where only white space stands; keep leaves it",
     },
     Argument {
+        name: "delimiters",
+        takes: Takes::Delimiters,
+        help: "Put texts in braces or in quotes, where they can stand there",
+    },
+    Argument {
+        name: "order",
+        takes: Takes::FieldNames,
+        help: "Put these fields first in each entry, in this order",
+    },
+    Argument {
+        name: "width",
+        takes: Takes::Width,
+        help: "Break lines with joined texts that are longer; 0 breaks none",
+    },
+    Argument {
+        name: "sort",
+        takes: Takes::Order,
+        help: "Put entries in an order",
+    },
+    Argument {
         name: "check",
         takes: Takes::Nothing,
         help: "Say which files aren't in this style, and change and print nothing",
@@ -343,7 +421,7 @@ const FMT: [Argument; 9] = [
 ];
 
 // The commands, in the order of help.
-static COMMANDS: [Row; 12] = [
+static COMMANDS: [Row; 13] = [
     Row {
         name: "lint",
         files: TakesFiles::Many,
@@ -428,6 +506,13 @@ static COMMANDS: [Row; 12] = [
         help: ADD_HELP,
         arguments: &ADD,
     },
+    Row {
+        name: "strings",
+        files: TakesFiles::One,
+        about: "Write abbreviations out, or make them of texts that repeat, and print the new text",
+        help: STRINGS_HELP,
+        arguments: &STRINGS,
+    },
 ];
 
 // The files that a command reads.
@@ -468,6 +553,14 @@ fn codes<'a>(alloc: Global, row: &'static Argument) -> Arg<'a> {
         .hide_possible_values(true)
 }
 
+// An option whose values are names of fields.
+fn field_names<'a>(alloc: Global, row: &'static Argument) -> Arg<'a> {
+    option(alloc, row)
+        .value_name("FIELDS")
+        .value_delimiter(',')
+        .action(ArgAction::Append)
+}
+
 // An argument that has to be there, of words.
 fn words<'a>(alloc: Global, row: &'static Argument) -> Arg<'a> {
     positional(alloc, row)
@@ -497,6 +590,11 @@ fn argument_of<'a>(alloc: Global, row: &'static Argument) -> Result<Arg<'a>, All
         Takes::Document => Ok(value(alloc, row, "DOCUMENT")),
         Takes::Indent => Ok(value(alloc, row, "SPACES").value_parser(INDENTS.as_slice())),
         Takes::BlankLines => Ok(value(alloc, row, "LINES").value_parser(BLANK_LINES.as_slice())),
+        Takes::Delimiters => Ok(value(alloc, row, "DELIMITERS").value_parser(DELIMITERS.as_slice())),
+        Takes::FieldNames => Ok(field_names(alloc, row)),
+        Takes::Width => Ok(value(alloc, row, "CHARACTERS").value_parser(ValueParser::unsigned(0, 1_000_000))),
+        Takes::Order => Ok(value(alloc, row, "ORDER").value_parser(ORDERS.as_slice())),
+        Takes::Times => Ok(value(alloc, row, "TIMES").value_parser(ValueParser::unsigned(2, 1_000_000))),
         Takes::Nothing => Ok(option(alloc, row).action(ArgAction::SetTrue)),
         Takes::NothingBeside(other) => option(alloc, row)
             .action(ArgAction::SetTrue)
@@ -504,6 +602,10 @@ fn argument_of<'a>(alloc: Global, row: &'static Argument) -> Result<Arg<'a>, All
         Takes::NothingAfter(other) => option(alloc, row)
             .action(ArgAction::SetTrue)
             .overrides_with(other),
+        Takes::NothingOr(other) => option(alloc, row)
+            .action(ArgAction::SetTrue)
+            .conflicts_with(other)?
+            .required_unless_present(other),
     }
 }
 

@@ -2,7 +2,9 @@
 
 use bib_findings::codes::Code;
 use bibkit_core::settings::{Color, Format, Settings};
-use bibkit_edits::style_settings::StyleSettings;
+use bib_format::style::Delimiters;
+use bibkit_edits::order::Order;
+use bibkit_edits::style_settings::{StyleSettings, delimiters_named, width_of};
 use std::alloc::{AllocError, AllocFailed, Global};
 use std::fs;
 use std::io::ErrorKind;
@@ -24,8 +26,10 @@ pub enum Reader {
 pub struct Project {
     /// What is set for `lint`.
     pub lint: Settings,
-    /// What is set for `fmt`.
-    pub style: StyleSettings,
+    /// What is set for `fmt`, but for the order of fields.
+    pub style: StyleSettings<'static>,
+    /// The names of fields that come first, if they are set.
+    pub order: Option<Vec<String>>,
 }
 
 impl Project {
@@ -34,6 +38,7 @@ impl Project {
         Project {
             lint: Settings::none(),
             style: StyleSettings::none(),
+            order: None,
         }
     }
 }
@@ -152,18 +157,70 @@ fn choice(alloc: Global, key: &str, value: &Value) -> Result<Option<bool>, Confi
     }
 }
 
+// The delimiters that a value names.
+fn delimiters(alloc: Global, value: &Value) -> Result<Option<Delimiters>, ConfigurationError> {
+    match value.as_str().and_then(delimiters_named) {
+        Some(delimiters) => Ok(Some(delimiters)),
+        None => wrong(alloc, "fmt.delimiters", "\"keep\", \"braces\" or \"quotes\""),
+    }
+}
+
+// The name of a field that a value is.
+fn field_name(alloc: Global, value: &Value) -> Result<String, ConfigurationError> {
+    match value.as_str() {
+        Some(name) => Ok(String::from_str(alloc, name)?),
+        None => wrong(alloc, "fmt.order", "a list of names of fields"),
+    }
+}
+
+// The names of fields that a value lists.
+fn field_names(alloc: Global, value: &Value) -> Result<Option<Vec<String>>, ConfigurationError> {
+    let Some(values) = value.as_array() else {
+        return wrong(alloc, "fmt.order", "a list of names of fields");
+    };
+    let mut names = Vec::new(alloc);
+    'values: for value in values {
+        names.push(field_name(alloc, value)?)?;
+    }
+    Ok(Some(names))
+}
+
+// The width that a value says.
+fn width(alloc: Global, value: &Value) -> Result<Option<Option<usize>>, ConfigurationError> {
+    match value.as_integer().map(usize::try_from) {
+        Some(Ok(characters)) => Ok(Some(width_of(characters))),
+        _ => wrong(alloc, "fmt.width", "a number, 0 for none"),
+    }
+}
+
+// What entries are ordered by, as a value names it.
+fn sort(alloc: Global, value: &Value) -> Result<Option<Option<Order>>, ConfigurationError> {
+    if value.as_str() == Some("keep") {
+        return Ok(Some(None));
+    }
+    match value.as_str().and_then(Order::named) {
+        Some(order) => Ok(Some(Some(order))),
+        None => wrong(alloc, "fmt.sort", "\"keep\", \"key\", \"year\", \"author\" or \"type\""),
+    }
+}
+
 // Sets what a key of the table `fmt` sets.
 fn set_style(
     alloc: Global,
-    settings: &mut StyleSettings,
+    project: &mut Project,
     key: &str,
     value: &Value,
 ) -> Result<(), ConfigurationError> {
+    let settings = &mut project.style;
     match key {
         "indent" => settings.indent = indent(alloc, value)?,
         "align" => settings.aligned = choice(alloc, "fmt.align", value)?,
         "trailing-comma" => settings.trailing_comma = choice(alloc, "fmt.trailing-comma", value)?,
         "blank-lines" => settings.blank_lines = blank_lines(alloc, value)?,
+        "delimiters" => settings.delimiters = delimiters(alloc, value)?,
+        "width" => settings.width = width(alloc, value)?,
+        "sort" => settings.sort = sort(alloc, value)?,
+        "order" => project.order = field_names(alloc, value)?,
         _ => {
             let key = format!(in alloc; "fmt.{key}")?;
             return unknown(alloc, &key);
@@ -172,16 +229,19 @@ fn set_style(
     Ok(())
 }
 
-// The settings of the table `fmt`.
-fn style_of(alloc: Global, value: &Value) -> Result<StyleSettings, ConfigurationError> {
+// Sets what the table `fmt` sets.
+fn set_styles(
+    alloc: Global,
+    project: &mut Project,
+    value: &Value,
+) -> Result<(), ConfigurationError> {
     let Some(table) = value.as_table() else {
         return wrong(alloc, "fmt", "a table");
     };
-    let mut settings = StyleSettings::none();
     'keys: for (key, value) in table {
-        set_style(alloc, &mut settings, key.as_str(), value)?;
+        set_style(alloc, project, key.as_str(), value)?;
     }
-    Ok(settings)
+    Ok(())
 }
 
 // Sets what a key of the file sets, if it is for this command.
@@ -196,10 +256,7 @@ fn set(
         (Reader::Lint, "fmt") => Ok(()),
         (Reader::Lint, _) => set_lint(alloc, &mut project.lint, key, value),
         (Reader::Fmt, "only" | "ignore" | "color" | "format") => Ok(()),
-        (Reader::Fmt, "fmt") => {
-            project.style = style_of(alloc, value)?;
-            Ok(())
-        }
+        (Reader::Fmt, "fmt") => set_styles(alloc, project, value),
         (Reader::Fmt, _) => unknown(alloc, key),
     }
 }

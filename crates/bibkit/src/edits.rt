@@ -23,6 +23,13 @@ pub enum Edits<'a> {
     These(Vec<Edit<'a>>),
     /// Adding the entries of standard input.
     AddInput,
+    /// Making abbreviations of texts that repeat.
+    Collect {
+        /// The names of the fields in which they stand, if they are given.
+        fields: Option<Vec<&'a str>>,
+        /// How often a text has to stand there.
+        at_least: usize,
+    },
     /// None: this word is no name of a field with a value.
     NoValue(&'a str),
 }
@@ -185,6 +192,7 @@ fn refused(
         Refusal::File(error) => syntax_line(alloc, name, after_mark(bytes), error),
         Refusal::Added(error) => syntax_line(alloc, "-", added_text(edits).as_bytes(), error),
         Refusal::Edit { index, why } => refused_line(alloc, name, edits.get(*index), *why),
+        Refusal::Cycle { definition, .. } => cycle_line(alloc, name, after_mark(bytes), *definition),
         Refusal::OutOfMemory => String::from_str(alloc, "bibkit: out of memory\n"),
     }
 }
@@ -339,12 +347,37 @@ fn add_input(rt: &HostRuntime, editing: &Editing<'_>) -> Result<(), Stop> {
     edit(rt, editing, &[Edit::Add { text: &input.text }])
 }
 
+// The fields whose texts are collected where nothing else is said.
+static COLLECTED: [&str; 9] = [
+    "journal",
+    "journaltitle",
+    "publisher",
+    "series",
+    "institution",
+    "school",
+    "organization",
+    "address",
+    "location",
+];
+
+// The names of the fields whose texts are collected.
+fn collected_fields<'e>(given: &'e Option<Vec<&'e str>>) -> &'e [&'e str] {
+    match given {
+        Some(fields) => fields.as_slice(),
+        None => COLLECTED.as_slice(),
+    }
+}
+
 // Does what a command asks for.
 fn answer(rt: &HostRuntime, editing: &Editing<'_>) -> Result<(), Stop> {
     check(rt.alloc(), editing)?;
     match &editing.edits {
         Edits::These(edits) => edit(rt, editing, edits),
         Edits::AddInput => add_input(rt, editing),
+        Edits::Collect { fields, at_least } => {
+            let fields = collected_fields(fields);
+            edit(rt, editing, &[Edit::Collect { fields, at_least: *at_least }])
+        }
         Edits::NoValue(word) => {
             let text = format!(in rt.alloc(); "{word} is no FIELD=VALUE; --file names a file")?;
             wrong_usage(rt.alloc(), &text)

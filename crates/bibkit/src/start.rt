@@ -1,7 +1,7 @@
 //! The start of the program, from the arguments as they came.
 
 use crate::arguments::{Asked, Words, read};
-use crate::configuration::{ConfigurationError, Reader, project_settings};
+use crate::configuration::{ConfigurationError, Project, Reader, project_settings};
 use crate::edits::{Mode, run_edits};
 use crate::files::SystemFiles;
 use crate::formatting::run_format;
@@ -11,6 +11,7 @@ use bibkit_core::run::run;
 use bibkit_core::settings::Settings;
 use bibkit_edits::style_settings::StyleSettings;
 use clap::error::ErrorKind;
+use std::alloc::{AllocError, Global};
 use std::io::IsTerminal;
 use std::{env, io};
 
@@ -107,12 +108,46 @@ fn run_lint<'a>(
     }
 }
 
-// Puts files in one style, with the settings of the project that the first file belongs to, and answers the status.
-fn run_style(rt: &HostRuntime, settings: StyleSettings, mode: Mode, names: &[&str]) -> u8 {
-    match project_settings(rt, Reader::Fmt, first(names)) {
-        Ok(project) => run_format(rt, settings.over(project.style).style(), mode, names),
-        Err(error) => refuse_settings(rt, error),
+// Puts files in one style, with these settings, and answers the status.
+fn run_settings(
+    rt: &HostRuntime,
+    settings: StyleSettings<'_>,
+    mode: Mode,
+    names: &[&str],
+) -> u8 {
+    run_format(rt, settings.style(), settings.sort(), mode, names)
+}
+
+// The order of fields that settings of a project set, if they do.
+fn project_order<'p>(alloc: Global, project: &'p Project) -> Result<Option<Vec<&'p str>>, AllocError> {
+    let Some(names) = &project.order else {
+        return Ok(None);
+    };
+    let mut order = Vec::new(alloc);
+    'names: for name in names {
+        order.push(name.as_str())?;
     }
+    Ok(Some(order))
+}
+
+// Puts files in one style, with the settings of the project that the first file belongs to, and answers the status.
+fn run_style(
+    rt: &HostRuntime,
+    settings: StyleSettings<'_>,
+    order: Option<Vec<&str>>,
+    mode: Mode,
+    names: &[&str],
+) -> u8 {
+    let project = match project_settings(rt, Reader::Fmt, first(names)) {
+        Ok(project) => project,
+        Err(error) => return refuse_settings(rt, error),
+    };
+    let Ok(listed) = project_order(rt.alloc(), &project) else {
+        return out_of_memory(rt);
+    };
+    let given = settings.with_order(order.as_deref());
+    let set = project.style.with_order(listed.as_deref());
+    run_settings(rt, given.over(set), mode, names)
 }
 
 // Runs what a command line asks for, and answers the status.
@@ -121,7 +156,11 @@ fn answer(rt: &HostRuntime, words: Words<'_>) -> u8 {
     match asked {
         Asked::Lint { settings, cited } => run_lint(rt, settings, cited, names),
         Asked::Edits(editing) => run_edits(rt, &editing),
-        Asked::Format { settings, mode } => run_style(rt, settings, mode, &names),
+        Asked::Format {
+            settings,
+            order,
+            mode,
+        } => run_style(rt, settings, order, mode, &names),
         Asked::Other(request) => run_request(rt, request, names),
     }
 }

@@ -1,6 +1,6 @@
 -- Meaning: words of public contracts.
 -- What entries are ordered by: a text for each, by its bytes.
-use Rattle.std.specs.Prelude.{ℕ, Bool, ◌==◌, ◌-◌, List, [], ◌∷◌, ◌++◌, codes, length, take, if◌then◌else◌}
+use Rattle.std.specs.Prelude.{ℕ, Bool, ◌==◌, ◌-◌, List, [], ◌∷◌, ◌++◌, bytes_eq, codes, length, take, Option, None, Some, if◌then◌else◌}
 use Rattle.std.specs.List.{after_last, list_any}
 use Rattle.std.specs.Str.{str_to_ascii_lowercase, trim_end}
 use Rattle.bib_findings.specs.Identities.{first_person_of, year_of}
@@ -8,6 +8,12 @@ use Rattle.bib_syntax.specs.Reading.{EntryReading}
 use Rattle.bib_text.specs.Characters as char
 use Rattle.bibkit_edits.specs.declared.order.Order.{Order}
 use Rattle.bibkit_edits.specs.declared.order.Order.TheVariants as order
+
+-- the order of a name
+abbrev pub order_named : List ℕ → Option Order
+order_named name =
+    if bytes_eq name (codes "key") then Some order.Key else if bytes_eq name (codes "year") then Some order.Year else
+    if bytes_eq name (codes "author") then Some order.Author else if bytes_eq name (codes "type") then Some order.Type else None
 
 -- whether a byte is a space
 abbrev pub is_word_space : ℕ → Bool

@@ -1,13 +1,24 @@
 -- Meaning: words of public contracts.
 -- Settings of one style, of a command line and of a project's file, and the style that they make.
-use Rattle.std.specs.Prelude.{◌≡◌, ℕ, List, [], map, Option, None, Some, true, false}
+use Rattle.std.specs.Prelude.{◌≡◌, ◌==◌, ℕ, List, [], bytes_eq, codes, map, Option, None, Some, if◌then◌else◌, true, false}
 use Rattle.std.specs.Borrow.{Bor}
 use Rattle.std.specs.Option.{option_or, unwrap_or}
 use Rattle.bib_format.specs.Ordered.{order_of}
-use Rattle.bib_format.specs.declared.style.Delimiters.TheVariants.{Keep}
+use Rattle.bib_format.specs.declared.style.Delimiters.{Delimiters}
+use Rattle.bib_format.specs.declared.style.Delimiters.TheVariants.{Keep, Braces, Quotes}
 use Rattle.bib_format.specs.declared.style.Style.{Style}
 use Rattle.bibkit_edits.specs.declared.order.Order.{Order}
 use Rattle.bibkit_edits.specs.declared.style_settings.StyleSettings.{StyleSettings}
+
+-- the delimiters of a name
+abbrev pub delimiters_named : List ℕ → Option Delimiters
+delimiters_named name =
+    if bytes_eq name (codes "keep") then Some Keep else if bytes_eq name (codes "braces") then Some Braces else
+    if bytes_eq name (codes "quotes") then Some Quotes else None
+
+-- how many characters a line may have where this number is asked for: any number for 0
+abbrev pub width_of : ℕ → Option ℕ
+width_of number = if number == 0 then None else Some number
 
 -- nothing is set
 abbrev pub no_style_settings : StyleSettings

@@ -27,6 +27,21 @@ pub enum Order {
     Type,
 }
 
+impl Order {
+    /// The order of this name, `key`, `year`, `author` or `type`.
+    pub fn named(name: &str) -> Option<Order>
+        ensures { result ≡ orders.order_named name.now }
+    {
+        match name {
+            "key" => Some(Order::Key),
+            "year" => Some(Order::Year),
+            "author" => Some(Order::Author),
+            "type" => Some(Order::Type),
+            _ => None,
+        }
+    }
+}
+
 // Where the last word of words begins, between which single spaces stand.
 fn last_word(words: &str) -> usize
     ensures is { result ≡ length words.now - length (after_last is_word_space words.now) }

@@ -1,10 +1,29 @@
 //! Settings of one style: those of a command line, and those of a project's file.
 
 ghost use Rattle.std.specs.Prelude.{◌≡◌};
-ghost use Rattle.bibkit_edits.specs.StyleSettings.{IsStyleSet, no_style_settings, over_project, sort_set};
+ghost use Rattle.bibkit_edits.specs.StyleSettings.{IsStyleSet, delimiters_named, no_style_settings, over_project, sort_set, width_of};
 
 use crate::order::Order;
 use bib_format::style::{Delimiters, Style};
+
+/// The delimiters of this name, `keep`, `braces` or `quotes`.
+pub fn delimiters_named(name: &str) -> Option<Delimiters>
+    ensures { result ≡ delimiters_named name.now }
+{
+    match name {
+        "keep" => Some(Delimiters::Keep),
+        "braces" => Some(Delimiters::Braces),
+        "quotes" => Some(Delimiters::Quotes),
+        _ => None,
+    }
+}
+
+/// How many characters a line may have where this number is asked for: any number for 0.
+pub fn width_of(number: usize) -> Option<usize>
+    ensures { result ≡ width_of number }
+{
+    if number == 0 { None } else { Some(number) }
+}
 
 /// What is set of how a file is laid out, where it is.
 #[derive(Debug, Clone, Copy, PartialEq, Eq)]
@@ -41,6 +60,22 @@ impl<'a> StyleSettings<'a> {
             order: None,
             width: None,
             sort: None,
+        }
+    }
+
+    /// These settings, with this order of fields.
+    pub fn with_order<'b>(self, order: Option<&'b [&'b str]>) -> StyleSettings<'b>
+        ensures { result ≡ record self { order = order } }
+    {
+        StyleSettings {
+            indent: self.indent,
+            aligned: self.aligned,
+            trailing_comma: self.trailing_comma,
+            blank_lines: self.blank_lines,
+            delimiters: self.delimiters,
+            order,
+            width: self.width,
+            sort: self.sort,
         }
     }
 
