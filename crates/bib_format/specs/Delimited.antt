@@ -1,7 +1,7 @@
 -- Meaning: words of public contracts.
 -- Literals of values, between the delimiters that the style asks for.
 use Rattle.std.specs.Prelude.{◌==◌, ◌&&◌, ℕ, suc, ◌-◌, Bool, true, false, not, List, [], ◌∷◌, ◌++◌, codes, cond, nat_lt}
-use Rattle.std.specs.List.{ends_with}
+use Rattle.std.specs.List.{ends_with, list_any}
 use lib.Dec.{eqb}
 use Rattle.bib_text.specs.Characters as char
 use Rattle.bib_text.specs.Places.{between, place}
@@ -40,11 +40,15 @@ goes_in_braces Keep content = false
 goes_in_braces Braces content = can_stand_in_braces content
 goes_in_braces Quotes content = false
 
--- whether a text in braces comes to stand in quotes
+-- whether a quote stands in a text
+abbrev pub has_quote : List ℕ → Bool
+has_quote content = list_any (λ b. b == char.quote) content
+
+-- whether a text in braces comes to stand in quotes: none stands in it, not even after a backslash, which hides none from BibTeX
 abbrev pub goes_in_quotes : Delimiters → List ℕ → Bool
 goes_in_quotes Keep content = false
 goes_in_quotes Braces content = false
-goes_in_quotes Quotes content = can_stand_in_quotes content
+goes_in_quotes Quotes content = not (has_quote content) && can_stand_in_quotes content
 
 -- a text in quotes
 abbrev pub in_quotes : List ℕ → List ℕ

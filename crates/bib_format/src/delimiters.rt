@@ -48,6 +48,13 @@ fn can_stand_in_quotes(content: &str) -> bool
     !is_hidden
 }
 
+// Whether a quote stands in a text.
+fn has_quote(content: &str) -> bool
+    ensures { result ≡ styled.has_quote content.now }
+{
+    content.contains('"')
+}
+
 // Whether a text in quotes comes to stand in braces.
 fn goes_in_braces(delimiters: Delimiters, content: &str) -> bool
     ensures { result ≡ styled.goes_in_braces delimiters content.now }
@@ -66,7 +73,7 @@ fn goes_in_quotes(delimiters: Delimiters, content: &str) -> bool
     match delimiters {
         Delimiters::Keep => false,
         Delimiters::Braces => false,
-        Delimiters::Quotes => can_stand_in_quotes(content),
+        Delimiters::Quotes => !has_quote(content) && can_stand_in_quotes(content),
     }
 }
 

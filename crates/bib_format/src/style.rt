@@ -10,7 +10,7 @@ pub enum Delimiters {
     Keep,
     /// In braces; a text in quotes in which a brace isn't closed, or closes none, stays there, since in braces it would end elsewhere.
     Braces,
-    /// In quotes; a text in braces in which a quote stands that no backslash hides stays there, since in quotes it would end at that.
+    /// In quotes; a text in braces in which a quote stands stays there, since in quotes BibTeX would end it at that.
     Quotes,
 }
 

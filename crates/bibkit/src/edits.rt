@@ -6,7 +6,7 @@ use crate::streams::Output;
 use bib_documents::errors::EditError;
 use bib_encoding::decoding::decode;
 use bib_lines::positions::Positions;
-use bib_syntax::raw::ParseError;
+use bib_syntax::raw::{Pair, ParseError, RawBibliography};
 use bibkit_core::files::Files;
 use bibkit_edits::edit::{Edit, Refusal};
 use bibkit_edits::editing::edited_file;
@@ -15,6 +15,7 @@ use bibkit_files::replacing::ReplaceError;
 use std::alloc::{AllocError, AllocFailed, Global};
 use std::io;
 use std::io::ErrorKind;
+use std::str::from_utf8;
 
 /// Which edits are asked for.
 #[derive(Drop)]
@@ -166,6 +167,37 @@ fn syntax_line(
 ) -> Result<String, AllocError> {
     let said = format!(in alloc; "{} [syntax]", error.kind)?;
     error_line(alloc, name, text, error.span.start, &said)
+}
+
+// The line of a definition that refers to itself, and the place, if it is found.
+fn definition_line(
+    alloc: Global,
+    name: &str,
+    text: &[u8],
+    definition: &Pair<'_>,
+) -> Result<String, AllocError> {
+    let said = format!(in alloc;
+        "the abbreviation {} uses itself [circular-abbreviation]",
+        definition.key.v
+    )?;
+    error_line(alloc, name, text, definition.key.span.start, &said)
+}
+
+// What is said of a definition that refers to itself, by its index.
+fn cycle_line(
+    alloc: Global,
+    name: &str,
+    text: &[u8],
+    definition: usize,
+) -> Result<String, AllocError> {
+    if let Ok(src) = from_utf8(text) {
+        if let Ok(raw) = RawBibliography::parse(alloc, src) {
+            if let Some(pair) = raw.abbreviations.get(definition) {
+                return definition_line(alloc, name, text, pair);
+            }
+        }
+    }
+    format!(in alloc; "bibkit: {name}: an abbreviation uses itself\n")
 }
 
 // The text that an edit adds.
