@@ -45,11 +45,11 @@ abbrev pub is_too_long : Option ℕ → List ℕ → Bool
 is_too_long None line = false
 is_too_long (Some most) line = nat_lt most (length (chars line) + 1)
 
--- whether each element but the first begins a new line: where in one line they are too long
+-- whether each element but the first begins a new line: where all of them in one line are too long
 abbrev pub is_broken : Style → ℕ → List ℕ → List (List ℕ) → Bool
 is_broken style width name elements = nat_lt 1 (length elements) && is_too_long style.width (line_laid_out style width (codes " # ") name elements)
 
--- the end of a line, as many spaces as stand before the value of a field, and #
+-- the end of a line, as many spaces as characters stand before the value of a field, of which three are the equals sign and its spaces, and #
 abbrev pub next_line : List ℕ → Style → ℕ → List ℕ → List ℕ
 next_line line_end style width name = line_end ++ (spaces style.indent ++ (spaces (max width (length (chars name))) ++ codes "   # "))
 
