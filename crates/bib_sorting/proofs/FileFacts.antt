@@ -1,17 +1,16 @@
 -- A file with its entries in another order, as it is read.
-use Rattle.std.proofs.Common.{◌≡◌, ℕ, suc, ◌+◌, ◌-◌, ◌≤◌, Bool, true, false, List, [], ◌∷◌, ◌++◌, length, drop, take, map, refl, sym, ap, ◌∙◌, subst, arith, append_assoc, length-drop}
+use Rattle.std.proofs.Common.{◌≡◌, ℕ, suc, ◌+◌, ◌-◌, ◌≤◌, List, [], ◌∷◌, ◌++◌, length, drop, take, map, refl, sym, ap, ◌∙◌, subst, arith, append_assoc, length-drop}
 use Rattle.std.specs.Prelude.{◌==◌}
 use Rattle.std.specs.List.{AllByRecursion}
-use Rattle.std.specs.List.Sorted.{IsPermutation}
 use Rattle.std.specs.Str.{IsCharBoundary}
 use Rattle.std.proofs.lemmas.List.{length-map, length-take-le}
 use Rattle.std.proofs.lemmas.List.Elements.{All-from_recursion, recursion_from_All}
 use Rattle.std.proofs.lemmas.List.Sorted.{All-permutation, length_permutation}
 use Rattle.bib_text.specs.Places.{Place, place, between}
 use Rattle.bib_text.proofs.PlaceFacts.{ahead_then, ahead_char, ahead_run, char_left, same_place}
-use Rattle.bib_syntax.specs.Reading.{FieldReading, EntryReading, FileReading, then}
+use Rattle.bib_syntax.specs.Reading.{EntryReading, FileReading, then}
 use Rattle.bib_syntax.specs.Recovery.{entry_alone}
-use Rattle.bib_syntax.specs.Grammar.{File, IsRawReading, longest}
+use Rattle.bib_syntax.specs.Grammar.{File, longest}
 use Rattle.bib_syntax.specs.Grammar.{File as file}
 use Rattle.bib_syntax.proofs.FieldFacts.{ahead_fields, ahead_gap}
 use Rattle.bib_syntax.proofs.FileFacts.{ahead_head}
@@ -22,15 +21,14 @@ use Rattle.bib_documents.proofs.GrammarFacts.{moved-then}
 use Rattle.bib_documents.proofs.MovedFacts.{body_within, char_within, file_there}
 use Rattle.bib_documents.proofs.SplitFacts.{ahead_file_before, joined_file}
 use Rattle.bib_documents.proofs.ZoneFacts.{Frame, Inside, Zone, there}
-use Rattle.bib_format.specs.Cuts.{CanBeCut}
-use Rattle.bib_format.proofs.CutFacts.{Stood, cut_file, cut_stood, stood}
+use Rattle.bib_format.proofs.CutFacts.{cut_file, cut_stood, stood}
 use Rattle.bib_format.proofs.SplitFacts.{ByEntries, by_entries}
 use Rattle.bib_format.proofs.StandsFacts.{Stands, past}
 use Rattle.bib_sorting.specs.Cuts.{AreItemsCut, IsEntryCut, IsItemCut}
-use Rattle.bib_sorting.specs.Sorted.{AreInOrder, IsReadSorted, IsSortedText, Item, comment_in, content, entry_bytes, gap_before, items, items_from, laid_out, place_after, run_after, says_in_order, space_in, spaces_from, text_in_order}
+use Rattle.bib_sorting.specs.Sorted.{AreInOrder, IsReadSorted, Item, comment_in, content, entry_bytes, gap_before, items, items_from, laid_out, place_after, run_after, space_in, spaces_from, text_in_order}
 use Rattle.bib_sorting.proofs.PlacelessFacts.{file_placeless}
 use Rattle.bib_sorting.proofs.PlainFacts.{ahead_plain, stood_plain}
-use Rattle.bib_sorting.proofs.ReadFacts.{GapCut, ItemReads, SpaceReads, gap_cut, item_reads}
+use Rattle.bib_sorting.proofs.ReadFacts.{ItemReads, SpaceReads, gap_cut, item_reads}
 
 -- ---- the rest of a text, without entries
 
@@ -127,6 +125,7 @@ file_parts text index {u} {says} same within cut (ByEntries.more {s = s} {v = v}
     let at_mid = subst (λ n. IsCharBoundary text n) mid_is (cut_stood text mid_text (stood_plain gap.rest (stood x.head.sign))) in
     let item : IsItemCut text index u.at e = record {
       gap = record { ordered = omega (arith, to_start.at, x.starts); start_cut = cut; end_cut = at_start };
+      some = omega (arith, x.starts, x.ends, to_brace.at);
       small = omega (arith, x.starts);
       space = record { ordered = omega (arith, gap.first.at, mid_is); start_cut = cut; end_cut = at_mid };
       whole = record { ordered = omega (arith, x.starts, end_is, to_end.at); start_cut = at_start; end_cut = subst (λ n. IsCharBoundary text n) end_is after_cut };

@@ -1,8 +1,11 @@
 pub mod FileFacts
 pub mod GatherFacts
 pub mod LineFacts
+pub mod OneOrderFacts
 pub mod OrderFacts
+pub mod ParentFacts
 pub mod PlacelessFacts
 pub mod PlainFacts
 pub mod ReadFacts
 pub mod SetFacts
+pub mod StaysFacts

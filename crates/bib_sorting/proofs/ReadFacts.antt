@@ -1,11 +1,11 @@
 -- Texts that are read so wherever they stand.
-use Rattle.std.proofs.Common.{◌≡◌, inl, inr, ℕ, suc, ◌+◌, ◌-◌, ◌<◌, ◌≤◌, Bool, true, false, cond, List, [], ◌∷◌, ◌++◌, length, drop, take, map, refl, sym, ap, ◌∙◌, subst, arith, length-drop}
-use Rattle.std.specs.Prelude.{◌==◌, ◌&&◌}
+use Rattle.std.proofs.Common.{◌≡◌, inl, inr, ℕ, suc, ◌+◌, ◌-◌, ◌<◌, ◌≤◌, Bool, true, false, cond, List, [], ◌∷◌, ◌++◌, length, drop, take, refl, sym, ap, ◌∙◌, subst, arith, length-drop}
+use Rattle.std.specs.Prelude.{◌&&◌}
 use Rattle.std.specs.Char.{is_ascii_whitespace}
 use Rattle.std.specs.List.{list_all, prefix_len}
 use Rattle.std.proofs.lemmas.Bool.{cases_lt}
-use Rattle.std.proofs.lemmas.List.{length-take-le, take-append-drop, take-take, take_all}
-use Rattle.bib_text.specs.Places.{Place, place, CharAt, between}
+use Rattle.std.proofs.lemmas.List.{length-take-le, take-append-drop, take-take}
+use Rattle.bib_text.specs.Places.{Place, CharAt, between}
 use Rattle.bib_text.proofs.PlaceFacts.{Ahead, ahead_here, ahead_then, ahead_char, ahead_run, same_char, same_place}
 use Rattle.bib_syntax.specs.Reading.{EntryReading, FileReading, empty_reading}
 use Rattle.bib_syntax.specs.Recovery.{entry_alone, has_byte}

@@ -9,6 +9,7 @@ use Rattle.bib_sorting.specs.Sorted.{Item, comment_in, gap_before}
 -- an entry, what stays before it and its comment may be cut out of a text, from a place on
 pub record IsItemCut (text : List ℕ) (index at : ℕ) (e : EntryReading) : Type 0 where
   pub gap : CanBeCut text at e.start
+  pub some : e.start ≤ e.end
   pub small : length (comment_in (index == 0) (gap_before text at e)) ≤ e.start
   pub space : CanBeCut text at (e.start - length (comment_in (index == 0) (gap_before text at e)))
   pub whole : CanBeCut text e.start (e.end + 1)

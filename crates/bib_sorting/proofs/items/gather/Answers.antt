@@ -1,9 +1,8 @@
-use Rattle.std.proofs.Common.{◌≡◌, ◌+◌, ◌≤◌, ℕ, List, ◌++◌, ◌∷◌, drop, map, refl, sym, ap, ◌∙◌, subst, arith}
+use Rattle.std.proofs.Common.{◌≡◌, ◌+◌, ◌≤◌, ℕ, List, ◌++◌, ◌∷◌, drop, map, sym, ap, ◌∙◌, subst}
 use Rattle.std.specs.Prelude.{◌==◌}
 use Rattle.std.specs.String.{string_bytes}
 use Rattle.bib_text.specs.Characters as char
 use Rattle.bib_syntax.specs.Recovery.{has_byte}
-use Rattle.bib_syntax.specs.Reading.{EntryReading}
 use Rattle.bib_syntax.specs.Views.{entry_reading_of}
 use Rattle.bib_sorting.specs.Cuts.{AreItemsCut}
 use Rattle.bib_sorting.specs.Sets.{item_of}
