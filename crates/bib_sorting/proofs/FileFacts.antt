@@ -24,8 +24,8 @@ use Rattle.bib_documents.proofs.ZoneFacts.{Frame, Inside, Zone, there}
 use Rattle.bib_format.proofs.CutFacts.{cut_file, cut_stood, stood}
 use Rattle.bib_format.proofs.SplitFacts.{ByEntries, by_entries}
 use Rattle.bib_format.proofs.StandsFacts.{Stands, past}
-use Rattle.bib_sorting.specs.Cuts.{AreItemsCut, IsEntryCut, IsItemCut}
-use Rattle.bib_sorting.specs.Sorted.{AreInOrder, IsReadSorted, Item, comment_in, content, entry_bytes, gap_before, items, items_from, laid_out, place_after, run_after, space_in, spaces_from, text_in_order}
+use Rattle.bib_sorting.specs.Cuts.{AreItemsCut, IsEntryOfItemCut, IsItemCut}
+use Rattle.bib_sorting.specs.Sorted.{AreEntriesInOrder, IsReadSorted, Item, comment_in, placeless, entry_bytes, gap_before, items, items_from, laid_out, place_after, run_after, space_in, spaces_from, text_in_order}
 use Rattle.bib_sorting.proofs.PlacelessFacts.{file_placeless}
 use Rattle.bib_sorting.proofs.PlainFacts.{ahead_plain, stood_plain}
 use Rattle.bib_sorting.proofs.ReadFacts.{ItemReads, SpaceReads, gap_cut, item_reads}
@@ -36,7 +36,7 @@ use Rattle.bib_sorting.proofs.ReadFacts.{ItemReads, SpaceReads, gap_cut, item_re
 pub record FileThere (says : FileReading) (u : Place) : Type 0 where
   pub reading : FileReading
   pub file : File longest u reading
-  pub alike : content reading ≡ content says
+  pub alike : placeless reading ≡ placeless says
 
 abbrev RestReads : List ℕ → FileReading → Type 0
 RestReads bytes says = (u : Place) → drop u.at u.text ≡ bytes → u.at ≤ length u.text → FileThere says u
@@ -146,12 +146,12 @@ file_parts text index {u} {says} same within cut (ByEntries.more {s = s} {v = v}
 
 -- ---- read in another order
 
-alike_then : (gap before rest reading : FileReading) (e e' : EntryReading) → content gap ≡ content before → moved_entry (λ n. 0) e' ≡ moved_entry (λ n. 0) e → content reading ≡ content rest
-    → content (then gap (then (entry_alone e') reading)) ≡ content (then before (then (entry_alone e) rest))
+alike_then : (gap before rest reading : FileReading) (e e' : EntryReading) → placeless gap ≡ placeless before → moved_entry (λ n. 0) e' ≡ moved_entry (λ n. 0) e → placeless reading ≡ placeless rest
+    → placeless (then gap (then (entry_alone e') reading)) ≡ placeless (then before (then (entry_alone e) rest))
 alike_then gap before rest reading e e' between_entries entry others =
     moved-then (λ n. 0) gap (then (entry_alone e') reading)
-    ∙ ap (λ r. then r (content (then (entry_alone e') reading))) between_entries
-    ∙ ap (then (content before)) (moved-then (λ n. 0) (entry_alone e') reading ∙ ap (λ y. then (entry_alone y) (content reading)) entry ∙ ap (then (entry_alone (moved_entry (λ n. 0) e))) others ∙ sym (moved-then (λ n. 0) (entry_alone e) rest))
+    ∙ ap (λ r. then r (placeless (then (entry_alone e') reading))) between_entries
+    ∙ ap (then (placeless before)) (moved-then (λ n. 0) (entry_alone e') reading ∙ ap (λ y. then (entry_alone y) (placeless reading)) entry ∙ ap (then (entry_alone (moved_entry (λ n. 0) e))) others ∙ sym (moved-then (λ n. 0) (entry_alone e) rest))
     ∙ sym (moved-then (λ n. 0) before (then (entry_alone e) rest))
 
 stands_here : (u : Place) (xs ys : List ℕ) → drop u.at u.text ≡ xs ++ ys → Stands u xs (past u xs)
@@ -206,11 +206,11 @@ length-items all text texts index at run (e ∷ es) = ap suc (length-items all t
 pub document_parts : (d : Document) → IsDocument d → FileParts d.text 0 0 d.says.entries d.says
 document_parts d read = file_parts d.text 0 {u = place d.text 0} refl (omega arith) (cut_file d.text refl read) (by_entries read)
 
-pub as_many : (d : Document) (texts : List (List ℕ)) (order : List Item) → AreInOrder (items d texts) order → length (spaces_from d.text 0 0 d.says.entries) ≡ length order
+pub as_many : (d : Document) (texts : List (List ℕ)) (order : List Item) → AreEntriesInOrder (items d texts) order → length (spaces_from d.text 0 0 d.says.entries) ≡ length order
 as_many d texts order in_order =
     length-spaces d.text 0 0 d.says.entries ∙ sym (length-items d.says.entries d.text texts 0 0 0 d.says.entries) ∙ sym (length_permutation (items d texts) order in_order.permutation)
 
-pub text_read : (d : Document) (texts : List (List ℕ)) (order : List Item) → IsDocument d → AreInOrder (items d texts) order → IsReadSorted d texts (text_in_order d order)
+pub text_read : (d : Document) (texts : List (List ℕ)) (order : List Item) → IsDocument d → AreEntriesInOrder (items d texts) order → IsReadSorted d texts (text_in_order d order)
 text_read d texts order read in_order =
     let parts = document_parts d read in
     let spaces = spaces_from d.text 0 0 d.says.entries in
@@ -224,21 +224,21 @@ text_read d texts order read in_order =
       in_order = in_order;
       tells = said.reading;
       read = said.file;
-      alike = said.alike ∙ ap content (said_with parts.befores spaces d.says.entries es parts.rest parts.spaces parts.none (length-spaces d.text 0 0 d.says.entries) (size ∙ sym (length-map order (λ i. i.entry))))
-          ∙ ap (λ says. content (record says { entries = es })) (sym parts.whole);
+      alike = said.alike ∙ ap placeless (said_with parts.befores spaces d.says.entries es parts.rest parts.spaces parts.none (length-spaces d.text 0 0 d.says.entries) (size ∙ sym (length-map order (λ i. i.entry))))
+          ∙ ap (λ says. placeless (record says { entries = es })) (sym parts.whole);
     }
 
 -- ---- where it may be cut
 
-entries_cut : (all : List EntryReading) (text : List ℕ) (texts : List (List ℕ)) (index at run : ℕ) (es : List EntryReading) → AreItemsCut text index at es → AllByRecursion (IsEntryCut text) (items_from all text texts index at run es)
+entries_cut : (all : List EntryReading) (text : List ℕ) (texts : List (List ℕ)) (index at run : ℕ) (es : List EntryReading) → AreItemsCut text index at es → AllByRecursion (IsEntryOfItemCut text) (items_from all text texts index at run es)
 entries_cut all text texts index at run [] cut = tt
 entries_cut all text texts index at run (e ∷ es) cut = (cut.0.whole, entries_cut all text texts (index + 1) (e.end + 1) (run_after run (gap_before text at e)) es cut.1)
 
-pub order_cut : (d : Document) (texts : List (List ℕ)) (order : List Item) → IsDocument d → AreInOrder (items d texts) order → AllByRecursion (IsEntryCut d.text) order
+pub order_cut : (d : Document) (texts : List (List ℕ)) (order : List Item) → IsDocument d → AreEntriesInOrder (items d texts) order → AllByRecursion (IsEntryOfItemCut d.text) order
 order_cut d texts order read in_order =
-    recursion_from_All (IsEntryCut d.text) order
-    (All-permutation (IsEntryCut d.text) (items d texts) order in_order.permutation
-    (All-from_recursion (IsEntryCut d.text) (items d texts) (entries_cut d.says.entries d.text texts 0 0 0 d.says.entries (document_parts d read).cut)))
+    recursion_from_All (IsEntryOfItemCut d.text) order
+    (All-permutation (IsEntryOfItemCut d.text) (items d texts) order in_order.permutation
+    (All-from_recursion (IsEntryOfItemCut d.text) (items d texts) (entries_cut d.says.entries d.text texts 0 0 0 d.says.entries (document_parts d read).cut)))
 
 last_cut : (text : List ℕ) (index at : ℕ) (es : List EntryReading) → AreItemsCut text index at es → IsCharBoundary text (place_after at es)
 last_cut text index at [] cut = cut

@@ -16,7 +16,7 @@ use Rattle.std.proofs.lemmas.List.Sums.{sum_by-cons}
 use Rattle.bib_syntax.specs.Reading.{EntryReading}
 use Rattle.bib_documents.specs.Documents.{Document, IsDocument}
 use Rattle.bib_sorting.specs.Cuts.{AreItemsCut}
-use Rattle.bib_sorting.specs.Sorted.{AreInOrder, Item, gap_before, item_cmp, items, items_from, run_after}
+use Rattle.bib_sorting.specs.Sorted.{AreEntriesInOrder, Item, gap_before, item_cmp, items, items_from, run_after}
 use Rattle.bib_sorting.proofs.FileFacts.{document_parts}
 use Rattle.bib_sorting.proofs.OrderFacts.{item_total}
 
@@ -174,7 +174,7 @@ same_order all (x ∷ xs) (y ∷ ys) one up up' each each' counts =
 pub starts_in_order : (d : Document) (texts : List (List ℕ)) → IsDocument d → (k j : ℕ) (i : Item) → k < j → j < length (items d texts) → (get_or (items d texts) k i).entry.start < (get_or (items d texts) j i).entry.start
 starts_in_order d texts read = starts_rise d.says.entries d.text texts 0 0 0 d.says.entries (document_parts d read).cut
 
-pub one_order : (d : Document) (texts : List (List ℕ)) (first second : List Item) → IsDocument d → AreInOrder (items d texts) first → AreInOrder (items d texts) second → first ≡ second
+pub one_order : (d : Document) (texts : List (List ℕ)) (first second : List Item) → IsDocument d → AreEntriesInOrder (items d texts) first → AreEntriesInOrder (items d texts) second → first ≡ second
 one_order d texts first second read in_order in_order' =
     let all = items d texts in
     let each = λ (order : List Item) (permutation : IsPermutation all order). recursion_from_All (Contains all) order (All-permutation (Contains all) all order permutation (All-contains_itself all)) in

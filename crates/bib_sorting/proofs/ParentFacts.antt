@@ -14,7 +14,7 @@ use Rattle.std.proofs.lemmas.Slice.Eq.{bytes_eq-Decides}
 use Rattle.std.specs.Cmp.Lexicographic.{slice_cmp}
 use Rattle.bib_syntax.specs.Reading.{FieldReading, EntryReading}
 use Rattle.bib_documents.specs.Documents.{Document, is_keyed}
-use Rattle.bib_sorting.specs.Sorted.{AreInOrder, Item, crossref, gap_before, item_cmp, items, items_from, names_key, names_one, rank, refers_to, run_after}
+use Rattle.bib_sorting.specs.Sorted.{AreEntriesInOrder, Item, crossref, gap_before, item_cmp, items, items_from, names_key, names_one, rank, refers_to, run_after}
 use Rattle.bib_sorting.proofs.OrderFacts.{item_total}
 use Rattle.bib_sorting.proofs.SetFacts.{or_later}
 
@@ -73,7 +73,7 @@ before_rank x y same less =
     let last = ordering_then (slice_cmp nat_cmp x.text y.text) (nat_cmp x.entry.start y.entry.start) in
     ap (λ o. is_lt (ordering_then o (ordering_then (nat_cmp x.rank y.rank) last))) run ∙ ap (λ o. is_lt (ordering_then o last)) rank
 
-pub parents_follow : (d : Document) (texts : List (List ℕ)) (order : List Item) (i j : ℕ) (parent child : Item) → AreInOrder (items d texts) order → slice_get order i ≡ Some parent → slice_get order j ≡ Some child
+pub parents_follow : (d : Document) (texts : List (List ℕ)) (order : List Item) (i j : ℕ) (parent child : Item) → AreEntriesInOrder (items d texts) order → slice_get order i ≡ Some parent → slice_get order j ≡ Some child
     → child.run ≡ parent.run → parent.rank ≡ 2 → refers_to parent.entry.key.text child.entry ≡ true → j < i
 parents_follow d texts order i j parent child in_order at_i at_j run last refers =
     let all = d.says.entries in

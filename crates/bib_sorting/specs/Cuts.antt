@@ -20,5 +20,5 @@ AreItemsCut text index at [] = IsCharBoundary text at
 AreItemsCut text index at (e ∷ es) = IsItemCut text index at e × AreItemsCut text (index + 1) (e.end + 1) es
 
 -- an entry may be cut out of a text
-abbrev pub IsEntryCut : List ℕ → Item → Type 0
-IsEntryCut text i = CanBeCut text i.entry.start (i.entry.end + 1)
+abbrev pub IsEntryOfItemCut : List ℕ → Item → Type 0
+IsEntryOfItemCut text i = CanBeCut text i.entry.start (i.entry.end + 1)

@@ -3,12 +3,12 @@
 ghost use Rattle.std.specs.Prelude.{◌≡◌, ◌<◌, ℕ, List, Some, true, slice_get};
 ghost use Rattle.std.specs.List.Sorted.{IsSorted};
 ghost use Rattle.bib_documents.specs.Documents.{Document, IsDocument};
-ghost use Rattle.bib_sorting.specs.Sorted.{AreInOrder, IsSortedText, Item, item_cmp, items, refers_to};
+ghost use Rattle.bib_sorting.specs.Sorted.{AreEntriesInOrder, IsSortedText, Item, item_cmp, items, refers_to};
 
 /// Entries have one order.
 pub fn one_order()
     ensures { (d : Document) (texts : List (List ℕ)) (first second : List Item) → IsDocument d →
-        AreInOrder (items d texts) first → AreInOrder (items d texts) second → first ≡ second }
+        AreEntriesInOrder (items d texts) first → AreEntriesInOrder (items d texts) second → first ≡ second }
 {}
 
 /// A text whose entries are in order stays as it is.
@@ -19,7 +19,7 @@ pub fn in_order_stays()
 
 /// An entry that a `crossref` names, and that names none itself, stands after each entry of its run that names it.
 pub fn parents_follow()
-    ensures { (d : Document) (texts : List (List ℕ)) (order : List Item) (i j : ℕ) (parent child : Item) → AreInOrder (items d texts) order →
+    ensures { (d : Document) (texts : List (List ℕ)) (order : List Item) (i j : ℕ) (parent child : Item) → AreEntriesInOrder (items d texts) order →
         slice_get order i ≡ Some parent → slice_get order j ≡ Some child → child.run ≡ parent.run → parent.rank ≡ 2 →
         refers_to parent.entry.key.text child.entry ≡ true → j < i }
 {}
