@@ -7,5 +7,7 @@ pub mod ParentFacts
 pub mod PlacelessFacts
 pub mod PlainFacts
 pub mod ReadFacts
+pub mod SameOrderFacts
 pub mod SetFacts
 pub mod StaysFacts
+pub mod TwiceFacts

@@ -1,24 +1,23 @@
 -- Entries have one order.
-use Rattle.std.proofs.Common.{◌≡◌, ◌⊎◌, inl, inr, ℕ, zero, suc, ◌+◌, ◌<◌, ◌≤◌, Bool, true, false, List, [], ◌∷◌, get_or, length, refl, sym, ap, ◌∙◌, subst, arith}
-use Rattle.std.specs.Prelude.{◌==◌}
-use Rattle.std.specs.List.{AllByRecursion, Contains, sum_by}
+use Rattle.std.proofs.Common.{◌≡◌, inl, inr, ℕ, zero, suc, ◌+◌, ◌<◌, ◌≤◌, true, false, List, [], ◌∷◌, get_or, length, sym, ap, ◌∙◌, subst, arith}
+use Rattle.std.specs.List.{AllByRecursion, Contains}
 use Rattle.std.specs.List.Sorted.{IsPermutation, IsSortedBy}
 use Rattle.std.specs.Ordering.{MatchOrdering, is_lt, nat_cmp, ordering_reverse, ordering_then}
 use Rattle.std.specs.declared.cmp.Ordering.{Ordering}
 use Rattle.std.specs.declared.cmp.Ordering.TheVariants.{Less, Equal, Greater}
 use Rattle.std.specs.Cmp.{ranks}
 use Rattle.std.specs.Cmp.Lexicographic.{slice_cmp}
-use Rattle.std.proofs.lemmas.Bool.{cases_lt, eq-eqb, eqb-true}
+use Rattle.std.proofs.lemmas.Bool.{cases_lt}
 use Rattle.std.proofs.lemmas.List.{get_or_default}
 use Rattle.std.proofs.lemmas.List.Elements.{All-contains_itself, recursion_from_All}
-use Rattle.std.proofs.lemmas.List.Sorted.{All-permutation, ranks_by, sorted_far, sum_by-IsPermutation}
-use Rattle.std.proofs.lemmas.List.Sums.{sum_by-cons}
+use Rattle.std.proofs.lemmas.List.Sorted.{All-permutation, IsPermutation-sym, IsPermutation-trans, ranks_by, sorted_far}
 use Rattle.bib_syntax.specs.Reading.{EntryReading}
 use Rattle.bib_documents.specs.Documents.{Document, IsDocument}
 use Rattle.bib_sorting.specs.Cuts.{AreItemsCut}
 use Rattle.bib_sorting.specs.Sorted.{AreEntriesInOrder, Item, gap_before, item_cmp, items, items_from, run_after}
 use Rattle.bib_sorting.proofs.FileFacts.{document_parts}
 use Rattle.bib_sorting.proofs.OrderFacts.{item_total}
+use Rattle.bib_sorting.proofs.SameOrderFacts.{AreUp, same_order}
 
 -- ---- each entry begins after those before it
 
@@ -77,97 +76,22 @@ neither r Greater back is is' = absurd (let clash : true ≡ false = sym (ap is_
 
 -- ---- entries in order, one by one
 
-abbrev IsNotBefore : Item → Item → Type 0
-IsNotBefore x y = is_lt (item_cmp y x) ≡ false
-
-abbrev AreUp : List Item → Type 0
-AreUp [] = Unit {0}
-AreUp (x ∷ xs) = AllByRecursion (IsNotBefore x) xs × AreUp xs
+abbrev pub IsNotAfter : Item → Item → Type 0
+IsNotAfter x y = is_lt (item_cmp y x) ≡ false
 
 all_from : (P : Item → Type 0) (xs : List Item) (d : Item) → ((k : ℕ) → k < length xs → P (get_or xs k d)) → AllByRecursion P xs
 all_from P [] d each = tt
 all_from P (x ∷ xs) d each = (each 0 (omega arith), all_from P xs d (λ k within. each (suc k) (omega arith)))
 
-up_from : (xs : List Item) → IsSortedBy (λ x y. is_lt (item_cmp x y)) xs → AreUp xs
+pub up_from : (xs : List Item) → IsSortedBy (λ x y. is_lt (item_cmp x y)) xs → AreUp IsNotAfter xs
 up_from [] sorted = tt
 up_from (x ∷ xs) sorted = (
-  all_from (IsNotBefore x) xs x (λ k within. sorted_far (λ y z. is_lt (item_cmp y z)) (ranks_by item_total {X = Item} (λ i. i)) (x ∷ xs) sorted 0 (suc k) x (omega arith) (omega arith)),
+  all_from (IsNotAfter x) xs x (λ k within. sorted_far (λ y z. is_lt (item_cmp y z)) (ranks_by item_total {X = Item} (λ i. i)) (x ∷ xs) sorted 0 (suc k) x (omega arith) (omega arith)),
   up_from xs
       (λ k d from within.
       let next : suc k + 1 ≡ suc (k + 1) = omega arith in
       subst (λ n. is_lt (item_cmp (get_or (x ∷ xs) n d) (get_or xs k d)) ≡ false) next (sorted (suc k) d (omega arith) (omega arith))),
 )
-
--- how many entries begin at a place
-abbrev one_if : Bool → ℕ
-one_if true = 1
-one_if false = 0
-
-begins : ℕ → Item → ℕ
-begins n i = one_if (i.entry.start == n)
-
-abbrev count_at : ℕ → List Item → ℕ
-count_at n [] = 0
-count_at n (i ∷ rest) = begins n i + count_at n rest
-
-count_is : (n : ℕ) (xs : List Item) → sum_by (begins n) xs ≡ count_at n xs
-count_is n [] = refl
-count_is n (x ∷ xs) = sum_by-cons (begins n) x xs ∙ ap (λ m. begins n x + m) (count_is n xs)
-
-begins_here : (i : Item) → begins i.entry.start i ≡ 1
-unfolding begins
-begins_here i = ap one_if (eq-eqb i.entry.start i.entry.start refl)
-
-abbrev IsIn : Item → List Item → Type 0
-IsIn x [] = ⊥
-IsIn x (y ∷ ys) = (x ≡ y) ⊎ IsIn x ys
-
-begins_at : (n : ℕ) (i : Item) → (begins n i ≡ 0) ⊎ (i.entry.start ≡ n)
-unfolding begins
-begins_at n i = by_test (i.entry.start == n) refl
-  where
-    by_test : (b : Bool) → (i.entry.start == n) ≡ b → (one_if b ≡ 0) ⊎ (i.entry.start ≡ n)
-    by_test true is = inr (eqb-true i.entry.start n is)
-    by_test false is = inl refl
-
--- one of entries begins where some begin
-found : (n : ℕ) (xs : List Item) → 0 < count_at n xs → (x : Item) × IsIn x xs × (x.entry.start ≡ n)
-found n [] some = absurd (omega arith)
-found n (x ∷ xs) some =
-    elim (begins_at n x) [
-      | inr here ↦ (x, inl refl, here)
-      | inl other ↦
-          let later = found n xs (omega (arith, other)) in
-          (later.0, inr later.1, later.2)
-    ]
-
-in_all : (P : Item → Type 0) (x : Item) (xs : List Item) → AllByRecursion P xs → IsIn x xs → P x
-in_all P x [] all there = absurd there
-in_all P x (y ∷ ys) all (inl same) = subst P (sym same) all.0
-in_all P x (y ∷ ys) all (inr later) = in_all P x ys all.1 later
-
--- an entry that is counted is there
-there_is : (all : List Item) (x : Item) (ys : List Item) → AreOneByStart all → Contains all x → AllByRecursion (Contains all) ys → 0 < count_at x.entry.start ys → IsIn x ys
-there_is all x ys one known each some =
-    let y = found x.entry.start ys some in
-    subst (λ z. IsIn z ys) (one y.0 x (in_all (Contains all) y.0 ys each y.1) known y.2) y.1
-
-first_same : (all : List Item) (x y : Item) (xs ys : List Item) → AreOneByStart all → Contains all x → Contains all y → AllByRecursion (IsNotBefore x) xs → AllByRecursion (IsNotBefore y) ys → IsIn x (y ∷ ys) → IsIn y (x ∷ xs) → x ≡ y
-first_same all x y xs ys one known known' up up' (inl same) there' = same
-first_same all x y xs ys one known known' up up' (inr there) (inl same) = sym same
-first_same all x y xs ys one known known' up up' (inr there) (inr there') =
-    one x y known known' (tied_start x y (neither (item_cmp x y) (item_cmp y x) (item_total.antisymm x y) (in_all (IsNotBefore y) x ys up' there) (in_all (IsNotBefore x) y xs up there')))
-
-same_order : (all : List Item) (xs ys : List Item) → AreOneByStart all → AreUp xs → AreUp ys → AllByRecursion (Contains all) xs → AllByRecursion (Contains all) ys → ((n : ℕ) → count_at n xs ≡ count_at n ys) → xs ≡ ys
-same_order all [] [] one up up' each each' counts = refl
-same_order all [] (y ∷ ys) one up up' each each' counts = absurd (omega (arith, counts y.entry.start, begins_here y))
-same_order all (x ∷ xs) [] one up up' each each' counts = absurd (omega (arith, counts x.entry.start, begins_here x))
-same_order all (x ∷ xs) (y ∷ ys) one up up' each each' counts =
-    let there = there_is all x (y ∷ ys) one each.0 each' (omega (arith, counts x.entry.start, begins_here x)) in
-    let there' = there_is all y (x ∷ xs) one each'.0 each (omega (arith, counts y.entry.start, begins_here y)) in
-    let same = first_same all x y xs ys one each.0 each'.0 up.0 up'.0 there there' in
-    let rest = same_order all xs ys one up.1 up'.1 each.1 each'.1 (λ n. omega (arith, counts n, ap (begins n) same)) in
-    ap (λ z. z ∷ xs) same ∙ ap (λ l. y ∷ l) rest
 
 -- ---- the entries of a document
 
@@ -177,6 +101,8 @@ starts_in_order d texts read = starts_rise d.says.entries d.text texts 0 0 0 d.s
 pub one_order : (d : Document) (texts : List (List ℕ)) (first second : List Item) → IsDocument d → AreEntriesInOrder (items d texts) first → AreEntriesInOrder (items d texts) second → first ≡ second
 one_order d texts first second read in_order in_order' =
     let all = items d texts in
+    let one = one_by_start all (starts_in_order d texts read) in
+    let tie = λ (x y : Item) (known : Contains all x) (known' : Contains all y) (up : IsNotAfter x y) (up' : IsNotAfter y x). one x y known known' (tied_start x y (neither (item_cmp x y) (item_cmp y x) (item_total.antisymm x y) up' up)) in
     let each = λ (order : List Item) (permutation : IsPermutation all order). recursion_from_All (Contains all) order (All-permutation (Contains all) all order permutation (All-contains_itself all)) in
-    let counts = λ (n : ℕ). sym (count_is n first) ∙ sum_by-IsPermutation (begins n) all first in_order.permutation ∙ sym (sum_by-IsPermutation (begins n) all second in_order'.permutation) ∙ count_is n second in
-    same_order all first second (one_by_start all (starts_in_order d texts read)) (up_from first in_order.sorted) (up_from second in_order'.sorted) (each first in_order.permutation) (each second in_order'.permutation) counts
+    same_order (λ i. i.entry.start) (Contains all) IsNotAfter one tie first second (up_from first in_order.sorted) (up_from second in_order'.sorted) (each first in_order.permutation) (each second in_order'.permutation)
+    (IsPermutation-trans first all second (IsPermutation-sym all first in_order.permutation) in_order'.permutation)

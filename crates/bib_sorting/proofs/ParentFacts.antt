@@ -19,9 +19,9 @@ use Rattle.bib_sorting.proofs.OrderFacts.{item_total}
 use Rattle.bib_sorting.proofs.SetFacts.{or_later}
 
 -- what is known of each entry that is ordered
-record IsKnown (all : List EntryReading) (i : Item) : Type 0 where
-  ranked : i.rank ≡ rank all i.entry
-  keyed : list_any (is_keyed i.entry.key.text) all ≡ true
+pub record IsKnown (all : List EntryReading) (i : Item) : Type 0 where
+  pub ranked : i.rank ≡ rank all i.entry
+  pub keyed : list_any (is_keyed i.entry.key.text) all ≡ true
 
 any_both : {A : Type 0} (p q : A → Bool) (xs : List A) → ((x : A) → p x ≡ true → q x ≡ true) → list_any p xs ≡ true → list_any q xs ≡ true
 any_both p q [] both some = some
@@ -73,13 +73,17 @@ before_rank x y same less =
     let last = ordering_then (slice_cmp nat_cmp x.text y.text) (nat_cmp x.entry.start y.entry.start) in
     ap (λ o. is_lt (ordering_then o (ordering_then (nat_cmp x.rank y.rank) last))) run ∙ ap (λ o. is_lt (ordering_then o last)) rank
 
+pub known_items : (d : Document) (texts : List (List ℕ)) (order : List Item) → AreEntriesInOrder (items d texts) order → AllByRecursion (IsKnown d.says.entries) order
+known_items d texts order in_order =
+    let all = d.says.entries in
+    recursion_from_All (IsKnown all) order
+    (All-permutation (IsKnown all) (items d texts) order in_order.permutation (All-from_recursion (IsKnown all) (items d texts) (known_from all d.text texts 0 0 0 all (keyed_all all))))
+
 pub parents_follow : (d : Document) (texts : List (List ℕ)) (order : List Item) (i j : ℕ) (parent child : Item) → AreEntriesInOrder (items d texts) order → slice_get order i ≡ Some parent → slice_get order j ≡ Some child
     → child.run ≡ parent.run → parent.rank ≡ 2 → refers_to parent.entry.key.text child.entry ≡ true → j < i
 parents_follow d texts order i j parent child in_order at_i at_j run last refers =
     let all = d.says.entries in
-    let known : AllByRecursion (IsKnown all) order =
-    recursion_from_All (IsKnown all) order
-    (All-permutation (IsKnown all) (items d texts) order in_order.permutation (All-from_recursion (IsKnown all) (items d texts) (known_from all d.text texts 0 0 0 all (keyed_all all)))) in
+    let known = known_items d texts order in_order in
     let parent_known = known_at all order i parent known at_i in
     let child_known = known_at all order j child known at_j in
     let has_parent = any_both (names_key parent.entry.key.text) (names_one all) child.entry.fields (λ f names. named_one all parent.entry.key.text f parent_known.keyed names) refers in

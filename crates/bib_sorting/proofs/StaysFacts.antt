@@ -17,7 +17,7 @@ use Rattle.bib_sorting.proofs.LineFacts.{AfterFeed, feed_before}
 use Rattle.bib_sorting.proofs.OneOrderFacts.{one_order}
 
 -- a text ends in another
-abbrev EndsIn : List ℕ → List ℕ → Type 0
+abbrev pub EndsIn : List ℕ → List ℕ → Type 0
 EndsIn text rest = (front : List ℕ) × (text ≡ front ++ rest)
 
 ends_then : (text middle rest : List ℕ) → EndsIn text middle → EndsIn middle rest → EndsIn text rest
@@ -34,7 +34,7 @@ near_end false gap = ([], refl)
 white_end : (bytes : List ℕ) → EndsIn bytes (without_white bytes)
 white_end bytes = let n = prefix_len is_ascii_whitespace bytes in (take n bytes, sym (take-append-drop n bytes))
 
-comment_end : (is_first : Bool) (gap : List ℕ) → EndsIn gap (comment_in is_first gap)
+pub comment_end : (is_first : Bool) (gap : List ℕ) → EndsIn gap (comment_in is_first gap)
 comment_end is_first gap = by_sign (has_byte 64 gap)
   where
     by_sign : (c : Bool) → EndsIn gap (cond c [] (without_white (near_entry is_first gap)))

@@ -1,9 +1,11 @@
 //! Laws of files with their entries in order. These functions do nothing: what they ensure is proved of the definitions alone.
 
-ghost use Rattle.std.specs.Prelude.{◌≡◌, ◌<◌, ℕ, List, Some, true, slice_get};
+ghost use Rattle.std.specs.Prelude.{◌≡◌, ◌<◌, ℕ, List, Some, true, map, slice_get};
 ghost use Rattle.std.specs.List.Sorted.{IsSorted};
+ghost use Rattle.bib_syntax.specs.Grammar.{IsRawReading};
+ghost use Rattle.bib_syntax.specs.Reading.{FileReading};
 ghost use Rattle.bib_documents.specs.Documents.{Document, IsDocument};
-ghost use Rattle.bib_sorting.specs.Sorted.{AreEntriesInOrder, IsSortedText, Item, item_cmp, items, refers_to};
+ghost use Rattle.bib_sorting.specs.Sorted.{AreEntriesInOrder, IsSortedText, Item, item_cmp, items, refers_to, text_in_order};
 
 /// Entries have one order.
 pub fn one_order()
@@ -15,6 +17,19 @@ pub fn one_order()
 pub fn in_order_stays()
     ensures { (d : Document) (texts : List (List ℕ)) (new : List ℕ) → IsDocument d →
         IsSorted item_cmp (items d texts) → IsSortedText d texts new → new ≡ d.text }
+{}
+
+/// A text that comes of ordering entries stays as it is where they are ordered again by the same texts.
+pub fn twice_is_once()
+    ensures { (d : Document) (texts : List (List ℕ)) (order : List Item) (again : FileReading) (new : List ℕ) → IsDocument d →
+        AreEntriesInOrder (items d texts) order → IsRawReading (text_in_order d order) again →
+        IsSortedText (record { text = text_in_order d order; says = again }) (map (λ i. i.text) order) new → new ≡ text_in_order d order }
+{}
+
+/// Each run has its entries where it had entries: none moves over an at sign that is no entry's.
+pub fn runs_stay()
+    ensures { (d : Document) (texts : List (List ℕ)) (order : List Item) →
+        AreEntriesInOrder (items d texts) order → map (λ i. i.run) order ≡ map (λ i. i.run) (items d texts) }
 {}
 
 /// An entry that a `crossref` names, and that names none itself, stands after each entry of its run that names it.
