@@ -1,15 +1,14 @@
 -- A file with its entries in another order, as it is read.
-use Rattle.std.proofs.Common.{◌≡◌, ℕ, suc, ◌+◌, ◌-◌, ◌≤◌, Bool, true, false, List, [], ◌∷◌, ◌++◌, length, drop, take, map, refl, sym, ap, ◌∙◌, subst, arith, append_assoc, length-drop}
+use Rattle.std.proofs.Common.{◌≡◌, ℕ, suc, ◌+◌, ◌-◌, ◌≤◌, List, [], ◌∷◌, ◌++◌, length, drop, take, map, refl, sym, ap, ◌∙◌, subst, arith, append_assoc, length-append, length-drop}
 use Rattle.std.specs.Prelude.{◌==◌}
 use Rattle.std.specs.List.{AllByRecursion}
-use Rattle.std.specs.List.Sorted.{IsPermutation}
 use Rattle.std.specs.Str.{IsCharBoundary}
-use Rattle.std.proofs.lemmas.List.{length-map, length-take-le}
+use Rattle.std.proofs.lemmas.List.{length-map, length-take-le, take_at}
 use Rattle.std.proofs.lemmas.List.Elements.{All-from_recursion, recursion_from_All}
 use Rattle.std.proofs.lemmas.List.Sorted.{All-permutation, length_permutation}
 use Rattle.bib_text.specs.Places.{Place, place, between}
 use Rattle.bib_text.proofs.PlaceFacts.{ahead_then, ahead_char, ahead_run, char_left, same_place}
-use Rattle.bib_syntax.specs.Reading.{FieldReading, EntryReading, FileReading, then}
+use Rattle.bib_syntax.specs.Reading.{EntryReading, FileReading, then}
 use Rattle.bib_syntax.specs.Recovery.{entry_alone}
 use Rattle.bib_syntax.specs.Grammar.{File, IsRawReading, longest}
 use Rattle.bib_syntax.specs.Grammar.{File as file}
@@ -22,15 +21,14 @@ use Rattle.bib_documents.proofs.GrammarFacts.{moved-then}
 use Rattle.bib_documents.proofs.MovedFacts.{body_within, char_within, file_there}
 use Rattle.bib_documents.proofs.SplitFacts.{ahead_file_before, joined_file}
 use Rattle.bib_documents.proofs.ZoneFacts.{Frame, Inside, Zone, there}
-use Rattle.bib_format.specs.Cuts.{CanBeCut}
-use Rattle.bib_format.proofs.CutFacts.{Stood, cut_file, cut_stood, stood}
+use Rattle.bib_format.proofs.CutFacts.{cut_file, cut_stood, stood}
 use Rattle.bib_format.proofs.SplitFacts.{ByEntries, by_entries}
 use Rattle.bib_format.proofs.StandsFacts.{Stands, past}
-use Rattle.bib_sorting.specs.Cuts.{AreItemsCut, IsEntryCut, IsItemCut}
-use Rattle.bib_sorting.specs.Sorted.{AreInOrder, IsReadSorted, IsSortedText, Item, comment_in, content, entry_bytes, gap_before, items, items_from, laid_out, place_after, run_after, says_in_order, space_in, spaces_from, text_in_order}
+use Rattle.bib_sorting.specs.Cuts.{AreItemsCut, IsEntryOfItemCut, IsItemCut}
+use Rattle.bib_sorting.specs.Sorted.{AreEntriesInOrder, IsReadSorted, Item, comment_in, placeless, entry_bytes, gap_before, items, items_from, laid_out, place_after, run_after, says_in_order, space_in, spaces_from, text_in_order}
 use Rattle.bib_sorting.proofs.PlacelessFacts.{file_placeless}
 use Rattle.bib_sorting.proofs.PlainFacts.{ahead_plain, stood_plain}
-use Rattle.bib_sorting.proofs.ReadFacts.{GapCut, ItemReads, SpaceReads, gap_cut, item_reads}
+use Rattle.bib_sorting.proofs.ReadFacts.{ItemReads, SpaceReads, gap_cut, item_reads}
 
 -- ---- the rest of a text, without entries
 
@@ -38,7 +36,7 @@ use Rattle.bib_sorting.proofs.ReadFacts.{GapCut, ItemReads, SpaceReads, gap_cut,
 pub record FileThere (says : FileReading) (u : Place) : Type 0 where
   pub reading : FileReading
   pub file : File longest u reading
-  pub alike : content reading ≡ content says
+  pub alike : placeless reading ≡ placeless says
 
 abbrev RestReads : List ℕ → FileReading → Type 0
 RestReads bytes says = (u : Place) → drop u.at u.text ≡ bytes → u.at ≤ length u.text → FileThere says u
@@ -127,6 +125,7 @@ file_parts text index {u} {says} same within cut (ByEntries.more {s = s} {v = v}
     let at_mid = subst (λ n. IsCharBoundary text n) mid_is (cut_stood text mid_text (stood_plain gap.rest (stood x.head.sign))) in
     let item : IsItemCut text index u.at e = record {
       gap = record { ordered = omega (arith, to_start.at, x.starts); start_cut = cut; end_cut = at_start };
+      some = omega (arith, x.starts, x.ends, to_brace.at);
       small = omega (arith, x.starts);
       space = record { ordered = omega (arith, gap.first.at, mid_is); start_cut = cut; end_cut = at_mid };
       whole = record { ordered = omega (arith, x.starts, end_is, to_end.at); start_cut = at_start; end_cut = subst (λ n. IsCharBoundary text n) end_is after_cut };
@@ -147,36 +146,68 @@ file_parts text index {u} {says} same within cut (ByEntries.more {s = s} {v = v}
 
 -- ---- read in another order
 
-alike_then : (gap before rest reading : FileReading) (e e' : EntryReading) → content gap ≡ content before → moved_entry (λ n. 0) e' ≡ moved_entry (λ n. 0) e → content reading ≡ content rest
-    → content (then gap (then (entry_alone e') reading)) ≡ content (then before (then (entry_alone e) rest))
+alike_then : (gap before rest reading : FileReading) (e e' : EntryReading) → placeless gap ≡ placeless before → moved_entry (λ n. 0) e' ≡ moved_entry (λ n. 0) e → placeless reading ≡ placeless rest
+    → placeless (then gap (then (entry_alone e') reading)) ≡ placeless (then before (then (entry_alone e) rest))
 alike_then gap before rest reading e e' between_entries entry others =
     moved-then (λ n. 0) gap (then (entry_alone e') reading)
-    ∙ ap (λ r. then r (content (then (entry_alone e') reading))) between_entries
-    ∙ ap (then (content before)) (moved-then (λ n. 0) (entry_alone e') reading ∙ ap (λ y. then (entry_alone y) (content reading)) entry ∙ ap (then (entry_alone (moved_entry (λ n. 0) e))) others ∙ sym (moved-then (λ n. 0) (entry_alone e) rest))
+    ∙ ap (λ r. then r (placeless (then (entry_alone e') reading))) between_entries
+    ∙ ap (then (placeless before)) (moved-then (λ n. 0) (entry_alone e') reading ∙ ap (λ y. then (entry_alone y) (placeless reading)) entry ∙ ap (then (entry_alone (moved_entry (λ n. 0) e))) others ∙ sym (moved-then (λ n. 0) (entry_alone e) rest))
     ∙ sym (moved-then (λ n. 0) before (then (entry_alone e) rest))
 
 stands_here : (u : Place) (xs ys : List ℕ) → drop u.at u.text ≡ xs ++ ys → Stands u xs (past u xs)
 stands_here u xs ys here = record { same = refl; here = here ∙ ap (λ t. xs ++ t) (sym (text_stands u.text xs ys u.at here)); next = refl }
 
-order_read : (text : List ℕ) (spaces : List (List ℕ)) (befores : List FileReading) (order : List Item) (last : List ℕ) (rest : FileReading) → AllSpaces spaces befores → AllByRecursion (ReadsItem text) order → length spaces ≡ length order → RestReads last rest
-    → (u : Place) → drop u.at u.text ≡ laid_out text spaces order last → u.at ≤ length u.text → FileThere (rejoined befores (map (λ i. i.entry) order) rest) u
-order_read text [] [] order last rest spaces items as_many ends u here within = ends u here within
-order_read text [] (b ∷ bs) order last rest spaces items as_many ends u here within = absurd spaces
-order_read text (s ∷ ss) [] order last rest spaces items as_many ends u here within = absurd spaces
-order_read text (s ∷ ss) (b ∷ bs) [] last rest spaces items as_many ends u here within = absurd (omega (arith, as_many))
-order_read text (s ∷ ss) (b ∷ bs) (i ∷ order) last rest spaces items as_many ends u here within =
+-- between entries of a text stand these spaces, each with the comment of the entry after it
+abbrev pub AreLaid : List ℕ → ℕ → List EntryReading → List (List ℕ) → List Item → Type 0
+AreLaid text at [] [] [] = Unit {0}
+AreLaid text at [] [] (i ∷ order) = ⊥
+AreLaid text at [] (s ∷ ss) order = ⊥
+AreLaid text at (e ∷ es) [] order = ⊥
+AreLaid text at (e ∷ es) (s ∷ ss) [] = ⊥
+AreLaid text at (e ∷ es) (s ∷ ss) (i ∷ order) = (gap_before text at e ≡ s ++ i.comment) × AreLaid text (e.end + 1) es ss order
+
+-- entries in another order, read from a place on
+pub record OrderThere (says : FileReading) (spaces : List (List ℕ)) (order : List Item) (u : Place) : Type 0 where
+  pub reading : FileReading
+  pub file : File longest u reading
+  pub alike : placeless reading ≡ placeless says
+  pub laid : AreLaid u.text u.at reading.entries spaces order
+
+empty_map : {A B : Type 0} (f : A → B) (xs : List A) → map f xs ≡ [] → xs ≡ []
+empty_map f [] none = refl
+empty_map f (x ∷ xs) none = absurd (cc)
+
+no_entries : (reading says : FileReading) → placeless reading ≡ placeless says → says.entries ≡ [] → reading.entries ≡ []
+no_entries reading says alike none = empty_map (moved_entry (λ n. 0)) reading.entries (ap (λ r. r.entries) alike ∙ ap (map (moved_entry (λ n. 0))) none)
+
+order_read : (text : List ℕ) (spaces : List (List ℕ)) (befores : List FileReading) (order : List Item) (last : List ℕ) (rest : FileReading) → AllSpaces spaces befores → AllByRecursion (ReadsItem text) order → length spaces ≡ length order → RestReads last rest → rest.entries ≡ []
+    → (u : Place) → drop u.at u.text ≡ laid_out text spaces order last → u.at ≤ length u.text → OrderThere (rejoined befores (map (λ i. i.entry) order) rest) spaces order u
+order_read text [] [] [] last rest spaces items as_many ends none u here within =
+    let there = ends u here within in
+    record { reading = there.reading; file = there.file; alike = there.alike; laid = subst (λ es. AreLaid u.text u.at es [] []) (sym (no_entries there.reading rest there.alike none)) tt }
+order_read text [] [] (i ∷ order) last rest spaces items as_many ends none u here within = absurd (omega (arith, as_many))
+order_read text [] (b ∷ bs) order last rest spaces items as_many ends none u here within = absurd spaces
+order_read text (s ∷ ss) [] order last rest spaces items as_many ends none u here within = absurd spaces
+order_read text (s ∷ ss) (b ∷ bs) [] last rest spaces items as_many ends none u here within = absurd (omega (arith, as_many))
+order_read text (s ∷ ss) (b ∷ bs) (i ∷ order) last rest spaces items as_many ends none u here within =
     let bytes = entry_bytes text i.entry in
     let tail = laid_out text ss order last in
     let p = past u s in
     let here' : drop p.at p.text ≡ (i.comment ++ bytes) ++ tail = text_stands u.text s (i.comment ++ (bytes ++ tail)) u.at here ∙ sym (append_assoc i.comment bytes tail) in
     let q = past p (i.comment ++ bytes) in
     let item = items.0 p q (stands_here p (i.comment ++ bytes) tail here') in
+    let e' = item.entry.reading in
     let space = spaces.0 u p (stands_here u s (i.comment ++ (bytes ++ tail)) here) item.stood in
-    let others = order_read text ss bs order last rest spaces.2 items.1 (omega (arith, as_many)) ends q (text_stands p.text (i.comment ++ bytes) tail p.at here') (body_within item.entry.block.body) in
+    let others = order_read text ss bs order last rest spaces.2 items.1 (omega (arith, as_many)) ends none q (text_stands p.text (i.comment ++ bytes) tail p.at here') (body_within item.entry.block.body) in
+    let size : length (s ++ i.comment) ≡ e'.start - u.at = omega (arith, length-append s i.comment, item.entry.starts, item.at_start) in
+    let gap : gap_before u.text u.at e' ≡ s ++ i.comment =
+    ap (take (e'.start - u.at)) (here ∙ sym (append_assoc s i.comment (bytes ++ tail))) ∙ take_at (s ++ i.comment) (bytes ++ tail) (e'.start - u.at) size in
     record {
-      reading = then space.reading (then (entry_alone item.entry.reading) others.reading);
+      reading = then space.reading (then (entry_alone e') others.reading);
       file = joined_file space.file (joined_file item.comment (file.block item.entry.block others.file));
-      alike = alike_then space.reading b (rejoined bs (map (λ i. i.entry) order) rest) others.reading i.entry item.entry.reading space.alike item.entry.alike others.alike;
+      alike = alike_then space.reading b (rejoined bs (map (λ i. i.entry) order) rest) others.reading i.entry e' space.alike item.entry.alike others.alike;
+      laid = subst (λ es. AreLaid u.text u.at (es ++ e' ∷ others.reading.entries) (s ∷ ss) (i ∷ order)) (sym (no_entries space.reading b space.alike spaces.1))
+          (gap, subst (λ n. AreLaid u.text n others.reading.entries ss order) (sym item.entry.ends) others.laid);
     }
 
 -- ---- what is said in another order
@@ -198,7 +229,7 @@ length-spaces : (text : List ℕ) (index at : ℕ) (es : List EntryReading) → 
 length-spaces text index at [] = refl
 length-spaces text index at (e ∷ es) = ap suc (length-spaces text (index + 1) (e.end + 1) es)
 
-length-items : (all : List EntryReading) (text : List ℕ) (texts : List (List ℕ)) (index at run : ℕ) (es : List EntryReading) → length (items_from all text texts index at run es) ≡ length es
+pub length-items : (all : List EntryReading) (text : List ℕ) (texts : List (List ℕ)) (index at run : ℕ) (es : List EntryReading) → length (items_from all text texts index at run es) ≡ length es
 length-items all text texts index at run [] = refl
 length-items all text texts index at run (e ∷ es) = ap suc (length-items all text texts (index + 1) (e.end + 1) (run_after run (gap_before text at e)) es)
 
@@ -207,39 +238,50 @@ length-items all text texts index at run (e ∷ es) = ap suc (length-items all t
 pub document_parts : (d : Document) → IsDocument d → FileParts d.text 0 0 d.says.entries d.says
 document_parts d read = file_parts d.text 0 {u = place d.text 0} refl (omega arith) (cut_file d.text refl read) (by_entries read)
 
-pub as_many : (d : Document) (texts : List (List ℕ)) (order : List Item) → AreInOrder (items d texts) order → length (spaces_from d.text 0 0 d.says.entries) ≡ length order
+pub as_many : (d : Document) (texts : List (List ℕ)) (order : List Item) → AreEntriesInOrder (items d texts) order → length (spaces_from d.text 0 0 d.says.entries) ≡ length order
 as_many d texts order in_order =
     length-spaces d.text 0 0 d.says.entries ∙ sym (length-items d.says.entries d.text texts 0 0 0 d.says.entries) ∙ sym (length_permutation (items d texts) order in_order.permutation)
 
-pub text_read : (d : Document) (texts : List (List ℕ)) (order : List Item) → IsDocument d → AreInOrder (items d texts) order → IsReadSorted d texts (text_in_order d order)
-text_read d texts order read in_order =
+-- the text in another order is read
+pub record OrderRead (d : Document) (order : List Item) : Type 0 where
+  pub reading : FileReading
+  pub read : IsRawReading (text_in_order d order) reading
+  pub alike : placeless reading ≡ placeless (says_in_order d order)
+  pub laid : AreLaid (text_in_order d order) 0 reading.entries (spaces_from d.text 0 0 d.says.entries) order
+
+pub read_in_order : (d : Document) (texts : List (List ℕ)) (order : List Item) → IsDocument d → AreEntriesInOrder (items d texts) order → OrderRead d order
+read_in_order d texts order read in_order =
     let parts = document_parts d read in
     let spaces = spaces_from d.text 0 0 d.says.entries in
     let es = map (λ i. i.entry) order in
     let all = recursion_from_All (ReadsItem d.text) order
     (All-permutation (ReadsItem d.text) (items d texts) order in_order.permutation (All-from_recursion (ReadsItem d.text) (items d texts) (parts.items d.says.entries texts 0))) in
     let size = as_many d texts order in_order in
-    let said = order_read d.text spaces parts.befores order (drop (place_after 0 d.says.entries) d.text) parts.rest parts.spaces all size parts.last (place (text_in_order d order) 0) refl (omega arith) in
+    let said = order_read d.text spaces parts.befores order (drop (place_after 0 d.says.entries) d.text) parts.rest parts.spaces all size parts.last parts.none (place (text_in_order d order) 0) refl (omega arith) in
     record {
-      order = order;
-      in_order = in_order;
-      tells = said.reading;
+      reading = said.reading;
       read = said.file;
-      alike = said.alike ∙ ap content (said_with parts.befores spaces d.says.entries es parts.rest parts.spaces parts.none (length-spaces d.text 0 0 d.says.entries) (size ∙ sym (length-map order (λ i. i.entry))))
-          ∙ ap (λ says. content (record says { entries = es })) (sym parts.whole);
+      alike = said.alike ∙ ap placeless (said_with parts.befores spaces d.says.entries es parts.rest parts.spaces parts.none (length-spaces d.text 0 0 d.says.entries) (size ∙ sym (length-map order (λ i. i.entry))))
+          ∙ ap (λ says. placeless (record says { entries = es })) (sym parts.whole);
+      laid = said.laid;
     }
+
+pub text_read : (d : Document) (texts : List (List ℕ)) (order : List Item) → IsDocument d → AreEntriesInOrder (items d texts) order → IsReadSorted d texts (text_in_order d order)
+text_read d texts order read in_order =
+    let said = read_in_order d texts order read in_order in
+    record { order = order; in_order = in_order; tells = said.reading; read = said.read; alike = said.alike }
 
 -- ---- where it may be cut
 
-entries_cut : (all : List EntryReading) (text : List ℕ) (texts : List (List ℕ)) (index at run : ℕ) (es : List EntryReading) → AreItemsCut text index at es → AllByRecursion (IsEntryCut text) (items_from all text texts index at run es)
+entries_cut : (all : List EntryReading) (text : List ℕ) (texts : List (List ℕ)) (index at run : ℕ) (es : List EntryReading) → AreItemsCut text index at es → AllByRecursion (IsEntryOfItemCut text) (items_from all text texts index at run es)
 entries_cut all text texts index at run [] cut = tt
 entries_cut all text texts index at run (e ∷ es) cut = (cut.0.whole, entries_cut all text texts (index + 1) (e.end + 1) (run_after run (gap_before text at e)) es cut.1)
 
-pub order_cut : (d : Document) (texts : List (List ℕ)) (order : List Item) → IsDocument d → AreInOrder (items d texts) order → AllByRecursion (IsEntryCut d.text) order
+pub order_cut : (d : Document) (texts : List (List ℕ)) (order : List Item) → IsDocument d → AreEntriesInOrder (items d texts) order → AllByRecursion (IsEntryOfItemCut d.text) order
 order_cut d texts order read in_order =
-    recursion_from_All (IsEntryCut d.text) order
-    (All-permutation (IsEntryCut d.text) (items d texts) order in_order.permutation
-    (All-from_recursion (IsEntryCut d.text) (items d texts) (entries_cut d.says.entries d.text texts 0 0 0 d.says.entries (document_parts d read).cut)))
+    recursion_from_All (IsEntryOfItemCut d.text) order
+    (All-permutation (IsEntryOfItemCut d.text) (items d texts) order in_order.permutation
+    (All-from_recursion (IsEntryOfItemCut d.text) (items d texts) (entries_cut d.says.entries d.text texts 0 0 0 d.says.entries (document_parts d read).cut)))
 
 last_cut : (text : List ℕ) (index at : ℕ) (es : List EntryReading) → AreItemsCut text index at es → IsCharBoundary text (place_after at es)
 last_cut text index at [] cut = cut

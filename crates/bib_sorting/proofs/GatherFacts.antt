@@ -1,12 +1,10 @@
 -- Entries as they are gathered, one more at a time.
-use Rattle.std.proofs.Common.{◌≡◌, ℕ, suc, ◌+◌, ◌-◌, ◌<◌, ◌≤◌, Bool, true, false, cond, List, [], ◌∷◌, ◌++◌, drop, get_or, length, map, take, refl, sym, ap, ◌∙◌, subst, arith, append_assoc, length-drop, drop-cons}
-use Rattle.std.specs.Prelude.{◌==◌}
+use Rattle.std.proofs.Common.{◌≡◌, ℕ, suc, ◌+◌, ◌-◌, ◌<◌, ◌≤◌, Bool, true, false, cond, List, [], ◌∷◌, ◌++◌, drop, get_or, length, map, take, sym, ap, ◌∙◌, arith, append_assoc, length-drop, drop-cons}
 use Rattle.std.proofs.lemmas.List.{map-append, length-take-le, take-take}
 use Rattle.bib_text.specs.declared.spanned.Spanned.{Spanned}
 use Rattle.bib_syntax.specs.declared.raw.RawEntry.{RawEntry}
-use Rattle.bib_syntax.specs.Reading.{EntryReading}
 use Rattle.bib_syntax.specs.Views.{entry_reading_of}
-use Rattle.bib_sorting.specs.Sorted.{comment_in, run_after, space_in}
+use Rattle.bib_sorting.specs.Sorted.{comment_in, space_in}
 
 -- the first of what is left
 pub next_entry : (entries : List (Spanned RawEntry)) (i : ℕ) (e : Spanned RawEntry) → i < length entries → e ≡ get_or entries i e

@@ -1,8 +1,13 @@
 pub mod FileFacts
 pub mod GatherFacts
 pub mod LineFacts
+pub mod OneOrderFacts
 pub mod OrderFacts
+pub mod ParentFacts
 pub mod PlacelessFacts
 pub mod PlainFacts
 pub mod ReadFacts
+pub mod SameOrderFacts
 pub mod SetFacts
+pub mod StaysFacts
+pub mod TwiceFacts

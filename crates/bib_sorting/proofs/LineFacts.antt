@@ -1,9 +1,9 @@
 -- What stands after the last blank line of a text, line by line.
-use Rattle.std.proofs.Common.{◌≡◌, ◌⊎◌, inl, inr, ℕ, suc, ◌+◌, ◌<◌, Bool, true, false, cond, List, [], ◌∷◌, ◌++◌, drop, length, take, refl, sym, ap, ◌∙◌, subst, arith}
+use Rattle.std.proofs.Common.{◌≡◌, ◌⊎◌, inl, inr, ℕ, suc, ◌+◌, ◌<◌, Bool, true, false, cond, List, [], ◌∷◌, ◌++◌, drop, length, take, refl, sym, ap, ◌∙◌, arith}
 use Rattle.std.specs.Prelude.{◌&&◌, not}
 use lib.Dec.{eqb}
 use Rattle.std.specs.Char.{is_ascii_whitespace}
-use Rattle.std.specs.List.{after_first, before_first, list_all, position_or_len, prefix_len}
+use Rattle.std.specs.List.{after_first, before_first, list_all, position_or_len}
 use Rattle.std.proofs.lemmas.Bool.{eqb-true}
 use Rattle.bib_sorting.specs.Sorted.{after_blank_line, kept_after}
 
@@ -26,7 +26,7 @@ line_passed blank kept (b ∷ bs) within = by_feed (is_feed b) within (λ c less
   where
     by_feed : (x : Bool) → cond (not x) (1 + position_or_len is_feed bs) 0 < length (b ∷ bs)
         → ((c : Bool) → position_or_len is_feed bs < length bs
-          → after_blank_line c kept bs ≡ after_blank_line true (kept_after (c && list_all is_ascii_whitespace (before_first is_feed bs)) (after_first is_feed bs) kept) (after_first is_feed bs))
+        → after_blank_line c kept bs ≡ after_blank_line true (kept_after (c && list_all is_ascii_whitespace (before_first is_feed bs)) (after_first is_feed bs) kept) (after_first is_feed bs))
         → cond x (after_blank_line true (kept_after blank bs kept) bs) (after_blank_line (blank && is_ascii_whitespace b) kept bs)
         ≡ after_blank_line true (kept_after (blank && list_all is_ascii_whitespace (take (cond (not x) (1 + position_or_len is_feed bs) 0) (b ∷ bs))) (drop (cond (not x) (1 + position_or_len is_feed bs) 0 + 1) (b ∷ bs)) kept) (drop (cond (not x) (1 + position_or_len is_feed bs) 0 + 1) (b ∷ bs))
     by_feed true within' more_lines = ap (λ c. after_blank_line true (kept_after c bs kept) bs) (sym (and_true blank))

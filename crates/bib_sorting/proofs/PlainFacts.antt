@@ -1,5 +1,5 @@
 -- Plain text: it has no at sign, and ends each of its line comments, so that it says nothing wherever it stands.
-use Rattle.std.proofs.Common.{◌≡◌, inl, inr, ℕ, ◌+◌, ◌<◌, ◌≤◌, Bool, true, false, List, [], ◌∷◌, ◌++◌, length, refl, sym, ap, ◌∙◌, subst, arith}
+use Rattle.std.proofs.Common.{◌≡◌, inl, inr, ℕ, ◌<◌, ◌≤◌, Bool, true, false, List, [], ◌∷◌, ◌++◌, length, refl, sym, ap, ◌∙◌, subst, arith}
 use Rattle.std.specs.Prelude.{◌==◌, ◌&&◌, ◌||◌, not}
 use Rattle.std.specs.Char.{is_ascii_whitespace}
 use Rattle.std.specs.List.{list_all}
@@ -10,7 +10,7 @@ use Rattle.bib_text.specs.Places.{Place, CharAt, Run, between}
 use Rattle.bib_text.specs.Places.Run.{stop, step}
 use Rattle.bib_text.proofs.PlaceFacts.{Ahead, ahead_here, ahead_then, ahead_char, ahead_run, char_clash, pass_clash, same_char, same_place, stops_at, test_clash}
 use Rattle.bib_syntax.specs.Reading.{FileReading, empty_reading}
-use Rattle.bib_syntax.specs.Grammar.{Block, LineComment, longest}
+use Rattle.bib_syntax.specs.Grammar.{Block, longest}
 use Rattle.bib_syntax.specs.Recovery.{has_byte}
 use Rattle.bib_syntax.proofs.FieldFacts.{ahead_identifier}
 use Rattle.bib_syntax.proofs.FileFacts.{ahead_body}
@@ -134,9 +134,9 @@ none_in_line {i} {v} {l} {m} same feed (step {v = w} {c = c} char passes rest) f
     elim (cases_lt l.at w.at) [
       | inr past_it ↦ none_in_line (same ∙ sym char.same) feed rest past_it below
       | inl before ↦ elim (cases_lt i.at l.at) [
-            | inl inside ↦ omega (arith, not_over l.text l.at (inr (10, m, feed)) (sym same) char inside)
-            | inr here ↦ pass_clash in_line char passes (subst (λ p. CharAt p 10 m) (same_place same (omega arith)) feed) refl
-          ]
+        | inl inside ↦ omega (arith, not_over l.text l.at (inr (10, m, feed)) (sym same) char inside)
+        | inr here ↦ pass_clash in_line char passes (subst (λ p. CharAt p 10 m) (same_place same (omega arith)) feed) refl
+      ]
     ]
 
 pub line_split : {u l m s : Place} → l.text ≡ u.text → CharAt l 10 m → Plain u s → u.at ≤ l.at → m.at ≤ s.at → Plain u m × Plain m s
@@ -147,11 +147,11 @@ line_split {u} {l} {m} {s} same feed (Plain.skipped {v = w} {c = c} char passes 
           let others = line_split (same ∙ sym char.same) feed rest past_it below in
           (Plain.skipped char passes others.0, others.1)
       | inl before ↦ elim (cases_lt u.at l.at) [
-            | inl inside ↦ absurd (omega (arith, not_over l.text l.at (inr (10, m, feed)) (sym same) char inside))
-            | inr here ↦
-                let next : w ≡ m = (same_char char (subst (λ p. CharAt p 10 m) (same_place same (omega arith)) feed)).1 in
-                (Plain.skipped char passes (subst (λ p. Plain w p) next Plain.none), subst (λ p. Plain p s) next rest)
-          ]
+        | inl inside ↦ absurd (omega (arith, not_over l.text l.at (inr (10, m, feed)) (sym same) char inside))
+        | inr here ↦
+            let next : w ≡ m = (same_char char (subst (λ p. CharAt p 10 m) (same_place same (omega arith)) feed)).1 in
+            (Plain.skipped char passes (subst (λ p. Plain w p) next Plain.none), subst (λ p. Plain p s) next rest)
+      ]
     ]
 line_split {u} {l} {m} {s} same feed (Plain.line_comment {i = i} {v = v} {w = w} sign line feed' rest) from below =
     let to_line : Ahead u i = ahead_char sign in
@@ -161,15 +161,15 @@ line_split {u} {l} {m} {s} same feed (Plain.line_comment {i = i} {v = v} {w = w}
           let others = line_split (same ∙ sym (feed'.same ∙ to_feed.text)) feed rest past_it below in
           (Plain.line_comment sign line feed' others.0, others.1)
       | inl before ↦ elim (cases_lt l.at v.at) [
-            | inr at_feed ↦
-                let here : l ≡ v = same_place (same ∙ sym to_feed.text) (omega (arith, feed'.next)) in
-                let next : w ≡ m = (same_char feed' (subst (λ p. CharAt p 10 m) here feed)).1 in
-                (Plain.line_comment sign line feed' (subst (λ p. Plain w p) next Plain.none), subst (λ p. Plain p s) next rest)
-            | inl inside ↦ elim (cases_lt l.at i.at) [
-                  | inr in_it ↦ absurd (none_in_line (same ∙ sym to_line.text) feed line in_it inside)
-                  | inl at_sign ↦
-                      let here : l ≡ u = same_place same (omega (arith, sign.next)) in
-                      absurd (char_clash sign (subst (λ p. CharAt p 10 m) here feed) refl)
-                ]
-          ]
+        | inr at_feed ↦
+            let here : l ≡ v = same_place (same ∙ sym to_feed.text) (omega (arith, feed'.next)) in
+            let next : w ≡ m = (same_char feed' (subst (λ p. CharAt p 10 m) here feed)).1 in
+            (Plain.line_comment sign line feed' (subst (λ p. Plain w p) next Plain.none), subst (λ p. Plain p s) next rest)
+        | inl inside ↦ elim (cases_lt l.at i.at) [
+          | inr in_it ↦ absurd (none_in_line (same ∙ sym to_line.text) feed line in_it inside)
+          | inl at_sign ↦
+              let here : l ≡ u = same_place same (omega (arith, sign.next)) in
+              absurd (char_clash sign (subst (λ p. CharAt p 10 m) here feed) refl)
+        ]
+      ]
     ]

@@ -1,11 +1,11 @@
 -- Texts that are read so wherever they stand.
-use Rattle.std.proofs.Common.{◌≡◌, inl, inr, ℕ, suc, ◌+◌, ◌-◌, ◌<◌, ◌≤◌, Bool, true, false, cond, List, [], ◌∷◌, ◌++◌, length, drop, take, map, refl, sym, ap, ◌∙◌, subst, arith, length-drop}
-use Rattle.std.specs.Prelude.{◌==◌, ◌&&◌}
+use Rattle.std.proofs.Common.{◌≡◌, inl, inr, ℕ, suc, ◌+◌, ◌-◌, ◌<◌, ◌≤◌, Bool, true, false, cond, List, [], ◌∷◌, ◌++◌, length, drop, take, refl, sym, ap, ◌∙◌, subst, arith, length-drop}
+use Rattle.std.specs.Prelude.{◌&&◌}
 use Rattle.std.specs.Char.{is_ascii_whitespace}
 use Rattle.std.specs.List.{list_all, prefix_len}
 use Rattle.std.proofs.lemmas.Bool.{cases_lt}
-use Rattle.std.proofs.lemmas.List.{length-take-le, take-append-drop, take-take, take_all}
-use Rattle.bib_text.specs.Places.{Place, place, CharAt, between}
+use Rattle.std.proofs.lemmas.List.{length-take-le, take-append-drop, take-take}
+use Rattle.bib_text.specs.Places.{Place, CharAt, between}
 use Rattle.bib_text.proofs.PlaceFacts.{Ahead, ahead_here, ahead_then, ahead_char, ahead_run, same_char, same_place}
 use Rattle.bib_syntax.specs.Reading.{EntryReading, FileReading, empty_reading}
 use Rattle.bib_syntax.specs.Recovery.{entry_alone, has_byte}
@@ -21,7 +21,7 @@ use Rattle.bib_documents.proofs.ZoneFacts.{there}
 use Rattle.bib_format.proofs.CutFacts.{Stood, stood}
 use Rattle.bib_format.proofs.ElementFacts.{one_byte, parted}
 use Rattle.bib_format.proofs.StandsFacts.{Stands, ahead_stands, ascii, between_stands, copied, copied_before, copy_frame, first_part, last_part, past, stands_between}
-use Rattle.bib_sorting.specs.Sorted.{after_blank_line, comment_in, content, near_entry, space_in, without_white}
+use Rattle.bib_sorting.specs.Sorted.{after_blank_line, comment_in, placeless, near_entry, space_in, without_white}
 use Rattle.bib_sorting.proofs.LineFacts.{AfterFeed, feed_before}
 use Rattle.bib_sorting.proofs.PlacelessFacts.{entry_placeless, file_placeless}
 use Rattle.bib_sorting.proofs.PlainFacts.{Plain, ahead_plain, before_plain, line_split, plain_read, plain_then, plain_there, stood_plain, white_split}
@@ -33,6 +33,8 @@ pub record EntryThere (e : EntryReading) (u v : Place) : Type 0 where
   pub reading : EntryReading
   pub block : Block longest u (entry_alone reading) v
   pub alike : moved_entry (λ n. 0) reading ≡ moved_entry (λ n. 0) e
+  pub starts : reading.start ≡ u.at
+  pub ends : reading.end + 1 ≡ v.at
 
 pub entry_there : {a b u v : Place} {e : EntryReading} → EntryBlock a e b → Stands u (between a b) v → EntryThere e u v
 entry_there {a} {b} {u} {v} {e} x s =
@@ -48,11 +50,15 @@ entry_there {a} {b} {u} {v} {e} x s =
     let over = λ (p q : Place) (d : ℕ) (same : p.text ≡ u.text) (char : CharAt p d q) (low : p.at < v.at). last_char m p q v same char brace low next in
     let c = copied whole within s over in
     let move = λ (n : ℕ). n - a.at + u.at in
+    let last_next : b.at ≡ x.brace.at + 1 = x.closes.next in
+    let size : v.at + a.at ≡ b.at + u.at = omega (arith, c.end.moved, ap (λ p. p.at) c.goes_end) in
     record {
       reading = moved_entry move e;
       block = subst (λ p. Block longest p (entry_alone (moved_entry move e)) v) c.goes_start
           (subst (λ p. Block longest (there (copy_frame a b u) a) (entry_alone (moved_entry move e)) p) c.goes_end (block_there c.zone c.start c.end (block_of x)));
       alike = entry_placeless move e;
+      starts = omega (arith, x.starts);
+      ends = omega (arith, x.ends, last_next, size, to_brace.at);
     }
   where
     last_char : (m p q v : Place) {d : ℕ} → p.text ≡ m.text → CharAt p d q → CharAt m 125 v → p.at < v.at → v.at ≡ m.at + 1 → q.at ≤ v.at
@@ -66,14 +72,15 @@ entry_there {a} {b} {u} {v} {e} x s =
         ]
 
 -- a comment and the entry after it, read wherever they stand
-pub record ItemThere (e : EntryReading) (u v : Place) : Type 0 where
+pub record ItemThere (bytes : List ℕ) (e : EntryReading) (u v : Place) : Type 0 where
   pub start : Place
+  pub at_start : start.at ≡ u.at + length bytes
   pub comment : FileBefore u empty_reading start
   pub entry : EntryThere e start v
   pub stood : Stood u
 
 abbrev pub ItemReads : List ℕ → List ℕ → EntryReading → Type 0
-ItemReads comment bytes e = (u v : Place) → Stands u (comment ++ bytes) v → ItemThere e u v
+ItemReads comment bytes e = (u v : Place) → Stands u (comment ++ bytes) v → ItemThere comment e u v
 
 pub item_reads : {m s b : Place} {e : EntryReading} → Plain m s → s.at ≤ length m.text → EntryBlock s e b → ItemReads (between m s) (between s b) e
 item_reads {m} {s} {b} {e} plain within x u v both =
@@ -82,14 +89,14 @@ item_reads {m} {s} {b} {e} plain within x u v both =
     let entry = entry_there x (last_part (between m s) (between s b) both) in
     let c = copied_before (ahead_plain plain) within comment entry.block.head.sign in
     let here : Plain u p = subst (λ q. Plain q p) c.goes_start (subst (λ q. Plain (there (copy_frame m s u) m) q) c.goes_end (plain_there c.zone c.start c.end plain)) in
-    record { start = p; comment = plain_read here; entry = entry; stood = stood_plain here (stood entry.block.head.sign) }
+    record { start = p; at_start = refl; comment = plain_read here; entry = entry; stood = stood_plain here (stood entry.block.head.sign) }
 
 -- ---- what stays before an entry
 
 pub record BeforeThere (before : FileReading) (u v : Place) : Type 0 where
   pub reading : FileReading
   pub file : FileBefore u reading v
-  pub alike : content reading ≡ content before
+  pub alike : placeless reading ≡ placeless before
 
 -- it is read so wherever it stands before a character
 abbrev pub SpaceReads : List ℕ → FileReading → Type 0

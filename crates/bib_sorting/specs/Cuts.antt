@@ -9,6 +9,7 @@ use Rattle.bib_sorting.specs.Sorted.{Item, comment_in, gap_before}
 -- an entry, what stays before it and its comment may be cut out of a text, from a place on
 pub record IsItemCut (text : List ℕ) (index at : ℕ) (e : EntryReading) : Type 0 where
   pub gap : CanBeCut text at e.start
+  pub some : e.start ≤ e.end
   pub small : length (comment_in (index == 0) (gap_before text at e)) ≤ e.start
   pub space : CanBeCut text at (e.start - length (comment_in (index == 0) (gap_before text at e)))
   pub whole : CanBeCut text e.start (e.end + 1)
@@ -19,5 +20,5 @@ AreItemsCut text index at [] = IsCharBoundary text at
 AreItemsCut text index at (e ∷ es) = IsItemCut text index at e × AreItemsCut text (index + 1) (e.end + 1) es
 
 -- an entry may be cut out of a text
-abbrev pub IsEntryCut : List ℕ → Item → Type 0
-IsEntryCut text i = CanBeCut text i.entry.start (i.entry.end + 1)
+abbrev pub IsEntryOfItemCut : List ℕ → Item → Type 0
+IsEntryOfItemCut text i = CanBeCut text i.entry.start (i.entry.end + 1)

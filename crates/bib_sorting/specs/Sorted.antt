@@ -101,15 +101,15 @@ abbrev pub run_after : ℕ → List ℕ → ℕ
 run_after run gap = cond (has_byte char.at gap) (run + 1) run
 
 -- the text at an index, or nothing
-abbrev pub text_at : List (List ℕ) → ℕ → List ℕ
-text_at texts index = option_map_or (λ t. t) (slice_get texts index) []
+abbrev pub text_by_index : List (List ℕ) → ℕ → List ℕ
+text_by_index texts index = option_map_or (λ t. t) (slice_get texts index) []
 
 -- entries of a text from an index on, which stand from a place on, after an entry of a run
 abbrev pub items_from : List EntryReading → List ℕ → List (List ℕ) → ℕ → ℕ → ℕ → List EntryReading → List Item
 items_from all text texts index at run [] = []
 items_from all text texts index at run (e ∷ es) =
     let gap = gap_before text at e in
-    record { run = run_after run gap; rank = rank all e; text = text_at texts index; comment = comment_in (index == 0) gap; entry = e }
+    record { run = run_after run gap; rank = rank all e; text = text_by_index texts index; comment = comment_in (index == 0) gap; entry = e }
     ∷ items_from all text texts (index + 1) (e.end + 1) (run_after run gap) es
 
 -- the entries of a document, with a text for each by its index
@@ -133,7 +133,7 @@ abbrev pub item_cmp : Item → Item → Ordering
 item_cmp = then_cmp (on (λ i. i.run) nat_cmp) (then_cmp (on (λ i. i.rank) nat_cmp) (then_cmp (on (λ i. i.text) (slice_cmp nat_cmp)) (on (λ i. i.entry.start) nat_cmp)))
 
 -- the same entries in order
-pub record AreInOrder (all order : List Item) : Type 0 where
+pub record AreEntriesInOrder (all order : List Item) : Type 0 where
   pub permutation : IsPermutation all order
   pub sorted : IsSorted item_cmp order
 
@@ -148,8 +148,8 @@ abbrev pub text_in_order : Document → List Item → List ℕ
 text_in_order d order = laid_out d.text (spaces_from d.text 0 0 d.says.entries) order (drop (place_after 0 d.says.entries) d.text)
 
 -- what a file says, without places
-abbrev pub content : FileReading → FileReading
-content says = moved_file (λ at. 0) says
+abbrev pub placeless : FileReading → FileReading
+placeless says = moved_file (λ at. 0) says
 
 -- what a document says, with its entries in this order
 abbrev pub says_in_order : Document → List Item → FileReading
@@ -158,13 +158,13 @@ says_in_order d order = record d.says { entries = map (λ i. i.entry) order }
 -- a text is a document's with its entries in order, by a text for each
 pub record IsSortedText (d : Document) (texts : List (List ℕ)) (new : List ℕ) : Type 0 where
   pub order : List Item
-  pub in_order : AreInOrder (items d texts) order
+  pub in_order : AreEntriesInOrder (items d texts) order
   pub is : new ≡ text_in_order d order
 
 -- a text is read as what a document says with its entries in order, but for places
 pub record IsReadSorted (d : Document) (texts : List (List ℕ)) (new : List ℕ) : Type 0 where
   pub order : List Item
-  pub in_order : AreInOrder (items d texts) order
+  pub in_order : AreEntriesInOrder (items d texts) order
   pub tells : FileReading
   pub read : IsRawReading new tells
-  pub alike : content tells ≡ content (says_in_order d order)
+  pub alike : placeless tells ≡ placeless (says_in_order d order)

@@ -6,7 +6,7 @@ ghost use Rattle.std.specs.Option.{option_map};
 ghost use Rattle.bib_syntax.specs.Reading.{EntryReading};
 ghost use Rattle.bib_syntax.specs.Views.{entry_reading_of, field_of, piece_of};
 ghost use Rattle.bib_documents.specs.Keys.{is_key_in};
-ghost use Rattle.bib_sorting.specs.Sets.{AreCrossrefsOf, AreKeysOf, AreNamedBy};
+ghost use Rattle.bib_sorting.specs.Sets.{AreCrossrefsOf, AreEntryKeys, AreNamedBy};
 ghost use Rattle.bib_sorting.specs.Sorted as sorted;
 ghost use Rattle.bib_sorting.specs.Sorted.{names_key};
 
@@ -51,7 +51,7 @@ fn key_set<'s>(
     alloc: Global,
     entries: &[Spanned<RawEntry<'s>>],
 ) -> Result<BTreeSet<&'s str>, AllocError>
-    ensures { IfOk result (AreKeysOf (map entry_reading_of entries.now)) }
+    ensures { IfOk result (AreEntryKeys (map entry_reading_of entries.now)) }
 {
     let mut keys = BTreeSet::new(alloc);
     'entries: for entry in entries {
@@ -111,7 +111,7 @@ pub(crate) fn crossrefs_of<'s>(
 
 // Whether a field names the key of an entry.
 fn names_one(keys: &BTreeSet<&str>, field: &Pair<'_>) -> bool
-    ensures { (entries : List EntryReading) → AreKeysOf entries keys.now → result ≡ sorted.names_one entries (field_of field.now) }
+    ensures { (entries : List EntryReading) → AreEntryKeys entries keys.now → result ≡ sorted.names_one entries (field_of field.now) }
 {
     match crossref(field) {
         Some(key) => keys.contains(key),
@@ -121,7 +121,7 @@ fn names_one(keys: &BTreeSet<&str>, field: &Pair<'_>) -> bool
 
 // Whether one of fields names the key of an entry.
 fn has_parent(keys: &BTreeSet<&str>, fields: &[Pair<'_>]) -> bool
-    ensures { (entries : List EntryReading) → AreKeysOf entries keys.now → result ≡ list_any (sorted.names_one entries) (map field_of fields.now) }
+    ensures { (entries : List EntryReading) → AreEntryKeys entries keys.now → result ≡ list_any (sorted.names_one entries) (map field_of fields.now) }
 {
     'fields: for field in fields {
         if names_one(keys, field) {

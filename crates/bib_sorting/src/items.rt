@@ -5,7 +5,7 @@ ghost use Rattle.std.specs.String.{string_bytes};
 ghost use Rattle.bib_syntax.specs.Views.{entry_reading_of};
 ghost use Rattle.bib_documents.specs.Documents.{Document};
 ghost use Rattle.bib_sorting.specs.Cuts.{AreItemsCut};
-ghost use Rattle.bib_sorting.specs.Sets.{AreCrossrefsOf, item_of};
+ghost use Rattle.bib_sorting.specs.Sets.{AreCrossrefsOf, item_reading_of};
 ghost use Rattle.bib_sorting.specs.Sorted as sorted;
 
 use crate::crossrefs::{Crossrefs, rank};
@@ -34,7 +34,7 @@ pub(crate) struct Gathered<'a, 's> {
 
 // The text at an index, or nothing.
 fn text_at(texts: &[String], index: usize) -> &str
-    ensures { result.now ≡ sorted.text_at (map string_bytes texts.now) index }
+    ensures { result.now ≡ sorted.text_by_index (map string_bytes texts.now) index }
 {
     match texts.get(index) {
         Some(text) => text.as_str(),
@@ -53,7 +53,7 @@ pub(crate) fn gather<'a, 's>(
     requires cut { AreItemsCut text.now 0 0 (map entry_reading_of entries.now) }
     requires known { AreCrossrefsOf (map entry_reading_of entries.now) crossrefs.now }
     ensures spaces { IfOk result (λ g. map (λ s. s.now) g.spaces.items ≡ sorted.spaces_from text.now 0 0 (map entry_reading_of entries.now)) }
-    ensures items { IfOk result (λ g. map item_of g.items.items ≡
+    ensures items { IfOk result (λ g. map item_reading_of g.items.items ≡
         sorted.items_from (map entry_reading_of entries.now) text.now (map string_bytes texts.now) 0 0 0 (map entry_reading_of entries.now)) }
     ensures end { IfOk result (λ g. g.end ≡ sorted.place_after 0 (map entry_reading_of entries.now)) }
 {

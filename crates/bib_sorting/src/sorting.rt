@@ -4,10 +4,10 @@ ghost use Rattle.std.specs.Prelude.{◌≡◌, IfOk, length, drop, map};
 ghost use Rattle.std.specs.List.{AllByRecursion};
 ghost use Rattle.std.specs.Str.{IsCharBoundary};
 ghost use Rattle.std.specs.String.{string_bytes};
-ghost use Rattle.bib_sorting.specs.Cuts.{IsEntryCut};
-ghost use Rattle.bib_sorting.specs.Sets.{item_of};
+ghost use Rattle.bib_sorting.specs.Cuts.{IsEntryOfItemCut};
+ghost use Rattle.bib_sorting.specs.Sets.{item_reading_of};
 ghost use Rattle.bib_sorting.specs.Sorted as sorted;
-ghost use Rattle.bib_sorting.specs.Sorted.{AreInOrder, IsReadSorted, IsSortedText, item_cmp};
+ghost use Rattle.bib_sorting.specs.Sorted.{AreEntriesInOrder, IsReadSorted, IsSortedText, item_cmp};
 
 use crate::crossrefs::crossrefs_of;
 use crate::items::{Item, gather};
@@ -17,7 +17,7 @@ use std::cmp::Ordering;
 
 // How two entries are ordered: by run, rank, text and place.
 fn compared(first: &Item<'_, '_>, second: &Item<'_, '_>) -> Ordering
-    ensures { result ≡ item_cmp (item_of first.now) (item_of second.now) }
+    ensures { result ≡ item_cmp (item_reading_of first.now) (item_reading_of second.now) }
 {
     let by_text = first.text.cmp(second.text);
     let by_place = first.entry.span.start.cmp(&second.entry.span.start);
@@ -29,7 +29,7 @@ fn compared(first: &Item<'_, '_>, second: &Item<'_, '_>) -> Ordering
 
 // Entries in order.
 fn ordered<'a, 's>(mut items: Vec<Item<'a, 's>>) -> Result<Vec<Item<'a, 's>>, AllocError>
-    ensures { IfOk result (λ order. AreInOrder (map item_of items.entry.items) (map item_of order.items)) }
+    ensures { IfOk result (λ order. AreEntriesInOrder (map item_reading_of items.entry.items) (map item_reading_of order.items)) }
 {
     items.sort_by(|first, second| compared(first, second))?;
     Ok(items)
@@ -44,9 +44,9 @@ fn laid_out(
     end: usize,
 ) -> Result<String, AllocError>
     requires as_many { length spaces.now ≡ length order.now }
-    requires cut { AllByRecursion (IsEntryCut text.now) (map item_of order.now) }
+    requires cut { AllByRecursion (IsEntryOfItemCut text.now) (map item_reading_of order.now) }
     requires end { IsCharBoundary text.now end }
-    ensures { IfOk result (λ new. string_bytes new ≡ sorted.laid_out text.now (map (λ s. s.now) spaces.now) (map item_of order.now) (drop end text.now)) }
+    ensures { IfOk result (λ new. string_bytes new ≡ sorted.laid_out text.now (map (λ s. s.now) spaces.now) (map item_reading_of order.now) (drop end text.now)) }
 {
     let mut new = String::new(alloc);
     'order: for (index, item) in order.iter().enumerate() {

@@ -1,4 +1,4 @@
-use Rattle.std.proofs.Common.{List, Bool, map, take, sym, ap, ◌∙◌}
+use Rattle.std.proofs.Common.{Bool, map, take, sym, ap, ◌∙◌}
 use Rattle.std.specs.Prelude.{◌||◌}
 use Rattle.std.specs.List.{list_any}
 use Rattle.bib_syntax.specs.Views.{field_of}

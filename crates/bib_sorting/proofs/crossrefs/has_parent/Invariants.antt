@@ -2,10 +2,10 @@ use Rattle.std.proofs.Common.{◌≡◌, false, List, map, take}
 use Rattle.std.specs.List.{list_any}
 use Rattle.bib_syntax.specs.Reading.{EntryReading}
 use Rattle.bib_syntax.specs.Views.{field_of}
-use Rattle.bib_sorting.specs.Sets.{AreKeysOf}
+use Rattle.bib_sorting.specs.Sets.{AreEntryKeys}
 use Rattle.bib_sorting.specs.Sorted.{names_one}
 use Rattle.bib_sorting.proofs.crossrefs.has_parent.Given as goal
 
 -- none of the fields so far names an entry
 abbrev pub invariant-fields : goal.invariant-fields
-invariant-fields l = (entries : List EntryReading) → AreKeysOf entries l.keys → false ≡ list_any (names_one entries) (map field_of (take l.field-index l.fields))
+invariant-fields l = (entries : List EntryReading) → AreEntryKeys entries l.keys → false ≡ list_any (names_one entries) (map field_of (take l.field-index l.fields))

@@ -1,4 +1,4 @@
-use Rattle.std.proofs.Common.{List, map, take, sym, ap, ◌∙◌}
+use Rattle.std.proofs.Common.{map, take, sym, ap, ◌∙◌}
 use Rattle.std.specs.Prelude.{◌||◌}
 use Rattle.std.specs.List.{list_any}
 use Rattle.bib_syntax.specs.Views.{entry_reading_of, field_of}

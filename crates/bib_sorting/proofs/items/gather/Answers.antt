@@ -1,13 +1,12 @@
-use Rattle.std.proofs.Common.{◌≡◌, ◌+◌, ◌≤◌, ℕ, List, ◌++◌, ◌∷◌, drop, map, refl, sym, ap, ◌∙◌, subst, arith}
+use Rattle.std.proofs.Common.{◌≡◌, ◌+◌, ◌≤◌, ℕ, List, ◌++◌, ◌∷◌, drop, map, sym, ap, ◌∙◌, subst}
 use Rattle.std.specs.Prelude.{◌==◌}
 use Rattle.std.specs.String.{string_bytes}
 use Rattle.bib_text.specs.Characters as char
 use Rattle.bib_syntax.specs.Recovery.{has_byte}
-use Rattle.bib_syntax.specs.Reading.{EntryReading}
 use Rattle.bib_syntax.specs.Views.{entry_reading_of}
 use Rattle.bib_sorting.specs.Cuts.{AreItemsCut}
-use Rattle.bib_sorting.specs.Sets.{item_of}
-use Rattle.bib_sorting.specs.Sorted.{Item, comment_in, gap_before, items_from, place_after, rank, run_after, space_in, spaces_from, text_at}
+use Rattle.bib_sorting.specs.Sets.{item_reading_of}
+use Rattle.bib_sorting.specs.Sorted.{Item, comment_in, gap_before, items_from, place_after, rank, run_after, space_in, spaces_from, text_by_index}
 use Rattle.bib_sorting.proofs.GatherFacts.{gathered_more, next_entry, run_small, space_is}
 use Rattle.bib_sorting.proofs.items.gather.Goals as goal
 
@@ -32,12 +31,12 @@ entries-preserved c =
     record {
       spaces = gathered_more (λ s. s.now) c.entries.spaces.items c.push.new.self.items c.range.result (space_in (index == 0) gap) (spaces_from text (index + 1) (e.end + 1) rest) (spaces_from text 0 0 all) c.in_ok-push.ensures.items space
           (ap (λ es. map (λ s. s.now) c.entries.spaces.items ++ spaces_from text index at es) (sym next) ∙ c.entries.invariant.spaces);
-      items = gathered_more item_of c.entries.items.items c.push-in-entries.new.self.items _ (build (run_after c.entries.run gap) (rank all e) (text_at texts index) (comment_in (index == 0) gap))
+      items = gathered_more item_reading_of c.entries.items.items c.push-in-entries.new.self.items _ (build (run_after c.entries.run gap) (rank all e) (text_by_index texts index) (comment_in (index == 0) gap))
           (items_from all text texts (index + 1) (e.end + 1) c.run_after-run.result rest) (items_from all text texts 0 0 0 all) c.in_ok-push-2.ensures.items
           (ap (λ n. build n c.rank.result c.text_at.result.now c.comment_in-comment.result.now) run_is ∙ ap (λ n. build (run_after c.entries.run gap) n c.text_at.result.now c.comment_in-comment.result.now) (c.rank.ensures all c.requires.known)
-          ∙ ap (λ t. build (run_after c.entries.run gap) (rank all e) t c.comment_in-comment.result.now) c.text_at.ensures ∙ ap (build (run_after c.entries.run gap) (rank all e) (text_at texts index)) comment_is)
-          (ap (λ n. map item_of c.entries.items.items ++ build (run_after c.entries.run gap) (rank all e) (text_at texts index) (comment_in (index == 0) gap) ∷ items_from all text texts (index + 1) (e.end + 1) n rest) run_is
-          ∙ ap (λ es. map item_of c.entries.items.items ++ items_from all text texts index at c.entries.run es) (sym next) ∙ c.entries.invariant.items);
+          ∙ ap (λ t. build (run_after c.entries.run gap) (rank all e) t c.comment_in-comment.result.now) c.text_at.ensures ∙ ap (build (run_after c.entries.run gap) (rank all e) (text_by_index texts index)) comment_is)
+          (ap (λ n. map item_reading_of c.entries.items.items ++ build (run_after c.entries.run gap) (rank all e) (text_by_index texts index) (comment_in (index == 0) gap) ∷ items_from all text texts (index + 1) (e.end + 1) n rest) run_is
+          ∙ ap (λ es. map item_reading_of c.entries.items.items ++ items_from all text texts index at c.entries.run es) (sym next) ∙ c.entries.invariant.items);
       end = ap (place_after at) (sym next) ∙ c.entries.invariant.end;
       cut = cut.1;
       few = subst (λ n. n ≤ index + 1) (sym run_is) (run_small (has_byte char.at gap) c.entries.run index c.entries.invariant.few);

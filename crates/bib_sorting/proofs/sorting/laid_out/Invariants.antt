@@ -1,15 +1,15 @@
 use Rattle.std.proofs.Common.{◌≡◌, ◌++◌, drop, map}
 use Rattle.std.specs.String.{string_bytes}
 use Rattle.std.specs.List.{AllByRecursion}
-use Rattle.bib_sorting.specs.Cuts.{IsEntryCut}
-use Rattle.bib_sorting.specs.Sets.{item_of}
+use Rattle.bib_sorting.specs.Cuts.{IsEntryOfItemCut}
+use Rattle.bib_sorting.specs.Sets.{item_reading_of}
 use Rattle.bib_sorting.specs.Sorted as sorted
 use Rattle.bib_sorting.proofs.sorting.laid_out.Given as goal
 
 -- what is left to write
 abbrev pub invariant-order : goal.invariant-order
 invariant-order l = record {
-  written : string_bytes l.new ++ sorted.laid_out l.text (map (λ s. s.now) (drop l.index l.spaces)) (map item_of (drop l.index l.order)) (drop l.end l.text)
-      ≡ sorted.laid_out l.text (map (λ s. s.now) l.spaces) (map item_of l.order) (drop l.end l.text);
-  cut : AllByRecursion (IsEntryCut l.text) (map item_of (drop l.index l.order));
+  written : string_bytes l.new ++ sorted.laid_out l.text (map (λ s. s.now) (drop l.index l.spaces)) (map item_reading_of (drop l.index l.order)) (drop l.end l.text)
+      ≡ sorted.laid_out l.text (map (λ s. s.now) l.spaces) (map item_reading_of l.order) (drop l.end l.text);
+  cut : AllByRecursion (IsEntryOfItemCut l.text) (map item_reading_of (drop l.index l.order));
 }
