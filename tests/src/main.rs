@@ -14,6 +14,7 @@ mod documents;
 mod entries;
 mod excerpts;
 mod formats;
+mod strings;
 mod support;
 mod syntax;
 mod tables;
@@ -33,6 +34,7 @@ fn rows(alloc: Global, layer: &str, input: &str) -> Result<String, AllocError> {
         "documents" => answered::<documents::Documents>(alloc, input),
         "excerpts" => answered::<excerpts::Excerpts>(alloc, input),
         "formats" => answered::<formats::Formats>(alloc, input),
+        "strings" => answered::<strings::Strings>(alloc, input),
         "entries" => answered::<entries::Entries>(alloc, input),
         "bibliographies" => answered::<bibliographies::Bibliographies>(alloc, input),
         _ => String::from_str(alloc, "there is no such layer"),
