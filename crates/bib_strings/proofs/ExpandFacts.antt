@@ -1,7 +1,7 @@
 -- A document with its abbreviations written out.
-use Rattle.std.proofs.Common.{◌≡◌, ℕ, zero, suc, Bool, true, false, cond, List, [], ◌∷◌, length, refl, sym, ap, ◌∙◌, subst, arith, Some, None}
+use Rattle.std.proofs.Common.{◌≡◌, ℕ, zero, suc, Bool, true, false, cond, List, [], ◌∷◌, length, refl, sym, ap, ◌∙◌, subst, arith, Some, None, get_or, ◌<◌, map}
 use Rattle.std.specs.Prelude.{slice_get}
-use Rattle.std.specs.List.{AllByRecursion}
+use Rattle.std.specs.List.{All, AllByRecursion}
 use Rattle.std.specs.Str.{IsUtf8}
 use Rattle.std.specs.Borrow.{Bor}
 use Rattle.std.specs.Global.{Vec}
@@ -16,14 +16,16 @@ use Rattle.bib_documents.specs.Stretches.{AreEditsInOrder}
 use Rattle.bib_documents.proofs.ValueFacts.{field_placed}
 use Rattle.bib_format.specs.Cuts.{IsPieceCut}
 use Rattle.bib_strings.specs.Exchanged.{Exchange, IsReadPlaceless, NewValue, entry_edits, file_exchanged}
-use Rattle.bib_strings.specs.Expanded.{Index, IsExpanded, definition_index, elements, has_defined, laid_out}
-use Rattle.bib_strings.specs.Tables.{AreDefinitionsWritten, AreAllFieldsCut, IsBelow, IsFieldCut, expansion_by, lists_of, lent_pieces, written_by}
+use Rattle.bib_strings.specs.Expanded.{Index, IsExpanded, WritesOut, definition_graph, definition_index, definition_references, elements, has_defined, laid_out}
+use Rattle.bib_graph.specs.Rows.{rows}
+use Rattle.bib_graph.proofs.Rows.{length-rows}
+use Rattle.bib_strings.specs.Tables.{AreAllFieldsCut, AreUsedWritten, IsBelow, IsFieldCut, IsMarked, expansion_by, lent_pieces, lists_of, values_of, written_by}
 use Rattle.bib_strings.proofs.ElementFacts.{AreValues, IsElement, IsSome, IsValue, can_be_read, file_stands, is_cut}
 use Rattle.bib_strings.proofs.ExchangedFacts.{CanBeExchanged, exchanged_read}
 use Rattle.bib_strings.proofs.NewValueFacts.{CanBeRead}
 use Rattle.bib_strings.proofs.OrderFacts.{file_ordered}
 use Rattle.bib_strings.proofs.TrimmedFacts.{IsFieldPlaced, edits_in_order, trimmed_known}
-use Rattle.bib_strings.proofs.WrittenFacts.{all_by_index, elements_all, index_below, known_written, written_all, written_some}
+use Rattle.bib_strings.proofs.WrittenFacts.{all_by_index, elements_all, index_below, known_written, length-graph, written_all, written_some}
 
 -- ---- what holds of each element of a list
 
@@ -34,10 +36,6 @@ all_weaker P Q weaker (x ∷ xs) all = (weaker x all.0, all_weaker P Q weaker xs
 pub all_both : {A : Type 0} (P Q : A → Type 0) (xs : List A) → AllByRecursion P xs → AllByRecursion Q xs → AllByRecursion (λ x. P x × Q x) xs
 all_both P Q [] all others = tt
 all_both P Q (x ∷ xs) all others = ((all.0, others.0), all_both P Q xs all.1 others.1)
-
-pub all_any : {A : Type 0} (P : A → Type 0) → ((x : A) → P x) → (xs : List A) → AllByRecursion P xs
-all_any P each [] = tt
-all_any P each (x ∷ xs) = (each x, all_any P each xs)
 
 pub all_found : {A : Type 0} (P : A → Type 0) (xs : List A) → ((k : ℕ) (x : A) → slice_get xs k ≡ Some x → P x) → AllByRecursion P xs
 all_found P [] each = tt
@@ -58,8 +56,17 @@ all_placed d read = all_found (λ e. AllByRecursion (IsPlaced d.text) e.fields) 
 
 -- ---- what the code has
 
+-- the graph of the definitions
+pub graph_known : (defined : List FieldReading) (index : Index) (values lent : List (Bor (Vec (Spanned RawChunk)))) (refs found : List (Vec ℕ)) → index ≡ definition_index defined → values_of values ≡ map elements defined → lent ≡ values
+    → rows refs ≡ map (definition_references index) (values_of lent) → found ≡ refs → rows found ≡ definition_graph defined
+graph_known defined index values lent refs found indices elements_are lent_is refers found_is =
+    ap rows found_is ∙ refers ∙ ap (λ ix. map (definition_references ix) (values_of lent)) indices ∙ ap (map (definition_references (definition_index defined))) (ap values_of lent_is ∙ elements_are)
+
+pub refs_count : (defined : List FieldReading) (refs : List (Vec ℕ)) → rows refs ≡ definition_graph defined → length refs ≡ length defined
+refs_count defined refs graph = sym (length-rows refs) ∙ ap length graph ∙ length-graph defined
+
 -- indices are below the count of what is written out
-pub index_is : (d : Document) (index : Index) (rows : List (Vec (Bor (Spanned RawChunk)))) → index ≡ definition_index d.says.abbreviations → AreDefinitionsWritten d.says.abbreviations (lists_of rows) → IsBelow (length rows) index
+pub index_is : (d : Document) (index : Index) (rows : List (Vec (Bor (Spanned RawChunk)))) → index ≡ definition_index d.says.abbreviations → AreUsedWritten d.says.abbreviations d.says.entries (lists_of rows) → IsBelow (length rows) index
 index_is d index rows is known =
     let count : length rows ≡ length d.says.abbreviations = sym (length-map rows (λ row. lent_pieces row.items)) ∙ known.as_many in
     subst (IsBelow (length rows)) (sym is) (subst (λ n. IsBelow n (definition_index d.says.abbreviations)) (sym count) (index_below d.says.abbreviations))
@@ -73,7 +80,7 @@ edits_are d written edits text index es same indices listed are =
 
 -- ---- a document
 
-module _ (d : Document) (read : IsDocument d) (written : List (List Piece)) (known : AreDefinitionsWritten d.says.abbreviations written) where
+module _ (d : Document) (read : IsDocument d) (written : List (List Piece)) (known : AreUsedWritten d.says.abbreviations d.says.entries written) where
   abbrev defined : List FieldReading
   defined = d.says.abbreviations
 
@@ -89,22 +96,30 @@ module _ (d : Document) (read : IsDocument d) (written : List (List Piece)) (kno
   definition_elements : AllByRecursion (λ f. AllByRecursion (IsElement d.text) (elements f)) defined
   definition_elements = all_weaker (IsValue d.text) (λ f. AllByRecursion (IsElement d.text) (elements f)) (λ f value. value.all) defined values.definitions
 
+  -- what is written out of a definition may be cut out of the text, used or not
+  list_cut : (i : ℕ) (b : Bool) → i < length defined → get_or known.used i false ≡ b → AllByRecursion (IsPieceCut d.text) (get_or written i [])
+  list_cut i true within is =
+      all_weaker (IsElement d.text) (IsPieceCut d.text) (is_cut d.text) (get_or written i [])
+      (written_all (IsElement d.text) defined definition_elements (elements_all (IsElement d.text) defined i definition_elements) (known.each i within is))
+  list_cut i false within is = subst (AllByRecursion (IsPieceCut d.text)) (sym (known.others i is)) tt
+
   pub lists_cut : AllByRecursion (AllByRecursion (IsPieceCut d.text)) written
-  lists_cut =
-      all_by_index (AllByRecursion (IsPieceCut d.text)) written [] (λ i within.
-      all_weaker (IsElement d.text) (IsPieceCut d.text) (is_cut d.text) _
-      (written_all (IsElement d.text) defined definition_elements (elements_all (IsElement d.text) defined i definition_elements) (known.each i (omega (arith, known.as_many)))))
+  lists_cut = all_by_index (AllByRecursion (IsPieceCut d.text)) written [] (λ i within. list_cut i (get_or known.used i false) (omega (arith, known.as_many)) refl)
 
   pub entries_cut : AreAllFieldsCut d.text d.says.entries
   entries_cut = fields_weaker (IsPlaced d.text) (IsValue d.text) (IsFieldCut d.text)
       (λ f placed value. record { placed = placed; pieces = all_weaker (IsElement d.text) (IsPieceCut d.text) (is_cut d.text) (elements f) value.all }) d.says.entries (all_placed d read) values.entries
 
-  value_read : (f : FieldReading) → IsValue d.text f → (new : NewValue) → exchange f ≡ Some new → CanBeRead new
-  value_read f value new = by_case (has_defined (definition_index defined) (elements f))
+  -- what a field refers to is used
+  abbrev IsUsed : FieldReading → Type 0
+  IsUsed f = All (IsMarked known.used) (definition_references (definition_index defined) (elements f))
+
+  value_read : (f : FieldReading) → IsValue d.text f → IsUsed f → (new : NewValue) → exchange f ≡ Some new → CanBeRead new
+  value_read f value marked new = by_case (has_defined (definition_index defined) (elements f))
     where
       out : CanBeRead (record { bytes = laid_out d.text (written_as f); pieces = written_as f })
       out =
-          let all = known_written defined written (elements f) known in
+          let all = known_written defined d.says.entries written (elements f) known marked in
           can_be_read d.text (written_as f)
           (written_some defined (all_weaker (IsValue d.text) (λ g. IsSome (elements g)) (λ g v. v.some) defined values.definitions) value.some all)
           (written_all (IsElement d.text) defined definition_elements value.all all)
@@ -122,9 +137,10 @@ module _ (d : Document) (read : IsDocument d) (written : List (List Piece)) (kno
     pub expanded : (text : List ℕ) → text ≡ edited_all (entry_edits exchange d.text d.says.entries) d.text → IsExpanded d text
     expanded text is = record {
       written = written_as;
-      each = all_any (λ e. AllByRecursion (λ f. _) e.fields) (λ e. all_any _ (λ f. known_written defined written (elements f) known) e.fields) d.says.entries;
+      each = fields_weaker IsUsed IsUsed (λ f. WritesOut defined (elements f) (written_as f)) (λ f marked again. known_written defined d.says.entries written (elements f) known marked) d.says.entries known.fields known.fields;
       is = is;
       read = subst (IsReadPlaceless (file_exchanged exchange d.says)) (sym is)
           (exchanged_read d exchange read
-          (fields_weaker (IsPlaced d.text) (IsValue d.text) (CanBeExchanged d.text exchange) (λ f placed value. record { trimmed = trimmed_known d.text f utf8 placed; can = value_read f value }) d.says.entries (all_placed d read) values.entries));
+          (fields_weaker (IsFieldCut d.text) (λ f. IsValue d.text f × IsUsed f) (CanBeExchanged d.text exchange) (λ f cut both. record { trimmed = trimmed_known d.text f utf8 cut.placed; can = value_read f both.0 both.1 }) d.says.entries entries_cut
+          (fields_weaker (IsValue d.text) IsUsed (λ f. IsValue d.text f × IsUsed f) (λ f value marked. (value, marked)) d.says.entries values.entries known.fields)));
     }

@@ -5,4 +5,5 @@ pub mod ListFacts
 pub mod NewValueFacts
 pub mod OrderFacts
 pub mod TrimmedFacts
+pub mod UsedFacts
 pub mod WrittenFacts

@@ -1,8 +1,8 @@
 -- What definitions are written out as, in an order in which each comes after those that it refers to.
-use Rattle.std.proofs.Common.{◌≡◌, ◌≢◌, inl, inr, ℕ, zero, suc, ◌+◌, ◌<◌, ◌≤◌, Bool, true, false, List, [], ◌∷◌, ◌++◌, length, get_or, set, take, map, refl, sym, ap, ◌∙◌, subst, arith, ⊎_elim, length-set, get_or-set_same, get_or-set_other, Option, Some, None}
+use Rattle.std.proofs.Common.{◌≡◌, ◌≢◌, inl, inr, ℕ, zero, suc, ◌+◌, ◌<◌, ◌≤◌, Bool, true, false, List, [], ◌∷◌, ◌++◌, length, get_or, set, take, map, refl, sym, ap, ◌∙◌, subst, arith, length-set, get_or-set_same, get_or-set_other, Option, Some, None, cond, ◌⊎◌}
 use Rattle.std.specs.Prelude.{IfSome, fold}
 use Rattle.std.specs.List.{All, AllByRecursion, Contains}
-use Rattle.std.proofs.lemmas.Bool.{cases_lt, lt-ltb, le-ltb}
+use Rattle.std.proofs.lemmas.Bool.{false≢true, cases_lt, lt-ltb, le-ltb}
 use Rattle.std.proofs.lemmas.List.{get_or-map, get_or_default, length-map, take_all, take_more}
 use Rattle.std.proofs.lemmas.List.Elements.{All-append, All-contains, All-map, All-nil, Contains-append_right, Contains-get_or, Contains-push_cases}
 use Rattle.std.proofs.lemmas.List.Sums.{fold-append}
@@ -15,13 +15,13 @@ use Rattle.std.specs.Global.{Vec}
 use Rattle.bib_text.specs.declared.spanned.Spanned.{Spanned}
 use Rattle.bib_syntax.specs.declared.raw.RawChunk.{RawChunk}
 use Rattle.bib_syntax.specs.Views.{piece_of}
-use Rattle.bib_syntax.specs.Reading.{Piece, FieldReading}
+use Rattle.bib_syntax.specs.Reading.{Piece, EntryReading, FieldReading}
 use Rattle.bib_syntax.specs.Reading.Piece.{literal, abbreviation}
 use Rattle.bib_documents.specs.Documents.{last_position, or_first}
 use Rattle.bib_strings.specs.Expanded.{Index, WritesOut, definition_graph, definition_index, elements, elements_at, index_list, is_of_name, piece_index, definition_references}
 use Rattle.bib_strings.specs.Expanded.{WritesOut as writes}
 use Rattle.bib_strings.proofs.ElementFacts.{IsSome}
-use Rattle.bib_strings.specs.Tables.{AreDefinitionsWritten, IsBelow, values_of, write_next, written_by, written_in_order, written_piece}
+use Rattle.bib_strings.specs.Tables.{AreUsedWritten, IsBelow, IsMarked, values_of, write_next, written_by, written_in_order, written_piece}
 
 -- ---- indices
 
@@ -49,13 +49,13 @@ list_below n (Some i) below = single
     single zero d within = below
     single (suc k) d within = absurd (omega arith)
 
-references_below : (definitions : List FieldReading) (ps : List Piece) → All (λ r. r < length definitions) (definition_references (definition_index definitions) ps)
+pub references_below : (definitions : List FieldReading) (ps : List Piece) → All (λ r. r < length definitions) (definition_references (definition_index definitions) ps)
 references_below definitions [] = All-nil (λ r. r < length definitions)
 references_below definitions (p ∷ ps) =
     All-append (λ r. r < length definitions) (index_list (piece_index (definition_index definitions) p)) (definition_references (definition_index definitions) ps)
     (list_below (length definitions) (piece_index (definition_index definitions) p) (piece_below definitions p)) (references_below definitions ps)
 
-length-graph : (definitions : List FieldReading) → length (definition_graph definitions) ≡ length definitions
+pub length-graph : (definitions : List FieldReading) → length (definition_graph definitions) ≡ length definitions
 length-graph definitions = length-map (map elements definitions) (definition_references (definition_index definitions)) ∙ length-map definitions elements
 
 pub graph_in_range : (definitions : List FieldReading) → IsInRange (definition_graph definitions)
@@ -83,14 +83,25 @@ elements_written definitions written (p ∷ ps) known =
 
 -- ---- all definitions, in order
 
-in_order_more : (index : Index) (rows : List (List Piece)) (order : List ℕ) (k : ℕ) → k < length order → written_in_order index rows (take (k + 1) order) ≡ write_next index rows (written_in_order index rows (take k order)) (get_or order k 0)
-in_order_more index rows order k within = ap (written_in_order index rows) (take_more order k 0 within) ∙ fold-append (write_next index rows) (map (λ row. []) rows) (take k order) (get_or order k 0 ∷ [])
+in_order_more : (index : Index) (rows : List (List Piece)) (used : List Bool) (order : List ℕ) (k : ℕ) → k < length order → written_in_order index rows used (take (k + 1) order) ≡ write_next index rows used (written_in_order index rows used (take k order)) (get_or order k 0)
+in_order_more index rows used order k within = ap (written_in_order index rows used) (take_more order k 0 within) ∙ fold-append (write_next index rows used) (map (λ row. []) rows) (take k order) (get_or order k 0 ∷ [])
 
 -- one more definition is written out
-pub next_written : (index : Index) (rows : List (List Piece)) (order : List ℕ) (k : ℕ) (now : List (List Piece)) (new : List Piece) → k < length order → now ≡ written_in_order index rows (take k order)
-    → new ≡ written_by index now (get_or rows (get_or order k 0) []) → set now (get_or order k 0) new ≡ written_in_order index rows (take (k + 1) order)
-next_written index rows order k now new within so_far is =
-    ap (set now (get_or order k 0)) is ∙ ap (λ t. set t (get_or order k 0) (written_by index t (get_or rows (get_or order k 0) []))) so_far ∙ sym (in_order_more index rows order k within)
+pub next_written : (index : Index) (rows : List (List Piece)) (used : List Bool) (order : List ℕ) (k : ℕ) (now : List (List Piece)) (new : List Piece) → k < length order → now ≡ written_in_order index rows used (take k order)
+    → get_or used (get_or order k 0) false ≡ true → new ≡ written_by index now (get_or rows (get_or order k 0) []) → set now (get_or order k 0) new ≡ written_in_order index rows used (take (k + 1) order)
+next_written index rows used order k now new within so_far is_used is =
+    let p : ℕ = get_or order k 0 in
+    let next : List (List Piece) → List (List Piece) = λ (t : List (List Piece)). set t p (written_by index t (get_or rows p [])) in
+    ap (set now p) is ∙ ap next so_far
+    ∙ sym (ap (λ b. cond b (next (written_in_order index rows used (take k order))) (written_in_order index rows used (take k order))) is_used) ∙ sym (in_order_more index rows used order k within)
+
+-- or passed over
+pub next_passed : (index : Index) (rows : List (List Piece)) (used : List Bool) (order : List ℕ) (k : ℕ) (now : List (List Piece)) → k < length order → now ≡ written_in_order index rows used (take k order)
+    → get_or used (get_or order k 0) false ≡ false → now ≡ written_in_order index rows used (take (k + 1) order)
+next_passed index rows used order k now within so_far is_unused =
+    let p : ℕ = get_or order k 0 in
+    let next : List (List Piece) → List (List Piece) = λ (t : List (List Piece)). set t p (written_by index t (get_or rows p [])) in
+    so_far ∙ sym (ap (λ b. cond b (next (written_in_order index rows used (take k order))) (written_in_order index rows used (take k order))) is_unused) ∙ sym (in_order_more index rows used order k within)
 
 module _ (definitions : List FieldReading) (order : List ℕ) (sorted : IsTopologicalOrder (definition_graph definitions) order) where
   abbrev index : Index
@@ -98,10 +109,6 @@ module _ (definitions : List FieldReading) (order : List ℕ) (sorted : IsTopolo
 
   abbrev rows : List (List Piece)
   rows = map elements definitions
-
-  -- those of some first turns
-  abbrev table : ℕ → List (List Piece)
-  table k = written_in_order index rows (take k order)
 
   turn_below : (k : ℕ) → k < length order → get_or order k 0 < length definitions
   turn_below k within =
@@ -114,51 +121,96 @@ module _ (definitions : List FieldReading) (order : List ℕ) (sorted : IsTopolo
   pub order_below : All (λ i. i < length definitions) order
   order_below k d within = subst (λ i. i < length definitions) (get_or_default order k 0 d within) (turn_below k within)
 
-  length-fold : (done : List (List Piece)) (turns : List ℕ) → length (fold (write_next index rows) done turns) ≡ length done
-  length-fold done [] = refl
-  length-fold done (i ∷ turns) = length-fold (write_next index rows done i) turns ∙ length-set done i (written_by index done (get_or rows i []))
+  pub order_all : (i : ℕ) → i < length definitions → Contains order i
+  order_all i within = contains_from_count i order (omega (arith, sorted.once i, as_one _ _ (lt-ltb i (length (definition_graph definitions)) (omega (arith, length-graph definitions)))))
 
-  length-table : (turns : List ℕ) → length (written_in_order index rows turns) ≡ length definitions
-  length-table turns = length-fold (map (λ row. []) rows) turns ∙ length-map rows (λ row. []) ∙ length-map definitions elements
+  module _ (used : List Bool) (closed : (i : ℕ) → Contains order i → IsMarked used i → All (IsMarked used) (refs_of (definition_graph definitions) i)) where
+    -- those of some first turns
+    abbrev table : ℕ → List (List Piece)
+    table k = written_in_order index rows used (take k order)
 
-  -- the definitions of some first turns are written out
-  abbrev Good : ℕ → Type 0
-  Good k = AreWritten definitions (table k) (Contains (take k order))
+    length-next : (b : Bool) (done : List (List Piece)) (i : ℕ) (new : List Piece) → length (cond b (set done i new) done) ≡ length done
+    length-next true done i new = length-set done i new
+    length-next false done i new = refl
 
-  good_more : (k : ℕ) → k < length order → Good k → Good (k + 1)
-  good_more k within good i there =
-      let p : ℕ = get_or order k 0 in
-      let now : List (List Piece) = table k in
-      let new : List Piece = written_by index now (get_or rows p []) in
-      let row : refs_of (definition_graph definitions) p ≡ definition_references index (get_or rows p []) = get_or-map (definition_references index) rows p [] [] (omega (arith, turn_below k within, length-map definitions elements)) in
-      let earlier : All (Contains (take k order)) (definition_references index (get_or rows p [])) = subst (All (Contains (take k order))) row (sorted.in_order k within) in
-      let written : WritesOut definitions (elements_at definitions p) new =
-      elements_written definitions now (elements_at definitions p) (λ r held. good r (All-contains (Contains (take k order)) (definition_references index (get_or rows p [])) r earlier held)) in
-      let at : p < length now = omega (arith, turn_below k within, length-table (take k order)) in
-      subst (λ t. WritesOut definitions (elements_at definitions i) (get_or t i [])) (sym (in_order_more index rows order k within))
-      (⊎_elim
-      (λ before.
-      let other : i ≢ p = λ same. new_turn (definition_graph definitions) order k sorted within (subst (Contains (take k order)) same before) in
-      subst (WritesOut definitions (elements_at definitions i)) (sym (get_or-set_other now p i new [] other)) (good i before))
-      (λ same. subst (λ n. WritesOut definitions (elements_at definitions n) (get_or (set now p new) n [])) same (subst (WritesOut definitions (elements_at definitions p)) (sym (get_or-set_same now p new [] at)) written))
-      (Contains-push_cases (take k order) p i (subst (λ l. Contains l i) (take_more order k 0 within) there)))
+    length-fold : (done : List (List Piece)) (turns : List ℕ) → length (fold (write_next index rows used) done turns) ≡ length done
+    length-fold done [] = refl
+    length-fold done (i ∷ turns) = length-fold (write_next index rows used done i) turns ∙ length-next (get_or used i false) done i (written_by index done (get_or rows i []))
 
-  good_all : (k : ℕ) → k ≤ length order → Good k
-  good_all zero within = λ i there. absurd (omega (arith, there.1))
-  good_all (suc k) within =
-      let next : k + 1 ≡ suc k = omega arith in
-      subst Good next (good_more k (omega arith) (good_all k (omega arith)))
+    length-table : (turns : List ℕ) → length (written_in_order index rows used turns) ≡ length definitions
+    length-table turns = length-fold (map (λ row. []) rows) turns ∙ length-map rows (λ row. []) ∙ length-map definitions elements
 
-  -- all definitions are written out
-  pub all_written : AreDefinitionsWritten definitions (written_in_order index rows order)
-  all_written = record {
-    as_many = length-table order;
-    each = λ i within.
-        let all : take (length order) order ≡ order = take_all (length order) order (omega arith) in
-        let there : Contains order i = contains_from_count i order (omega (arith, sorted.once i, as_one _ _ (lt-ltb i (length (definition_graph definitions)) (omega (arith, length-graph definitions))))) in
-        subst (λ turns. WritesOut definitions (elements_at definitions i) (get_or (written_in_order index rows turns) i [])) all
-        (good_all (length order) (omega arith) i (subst (λ l. Contains l i) (sym all) there));
-  }
+    -- the used definitions of some first turns are written out
+    abbrev Good : ℕ → Type 0
+    Good k = (i : ℕ) → Contains (take k order) i → IsMarked used i → WritesOut definitions (elements_at definitions i) (get_or (table k) i [])
+
+    -- the turn of a definition
+    turn : (k : ℕ) (i : ℕ) (b : Bool) → k < length order → get_or used (get_or order k 0) false ≡ b → Good k → Contains (take (k + 1) order) i → IsMarked used i
+        → WritesOut definitions (elements_at definitions i) (get_or (cond b (set (table k) (get_or order k 0) (written_by index (table k) (get_or rows (get_or order k 0) []))) (table k)) i [])
+    turn k i b within is good there mark = by_case b is (Contains-push_cases (take k order) (get_or order k 0) i (subst (λ l. Contains l i) (take_more order k 0 within) there))
+      where
+        p : ℕ
+        p = get_or order k 0
+
+        by_case : (b : Bool) → get_or used (get_or order k 0) false ≡ b → Contains (take k order) i ⊎ (get_or order k 0 ≡ i)
+            → WritesOut definitions (elements_at definitions i) (get_or (cond b (set (table k) (get_or order k 0) (written_by index (table k) (get_or rows (get_or order k 0) []))) (table k)) i [])
+        by_case false is (inl before) = good i before mark
+        by_case false is (inr same) = absurd (false≢true (sym is ∙ ap (λ n. get_or used n false) same ∙ mark))
+        by_case true is (inl before) =
+            let q : ℕ = get_or order k 0 in
+            let other : i ≢ q = λ same. new_turn (definition_graph definitions) order k sorted within (subst (Contains (take k order)) same before) in
+            subst (WritesOut definitions (elements_at definitions i)) (sym (get_or-set_other (table k) q i (written_by index (table k) (get_or rows q [])) [] other)) (good i before mark)
+        by_case true is (inr same) =
+            let q : ℕ = get_or order k 0 in
+            let now : List (List Piece) = table k in
+            let new : List Piece = written_by index now (get_or rows q []) in
+            let row : refs_of (definition_graph definitions) q ≡ definition_references index (get_or rows q []) = get_or-map (definition_references index) rows q [] [] (omega (arith, turn_below k within, length-map definitions elements)) in
+            let earlier : All (Contains (take k order)) (definition_references index (get_or rows q [])) = subst (All (Contains (take k order))) row (sorted.in_order k within) in
+            let marked : All (IsMarked used) (definition_references index (get_or rows q [])) = subst (All (IsMarked used)) row (closed q (Contains-get_or order k 0 within) is) in
+            let written : WritesOut definitions (elements_at definitions q) new =
+            elements_written definitions now (elements_at definitions q)
+            (λ r held. good r (All-contains (Contains (take k order)) (definition_references index (get_or rows q [])) r earlier held) (All-contains (IsMarked used) (definition_references index (get_or rows q [])) r marked held)) in
+            let at : q < length now = omega (arith, turn_below k within, length-table (take k order)) in
+            subst (λ n. WritesOut definitions (elements_at definitions n) (get_or (set now q new) n [])) same (subst (WritesOut definitions (elements_at definitions q)) (sym (get_or-set_same now q new [] at)) written)
+
+    good_more : (k : ℕ) → k < length order → Good k → Good (k + 1)
+    good_more k within good i there mark =
+        subst (λ t. WritesOut definitions (elements_at definitions i) (get_or t i [])) (sym (in_order_more index rows used order k within)) (turn k i (get_or used (get_or order k 0) false) within refl good there mark)
+
+    good_all : (k : ℕ) → k ≤ length order → Good k
+    good_all zero within = λ i there mark. absurd (omega (arith, there.1))
+    good_all (suc k) within =
+        let next : k + 1 ≡ suc k = omega arith in
+        subst Good next (good_more k (omega arith) (good_all k (omega arith)))
+
+    -- those that aren't used stay without elements
+    none_start : (i : ℕ) (ls : List (List Piece)) → get_or (map (λ row. let l : List Piece = [] in l) ls) i [] ≡ []
+    none_start i [] = refl
+    none_start zero (l ∷ ls) = refl
+    none_start (suc i) (l ∷ ls) = none_start i ls
+
+    none_next : (done : List (List Piece)) (i j : ℕ) (b : Bool) (new : List Piece) → get_or used j false ≡ b → get_or used i false ≡ false → get_or done i [] ≡ [] → get_or (cond b (set done j new) done) i [] ≡ []
+    none_next done i j false new is unused none = none
+    none_next done i j true new is unused none = get_or-set_other done j i new [] (λ same. false≢true (sym unused ∙ ap (λ n. get_or used n false) same ∙ is)) ∙ none
+
+    none_fold : (done : List (List Piece)) (turns : List ℕ) (i : ℕ) → get_or used i false ≡ false → get_or done i [] ≡ [] → get_or (fold (write_next index rows used) done turns) i [] ≡ []
+    none_fold done [] i unused none = none
+    none_fold done (j ∷ turns) i unused none =
+        none_fold (write_next index rows used done j) turns i unused (none_next done i j (get_or used j false) (written_by index done (get_or rows j [])) refl unused none)
+
+    -- all definitions that are used are written out
+    pub used_written : (entries : List EntryReading) → AllByRecursion (λ e. AllByRecursion (λ f. All (IsMarked used) (definition_references index (elements f))) e.fields) entries
+        → AreUsedWritten definitions entries (written_in_order index rows used order)
+    used_written entries fields = record {
+      used = used;
+      as_many = length-table order;
+      each = λ i within mark.
+          let all : take (length order) order ≡ order = take_all (length order) order (omega arith) in
+          subst (λ turns. WritesOut definitions (elements_at definitions i) (get_or (written_in_order index rows used turns) i [])) all
+          (good_all (length order) (omega arith) i (subst (λ l. Contains l i) (sym all) (order_all i within)) mark);
+      others = λ i unused. none_fold (map (λ row. []) rows) order i unused (none_start i rows);
+      fields = fields;
+    }
 
 -- ---- what holds of all elements holds of those that are written out
 
@@ -182,10 +234,12 @@ pub all_by_index : {A : Type 0} (P : A → Type 0) (xs : List A) (d : A) → ((i
 all_by_index P [] d each = tt
 all_by_index P (x ∷ xs) d each = (each 0 (omega arith), all_by_index P xs d (λ i within. each (suc i) (omega arith)))
 
--- elements of what is written out by definitions that are
-pub known_written : (definitions : List FieldReading) (written : List (List Piece)) (ps : List Piece) → AreDefinitionsWritten definitions written → WritesOut definitions ps (written_by (definition_index definitions) written ps)
-known_written definitions written ps known =
-    elements_written definitions written ps (λ i held. known.each i (All-contains (λ r. r < length definitions) (definition_references (definition_index definitions) ps) i (references_below definitions ps) held))
+-- what elements of fields are written out as
+pub known_written : (definitions : List FieldReading) (entries : List EntryReading) (written : List (List Piece)) (ps : List Piece) → (known : AreUsedWritten definitions entries written)
+    → All (IsMarked known.used) (definition_references (definition_index definitions) ps) → WritesOut definitions ps (written_by (definition_index definitions) written ps)
+known_written definitions entries written ps known marked =
+    elements_written definitions written ps
+    (λ i held. known.each i (All-contains (λ r. r < length definitions) (definition_references (definition_index definitions) ps) i (references_below definitions ps) held) (All-contains (IsMarked known.used) (definition_references (definition_index definitions) ps) i marked held))
 
 -- some elements are written out as some
 pub written_some : (definitions : List FieldReading) {ps out : List Piece} → AllByRecursion (λ f. IsSome (elements f)) definitions → IsSome ps → WritesOut definitions ps out → IsSome out

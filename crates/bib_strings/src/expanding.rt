@@ -8,12 +8,13 @@ ghost use Rattle.bib_syntax.specs.Views.{entry_reading_of, field_of};
 ghost use Rattle.bib_format.specs.Cuts.{IsPieceCut};
 ghost use Rattle.bib_strings.specs.Exchanged.{entry_edits, field_edits, value_edits};
 ghost use Rattle.bib_strings.specs.Expanded.{ExpandIsRefused, IsExpandError, IsExpanded, definition_graph, definition_index};
-ghost use Rattle.bib_strings.specs.Tables.{AreDefinitionsWritten, AreAllFieldsCut, IsBelow, IsFieldCut, edit_as_written, expansion_by, index_in, lists_of};
+ghost use Rattle.bib_strings.specs.Tables.{AreAllFieldsCut, AreUsedWritten, IsBelow, IsFieldCut, edit_as_written, expansion_by, index_in, lists_of};
 
 use crate::definitions::{definition_indices, definition_values, graph, has_defined};
 use crate::editing::{Edit, edited_all};
 use crate::elements::laid_out;
 use crate::errors::ExpandError;
+use crate::used::used;
 use crate::values::value_end;
 use crate::written::{Elements, written_by, written_in_order};
 use bib_documents::document::RawDocument;
@@ -95,15 +96,16 @@ fn expansions<'a, 's>(
     Ok(edits)
 }
 
-// What the names of a file are written out as.
+// What the names of a file that its entries use are written out as.
 fn names_of<'a, 's>(
     alloc: Global,
     text: &'a str,
     definitions: &'a [Pair<'s>],
+    entries: &[Spanned<RawEntry<'_>>],
 ) -> Result<Names<'a, 's>, ExpandError>
     ensures text { IfOk result (λ names. names.text.now ≡ text.now) }
     ensures index { IfOk result (λ names. index_in names.indices ≡ definition_index (map field_of definitions.now)) }
-    ensures written { IfOk result (λ names. AreDefinitionsWritten (map field_of definitions.now) (lists_of names.written.items)) }
+    ensures written { IfOk result (λ names. AreUsedWritten (map field_of definitions.now) (map entry_reading_of entries.now) (lists_of names.written.items)) }
     ensures no_cycle { OnOk result (HasNoCycle (definition_graph (map field_of definitions.now))) }
     ensures refused { IfErr result (IsExpandError (map field_of definitions.now)) }
 {
@@ -111,7 +113,8 @@ fn names_of<'a, 's>(
     let values = definition_values(alloc, definitions)?;
     let refs = graph(alloc, &indices, &values)?;
     let order = topological_order(alloc, &refs)?;
-    let written = written_in_order(alloc, &indices, &values, &order)?;
+    let used = used(alloc, &indices, &refs, &order, entries)?;
+    let written = written_in_order(alloc, &indices, &values, &used, &order)?;
     Ok(Names {
         text,
         indices,
@@ -129,7 +132,7 @@ pub fn expand(alloc: Global, document: &RawDocument<'_>) -> Result<String, Expan
     ensures refused { IfErr result (ExpandIsRefused document.now) }
 {
     let raw = document.raw();
-    let names = names_of(alloc, document.text(), &raw.abbreviations)?;
+    let names = names_of(alloc, document.text(), &raw.abbreviations, &raw.entries)?;
     let edits = expansions(alloc, &names, &raw.entries)?;
     Ok(edited_all(alloc, document.text(), &edits)?)
 }

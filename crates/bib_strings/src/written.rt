@@ -68,22 +68,26 @@ fn empty_lists<'a, 's>(
     Ok(lists)
 }
 
-// What each definition is written out as, in an order in which each comes after those that it refers to.
+// What each definition that is used is written out as, in an order in which each comes after those that it refers to.
 pub(crate) fn written_in_order<'a, 's>(
     alloc: Global,
     indices: &BTreeMap<&str, usize>,
     values: &[&'a Field<'s>],
+    used: &[bool],
     order: &[usize],
 ) -> Result<Vec<Elements<'a, 's>>, AllocError>
+    requires count { length used.now ≡ length values.now }
     requires below { IsBelow (length values.now) (index_in indices.now) }
     requires order { All (λ index. index < length values.now) order.now }
     ensures written { IfOk result (λ written. lists_of written.items ≡
-        spec.written_in_order (index_in indices.now) (values_of values.now) order.now) }
+        spec.written_in_order (index_in indices.now) (values_of values.now) used.now order.now) }
     ensures count { IfOk result (λ written. length written.items ≡ length values.now) }
 {
     let mut written = empty_lists(alloc, values)?;
     'order: for index in order {
-        written[*index] = written_by(alloc, indices, &written, values[*index])?;
+        if used[*index] {
+            written[*index] = written_by(alloc, indices, &written, values[*index])?;
+        }
     }
     Ok(written)
 }
