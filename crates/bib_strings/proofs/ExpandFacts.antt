@@ -19,7 +19,7 @@ use Rattle.bib_strings.specs.Exchanged.{Exchange, IsReadPlaceless, NewValue, ent
 use Rattle.bib_strings.specs.Expanded.{Index, IsExpanded, WritesOut, definition_graph, definition_index, definition_references, elements, has_defined, laid_out}
 use Rattle.bib_graph.specs.Rows.{rows}
 use Rattle.bib_graph.proofs.Rows.{length-rows}
-use Rattle.bib_strings.specs.Tables.{AreAllFieldsCut, AreUsedWritten, IsBelow, IsFieldCut, IsMarked, expansion_by, lent_pieces, lists_of, values_of, written_by}
+use Rattle.bib_strings.specs.Tables.{AreAllFieldsCut, AreUsedWritten, IsBelow, IsFieldCut, HasMark, expansion_by, lent_pieces, lists_of, values_of, written_by}
 use Rattle.bib_strings.proofs.ElementFacts.{AreValues, IsElement, IsSome, IsValue, can_be_read, file_stands, is_cut}
 use Rattle.bib_strings.proofs.ExchangedFacts.{CanBeExchanged, exchanged_read}
 use Rattle.bib_strings.proofs.NewValueFacts.{CanBeRead}
@@ -112,7 +112,7 @@ module _ (d : Document) (read : IsDocument d) (written : List (List Piece)) (kno
 
   -- what a field refers to is used
   abbrev IsUsed : FieldReading → Type 0
-  IsUsed f = All (IsMarked known.used) (definition_references (definition_index defined) (elements f))
+  IsUsed f = All (HasMark known.used) (definition_references (definition_index defined) (elements f))
 
   value_read : (f : FieldReading) → IsValue d.text f → IsUsed f → (new : NewValue) → exchange f ≡ Some new → CanBeRead new
   value_read f value marked new = by_case (has_defined (definition_index defined) (elements f))

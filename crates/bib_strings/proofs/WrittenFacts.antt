@@ -21,7 +21,7 @@ use Rattle.bib_documents.specs.Documents.{last_position, or_first}
 use Rattle.bib_strings.specs.Expanded.{Index, WritesOut, definition_graph, definition_index, elements, elements_at, index_list, is_of_name, piece_index, definition_references}
 use Rattle.bib_strings.specs.Expanded.{WritesOut as writes}
 use Rattle.bib_strings.proofs.ElementFacts.{IsSome}
-use Rattle.bib_strings.specs.Tables.{AreUsedWritten, IsBelow, IsMarked, values_of, write_next, written_by, written_in_order, written_piece}
+use Rattle.bib_strings.specs.Tables.{AreUsedWritten, IsBelow, HasMark, values_of, write_next, written_by, written_in_order, written_piece}
 
 -- ---- indices
 
@@ -124,7 +124,7 @@ module _ (definitions : List FieldReading) (order : List ℕ) (sorted : IsTopolo
   pub order_all : (i : ℕ) → i < length definitions → Contains order i
   order_all i within = contains_from_count i order (omega (arith, sorted.once i, as_one _ _ (lt-ltb i (length (definition_graph definitions)) (omega (arith, length-graph definitions)))))
 
-  module _ (used : List Bool) (closed : (i : ℕ) → Contains order i → IsMarked used i → All (IsMarked used) (refs_of (definition_graph definitions) i)) where
+  module _ (used : List Bool) (closed : (i : ℕ) → Contains order i → HasMark used i → All (HasMark used) (refs_of (definition_graph definitions) i)) where
     -- those of some first turns
     abbrev table : ℕ → List (List Piece)
     table k = written_in_order index rows used (take k order)
@@ -142,10 +142,10 @@ module _ (definitions : List FieldReading) (order : List ℕ) (sorted : IsTopolo
 
     -- the used definitions of some first turns are written out
     abbrev Good : ℕ → Type 0
-    Good k = (i : ℕ) → Contains (take k order) i → IsMarked used i → WritesOut definitions (elements_at definitions i) (get_or (table k) i [])
+    Good k = (i : ℕ) → Contains (take k order) i → HasMark used i → WritesOut definitions (elements_at definitions i) (get_or (table k) i [])
 
     -- the turn of a definition
-    turn : (k : ℕ) (i : ℕ) (b : Bool) → k < length order → get_or used (get_or order k 0) false ≡ b → Good k → Contains (take (k + 1) order) i → IsMarked used i
+    turn : (k : ℕ) (i : ℕ) (b : Bool) → k < length order → get_or used (get_or order k 0) false ≡ b → Good k → Contains (take (k + 1) order) i → HasMark used i
         → WritesOut definitions (elements_at definitions i) (get_or (cond b (set (table k) (get_or order k 0) (written_by index (table k) (get_or rows (get_or order k 0) []))) (table k)) i [])
     turn k i b within is good there mark = by_case b is (Contains-push_cases (take k order) (get_or order k 0) i (subst (λ l. Contains l i) (take_more order k 0 within) there))
       where
@@ -166,10 +166,10 @@ module _ (definitions : List FieldReading) (order : List ℕ) (sorted : IsTopolo
             let new : List Piece = written_by index now (get_or rows q []) in
             let row : refs_of (definition_graph definitions) q ≡ definition_references index (get_or rows q []) = get_or-map (definition_references index) rows q [] [] (omega (arith, turn_below k within, length-map definitions elements)) in
             let earlier : All (Contains (take k order)) (definition_references index (get_or rows q [])) = subst (All (Contains (take k order))) row (sorted.in_order k within) in
-            let marked : All (IsMarked used) (definition_references index (get_or rows q [])) = subst (All (IsMarked used)) row (closed q (Contains-get_or order k 0 within) is) in
+            let marked : All (HasMark used) (definition_references index (get_or rows q [])) = subst (All (HasMark used)) row (closed q (Contains-get_or order k 0 within) is) in
             let written : WritesOut definitions (elements_at definitions q) new =
             elements_written definitions now (elements_at definitions q)
-            (λ r held. good r (All-contains (Contains (take k order)) (definition_references index (get_or rows q [])) r earlier held) (All-contains (IsMarked used) (definition_references index (get_or rows q [])) r marked held)) in
+            (λ r held. good r (All-contains (Contains (take k order)) (definition_references index (get_or rows q [])) r earlier held) (All-contains (HasMark used) (definition_references index (get_or rows q [])) r marked held)) in
             let at : q < length now = omega (arith, turn_below k within, length-table (take k order)) in
             subst (λ n. WritesOut definitions (elements_at definitions n) (get_or (set now q new) n [])) same (subst (WritesOut definitions (elements_at definitions q)) (sym (get_or-set_same now q new [] at)) written)
 
@@ -199,7 +199,7 @@ module _ (definitions : List FieldReading) (order : List ℕ) (sorted : IsTopolo
         none_fold (write_next index rows used done j) turns i unused (none_next done i j (get_or used j false) (written_by index done (get_or rows j [])) refl unused none)
 
     -- all definitions that are used are written out
-    pub used_written : (entries : List EntryReading) → AllByRecursion (λ e. AllByRecursion (λ f. All (IsMarked used) (definition_references index (elements f))) e.fields) entries
+    pub used_written : (entries : List EntryReading) → AllByRecursion (λ e. AllByRecursion (λ f. All (HasMark used) (definition_references index (elements f))) e.fields) entries
         → AreUsedWritten definitions entries (written_in_order index rows used order)
     used_written entries fields = record {
       used = used;
@@ -236,10 +236,10 @@ all_by_index P (x ∷ xs) d each = (each 0 (omega arith), all_by_index P xs d (�
 
 -- what elements of fields are written out as
 pub known_written : (definitions : List FieldReading) (entries : List EntryReading) (written : List (List Piece)) (ps : List Piece) → (known : AreUsedWritten definitions entries written)
-    → All (IsMarked known.used) (definition_references (definition_index definitions) ps) → WritesOut definitions ps (written_by (definition_index definitions) written ps)
+    → All (HasMark known.used) (definition_references (definition_index definitions) ps) → WritesOut definitions ps (written_by (definition_index definitions) written ps)
 known_written definitions entries written ps known marked =
     elements_written definitions written ps
-    (λ i held. known.each i (All-contains (λ r. r < length definitions) (definition_references (definition_index definitions) ps) i (references_below definitions ps) held) (All-contains (IsMarked known.used) (definition_references (definition_index definitions) ps) i marked held))
+    (λ i held. known.each i (All-contains (λ r. r < length definitions) (definition_references (definition_index definitions) ps) i (references_below definitions ps) held) (All-contains (HasMark known.used) (definition_references (definition_index definitions) ps) i marked held))
 
 -- some elements are written out as some
 pub written_some : (definitions : List FieldReading) {ps out : List Piece} → AllByRecursion (λ f. IsSome (elements f)) definitions → IsSome ps → WritesOut definitions ps out → IsSome out

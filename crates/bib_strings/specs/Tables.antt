@@ -96,25 +96,25 @@ marked_back graph marks [] = marks
 marked_back graph marks (i ∷ order) = mark_next graph i (marked_back graph marks order)
 
 -- the indices of the definitions that fields refer to
-abbrev pub field_references : Index → List FieldReading → List ℕ
-field_references index fields = flat_map (λ f. definition_references index (elements f)) fields
+abbrev pub fields_refer_to : Index → List FieldReading → List ℕ
+fields_refer_to index fields = flat_map (λ f. definition_references index (elements f)) fields
 
 -- the indices of the definitions that the fields of entries refer to
-abbrev pub entry_references : Index → List EntryReading → List ℕ
-entry_references index entries = flat_map (λ e. field_references index e.fields) entries
+abbrev pub entries_refer_to : Index → List EntryReading → List ℕ
+entries_refer_to index entries = flat_map (λ e. fields_refer_to index e.fields) entries
 
 -- marks on the definitions that fields of entries refer to, and on those that marked ones refer to
 abbrev pub used_definitions : Index → Graph → ℕ → List ℕ → List EntryReading → List Bool
-used_definitions index graph count order entries = marked_back graph (marked_all (replicate count false) (entry_references index entries)) order
+used_definitions index graph count order entries = marked_back graph (marked_all (replicate count false) (entries_refer_to index entries)) order
 
 -- an index has a mark
-abbrev pub IsMarked : List Bool → ℕ → Type 0
-IsMarked marks i = slice_index_or marks i false ≡ true
+abbrev pub HasMark : List Bool → ℕ → Type 0
+HasMark marks i = slice_index_or marks i false ≡ true
 
 -- each definition that is used is written out, and those that elements of fields refer to are used
 pub record AreUsedWritten (definitions : List FieldReading) (entries : List EntryReading) (written : List (List Piece)) : Type 0 where
   pub used : List Bool
   pub as_many : length written ≡ length definitions
-  pub each : (i : ℕ) → i < length definitions → IsMarked used i → WritesOut definitions (elements_at definitions i) (slice_index_or written i [])
+  pub each : (i : ℕ) → i < length definitions → HasMark used i → WritesOut definitions (elements_at definitions i) (slice_index_or written i [])
   pub others : (i : ℕ) → slice_index_or used i false ≡ false → slice_index_or written i [] ≡ []
-  pub fields : AllByRecursion (λ e. AllByRecursion (λ f. All (IsMarked used) (definition_references (definition_index definitions) (elements f))) e.fields) entries
+  pub fields : AllByRecursion (λ e. AllByRecursion (λ f. All (HasMark used) (definition_references (definition_index definitions) (elements f))) e.fields) entries

@@ -6,7 +6,7 @@ ghost use Rattle.bib_graph.specs.Graph.{IsInRange};
 ghost use Rattle.bib_graph.specs.Rows.{rows};
 ghost use Rattle.bib_syntax.specs.Views.{entry_reading_of, field_of, piece_of};
 ghost use Rattle.bib_strings.specs.Expanded.{definition_references};
-ghost use Rattle.bib_strings.specs.Tables.{IsBelow, entry_references, field_references, index_in, marked_all, marked_back, used_definitions};
+ghost use Rattle.bib_strings.specs.Tables.{IsBelow, entries_refer_to, fields_refer_to, index_in, marked_all, marked_back, used_definitions};
 
 use crate::definitions::defined_index;
 use bib_syntax::raw::{Pair, RawChunk, RawEntry};
@@ -43,7 +43,7 @@ fn mark_elements(
 // Marks the definitions that fields refer to.
 fn mark_fields(marks: &mut [bool], indices: &BTreeMap<&str, usize>, fields: &[Pair<'_>])
     requires { IsBelow (length marks.old) (index_in indices.now) }
-    ensures { marks.new ≡ marked_all marks.old (field_references (index_in indices.now) (map field_of fields.now)) }
+    ensures { marks.new ≡ marked_all marks.old (fields_refer_to (index_in indices.now) (map field_of fields.now)) }
 {
     'fields: for field in fields {
         mark_elements(marks, indices, &field.value.v);
@@ -57,7 +57,7 @@ fn mark_entries(
     entries: &[Spanned<RawEntry<'_>>],
 )
     requires { IsBelow (length marks.old) (index_in indices.now) }
-    ensures { marks.new ≡ marked_all marks.old (entry_references (index_in indices.now) (map entry_reading_of entries.now)) }
+    ensures { marks.new ≡ marked_all marks.old (entries_refer_to (index_in indices.now) (map entry_reading_of entries.now)) }
 {
     'entries: for entry in entries {
         mark_fields(marks, indices, &entry.v.fields);
