@@ -15,6 +15,7 @@ mod entries;
 mod excerpts;
 mod formats;
 mod sortings;
+mod strings;
 mod support;
 mod syntax;
 mod tables;
@@ -35,6 +36,7 @@ fn rows(alloc: Global, layer: &str, input: &str) -> Result<String, AllocError> {
         "excerpts" => answered::<excerpts::Excerpts>(alloc, input),
         "formats" => answered::<formats::Formats>(alloc, input),
         "sortings" => answered::<sortings::Sortings>(alloc, input),
+        "strings" => answered::<strings::Strings>(alloc, input),
         "entries" => answered::<entries::Entries>(alloc, input),
         "bibliographies" => answered::<bibliographies::Bibliographies>(alloc, input),
         _ => String::from_str(alloc, "there is no such layer"),

@@ -1,0 +1,4 @@
+pub mod Errors
+pub mod Exchanged
+pub mod Expanded
+pub mod Tables
