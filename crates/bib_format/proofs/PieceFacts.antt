@@ -1,5 +1,5 @@
 -- An element between the delimiters of a style, as it is read.
-use Rattle.std.proofs.Common.{◌≡◌, ℕ, ◌+◌, ◌-◌, ◌≤◌, Bool, true, false, List, [], ◌∷◌, ◌++◌, length, codes, cond, refl, sym, ap, ◌∙◌, subst, arith}
+use Rattle.std.proofs.Common.{◌≡◌, ℕ, ◌+◌, ◌-◌, ◌≤◌, Bool, true, false, not, ◌&&◌, List, [], ◌∷◌, ◌++◌, length, codes, cond, refl, sym, ap, ◌∙◌, subst, arith}
 use Rattle.std.specs.List.{ends_with}
 use lib.Dec.{eqb}
 use Rattle.bib_text.specs.Places.{Place, between}

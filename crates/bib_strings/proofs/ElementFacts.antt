@@ -20,13 +20,16 @@ use Rattle.bib_documents.specs.Edits.{moved_piece}
 use Rattle.bib_documents.proofs.MovedFacts.{body_within}
 use Rattle.bib_documents.proofs.ValueFacts.{elements_opens}
 use Rattle.bib_format.specs.Cuts.{IsPieceCut}
-use Rattle.bib_format.specs.Formatted.{piece_as_written, value_laid_out}
+use Rattle.bib_format.specs.Delimited.{piece_as_written}
+use Rattle.bib_format.specs.Formatted.{value_laid_out}
+use Rattle.bib_format.specs.declared.style.Delimiters.TheVariants.{Keep}
 use Rattle.bib_format.proofs.CutFacts.{cut_stood, stood, stood_parts, stood_quoted}
-use Rattle.bib_format.proofs.ElementFacts.{Ending, NotOpened, element_stands, element_written}
+use Rattle.bib_format.proofs.ElementFacts.{Ending, NotOpened}
 use Rattle.bib_format.proofs.StandsFacts.{Stands, ascii, first_part, last_part}
 use Rattle.bib_format.proofs.ValueFacts.{not_opened_run, not_opened_sign}
 use Rattle.bib_syntax.specs.Grammar.{Number as number}
 use Rattle.bib_strings.specs.Expanded.{elements as elements_of, laid_out}
+use Rattle.bib_strings.proofs.StandingFacts.{element_stands, element_written}
 use Rattle.bib_strings.proofs.NewValueFacts.{AreRead, CanBeRead}
 
 -- an element that stands somewhere in a text, after neither a brace nor a quote
@@ -54,25 +57,29 @@ is_cut text e x = element_cut text x.same x.stands
 
 -- ---- elements that are laid out are read
 
+-- elements that are laid out after another one
+abbrev laid_out_more : List ℕ → List Piece → List ℕ
+laid_out_more text es = value_laid_out (codes " # ") (codes " # ") (map (piece_as_written Keep text) es)
+
 placeless : (move : ℕ → ℕ) (e : Piece) → moved_piece (λ n. 0) (moved_piece move e) ≡ moved_piece (λ n. 0) e
 placeless move (literal p) = refl
 placeless move (abbreviation p) = refl
 
 -- an element where its bytes stand
-element_read : (text : List ℕ) (e : Piece) {u v : Place} → IsElement text e → Stands u (piece_as_written text e) v → Ending v → (e' : Piece) × Element longest u e' v × (moved_piece (λ n. 0) e' ≡ moved_piece (λ n. 0) e)
+element_read : (text : List ℕ) (e : Piece) {u v : Place} → IsElement text e → Stands u (piece_as_written Keep text e) v → Ending v → (e' : Piece) × Element longest u e' v × (moved_piece (λ n. 0) e' ≡ moved_piece (λ n. 0) e)
 element_read text e {u} {v} x s ending =
-    let written : piece_as_written text e ≡ between x.start x.end = ap (λ t. piece_as_written t e) (sym x.same) ∙ element_written x.stands x.opened in
+    let written : piece_as_written Keep text e ≡ between x.start x.end = ap (λ t. piece_as_written Keep t e) (sym x.same) ∙ element_written x.stands x.opened in
     let move = λ (n : ℕ). n - x.start.at + u.at in
     (moved_piece move e, element_stands x.stands x.within (subst (λ t. Stands u t v) written s) ending, placeless move e)
 
-pub elements_read : (text : List ℕ) (e : Piece) (es : List Piece) (u v w : Place) → IsElement text e → AllByRecursion (IsElement text) es → Stands u (piece_as_written text e ++ value_laid_out (codes " # ") text es) v → Ending v
+pub elements_read : (text : List ℕ) (e : Piece) (es : List Piece) (u v w : Place) → IsElement text e → AllByRecursion (IsElement text) es → Stands u (piece_as_written Keep text e ++ laid_out_more text es) v → Ending v
     → Longest is_whitespace v w → Stops (λ c. c == 35) w → AreRead (e ∷ es) u w
 elements_read text e [] u v w x all s ending over no_hash =
-    let here = element_read text e x (subst (λ t. Stands u t v) (append-nil (piece_as_written text e)) s) ending in
+    let here = element_read text e x (subst (λ t. Stands u t v) (append-nil (piece_as_written Keep text e)) s) ending in
     record { reading = here.0 ∷ []; elements = elements.last here.1 over no_hash; alike = ap (λ p. p ∷ []) here.2 }
 elements_read text e (f ∷ es) u v w x all s ending over no_hash =
-    let written : List ℕ = piece_as_written text e in
-    let rest : List ℕ = piece_as_written text f ++ value_laid_out (codes " # ") text es in
+    let written : List ℕ = piece_as_written Keep text e in
+    let rest : List ℕ = piece_as_written Keep text f ++ laid_out_more text es in
     let first = first_part written (codes " # " ++ rest) s in
     let s1 = last_part written (codes " # " ++ rest) s in
     let space = ascii 32 (omega arith) (first_part (32 ∷ []) (35 ∷ 32 ∷ rest) s1) in

@@ -1,3 +1,4 @@
+mod StandingFacts
 pub mod ElementFacts
 pub mod ExchangedFacts
 pub mod ExpandFacts

@@ -1,12 +1,14 @@
 -- Meaning: words of public contracts.
 -- Abbreviations written out: a name that a file defines is exchanged for the elements of its definition.
-use Rattle.std.specs.Prelude.{◌≡◌, ℕ, Bool, List, [], ◌∷◌, ◌++◌, if◌then◌else◌, is_some, map, slice_index_or, Option, Some, None, bytes_eq}
+use Rattle.std.specs.Prelude.{◌≡◌, ℕ, Bool, List, [], ◌∷◌, ◌++◌, if◌then◌else◌, is_some, map, slice_index_or, Option, Some, None, bytes_eq, codes}
 use Rattle.std.specs.List.{AllByRecursion, flat_map, list_any}
 use Rattle.bib_graph.specs.Graph.{Graph, IsFirstOnCycle}
 use Rattle.bib_syntax.specs.Reading.{Piece, FieldReading, FileReading}
 use Rattle.bib_syntax.specs.Reading.Piece.{literal, abbreviation}
 use Rattle.bib_documents.specs.Documents.{Document, last_position}
+use Rattle.bib_format.specs.Delimited.{piece_as_written}
 use Rattle.bib_format.specs.Formatted.{value_laid_out}
+use Rattle.bib_format.specs.declared.style.Delimiters.TheVariants.{Keep}
 use Rattle.bib_strings.specs.Exchanged.{Exchange, IsReadPlaceless, file_exchanged, text_exchanged}
 use Rattle.bib_strings.specs.declared.errors.ExpandError.{ExpandError}
 use Rattle.bib_strings.specs.declared.errors.ExpandError.TheVariants.{Cycle, OutOfMemory}
@@ -51,7 +53,7 @@ has_defined index pieces = list_any (λ piece. is_some (piece_index index piece)
 
 -- elements of a file as they are written in it, with # between them
 abbrev pub laid_out : List ℕ → List Piece → List ℕ
-laid_out text pieces = value_laid_out [] text pieces
+laid_out text pieces = value_laid_out [] (codes " # ") (map (piece_as_written Keep text) pieces)
 
 -- each value with a defined name is exchanged for what its elements are written out as
 abbrev pub expansion : List ℕ → Index → (FieldReading → List Piece) → Exchange

@@ -5,7 +5,8 @@ ghost use Rattle.std.specs.List.{AllByRecursion};
 ghost use Rattle.std.specs.String.{string_bytes};
 ghost use Rattle.bib_syntax.specs.Views.{piece_of};
 ghost use Rattle.bib_format.specs.Cuts.{IsPieceCut};
-ghost use Rattle.bib_format.specs.Formatted.{delimited, piece_as_written};
+ghost use Rattle.bib_format.specs.Delimited.{delimited, piece_as_written};
+ghost use Rattle.bib_format.specs.declared.style.Delimiters.TheVariants.{Keep};
 ghost use Rattle.bib_strings.specs.Expanded as spec;
 ghost use Rattle.bib_strings.specs.Tables.{lent_pieces};
 
@@ -15,7 +16,7 @@ use std::alloc::{AllocError, Global};
 
 // Adds the text of a literal with the delimiters that it has in the file, by what stands before it there.
 fn push_literal(new: &mut String, before: &str, content: &str) -> Result<(), AllocError>
-    ensures { OnOk result (string_bytes new.new ≡ string_bytes new.old ++ delimited before.now content.now) }
+    ensures { OnOk result (string_bytes new.new ≡ string_bytes new.old ++ delimited Keep before.now content.now) }
 {
     if before.ends_with("{") {
         new.push_str("{")?;
@@ -36,7 +37,7 @@ fn push_literal(new: &mut String, before: &str, content: &str) -> Result<(), All
 // Adds an element as it stands in the file.
 fn push_piece(new: &mut String, text: &str, piece: &Spanned<RawChunk<'_>>) -> Result<(), AllocError>
     requires { IsPieceCut text.now (piece_of piece.now) }
-    ensures { OnOk result (string_bytes new.new ≡ string_bytes new.old ++ piece_as_written text.now (piece_of piece.now)) }
+    ensures { OnOk result (string_bytes new.new ≡ string_bytes new.old ++ piece_as_written Keep text.now (piece_of piece.now)) }
 {
     match piece.v {
         RawChunk::Normal(content) => push_literal(new, &text[..piece.span.start], content)?,

@@ -1,14 +1,17 @@
-use Rattle.std.proofs.Common.{◌≡◌, ◌++◌, [], codes, cond, drop}
+use Rattle.std.proofs.Common.{◌≡◌, ◌++◌, [], codes, cond, drop, map}
 use Rattle.std.specs.List.{AllByRecursion}
 use Rattle.std.specs.String.{string_bytes}
 use Rattle.bib_format.specs.Cuts.{IsPieceCut}
+use Rattle.bib_format.specs.Delimited.{piece_as_written}
 use Rattle.bib_format.specs.Formatted.{value_laid_out}
+use Rattle.bib_format.specs.declared.style.Delimiters.TheVariants.{Keep}
 use Rattle.bib_strings.specs.Tables.{lent_pieces}
 use Rattle.bib_strings.proofs.elements.laid_out.Given as goal
 
 -- what is left to write
 abbrev pub invariant-pieces : goal.invariant-pieces
 invariant-pieces l = record {
-  written : string_bytes l.new ++ value_laid_out (cond l.is_first [] (codes " # ")) l.text (lent_pieces (drop l.piece-index l.pieces)) ≡ value_laid_out [] l.text (lent_pieces l.pieces);
+  written : string_bytes l.new ++ value_laid_out (cond l.is_first [] (codes " # ")) (codes " # ") (map (piece_as_written Keep l.text) (lent_pieces (drop l.piece-index l.pieces)))
+      ≡ value_laid_out [] (codes " # ") (map (piece_as_written Keep l.text) (lent_pieces l.pieces));
   cut : AllByRecursion (IsPieceCut l.text) (lent_pieces (drop l.piece-index l.pieces));
 }

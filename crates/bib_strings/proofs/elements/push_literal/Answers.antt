@@ -3,11 +3,12 @@ use lib.Dec.{eqb}
 use Rattle.std.specs.List.{ends_with}
 use Rattle.std.specs.String.{string_bytes}
 use Rattle.std.proofs.lemmas.Str.Pattern.{ends_text}
-use Rattle.bib_format.specs.Formatted.{delimited}
+use Rattle.bib_format.specs.Delimited.{delimited}
+use Rattle.bib_format.specs.declared.style.Delimiters.TheVariants.{Keep}
 use Rattle.bib_strings.proofs.elements.push_literal.Goals as goal
 
 -- a text before which neither a brace nor a quote stands
-neither : (before content : List ℕ) → ends_with eqb before (codes "{") ≡ false → ends_with eqb before (codes "\"") ≡ false → delimited before content ≡ content
+neither : (before content : List ℕ) → ends_with eqb before (codes "{") ≡ false → ends_with eqb before (codes "\"") ≡ false → delimited Keep before content ≡ content
 neither before content no_brace no_quote =
     ap (λ b. cond b (codes "{" ++ (content ++ codes "}")) (cond (ends_with eqb before (codes "\"")) (codes "\"" ++ (content ++ codes "\"")) content)) no_brace
     ∙ ap (λ b. cond b (codes "\"" ++ (content ++ codes "\"")) content) no_quote
