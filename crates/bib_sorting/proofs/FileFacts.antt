@@ -25,7 +25,7 @@ use Rattle.bib_format.proofs.CutFacts.{cut_file, cut_stood, stood}
 use Rattle.bib_format.proofs.SplitFacts.{ByEntries, by_entries}
 use Rattle.bib_format.proofs.StandsFacts.{Stands, past}
 use Rattle.bib_sorting.specs.Cuts.{AreItemsCut, IsEntryOfItemCut, IsItemCut}
-use Rattle.bib_sorting.specs.Sorted.{AreEntriesInOrder, IsReadSorted, Item, comment_in, placeless, entry_bytes, gap_before, items, items_from, laid_out, place_after, run_after, says_in_order, space_in, spaces_from, text_in_order}
+use Rattle.bib_sorting.specs.Sorted.{AreEntriesInOrder, IsReadSorted, Item, comment_in, without_places, entry_bytes, gap_before, items, items_from, items_laid_out, place_after, run_after, says_sorted, space_in, spaces_from, text_in_order}
 use Rattle.bib_sorting.proofs.PlacelessFacts.{file_placeless}
 use Rattle.bib_sorting.proofs.PlainFacts.{ahead_plain, stood_plain}
 use Rattle.bib_sorting.proofs.ReadFacts.{ItemReads, SpaceReads, gap_cut, item_reads}
@@ -36,7 +36,7 @@ use Rattle.bib_sorting.proofs.ReadFacts.{ItemReads, SpaceReads, gap_cut, item_re
 pub record FileThere (says : FileReading) (u : Place) : Type 0 where
   pub reading : FileReading
   pub file : File longest u reading
-  pub alike : placeless reading ≡ placeless says
+  pub alike : without_places reading ≡ without_places says
 
 abbrev RestReads : List ℕ → FileReading → Type 0
 RestReads bytes says = (u : Place) → drop u.at u.text ≡ bytes → u.at ≤ length u.text → FileThere says u
@@ -146,12 +146,12 @@ file_parts text index {u} {says} same within cut (ByEntries.more {s = s} {v = v}
 
 -- ---- read in another order
 
-alike_then : (gap before rest reading : FileReading) (e e' : EntryReading) → placeless gap ≡ placeless before → moved_entry (λ n. 0) e' ≡ moved_entry (λ n. 0) e → placeless reading ≡ placeless rest
-    → placeless (then gap (then (entry_alone e') reading)) ≡ placeless (then before (then (entry_alone e) rest))
+alike_then : (gap before rest reading : FileReading) (e e' : EntryReading) → without_places gap ≡ without_places before → moved_entry (λ n. 0) e' ≡ moved_entry (λ n. 0) e → without_places reading ≡ without_places rest
+    → without_places (then gap (then (entry_alone e') reading)) ≡ without_places (then before (then (entry_alone e) rest))
 alike_then gap before rest reading e e' between_entries entry others =
     moved-then (λ n. 0) gap (then (entry_alone e') reading)
-    ∙ ap (λ r. then r (placeless (then (entry_alone e') reading))) between_entries
-    ∙ ap (then (placeless before)) (moved-then (λ n. 0) (entry_alone e') reading ∙ ap (λ y. then (entry_alone y) (placeless reading)) entry ∙ ap (then (entry_alone (moved_entry (λ n. 0) e))) others ∙ sym (moved-then (λ n. 0) (entry_alone e) rest))
+    ∙ ap (λ r. then r (without_places (then (entry_alone e') reading))) between_entries
+    ∙ ap (then (without_places before)) (moved-then (λ n. 0) (entry_alone e') reading ∙ ap (λ y. then (entry_alone y) (without_places reading)) entry ∙ ap (then (entry_alone (moved_entry (λ n. 0) e))) others ∙ sym (moved-then (λ n. 0) (entry_alone e) rest))
     ∙ sym (moved-then (λ n. 0) before (then (entry_alone e) rest))
 
 stands_here : (u : Place) (xs ys : List ℕ) → drop u.at u.text ≡ xs ++ ys → Stands u xs (past u xs)
@@ -170,18 +170,18 @@ AreLaid text at (e ∷ es) (s ∷ ss) (i ∷ order) = (gap_before text at e ≡ 
 pub record OrderThere (says : FileReading) (spaces : List (List ℕ)) (order : List Item) (u : Place) : Type 0 where
   pub reading : FileReading
   pub file : File longest u reading
-  pub alike : placeless reading ≡ placeless says
+  pub alike : without_places reading ≡ without_places says
   pub laid : AreLaid u.text u.at reading.entries spaces order
 
 empty_map : {A B : Type 0} (f : A → B) (xs : List A) → map f xs ≡ [] → xs ≡ []
 empty_map f [] none = refl
 empty_map f (x ∷ xs) none = absurd (cc)
 
-no_entries : (reading says : FileReading) → placeless reading ≡ placeless says → says.entries ≡ [] → reading.entries ≡ []
+no_entries : (reading says : FileReading) → without_places reading ≡ without_places says → says.entries ≡ [] → reading.entries ≡ []
 no_entries reading says alike none = empty_map (moved_entry (λ n. 0)) reading.entries (ap (λ r. r.entries) alike ∙ ap (map (moved_entry (λ n. 0))) none)
 
 order_read : (text : List ℕ) (spaces : List (List ℕ)) (befores : List FileReading) (order : List Item) (last : List ℕ) (rest : FileReading) → AllSpaces spaces befores → AllByRecursion (ReadsItem text) order → length spaces ≡ length order → RestReads last rest → rest.entries ≡ []
-    → (u : Place) → drop u.at u.text ≡ laid_out text spaces order last → u.at ≤ length u.text → OrderThere (rejoined befores (map (λ i. i.entry) order) rest) spaces order u
+    → (u : Place) → drop u.at u.text ≡ items_laid_out text spaces order last → u.at ≤ length u.text → OrderThere (rejoined befores (map (λ i. i.entry) order) rest) spaces order u
 order_read text [] [] [] last rest spaces items as_many ends none u here within =
     let there = ends u here within in
     record { reading = there.reading; file = there.file; alike = there.alike; laid = subst (λ es. AreLaid u.text u.at es [] []) (sym (no_entries there.reading rest there.alike none)) tt }
@@ -191,7 +191,7 @@ order_read text (s ∷ ss) [] order last rest spaces items as_many ends none u h
 order_read text (s ∷ ss) (b ∷ bs) [] last rest spaces items as_many ends none u here within = absurd (omega (arith, as_many))
 order_read text (s ∷ ss) (b ∷ bs) (i ∷ order) last rest spaces items as_many ends none u here within =
     let bytes = entry_bytes text i.entry in
-    let tail = laid_out text ss order last in
+    let tail = items_laid_out text ss order last in
     let p = past u s in
     let here' : drop p.at p.text ≡ (i.comment ++ bytes) ++ tail = text_stands u.text s (i.comment ++ (bytes ++ tail)) u.at here ∙ sym (append_assoc i.comment bytes tail) in
     let q = past p (i.comment ++ bytes) in
@@ -246,7 +246,7 @@ as_many d texts order in_order =
 pub record OrderRead (d : Document) (order : List Item) : Type 0 where
   pub reading : FileReading
   pub read : IsRawReading (text_in_order d order) reading
-  pub alike : placeless reading ≡ placeless (says_in_order d order)
+  pub alike : without_places reading ≡ without_places (says_sorted d order)
   pub laid : AreLaid (text_in_order d order) 0 reading.entries (spaces_from d.text 0 0 d.says.entries) order
 
 pub read_in_order : (d : Document) (texts : List (List ℕ)) (order : List Item) → IsDocument d → AreEntriesInOrder (items d texts) order → OrderRead d order
@@ -261,8 +261,8 @@ read_in_order d texts order read in_order =
     record {
       reading = said.reading;
       read = said.file;
-      alike = said.alike ∙ ap placeless (said_with parts.befores spaces d.says.entries es parts.rest parts.spaces parts.none (length-spaces d.text 0 0 d.says.entries) (size ∙ sym (length-map order (λ i. i.entry))))
-          ∙ ap (λ says. placeless (record says { entries = es })) (sym parts.whole);
+      alike = said.alike ∙ ap without_places (said_with parts.befores spaces d.says.entries es parts.rest parts.spaces parts.none (length-spaces d.text 0 0 d.says.entries) (size ∙ sym (length-map order (λ i. i.entry))))
+          ∙ ap (λ says. without_places (record says { entries = es })) (sym parts.whole);
       laid = said.laid;
     }
 

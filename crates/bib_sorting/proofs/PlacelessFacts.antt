@@ -3,7 +3,7 @@ use Rattle.std.proofs.Common.{◌≡◌, ℕ, List, [], ◌∷◌, map, refl, ap
 use Rattle.bib_syntax.specs.Reading.{Piece, FieldReading, EntryReading, FileReading}
 use Rattle.bib_syntax.specs.Reading.Piece.{literal, abbreviation}
 use Rattle.bib_documents.specs.Edits.{moved_piece, moved_field, moved_entry, moved_file}
-use Rattle.bib_sorting.specs.Sorted.{placeless}
+use Rattle.bib_sorting.specs.Sorted.{without_places}
 
 pieces_placeless : (move : ℕ → ℕ) (ps : List Piece) → map (moved_piece (λ n. 0)) (map (moved_piece move) ps) ≡ map (moved_piece (λ n. 0)) ps
 pieces_placeless move [] = refl
@@ -25,7 +25,7 @@ entries_placeless : (move : ℕ → ℕ) (es : List EntryReading) → map (moved
 entries_placeless move [] = refl
 entries_placeless move (e ∷ es) = ap (λ x. x ∷ map (moved_entry (λ n. 0)) (map (moved_entry move) es)) (entry_placeless move e) ∙ ap (λ xs. moved_entry (λ n. 0) e ∷ xs) (entries_placeless move es)
 
-pub file_placeless : (move : ℕ → ℕ) (says : FileReading) → placeless (moved_file move says) ≡ placeless says
+pub file_placeless : (move : ℕ → ℕ) (says : FileReading) → without_places (moved_file move says) ≡ without_places says
 file_placeless move says =
     let build = λ (es : List EntryReading) (fs : List FieldReading). let r : FileReading = record { preamble = says.preamble; entries = es; abbreviations = fs } in r in
     ap (λ es. build es (map (moved_field (λ n. 0)) (map (moved_field move) says.abbreviations))) (entries_placeless move says.entries)

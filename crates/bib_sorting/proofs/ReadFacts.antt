@@ -21,7 +21,7 @@ use Rattle.bib_documents.proofs.ZoneFacts.{there}
 use Rattle.bib_format.proofs.CutFacts.{Stood, stood}
 use Rattle.bib_format.proofs.ElementFacts.{one_byte, parted}
 use Rattle.bib_format.proofs.StandsFacts.{Stands, ahead_stands, ascii, between_stands, copied, copied_before, copy_frame, first_part, last_part, past, stands_between}
-use Rattle.bib_sorting.specs.Sorted.{after_blank_line, comment_in, placeless, near_entry, space_in, without_white}
+use Rattle.bib_sorting.specs.Sorted.{after_blank_line, comment_in, without_places, near_entry, space_in, without_white}
 use Rattle.bib_sorting.proofs.LineFacts.{AfterFeed, feed_before}
 use Rattle.bib_sorting.proofs.PlacelessFacts.{entry_placeless, file_placeless}
 use Rattle.bib_sorting.proofs.PlainFacts.{Plain, ahead_plain, before_plain, line_split, plain_read, plain_then, plain_there, stood_plain, white_split}
@@ -96,7 +96,7 @@ item_reads {m} {s} {b} {e} plain within x u v both =
 pub record BeforeThere (before : FileReading) (u v : Place) : Type 0 where
   pub reading : FileReading
   pub file : FileBefore u reading v
-  pub alike : placeless reading ≡ placeless before
+  pub alike : without_places reading ≡ without_places before
 
 -- it is read so wherever it stands before a character
 abbrev pub SpaceReads : List ℕ → FileReading → Type 0

@@ -11,7 +11,7 @@ use Rattle.bib_syntax.specs.Reading.{EntryReading}
 use Rattle.bib_syntax.specs.Recovery.{has_byte}
 use Rattle.bib_documents.specs.Documents.{Document, IsDocument}
 use Rattle.bib_sorting.specs.Cuts.{AreItemsCut}
-use Rattle.bib_sorting.specs.Sorted.{IsSortedText, after_blank_line, comment_in, entry_bytes, gap_before, item_cmp, items, items_from, laid_out, near_entry, place_after, run_after, space_in, spaces_from, text_in_order, without_white}
+use Rattle.bib_sorting.specs.Sorted.{IsSortedText, after_blank_line, comment_in, entry_bytes, gap_before, item_cmp, items, items_from, items_laid_out, near_entry, place_after, run_after, space_in, spaces_from, text_in_order, without_white}
 use Rattle.bib_sorting.proofs.FileFacts.{document_parts}
 use Rattle.bib_sorting.proofs.LineFacts.{AfterFeed, feed_before}
 use Rattle.bib_sorting.proofs.OneOrderFacts.{one_order}
@@ -58,7 +58,7 @@ stretch_whole text start end ordered =
     ap (λ n. take (end - start) (drop start text) ++ drop n text) (sym sum) ∙ ap (λ t. take (end - start) (drop start text) ++ t) (sym (drop-drop (end - start) start text)) ∙ take-append-drop (end - start) (drop start text)
 
 stays_from : (all : List EntryReading) (text : List ℕ) (texts : List (List ℕ)) (index at run : ℕ) (es : List EntryReading) → AreItemsCut text index at es
-    → laid_out text (spaces_from text index at es) (items_from all text texts index at run es) (drop (place_after at es) text) ≡ drop at text
+    → items_laid_out text (spaces_from text index at es) (items_from all text texts index at run es) (drop (place_after at es) text) ≡ drop at text
 stays_from all text texts index at run [] cut = refl
 stays_from all text texts index at run (e ∷ es) cut =
     let gap = gap_before text at e in

@@ -138,22 +138,22 @@ pub record AreEntriesInOrder (all order : List Item) : Type 0 where
   pub sorted : IsSorted item_cmp order
 
 -- entries one after another, each after what stays where it comes to stand, and what stands after them all
-abbrev pub laid_out : List ℕ → List (List ℕ) → List Item → List ℕ → List ℕ
-laid_out text [] order rest = rest
-laid_out text (space ∷ spaces) [] rest = rest
-laid_out text (space ∷ spaces) (i ∷ order) rest = space ++ (i.comment ++ (entry_bytes text i.entry ++ laid_out text spaces order rest))
+abbrev pub items_laid_out : List ℕ → List (List ℕ) → List Item → List ℕ → List ℕ
+items_laid_out text [] order rest = rest
+items_laid_out text (space ∷ spaces) [] rest = rest
+items_laid_out text (space ∷ spaces) (i ∷ order) rest = space ++ (i.comment ++ (entry_bytes text i.entry ++ items_laid_out text spaces order rest))
 
 -- a document's text with its entries in this order
 abbrev pub text_in_order : Document → List Item → List ℕ
-text_in_order d order = laid_out d.text (spaces_from d.text 0 0 d.says.entries) order (drop (place_after 0 d.says.entries) d.text)
+text_in_order d order = items_laid_out d.text (spaces_from d.text 0 0 d.says.entries) order (drop (place_after 0 d.says.entries) d.text)
 
 -- what a file says, without places
-abbrev pub placeless : FileReading → FileReading
-placeless says = moved_file (λ at. 0) says
+abbrev pub without_places : FileReading → FileReading
+without_places says = moved_file (λ at. 0) says
 
 -- what a document says, with its entries in this order
-abbrev pub says_in_order : Document → List Item → FileReading
-says_in_order d order = record d.says { entries = map (λ i. i.entry) order }
+abbrev pub says_sorted : Document → List Item → FileReading
+says_sorted d order = record d.says { entries = map (λ i. i.entry) order }
 
 -- a text is a document's with its entries in order, by a text for each
 pub record IsSortedText (d : Document) (texts : List (List ℕ)) (new : List ℕ) : Type 0 where
@@ -167,4 +167,4 @@ pub record IsReadSorted (d : Document) (texts : List (List ℕ)) (new : List ℕ
   pub in_order : AreEntriesInOrder (items d texts) order
   pub tells : FileReading
   pub read : IsRawReading new tells
-  pub alike : placeless tells ≡ placeless (says_in_order d order)
+  pub alike : without_places tells ≡ without_places (says_sorted d order)

@@ -9,7 +9,7 @@ use Rattle.bib_syntax.specs.Views.{entry_reading_of}
 use Rattle.bib_documents.specs.Documents.{Document, IsDocument}
 use Rattle.bib_sorting.specs.Cuts.{AreItemsCut, IsEntryOfItemCut}
 use Rattle.bib_sorting.specs.Sets.{item_reading_of}
-use Rattle.bib_sorting.specs.Sorted.{AreEntriesInOrder, IsReadSorted, IsSortedText, Item, items, items_from, laid_out, place_after, spaces_from, text_in_order}
+use Rattle.bib_sorting.specs.Sorted.{AreEntriesInOrder, IsReadSorted, IsSortedText, Item, items, items_from, items_laid_out, place_after, spaces_from, text_in_order}
 use Rattle.bib_sorting.proofs.FileFacts.{as_many, document_parts, end_cut, order_cut, text_read}
 use Rattle.bib_sorting.proofs.sorting.sort_entries.Goals as goal
 
@@ -27,10 +27,10 @@ as_many_are : {A B : Type 0} (f : A → List ℕ) (g : B → Item) (xs : List A)
 as_many_are f g xs ys d texts is in_order = sym (length-map xs f) ∙ ap length is ∙ as_many d texts (map g ys) in_order ∙ length-map ys g
 
 text_is : (d : Document) (text : List ℕ) (spaces : List (List ℕ)) (order : List Item) (end : ℕ) → text ≡ d.text → spaces ≡ spaces_from d.text 0 0 d.says.entries → end ≡ place_after 0 d.says.entries
-    → laid_out text spaces order (drop end text) ≡ text_in_order d order
+    → items_laid_out text spaces order (drop end text) ≡ text_in_order d order
 text_is d text spaces order end same is ends =
-    ap (λ t. laid_out t spaces order (drop end t)) same ∙ ap (λ ss. laid_out d.text ss order (drop end d.text)) is
-    ∙ ap (λ n. laid_out d.text (spaces_from d.text 0 0 d.says.entries) order (drop n d.text)) ends
+    ap (λ t. items_laid_out t spaces order (drop end t)) same ∙ ap (λ ss. items_laid_out d.text ss order (drop end d.text)) is
+    ∙ ap (λ n. items_laid_out d.text (spaces_from d.text 0 0 d.says.entries) order (drop n d.text)) ends
 
 sorted_is : {S E : Type 0} (bytes : S → List ℕ) (r : Result S E) (d : Document) (texts : List (List ℕ)) (order : List Item) (new : List ℕ) → AreEntriesInOrder (items d texts) order → new ≡ text_in_order d order
     → IfOk r (λ s. bytes s ≡ new) → IfOk r (λ s. IsSortedText d texts (bytes s))
@@ -89,7 +89,7 @@ returns-clause-text c =
     let in_order = order_is d texts c.text-text.result.now entries (map item_reading_of c.in_ok-gathered.gathered.items.items) (map item_reading_of c.in_ok-order.order.items) order c.text-text.ensures listed
     c.in_ok-gathered.ensures.items (ap (map item_reading_of) c.deref-4.ensures.value) c.in_ok-order.ensures in
     let spaces = ap (map (λ s. s.now)) c.deref-3.ensures.value ∙ c.in_ok-gathered.ensures.spaces ∙ spaces_are d c.text-text.result.now entries c.text-text.ensures listed in
-    sorted_is string_bytes c.laid_out.result d texts order (laid_out c.text-text.result.now (map (λ s. s.now) c.deref-3.result.now) order (drop c.in_ok-gathered.gathered.end c.text-text.result.now)) in_order
+    sorted_is string_bytes c.laid_out.result d texts order (items_laid_out c.text-text.result.now (map (λ s. s.now) c.deref-3.result.now) order (drop c.in_ok-gathered.gathered.end c.text-text.result.now)) in_order
     (text_is d c.text-text.result.now (map (λ s. s.now) c.deref-3.result.now) order c.in_ok-gathered.gathered.end c.text-text.ensures spaces (c.in_ok-gathered.ensures.end ∙ ap (place_after 0) listed)) c.laid_out.ensures
 
 pub returns-clause-read : goal.returns-clause-read
@@ -102,5 +102,5 @@ returns-clause-read c =
     let in_order = order_is d texts c.text-text.result.now entries (map item_reading_of c.in_ok-gathered.gathered.items.items) (map item_reading_of c.in_ok-order.order.items) order c.text-text.ensures listed
     c.in_ok-gathered.ensures.items (ap (map item_reading_of) c.deref-4.ensures.value) c.in_ok-order.ensures in
     let spaces = ap (map (λ s. s.now)) c.deref-3.ensures.value ∙ c.in_ok-gathered.ensures.spaces ∙ spaces_are d c.text-text.result.now entries c.text-text.ensures listed in
-    read_is string_bytes c.laid_out.result d texts order (laid_out c.text-text.result.now (map (λ s. s.now) c.deref-3.result.now) order (drop c.in_ok-gathered.gathered.end c.text-text.result.now)) c.raw.ensures.read in_order
+    read_is string_bytes c.laid_out.result d texts order (items_laid_out c.text-text.result.now (map (λ s. s.now) c.deref-3.result.now) order (drop c.in_ok-gathered.gathered.end c.text-text.result.now)) c.raw.ensures.read in_order
     (text_is d c.text-text.result.now (map (λ s. s.now) c.deref-3.result.now) order c.in_ok-gathered.gathered.end c.text-text.ensures spaces (c.in_ok-gathered.ensures.end ∙ ap (place_after 0) listed)) c.laid_out.ensures
