@@ -1,8 +1,8 @@
 //! Why abbreviations aren't written out.
 
-ghost use Rattle.std.specs.Prelude.{◌≡◌};
+ghost use Rattle.std.specs.Prelude.{◌≡◌, IfOk, OnErr};
 ghost use Rattle.bib_strings.specs.Errors.{expand_error};
-ghost use Rattle.bib_strings.specs.declared.errors.ExpandError.TheVariants.{OutOfMemory};
+ghost use Rattle.bib_strings.specs.declared.errors.ExpandError.TheVariants.{Cycle, OutOfMemory};
 
 use bib_graph::worklist::OrderError;
 use std::alloc::{AllocError, AllocFailed};
@@ -17,6 +17,19 @@ pub enum ExpandError {
     /// There was no memory.
     #[error("out of memory")]
     OutOfMemory,
+}
+
+impl ExpandError {
+    /// The index of the definition that refers to itself, unless there was no memory.
+    pub fn unless_out_of_memory(self) -> Result<usize, AllocError>
+        ensures cycle { IfOk result (λ index. self ≡ Cycle index) }
+        ensures no_memory { OnErr result (self ≡ OutOfMemory) }
+    {
+        match self {
+            ExpandError::Cycle(index) => Ok(index),
+            ExpandError::OutOfMemory => Err(AllocError),
+        }
+    }
 }
 
 impl From<AllocError> for ExpandError {

@@ -590,11 +590,17 @@ fn argument_of<'a>(alloc: Global, row: &'static Argument) -> Result<Arg<'a>, All
         Takes::Document => Ok(value(alloc, row, "DOCUMENT")),
         Takes::Indent => Ok(value(alloc, row, "SPACES").value_parser(INDENTS.as_slice())),
         Takes::BlankLines => Ok(value(alloc, row, "LINES").value_parser(BLANK_LINES.as_slice())),
-        Takes::Delimiters => Ok(value(alloc, row, "DELIMITERS").value_parser(DELIMITERS.as_slice())),
+        Takes::Delimiters => Ok(value(alloc, row, "DELIMITERS").value_parser(
+            DELIMITERS.as_slice(),
+        )),
         Takes::FieldNames => Ok(field_names(alloc, row)),
-        Takes::Width => Ok(value(alloc, row, "CHARACTERS").value_parser(ValueParser::unsigned(0, 1_000_000))),
+        Takes::Width => Ok(value(alloc, row, "CHARACTERS").value_parser(ValueParser::unsigned(
+            0, 1_000_000,
+        ))),
         Takes::Order => Ok(value(alloc, row, "ORDER").value_parser(ORDERS.as_slice())),
-        Takes::Times => Ok(value(alloc, row, "TIMES").value_parser(ValueParser::unsigned(2, 1_000_000))),
+        Takes::Times => Ok(value(alloc, row, "TIMES").value_parser(ValueParser::unsigned(
+            2, 1_000_000,
+        ))),
         Takes::Nothing => Ok(option(alloc, row).action(ArgAction::SetTrue)),
         Takes::NothingBeside(other) => option(alloc, row)
             .action(ArgAction::SetTrue)

@@ -1,8 +1,8 @@
 //! The file of a project's settings.
 
 use bib_findings::codes::Code;
-use bibkit_core::settings::{Color, Format, Settings};
 use bib_format::style::Delimiters;
+use bibkit_core::settings::{Color, Format, Settings};
 use bibkit_edits::order::Order;
 use bibkit_edits::style_settings::{StyleSettings, delimiters_named, width_of};
 use std::alloc::{AllocError, AllocFailed, Global};
@@ -161,7 +161,11 @@ fn choice(alloc: Global, key: &str, value: &Value) -> Result<Option<bool>, Confi
 fn delimiters(alloc: Global, value: &Value) -> Result<Option<Delimiters>, ConfigurationError> {
     match value.as_str().and_then(delimiters_named) {
         Some(delimiters) => Ok(Some(delimiters)),
-        None => wrong(alloc, "fmt.delimiters", "\"keep\", \"braces\" or \"quotes\""),
+        None => wrong(
+            alloc,
+            "fmt.delimiters",
+            "\"keep\", \"braces\" or \"quotes\"",
+        ),
     }
 }
 
@@ -200,7 +204,11 @@ fn sort(alloc: Global, value: &Value) -> Result<Option<Option<Order>>, Configura
     }
     match value.as_str().and_then(Order::named) {
         Some(order) => Ok(Some(Some(order))),
-        None => wrong(alloc, "fmt.sort", "\"keep\", \"key\", \"year\", \"author\" or \"type\""),
+        None => wrong(
+            alloc,
+            "fmt.sort",
+            "\"keep\", \"key\", \"year\", \"author\" or \"type\"",
+        ),
     }
 }
 

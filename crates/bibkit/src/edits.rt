@@ -224,7 +224,12 @@ fn refused(
         Refusal::File(error) => syntax_line(alloc, name, after_mark(bytes), error),
         Refusal::Added(error) => syntax_line(alloc, "-", added_text(edits).as_bytes(), error),
         Refusal::Edit { index, why } => refused_line(alloc, name, edits.get(*index), *why),
-        Refusal::Cycle { definition, .. } => cycle_line(alloc, name, after_mark(bytes), *definition),
+        Refusal::Cycle { definition, .. } => cycle_line(
+            alloc,
+            name,
+            after_mark(bytes),
+            *definition,
+        ),
         Refusal::OutOfMemory => String::from_str(alloc, "bibkit: out of memory\n"),
     }
 }
@@ -408,7 +413,14 @@ fn answer(rt: &HostRuntime, editing: &Editing<'_>) -> Result<(), Stop> {
         Edits::AddInput => add_input(rt, editing),
         Edits::Collect { fields, at_least } => {
             let fields = collected_fields(fields);
-            edit(rt, editing, &[Edit::Collect { fields, at_least: *at_least }])
+            edit(
+                rt,
+                editing,
+                &[Edit::Collect {
+                    fields,
+                    at_least: *at_least,
+                }],
+            )
         }
         Edits::NoValue(word) => {
             let text = format!(in rt.alloc(); "{word} is no FIELD=VALUE; --file names a file")?;

@@ -109,17 +109,15 @@ fn run_lint<'a>(
 }
 
 // Puts files in one style, with these settings, and answers the status.
-fn run_settings(
-    rt: &HostRuntime,
-    settings: StyleSettings<'_>,
-    mode: Mode,
-    names: &[&str],
-) -> u8 {
+fn run_settings(rt: &HostRuntime, settings: StyleSettings<'_>, mode: Mode, names: &[&str]) -> u8 {
     run_format(rt, settings.style(), settings.sort(), mode, names)
 }
 
 // The order of fields that settings of a project set, if they do.
-fn project_order<'p>(alloc: Global, project: &'p Project) -> Result<Option<Vec<&'p str>>, AllocError> {
+fn project_order<'p>(
+    alloc: Global,
+    project: &'p Project,
+) -> Result<Option<Vec<&'p str>>, AllocError> {
     let Some(names) = &project.order else {
         return Ok(None);
     };

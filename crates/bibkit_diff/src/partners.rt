@@ -85,10 +85,12 @@ fn unique_pairs<'t>(
     see_old(&mut seen, old);
     let mut pairs = Vec::new(alloc);
     'lines: for line in old {
-        if let Some(InBoth {
-            old: Seen::Once(old),
-            new: Seen::Once(new),
-        }) = seen.get(line)
+        if let Some(
+            InBoth {
+                old: Seen::Once(old),
+                new: Seen::Once(new),
+            },
+        ) = seen.get(line)
         {
             pairs.push(Pair {
                 old: *old,

@@ -1,5 +1,5 @@
 -- Edits of a text, one after another.
-use Rattle.std.proofs.Common.{◌≡◌, ◌<◌, ◌+◌, ◌⊎◌, ℕ, List, [], ◌∷◌, ◌++◌, length, take, drop, get_or, refl, sym, ap, subst, ◌∙◌, inl, inr, append_assoc, ◌≤◌, arith}
+use Rattle.std.proofs.Common.{◌≡◌, ◌<◌, ◌+◌, ◌⊎◌, ℕ, List, [], ◌∷◌, ◌++◌, length, map, take, drop, get_or, refl, sym, ap, subst, ◌∙◌, inl, inr, append_assoc, ◌≤◌, arith}
 use Rattle.std.proofs.lemmas.List.{length-take-le, take_more, take-append-drop}
 use Rattle.bib_syntax.specs.SyntaxErrors.{IsReported}
 use Rattle.bib_syntax.specs.declared.raw.ParseError.{ParseError}
@@ -11,7 +11,11 @@ use Rattle.bib_documents.specs.declared.errors.EditError.{EditError}
 use Rattle.bib_documents.specs.declared.errors.EditError.TheVariants as error
 use Rattle.bib_format.specs.Formatted.{IsReadAlike, says_in_order, text_in_style}
 use Rattle.bib_format.specs.declared.style.Style.{Style}
-use Rattle.bibkit_edits.specs.Edited.{AreMade, AreRefused, IsEditRefused, IsInStyle, IsMade, IsDocumentOf, TextAdded}
+use Rattle.bib_sorting.specs.Sorted.{IsReadSorted, IsSortedText}
+use Rattle.bib_strings.specs.Expanded.{IsExpanded}
+use Rattle.bibkit_edits.specs.Edited.{AreMade, AreRefused, IsEditRefused, IsInOrder, IsInStyle, IsMade, IsDocumentOf, IsWrittenOut, TextAdded}
+use Rattle.bibkit_edits.specs.Orders.{order_text}
+use Rattle.bibkit_edits.specs.declared.order.Order.{Order}
 use Rattle.bibkit_edits.specs.Edited.AreMade.{none, next}
 use Rattle.bibkit_edits.specs.Steps.{AddsError, AddsUnread, AreFirstMade, IsTextRefused, StepIsRefused, edit_refusal, refusal_at, unless_no_memory}
 use Rattle.bibkit_edits.specs.declared.edit.Edit.{Edit}
@@ -28,6 +32,19 @@ style_made style d new is alike = record {
   is = refl;
   read = alike.read;
 }
+
+-- a text with its entries in an order
+pub order_made : (order : Order) (d : Document) (new : List ℕ) → IsSortedText d (map (order_text order) d.says.entries) new → IsReadSorted d (map (order_text order) d.says.entries) new → IsEdited (IsInOrder order d) new
+order_made order d new is read = record {
+  document = record { text = new; says = read.tells };
+  outcome = record { text = is; alike = record { order = read.order; in_order = read.in_order; alike = read.alike } };
+  is = refl;
+  read = read.read;
+}
+
+-- a text with its abbreviations written out
+pub expansion_made : (d : Document) (new : List ℕ) → IsExpanded d new → IsEdited (IsWrittenOut d) new
+expansion_made d new made = record { document = record { text = new; says = made.read.tells }; outcome = made; is = refl; read = made.read.read }
 
 -- one edit more
 pub made_more : {edits : List Edit} {edit : Edit} {text new newer : List ℕ} → AreMade edits text new → IsMade edit new newer → AreMade (edits ++ edit ∷ []) text newer

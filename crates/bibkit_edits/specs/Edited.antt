@@ -3,6 +3,7 @@
 use Rattle.std.specs.Prelude.{◌≡◌, ℕ, length, map, if◌then◌else◌, List, [], ◌∷◌, ◌++◌, nat_eq}
 use Rattle.std.specs.List.{starts_with}
 use Rattle.std.specs.Str.{IsUtf8}
+use Rattle.bib_syntax.specs.Reading.{FileReading}
 use Rattle.bib_syntax.specs.SyntaxErrors.{IsReported}
 use Rattle.bib_syntax.specs.declared.raw.ParseError.{ParseError}
 use Rattle.bib_encoding.specs.Encoding.{IsFirstInvalid, byte_order_mark, without_byte_order_mark}
@@ -11,7 +12,7 @@ use Rattle.bib_documents.specs.References.{KeyRenamed, RenameIsRefused}
 use Rattle.bib_documents.specs.declared.errors.EditError.{EditError}
 use Rattle.bib_format.specs.Formatted.{content, says_in_order, text_in_style}
 use Rattle.bib_format.specs.declared.style.Style.{Style}
-use Rattle.bib_sorting.specs.Sorted.{IsSortedText}
+use Rattle.bib_sorting.specs.Sorted.{AreEntriesInOrder, IsSortedText, Item, items, says_sorted, without_places}
 use Rattle.bib_strings.specs.Expanded.{ExpandIsRefused, IsExpanded}
 use Rattle.bib_strings.specs.declared.errors.ExpandError.TheVariants as expand_error
 use Rattle.bibkit_edits.specs.Orders.{order_text}
@@ -38,10 +39,16 @@ pub record IsInStyle (style : Style) (d after : Document) : Type 0 where
   pub text : after.text ≡ text_in_style style d.text d.says
   pub alike : content after.says ≡ content (says_in_order style d.text d.says)
 
+-- a file says what a document does with its entries in an order, by a text for each, but for places
+pub record SaysSorted (d : Document) (texts : List (List ℕ)) (says : FileReading) : Type 0 where
+  pub order : List Item
+  pub in_order : AreEntriesInOrder (items d texts) order
+  pub alike : without_places says ≡ without_places (says_sorted d order)
+
 -- what comes of putting the entries of a document in an order: its text has them in that order, and says the same but for that and places
 pub record IsInOrder (order : Order) (d after : Document) : Type 0 where
   pub text : IsSortedText d (map (order_text order) d.says.entries) after.text
-  pub alike : IsSorted d (map (order_text order) d.says.entries) after.says
+  pub alike : SaysSorted d (map (order_text order) d.says.entries) after.says
 
 -- what comes of writing out the abbreviations of a document
 abbrev pub IsWrittenOut : Document → Document → Type 0

@@ -53,9 +53,9 @@ impl From<ExpandError> for Step {
     ghost from_gives = { λ error step. step ≡ step_of error };
 
     fn from(error: ExpandError) -> Self {
-        match error {
-            ExpandError::Cycle(definition) => Step::Cycle(definition),
-            ExpandError::OutOfMemory => Step::Refused(EditError::from(AllocError)),
+        match error.unless_out_of_memory() {
+            Ok(definition) => Step::Cycle(definition),
+            Err(no_memory) => Step::from(EditError::from(no_memory)),
         }
     }
 }

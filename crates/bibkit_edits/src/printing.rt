@@ -87,12 +87,7 @@ pub fn print_edited<K: Sink>(
 }
 
 // How a new text differs from bytes that it was made of.
-fn difference(
-    alloc: Global,
-    name: &str,
-    bytes: &[u8],
-    new: &str,
-) -> Result<String, AllocError>
+fn difference(alloc: Global, name: &str, bytes: &[u8], new: &str) -> Result<String, AllocError>
     requires { IsUtf8 bytes.now }
     ensures { IfOk result (λ diff. IsDiff name.now bytes.now new.now (string_bytes diff)) }
 {
