@@ -13,12 +13,13 @@ use Rattle.bib_documents.specs.declared.errors.EditError.{EditError}
 use Rattle.bib_format.specs.Formatted.{content, says_in_order, text_in_style}
 use Rattle.bib_format.specs.declared.style.Style.{Style}
 use Rattle.bib_sorting.specs.Sorted.{AreEntriesInOrder, IsSortedText, Item, items, says_sorted, without_places}
+use Rattle.bib_strings.specs.Collected.{IsCollected}
 use Rattle.bib_strings.specs.Expanded.{ExpandIsRefused, IsExpanded}
 use Rattle.bib_strings.specs.declared.errors.ExpandError.TheVariants as expand_error
 use Rattle.bibkit_edits.specs.Orders.{order_text}
 use Rattle.bibkit_edits.specs.declared.edit.Edit.{Edit}
 use Rattle.bibkit_edits.specs.declared.order.Order.{Order}
-use Rattle.bibkit_edits.specs.declared.edit.Edit.TheVariants.{Set, Unset, Rename, Remove, Add, Sort, Expand, Format}
+use Rattle.bibkit_edits.specs.declared.edit.Edit.TheVariants.{Set, Unset, Rename, Remove, Add, Sort, Expand, Collect, Format}
 use Rattle.bibkit_edits.specs.declared.edit.Refusal.{Refusal}
 use Rattle.bibkit_edits.specs.declared.edit.Refusal.TheVariants as refusal
 
@@ -54,6 +55,10 @@ pub record IsInOrder (order : Order) (d after : Document) : Type 0 where
 abbrev pub IsWrittenOut : Document → Document → Type 0
 IsWrittenOut d after = IsExpanded d after.text
 
+-- what comes of making abbreviations of texts that repeat in a document
+abbrev pub AreTextsCollected : List (List ℕ) → ℕ → Document → Document → Type 0
+AreTextsCollected fields at_least d after = IsCollected d fields at_least after.text
+
 -- what comes of an edit of a document
 abbrev pub EditOutcome : Edit → Document → Document → Type 0
 EditOutcome (Set key name value) d = FieldSet d key.now name.now value.now
@@ -63,6 +68,7 @@ EditOutcome (Remove key) d = EntryRemoved d key.now
 EditOutcome (Add text) d = TextAdded d text.now
 EditOutcome (Sort order) d = IsInOrder order d
 EditOutcome Expand d = IsWrittenOut d
+EditOutcome (Collect fields at_least) d = AreTextsCollected (map (λ name. name.now) fields.now) at_least d
 EditOutcome (Format style) d = IsInStyle style d
 
 -- what an edit makes of a text
@@ -91,6 +97,7 @@ IsEditRefused (Remove key) d why = EntryIsRefused d key.now why
 IsEditRefused (Add text) d why = TextIsRefused d text.now why
 IsEditRefused (Sort order) d why = ⊥
 IsEditRefused Expand d why = ⊥
+IsEditRefused (Collect fields at_least) d why = ⊥
 IsEditRefused (Format style) d why = ⊥
 
 -- an edit of a document writes its abbreviations out, and the definition at this index refers to itself
@@ -102,6 +109,7 @@ MeetsCycle (Remove key) d definition = ⊥
 MeetsCycle (Add text) d definition = ⊥
 MeetsCycle (Sort order) d definition = ⊥
 MeetsCycle Expand d definition = ExpandIsRefused d (expand_error.Cycle definition)
+MeetsCycle (Collect fields at_least) d definition = ⊥
 MeetsCycle (Format style) d definition = ⊥
 
 -- an edit adds the entries of this text
@@ -113,6 +121,7 @@ AddsText (Remove key) added = ⊥
 AddsText (Add text) added = added ≡ text.now
 AddsText (Sort order) added = ⊥
 AddsText Expand added = ⊥
+AddsText (Collect fields at_least) added = ⊥
 AddsText (Format style) added = ⊥
 
 -- why edits of a text are refused: the text isn't one of the file grammar; or first edits are made, and the next adds a text

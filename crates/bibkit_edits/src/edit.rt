@@ -52,6 +52,13 @@ pub enum Edit<'a> {
     },
     /// Writes abbreviations out.
     Expand,
+    /// Makes abbreviations of texts that repeat.
+    Collect {
+        /// The names of the fields in which they stand.
+        fields: &'a [&'a str],
+        /// How often a text has to stand there, 2 at least.
+        at_least: usize,
+    },
     /// Puts the text in one style.
     Format {
         /// How entries are laid out.

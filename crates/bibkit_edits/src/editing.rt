@@ -1,10 +1,10 @@
 //! Edits of a file's text, one after another.
 
-ghost use Rattle.std.specs.Prelude.{◌≡◌, ◌≢◌, IfErr, IfOk, OnErr};
+ghost use Rattle.std.specs.Prelude.{◌≡◌, ◌≢◌, IfErr, IfOk, OnErr, map};
 ghost use Rattle.std.specs.String.{string_bytes};
 ghost use Rattle.bib_documents.specs.Documents.{IsEdited};
 ghost use Rattle.bib_documents.specs.declared.errors.EditError.TheVariants.{OutOfMemory};
-ghost use Rattle.bibkit_edits.specs.Edited.{AreMade, AreRefused, EditOutcome, IsFileMade, IsFileRefused, IsInOrder, IsInStyle, IsMade, IsWrittenOut};
+ghost use Rattle.bibkit_edits.specs.Edited.{AreMade, AreRefused, AreTextsCollected, EditOutcome, IsFileMade, IsFileRefused, IsInOrder, IsInStyle, IsMade, IsWrittenOut};
 ghost use Rattle.bib_strings.specs.Expanded.{ExpandIsRefused};
 ghost use Rattle.bibkit_edits.specs.declared.editing.Step.TheVariants.{Added, Refused};
 ghost use Rattle.bibkit_edits.specs.Steps.{IsTextRefused, StepIsRefused, added_refusal, edit_refusal, file_refusal, latest, refusal_at, step_of};
@@ -17,6 +17,7 @@ use bib_documents::errors::EditError;
 use bib_format::formatting::format;
 use bib_format::style::Style;
 use bib_sorting::sorting::sort_entries;
+use bib_strings::collecting::collect;
 use bib_strings::errors::ExpandError;
 use bib_strings::expanding::expand;
 use bib_syntax::raw::ParseError;
@@ -77,6 +78,19 @@ fn written_out(alloc: Global, document: &RawDocument<'_>) -> Result<String, Expa
     expand(alloc, document)
 }
 
+// The text of a document with abbreviations made of texts that repeat.
+fn collected(
+    alloc: Global,
+    document: &RawDocument<'_>,
+    fields: &[&str],
+    at_least: usize,
+) -> Result<String, EditError>
+    ensures made { IfOk result (λ new. IsEdited (AreTextsCollected (map (λ name. name.now) fields.now) at_least document.now) (string_bytes new)) }
+    ensures refused { IfErr result (λ why. why ≡ OutOfMemory) }
+{
+    Ok(collect(alloc, document, fields, at_least)?)
+}
+
 // The text of a document in one style.
 fn in_style(
     alloc: Global,
@@ -105,6 +119,7 @@ fn edit_document(alloc: Global, document: &RawDocument<'_>, edit: &Edit<'_>) -> 
         }
         Edit::Sort { order } => Ok(in_order(alloc, document, order)?),
         Edit::Expand => Ok(written_out(alloc, document)?),
+        Edit::Collect { fields, at_least } => Ok(collected(alloc, document, fields, at_least)?),
         Edit::Format { style } => Ok(in_style(alloc, document, &style)?),
     }
 }
