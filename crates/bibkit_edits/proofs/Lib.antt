@@ -1,2 +1,3 @@
 pub mod EditedFacts
+mod MarkFacts
 mod OrderFacts

@@ -1,6 +1,6 @@
 -- Meaning: words of public contracts.
 -- What is printed of a file that is edited, and the status.
-use Rattle.std.specs.Prelude.{◌≡◌, ℕ, Bool, false, not, List, Option, bytes_eq}
+use Rattle.std.specs.Prelude.{◌≡◌, ℕ, Bool, false, not, ◌==◌, List, Option, length}
 use Rattle.std.specs.Io.KnownBytes.{Appends}
 use Rattle.bibkit_diff.specs.Unified.{IsDiff}
 use Rattle.bibkit_edits.specs.Edited.{IsFileMade, IsFileRefused}
@@ -32,13 +32,13 @@ abbrev pub IsNotPrinted : {K : Type 0} → (K → List ℕ → Bool → K → Ty
 IsNotPrinted hands_over edits bytes old new (unprinted.Refused why) = IsRefusedUnprinted edits bytes why old new
 IsNotPrinted hands_over edits bytes old new unprinted.NotTaken = IsNotTaken hands_over edits bytes old new
 
--- the output takes how what edits make of a file's bytes differs from them, if it does
+-- the output takes how what edits make of a file's bytes differs from them, which is some text if it `differs`
 pub record HasPrintedDifference {K : Type 0} (taken : K → Option (List ℕ)) (name : List ℕ) (edits : List Edit) (bytes : List ℕ) (differs : Bool) (old new : K) : Type 0 where
   pub text : List ℕ
   pub made : IsFileMade edits bytes text
   pub diff : List ℕ
   pub is : IsDiff name bytes text diff
-  pub differ : differs ≡ not (bytes_eq text bytes)
+  pub differ : differs ≡ not (length diff == 0)
   pub printed : Appends (taken old) (taken new) diff
 
 -- the output refuses how what edits make of a file's bytes differs from them, at the only call

@@ -97,8 +97,8 @@ fn difference(alloc: Global, name: &str, bytes: &[u8], new: &str) -> Result<Stri
     }
 }
 
-/// Prints how what edits make of a file's bytes differs from them, as `diff -u` does with the file's name, and answers whether it
-/// does: nothing where they are the same. Refused edits print nothing.
+/// Prints how what edits make of a file's bytes differs from them, as `diff -u` does with the file's name, and answers whether
+/// anything is printed: nothing where they are the same. Refused edits print nothing.
 pub fn print_difference<K: Sink>(
     alloc: Global,
     name: &str,
@@ -112,5 +112,5 @@ pub fn print_difference<K: Sink>(
     let edited = edited_file(alloc, bytes, edits)?;
     let diff = difference(alloc, name, bytes, &edited)?;
     hand_over(&diff, output)?;
-    Ok(edited.as_bytes() != bytes)
+    Ok(!diff.as_str().is_empty())
 }

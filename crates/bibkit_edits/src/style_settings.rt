@@ -65,7 +65,7 @@ impl<'a> StyleSettings<'a> {
 
     /// These settings, with this order of fields.
     pub fn with_order<'b>(self, order: Option<&'b [&'b str]>) -> StyleSettings<'b>
-        ensures { result ≡ record self { order = order } }
+        ensures { result ≡ record self.entry { order = order.entry } }
     {
         StyleSettings {
             indent: self.indent,
@@ -81,7 +81,7 @@ impl<'a> StyleSettings<'a> {
 
     /// These settings of a command line and, where it sets nothing, those of a project.
     pub fn over(self, project: Self) -> Self
-        ensures { result ≡ over_project self project }
+        ensures { result ≡ over_project self.entry project.entry }
     {
         StyleSettings {
             indent: self.indent.or(project.indent),
@@ -97,7 +97,7 @@ impl<'a> StyleSettings<'a> {
 
     /// The style of these settings.
     pub fn style(self) -> Style<'a>
-        ensures { IsStyleSet self result }
+        ensures { IsStyleSet self.entry result }
     {
         let usual = Style::default();
         Style {
@@ -113,7 +113,7 @@ impl<'a> StyleSettings<'a> {
 
     /// What entries are ordered by in these settings, if they are.
     pub fn sort(self) -> Option<Order>
-        ensures { result ≡ sort_set self }
+        ensures { result ≡ sort_set self.entry }
     {
         self.sort.unwrap_or(None)
     }
