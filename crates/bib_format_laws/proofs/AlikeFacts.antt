@@ -1,5 +1,5 @@
 -- Two readings of files that are alike but for places and case: what is evaluated, readable and in error in the one is in the other.
-use Rattle.std.proofs.Common.{◌≡◌, ℕ, List, [], ◌∷◌, ◌++◌, Bool, true, false, cond, reverse, refl, sym, ap, ◌∙◌, subst, inl, inr, Some, None, Option, option_map}
+use Rattle.std.proofs.Common.{◌≡◌, ℕ, List, [], ◌∷◌, Bool, true, false, cond, reverse, refl, sym, ap, ◌∙◌, subst, inl, inr, Some, None, Option, option_map}
 use Rattle.std.specs.Prelude.{bytes_eq, find}
 use Rattle.std.specs.List.{AllZip}
 use Rattle.std.specs.Str.{chars}

@@ -1,7 +1,6 @@
 -- Bibliographies of two files that say the same but for places and the case of types and names.
 use Rattle.std.proofs.Common.{◌≡◌, ℕ, ◌+◌, ◌<◌, List, [], ◌∷◌, ◌++◌, Bool, true, false, cond, drop, length, length-append, map, get_or, refl, sym, ap, ◌∙◌, subst, Some, None, Option, option_map, MatchOption}
 use Rattle.std.specs.Prelude.{◌&&◌, ◌||◌, codes, find, unwrap_or}
-use Rattle.std.specs.Char.{to_ascii_lowercase}
 use Rattle.std.specs.FinMap as by_name
 use Rattle.std.specs.List.{AllZip, list_any}
 use Rattle.std.specs.Option.{option_map_or}
@@ -9,19 +8,18 @@ use Rattle.std.specs.Str.{str_to_ascii_lowercase}
 use Rattle.std.proofs.lemmas.Bool.{both_ways, false≢true}
 use Rattle.bib_abbreviations.specs.Abbreviations.{Definitions, Evaluates, IsReadable}
 use Rattle.bib_abbreviations.proofs.LawFacts.{evaluates_same}
-use Rattle.bib_chunks.specs.Styled.{Atom, styled}
+use Rattle.bib_chunks.specs.Styled.{styled}
 use Rattle.bib_chunks.specs.declared.chunk.Chunk.{Chunk}
 use Rattle.bib_documents.specs.Edits.{moved_field, moved_piece}
 use Rattle.bib_entry.specs.declared.entry.Entry.{Entry}
 use Rattle.bib_entry_types.specs.EntryType.{entry_type_of, named_or_alias}
 use Rattle.bib_entry_types.specs.VerbatimFields.{is_verbatim_field}
-use Rattle.bib_entry_types.specs.declared.mechanics.EntryType.{EntryType}
 use Rattle.bib_entry_types.specs.declared.mechanics.EntryType.TheVariants.{Unknown}
 use Rattle.bib_file_entries.specs.Bibliography.{Bibliography, aliases, appended, claims, empty_bibliography}
-use Rattle.bib_file_entries.specs.Loaded.{AllCanBeRead, AreEntries, CanBeRead, FieldSays, IsEntry, IsFirstErrorOfEntries, IsFirstErrorOfFields, definition_in, field_in, is_claimed, loaded_after, name_of}
+use Rattle.bib_file_entries.specs.Loaded.{AllCanBeRead, AreEntries, FieldSays, IsEntry, IsFirstErrorOfEntries, IsFirstErrorOfFields, definition_in, field_in, is_claimed, loaded_after, name_of}
 use Rattle.bib_format.specs.Formatted.{content, entry_content, entry_in_order, field_in_lowercase, says_in_order}
 use Rattle.bib_format.specs.declared.style.Style.{Style}
-use Rattle.bib_graph.specs.Graph.{Graph, HasNoCycle, Leads, refs_of}
+use Rattle.bib_graph.specs.Graph.{Graph, Leads, refs_of}
 use Rattle.bib_inheritance.specs.InheritableDate.{looks_for_date}
 use Rattle.bib_inheritance.specs.Sources.{Source, fields_of}
 use Rattle.bib_maps.specs.Names.{claimed, claims_for}
@@ -33,7 +31,7 @@ use Rattle.bib_syntax.specs.declared.raw.ParseError.{ParseError}
 use Rattle.bib_text.specs.declared.spanned.Spanned.{Spanned}
 use Rattle.biblatex.specs.Resolved.{AreOwn, IsAccepted, IsFirstErrorOf, IsLoaded, graph_of, names_of}
 use Rattle.biblatex.proofs.ResolvedFacts.{graphs_by, solutions_same, source_same}
-use Rattle.bib_format_laws.proofs.AlikeFacts.{Alike, AreAlikeAbbreviations, AreAlikeFields, DefineAlike, FoundAlike, alike_back, definitions_alike, evaluates_alike, field_alike, readable_alike}
+use Rattle.bib_format_laws.proofs.AlikeFacts.{Alike, AreAlikeAbbreviations, AreAlikeFields, DefineAlike, FoundAlike, definitions_alike, evaluates_alike, field_alike, readable_alike}
 use Rattle.bib_format_laws.proofs.ReorderedFacts.{IsReordered, entry_reordered}
 use Rattle.bib_format_laws.specs.Alike.{AreAlike}
 
