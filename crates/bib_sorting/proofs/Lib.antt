@@ -1,3 +1,4 @@
+pub mod FeedFacts
 pub mod FileFacts
 pub mod GatherFacts
 pub mod LineFacts

@@ -8,7 +8,7 @@ use Rattle.std.proofs.lemmas.Bool.Decides.{nat_tests}
 use Rattle.std.proofs.lemmas.List.Folds.{list_any-append}
 use Rattle.bib_text.specs.Places.{Place, CharAt, Run, between}
 use Rattle.bib_text.specs.Places.Run.{stop, step}
-use Rattle.bib_text.proofs.PlaceFacts.{Ahead, ahead_here, ahead_then, ahead_char, ahead_run, char_clash, pass_clash, same_char, same_place, stops_at, test_clash}
+use Rattle.bib_text.proofs.PlaceFacts.{Ahead, ahead_here, ahead_then, ahead_char, ahead_run, pass_clash, same_char, same_place, stops_at, test_clash}
 use Rattle.bib_syntax.specs.Reading.{FileReading, empty_reading}
 use Rattle.bib_syntax.specs.Grammar.{Block, longest}
 use Rattle.bib_syntax.specs.Recovery.{has_byte}
@@ -68,7 +68,7 @@ plain_there z iu iv (Plain.line_comment sign line feed rest) =
 
 -- ---- what stands before an at sign, and has none
 
-or_right : (x y : Bool) → (x || y) ≡ false → y ≡ false
+pub or_right : (x y : Bool) → (x || y) ≡ false → y ≡ false
 or_right true y is = absurd (cc)
 or_right false y is = is
 
@@ -100,7 +100,7 @@ before_plain (FileBefore.line_comment m (FileBefore.line_comment m' others)) sig
 before_plain (FileBefore.line_comment m (FileBefore.block b others)) sign within clear = absurd (test_clash (in_line 64) refl (m.line.stops 64 _ b.head.sign))
 before_plain {u} {s} (FileBefore.block b others) sign within clear = absurd (test_clash (has_byte 64 (between u s)) (block_there b (ahead_file_before others) within) clear)
 
--- ---- plain text that is cut after white space at its start, and after a line feed
+-- ---- plain text that is cut after white space at its start
 
 and_both : (x y : Bool) → (x && y) ≡ true → (x ≡ true) × (y ≡ true)
 and_both true y is = (refl, is)
@@ -128,7 +128,7 @@ white_split {u} {m} {s} (b ∷ bs) all stands (Plain.line_comment sign line feed
     absurd (test_clash (is_ascii_whitespace b) is.0 (ap is_ascii_whitespace (sym same)))
 
 -- a line feed doesn't stand in a line
-none_in_line : {i v l m : Place} → l.text ≡ i.text → CharAt l 10 m → Run in_line i v → i.at ≤ l.at → l.at < v.at → ⊥
+pub none_in_line : {i v l m : Place} → l.text ≡ i.text → CharAt l 10 m → Run in_line i v → i.at ≤ l.at → l.at < v.at → ⊥
 none_in_line same feed stop from below = omega arith
 none_in_line {i} {v} {l} {m} same feed (step {v = w} {c = c} char passes rest) from below =
     elim (cases_lt l.at w.at) [
@@ -136,40 +136,5 @@ none_in_line {i} {v} {l} {m} same feed (step {v = w} {c = c} char passes rest) f
       | inl before ↦ elim (cases_lt i.at l.at) [
         | inl inside ↦ omega (arith, not_over l.text l.at (inr (10, m, feed)) (sym same) char inside)
         | inr here ↦ pass_clash in_line char passes (subst (λ p. CharAt p 10 m) (same_place same (omega arith)) feed) refl
-      ]
-    ]
-
-pub line_split : {u l m s : Place} → l.text ≡ u.text → CharAt l 10 m → Plain u s → u.at ≤ l.at → m.at ≤ s.at → Plain u m × Plain m s
-line_split same feed Plain.none from below = absurd (omega (arith, feed.next))
-line_split {u} {l} {m} {s} same feed (Plain.skipped {v = w} {c = c} char passes rest) from below =
-    elim (cases_lt l.at w.at) [
-      | inr past_it ↦
-          let others = line_split (same ∙ sym char.same) feed rest past_it below in
-          (Plain.skipped char passes others.0, others.1)
-      | inl before ↦ elim (cases_lt u.at l.at) [
-        | inl inside ↦ absurd (omega (arith, not_over l.text l.at (inr (10, m, feed)) (sym same) char inside))
-        | inr here ↦
-            let next : w ≡ m = (same_char char (subst (λ p. CharAt p 10 m) (same_place same (omega arith)) feed)).1 in
-            (Plain.skipped char passes (subst (λ p. Plain w p) next Plain.none), subst (λ p. Plain p s) next rest)
-      ]
-    ]
-line_split {u} {l} {m} {s} same feed (Plain.line_comment {i = i} {v = v} {w = w} sign line feed' rest) from below =
-    let to_line : Ahead u i = ahead_char sign in
-    let to_feed : Ahead u v = ahead_then to_line (ahead_run line) in
-    elim (cases_lt l.at w.at) [
-      | inr past_it ↦
-          let others = line_split (same ∙ sym (feed'.same ∙ to_feed.text)) feed rest past_it below in
-          (Plain.line_comment sign line feed' others.0, others.1)
-      | inl before ↦ elim (cases_lt l.at v.at) [
-        | inr at_feed ↦
-            let here : l ≡ v = same_place (same ∙ sym to_feed.text) (omega (arith, feed'.next)) in
-            let next : w ≡ m = (same_char feed' (subst (λ p. CharAt p 10 m) here feed)).1 in
-            (Plain.line_comment sign line feed' (subst (λ p. Plain w p) next Plain.none), subst (λ p. Plain p s) next rest)
-        | inl inside ↦ elim (cases_lt l.at i.at) [
-          | inr in_it ↦ absurd (none_in_line (same ∙ sym to_line.text) feed line in_it inside)
-          | inl at_sign ↦
-              let here : l ≡ u = same_place same (omega (arith, sign.next)) in
-              absurd (char_clash sign (subst (λ p. CharAt p 10 m) here feed) refl)
-        ]
       ]
     ]

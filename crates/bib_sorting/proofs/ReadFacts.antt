@@ -6,7 +6,7 @@ use Rattle.std.specs.List.{list_all, prefix_len}
 use Rattle.std.proofs.lemmas.Bool.{cases_lt}
 use Rattle.std.proofs.lemmas.List.{length-take-le, take-append-drop, take-take}
 use Rattle.bib_text.specs.Places.{Place, CharAt, between}
-use Rattle.bib_text.proofs.PlaceFacts.{Ahead, ahead_here, ahead_then, ahead_char, ahead_run, same_char, same_place}
+use Rattle.bib_text.proofs.PlaceFacts.{Ahead, ahead_then, ahead_char, ahead_run, same_char, same_place}
 use Rattle.bib_syntax.specs.Reading.{EntryReading, FileReading, empty_reading}
 use Rattle.bib_syntax.specs.Recovery.{entry_alone, has_byte}
 use Rattle.bib_syntax.specs.Grammar.{Block, longest}
@@ -17,14 +17,15 @@ use Rattle.bib_documents.proofs.BoundaryFacts.{not_over}
 use Rattle.bib_documents.proofs.GrammarFacts.{block_there}
 use Rattle.bib_documents.proofs.MovedFacts.{char_within, file_before_there}
 use Rattle.bib_documents.proofs.SplitFacts.{EntryBlock, FileBefore, ahead_file_before, block_of}
-use Rattle.bib_documents.proofs.ZoneFacts.{there}
+use Rattle.bib_documents.proofs.ZoneFacts.{there, char_there, inside_between}
 use Rattle.bib_format.proofs.CutFacts.{Stood, stood}
 use Rattle.bib_format.proofs.ElementFacts.{one_byte, parted}
 use Rattle.bib_format.proofs.StandsFacts.{Stands, ahead_stands, ascii, between_stands, copied, copied_before, copy_frame, first_part, last_part, past, stands_between}
-use Rattle.bib_sorting.specs.Sorted.{after_blank_line, comment_in, without_places, near_entry, space_in, without_white}
+use Rattle.bib_sorting.specs.Sorted.{after_blank_line, begins_run, comment_in, has_block_sign, near_comment, without_places, space_in, without_white}
+use Rattle.bib_sorting.proofs.FeedFacts.{before_then, clear_of, feed_cut, file_before_inside}
 use Rattle.bib_sorting.proofs.LineFacts.{AfterFeed, feed_before}
 use Rattle.bib_sorting.proofs.PlacelessFacts.{entry_placeless, file_placeless}
-use Rattle.bib_sorting.proofs.PlainFacts.{Plain, ahead_plain, before_plain, line_split, plain_read, plain_then, plain_there, stood_plain, white_split}
+use Rattle.bib_sorting.proofs.PlainFacts.{Plain, ahead_plain, before_plain, or_right, plain_read, plain_there, stood_plain, white_split}
 
 -- ---- an entry
 
@@ -148,24 +149,6 @@ white_cut {u} {s} bytes plain stands =
     let split = white_split white (white_prefix is_ascii_whitespace bytes) (first_part white rest both) plain (ahead_stands rest later).at in
     record { mid = past u white; first = split.0; rest = split.1; is = sym (between_stands rest later) }
 
-after_feed : {a s : Place} (gap rest : List ℕ) → Plain a s → Stands a gap s → AfterFeed gap gap rest → PlainCut (without_white rest) a s
-after_feed {a} {s} gap rest plain stands (inl same) = subst (λ t. PlainCut (without_white t) a s) (sym same) (white_cut gap plain stands)
-after_feed {a} {s} gap rest plain stands (inr found) =
-    let both : Stands a (found.0 ++ 10 ∷ rest) s = subst (λ t. Stands a t s) found.1 stands in
-    let l = past a found.0 in
-    let from_feed : Stands l (10 ∷ rest) s = last_part found.0 (10 ∷ rest) both in
-    let feed : CharAt l 10 (past l (10 ∷ [])) = ascii 10 (omega arith) (first_part (10 ∷ []) rest from_feed) in
-    let after : Stands (past l (10 ∷ [])) rest s = last_part (10 ∷ []) rest from_feed in
-    let split = line_split {u = a} {l = l} refl feed plain (omega arith) (ahead_stands rest after).at in
-    let cut = white_cut rest split.1 after in
-    record { mid = cut.mid; first = plain_then split.0 cut.first; rest = cut.rest; is = cut.is }
-
-near_cut : (is_first : Bool) {a s : Place} → Plain a s → s.at ≤ length a.text → PlainCut (without_white (near_entry is_first (between a s))) a s
-near_cut false {a} {s} plain within = white_cut (between a s) plain (stands_between (ahead_plain plain) within)
-near_cut true {a} {s} plain within =
-    let gap = between a s in
-    after_feed gap (after_blank_line true gap gap) plain (stands_between (ahead_plain plain) within) (feed_before true gap gap)
-
 -- what stands before an entry is what stays, and a comment
 pub record GapCut (is_first : Bool) (a s : Place) (before : FileReading) : Type 0 where
   pub mid : Place
@@ -182,30 +165,99 @@ space_cut comment {a} {m} {s} first rest within is =
     let left : length (between a s) - length comment ≡ m.at - a.at = omega (arith, first.at, rest.at) in
     ap (λ n. take n (between a s)) left ∙ take-take (m.at - a.at) (s.at - a.at) (drop a.at a.text) (omega (arith, rest.at))
 
-pub gap_cut : (is_first : Bool) {a s x : Place} {before : FileReading} → FileBefore a before s → CharAt s 64 x → s.at ≤ length a.text → GapCut is_first a s before
-gap_cut is_first {a} {s} {x} {before} first sign within = by_sign (has_byte 64 (between a s)) refl
+-- what stands before an entry, cut before these bytes at its end
+record BeforeCut (bytes : List ℕ) (a s : Place) (before : FileReading) : Type 0 where
+  mid : Place
+  first : Ahead a mid
+  rest : Plain mid s
+  is : bytes ≡ between mid s
+  reads : SpaceReads (between a mid) before
+
+stays : {a s x : Place} {before : FileReading} → FileBefore a before s → CharAt s 64 x → s.at ≤ length a.text → BeforeCut [] a s before
+stays {a} {s} first sign within =
+    let size : 0 ≡ s.at - s.at = omega arith in
+    record { mid = s; first = ahead_file_before first; rest = Plain.none; is = ap (λ n. take n (drop s.at s.text)) size; reads = zone_reads first sign within }
+
+plain_cut : {a s x : Place} {before : FileReading} → FileBefore a before s → CharAt s 64 x → s.at ≤ length a.text → has_byte 64 (between a s) ≡ false → BeforeCut (without_white (between a s)) a s before
+plain_cut {a} {s} first sign within clear =
+    let plain = before_plain first sign within clear in
+    let cut = white_cut (between a s) plain.0 (stands_between (ahead_plain plain.0) within) in
+    record {
+      mid = cut.mid;
+      first = ahead_plain cut.first;
+      rest = cut.rest;
+      is = cut.is;
+      reads = subst (SpaceReads (between a cut.mid)) (sym plain.1) (plain_reads cut.first (omega (arith, (ahead_plain cut.rest).at)));
+    }
+
+-- what stands there up to a line feed, the line feed and plain text
+feed_reads : {a l m n : Place} {before : FileReading} → FileBefore a before l → CharAt l 10 m → Plain m n → n.at ≤ length a.text → SpaceReads (between a n) before
+feed_reads {a} {l} {m} {n} {before} first feed plain within u v s following =
+    let to_feed = ahead_file_before first in
+    let from_feed = ahead_then (ahead_char feed) (ahead_plain plain) in
+    let c = copied_before (ahead_then to_feed from_feed) within s following.here in
+    let f = copy_frame a n u in
+    let il = inside_between c.zone c.start c.end to_feed from_feed in
+    let im = inside_between c.zone il c.end (ahead_char feed) (ahead_plain plain) in
+    let says = moved_file f.move before in
+    let start : FileBefore (there f a) says (there f l) = file_before_inside c.zone c.start il (omega (arith, feed.next, (ahead_plain plain).at)) first in
+    let end : FileBefore (there f l) empty_reading (there f n) = FileBefore.skipped (char_there c.zone il im feed) refl (plain_read (plain_there c.zone im c.end plain)) in
+    record {
+      reading = says;
+      file = subst (λ q. FileBefore q says v) c.goes_start (subst (λ q. FileBefore (there f a) says q) c.goes_end (before_then start end));
+      alike = file_placeless f.move before;
+    }
+
+cut_after_feed : {a l m s x : Place} {before : FileReading} (near : List ℕ) → FileBefore a before s → CharAt s 64 x → s.at ≤ length a.text → l.text ≡ a.text → CharAt l 10 m → a.at ≤ l.at → Stands m near s → has_block_sign near ≡ false
+    → BeforeCut (without_white near) a s before
+cut_after_feed {a} {l} {m} {s} near first sign within same feed from stands clear =
+    let within' : s.at ≤ length m.text = omega (arith, within, ap length (feed.same ∙ same)) in
+    let split = feed_cut first sign within' same feed from (ahead_stands near stands).at (clear_of (between m s) (ap has_block_sign (between_stands near stands) ∙ clear)) in
+    let cut = white_cut near split.1 stands in
+    record {
+      mid = cut.mid;
+      first = ahead_then (ahead_file_before split.0) (ahead_then (ahead_char feed) (ahead_plain cut.first));
+      rest = cut.rest;
+      is = cut.is;
+      reads = feed_reads split.0 feed cut.first (omega (arith, (ahead_plain cut.rest).at, within));
+    }
+
+after_feed : {a s x : Place} {before : FileReading} (gap near : List ℕ) → FileBefore a before s → CharAt s 64 x → s.at ≤ length a.text → gap ≡ between a s → AfterFeed gap gap near → has_block_sign near ≡ false
+    → BeforeCut (without_white near) a s before
+after_feed {a} {s} {before = before} gap near first sign within is (inl same) clear =
+    subst (λ t. BeforeCut (without_white t) a s before) (sym (same ∙ is)) (plain_cut first sign within (ap (has_byte 64) (sym (same ∙ is)) ∙ (clear_of near clear).at))
+after_feed {a} {s} gap near first sign within is (inr found) clear =
+    let both : Stands a (found.0 ++ 10 ∷ near) s = subst (λ t. Stands a t s) (sym is ∙ found.1) (stands_between (ahead_file_before first) within) in
+    let l = past a found.0 in
+    let from_feed : Stands l (10 ∷ near) s = last_part found.0 (10 ∷ near) both in
+    let feed : CharAt l 10 (past l (10 ∷ [])) = ascii 10 (omega arith) (first_part (10 ∷ []) near from_feed) in
+    cut_after_feed {l = l} {m = past l (10 ∷ [])} near first sign within refl feed (omega arith) (last_part (10 ∷ []) near from_feed) clear
+
+comment_cut : (is_first : Bool) {a s x : Place} {before : FileReading} → FileBefore a before s → CharAt s 64 x → s.at ≤ length a.text → BeforeCut (comment_in is_first (between a s)) a s before
+comment_cut is_first {a} {s} {x} {before} first sign within = by_run (begins_run is_first gap) refl
   where
-    by_sign : (c : Bool) → has_byte 64 (between a s) ≡ c → GapCut is_first a s before
-    by_sign true is =
-        let size : 0 ≡ s.at - s.at = omega arith in
-        let comment : comment_in is_first (between a s) ≡ between s s = ap (λ c. cond c [] (without_white (near_entry is_first (between a s)))) is ∙ ap (λ n. take n (drop s.at s.text)) size in
-        record {
-          mid = s;
-          first = ahead_file_before first;
-          rest = Plain.none;
-          comment = comment;
-          space = space_cut (comment_in is_first (between a s)) (ahead_file_before first) (ahead_here s) within comment;
-          reads = zone_reads first sign within;
-        }
-    by_sign false is =
-        let plain = before_plain first sign within is in
-        let cut = near_cut is_first plain.0 within in
-        let comment : comment_in is_first (between a s) ≡ between cut.mid s = ap (λ c. cond c [] (without_white (near_entry is_first (between a s)))) is ∙ cut.is in
-        record {
-          mid = cut.mid;
-          first = ahead_plain cut.first;
-          rest = cut.rest;
-          comment = comment;
-          space = space_cut (comment_in is_first (between a s)) (ahead_plain cut.first) (ahead_plain cut.rest) within comment;
-          reads = subst (SpaceReads (between a cut.mid)) (sym plain.1) (plain_reads cut.first (omega (arith, (ahead_plain cut.rest).at)));
-        }
+    gap : List ℕ
+    gap = between a s
+
+    near : List ℕ
+    near = after_blank_line true gap gap
+
+    by_sign : (c : Bool) → has_block_sign near ≡ c → BeforeCut (cond c [] (without_white near)) a s before
+    by_sign true is = stays first sign within
+    by_sign false is = after_feed gap near first sign within refl (feed_before true gap gap) is
+
+    by_run : (c : Bool) → begins_run is_first gap ≡ c → BeforeCut (cond c (near_comment near) (without_white gap)) a s before
+    by_run true is = by_sign (has_block_sign near) refl
+    by_run false is = plain_cut first sign within (or_right is_first (has_byte 64 gap) is)
+
+pub gap_cut : (is_first : Bool) {a s x : Place} {before : FileReading} → FileBefore a before s → CharAt s 64 x → s.at ≤ length a.text → GapCut is_first a s before
+gap_cut is_first {a} {s} first sign within =
+    let cut = comment_cut is_first first sign within in
+    record {
+      mid = cut.mid;
+      first = cut.first;
+      rest = cut.rest;
+      comment = cut.is;
+      space = space_cut (comment_in is_first (between a s)) cut.first (ahead_plain cut.rest) within cut.is;
+      reads = cut.reads;
+    }

@@ -8,10 +8,9 @@ use Rattle.std.proofs.lemmas.List.{append-nil, drop-drop, take-append-drop, take
 use Rattle.std.proofs.lemmas.List.Sorted.{IsPermutation-refl}
 use Rattle.bib_text.specs.Places.{between, place}
 use Rattle.bib_syntax.specs.Reading.{EntryReading}
-use Rattle.bib_syntax.specs.Recovery.{has_byte}
 use Rattle.bib_documents.specs.Documents.{Document, IsDocument}
 use Rattle.bib_sorting.specs.Cuts.{AreItemsCut}
-use Rattle.bib_sorting.specs.Sorted.{IsSortedText, after_blank_line, comment_in, entry_bytes, gap_before, item_cmp, items, items_from, items_laid_out, near_entry, place_after, run_after, space_in, spaces_from, text_in_order, without_white}
+use Rattle.bib_sorting.specs.Sorted.{IsSortedText, after_blank_line, begins_run, comment_in, entry_bytes, gap_before, has_block_sign, item_cmp, items, items_from, items_laid_out, near_comment, place_after, run_after, space_in, spaces_from, text_in_order, without_white}
 use Rattle.bib_sorting.proofs.FileFacts.{document_parts}
 use Rattle.bib_sorting.proofs.LineFacts.{AfterFeed, feed_before}
 use Rattle.bib_sorting.proofs.OneOrderFacts.{one_order}
@@ -27,19 +26,22 @@ feed_end : (gap rest : List ℕ) → AfterFeed gap gap rest → EndsIn gap rest
 feed_end gap rest (inl same) = ([], sym same)
 feed_end gap rest (inr found) = (found.0 ++ 10 ∷ [], found.1 ∙ sym (append_assoc found.0 (10 ∷ []) rest))
 
-near_end : (is_first : Bool) (gap : List ℕ) → EndsIn gap (near_entry is_first gap)
-near_end true gap = feed_end gap (after_blank_line true gap gap) (feed_before true gap gap)
-near_end false gap = ([], refl)
-
-white_end : (bytes : List ℕ) → EndsIn bytes (without_white bytes)
+pub white_end : (bytes : List ℕ) → EndsIn bytes (without_white bytes)
 white_end bytes = let n = prefix_len is_ascii_whitespace bytes in (take n bytes, sym (take-append-drop n bytes))
 
 pub comment_end : (is_first : Bool) (gap : List ℕ) → EndsIn gap (comment_in is_first gap)
-comment_end is_first gap = by_sign (has_byte 64 gap)
+comment_end is_first gap = by_run (begins_run is_first gap)
   where
-    by_sign : (c : Bool) → EndsIn gap (cond c [] (without_white (near_entry is_first gap)))
+    near : List ℕ
+    near = after_blank_line true gap gap
+
+    by_sign : (c : Bool) → EndsIn gap (cond c [] (without_white near))
     by_sign true = (gap, sym (append-nil gap))
-    by_sign false = ends_then gap (near_entry is_first gap) (without_white (near_entry is_first gap)) (near_end is_first gap) (white_end (near_entry is_first gap))
+    by_sign false = ends_then gap near (without_white near) (feed_end gap near (feed_before true gap gap)) (white_end near)
+
+    by_run : (c : Bool) → EndsIn gap (cond c (near_comment near) (without_white gap))
+    by_run true = by_sign (has_block_sign near)
+    by_run false = white_end gap
 
 cut_end : (text rest : List ℕ) → EndsIn text rest → take (length text - length rest) text ++ rest ≡ text
 cut_end text rest end =

@@ -22,32 +22,40 @@ use Rattle.bib_syntax.specs.Recovery.{has_byte}
 use Rattle.bib_syntax.proofs.FileFacts.{file_same}
 use Rattle.bib_documents.specs.Documents.{Document, IsDocument, is_keyed}
 use Rattle.bib_documents.specs.Edits.{moved_entry, moved_field, moved_piece}
-use Rattle.bib_sorting.specs.Sorted.{AreEntriesInOrder, IsSortedText, Item, comment_in, crossref, gap_before, item_cmp, items, items_from, names_key, names_one, near_entry, one_text, rank, refers_to, run_after, space_in, spaces_from, text_in_order, without_white}
+use Rattle.bib_sorting.specs.Sorted.{AreEntriesInOrder, IsSortedText, Item, after_blank_line, begins_run, comment_in, crossref, gap_before, has_block_sign, item_cmp, items, items_from, names_key, names_one, near_comment, one_text, rank, refers_to, run_after, space_in, spaces_from, text_in_order, without_white}
+use Rattle.bib_sorting.proofs.FeedFacts.{clear_of}
 use Rattle.bib_sorting.proofs.FileFacts.{AreLaid, read_in_order}
 use Rattle.bib_sorting.proofs.OneOrderFacts.{IsNotAfter, starts_in_order, up_from}
 use Rattle.bib_sorting.proofs.ParentFacts.{known_items, IsKnown}
+use Rattle.bib_sorting.proofs.PlainFacts.{or_right}
 use Rattle.bib_sorting.proofs.SameOrderFacts.{AreUp, same_order}
 use Rattle.bib_sorting.proofs.SetFacts.{or_none}
-use Rattle.bib_sorting.proofs.StaysFacts.{comment_end, gap_whole, in_order_stays}
+use Rattle.bib_sorting.proofs.StaysFacts.{gap_whole, in_order_stays, white_end}
 
 -- ---- runs
-
-or_right : (x y : Bool) → (x || y) ≡ false → y ≡ false
-or_right true y is = absurd (cc)
-or_right false y is = is
 
 has-append : (xs ys : List ℕ) → has_byte 64 (xs ++ ys) ≡ (has_byte 64 xs || has_byte 64 ys)
 has-append xs ys = list_any-append (λ b. b == 64) xs ys
 
 -- no at sign stands in a comment that moves
+white_clear : (bytes : List ℕ) → has_byte 64 bytes ≡ false → has_byte 64 (without_white bytes) ≡ false
+white_clear bytes clear =
+    let end = white_end bytes in
+    or_right (has_byte 64 end.0) (has_byte 64 (without_white bytes)) (sym (has-append end.0 (without_white bytes)) ∙ sym (ap (has_byte 64) end.1) ∙ clear)
+
 comment_clear : (is_first : Bool) (gap : List ℕ) → has_byte 64 (comment_in is_first gap) ≡ false
-comment_clear is_first gap = by_sign (has_byte 64 gap) refl
+comment_clear is_first gap = by_run (begins_run is_first gap) refl
   where
-    by_sign : (c : Bool) → has_byte 64 gap ≡ c → has_byte 64 (comment_in is_first gap) ≡ false
-    by_sign true is = ap (λ b. has_byte 64 (cond b [] (without_white (near_entry is_first gap)))) is
-    by_sign false is =
-        let end = comment_end is_first gap in
-        or_right (has_byte 64 end.0) (has_byte 64 (comment_in is_first gap)) (sym (has-append end.0 (comment_in is_first gap)) ∙ sym (ap (has_byte 64) end.1) ∙ is)
+    near : List ℕ
+    near = after_blank_line true gap gap
+
+    by_sign : (c : Bool) → has_block_sign near ≡ c → has_byte 64 (cond c [] (without_white near)) ≡ false
+    by_sign true is = refl
+    by_sign false is = white_clear near (clear_of near is).at
+
+    by_run : (c : Bool) → begins_run is_first gap ≡ c → has_byte 64 (cond c (near_comment near) (without_white gap)) ≡ false
+    by_run true is = by_sign (has_block_sign near) refl
+    by_run false is = white_clear gap (or_right is_first (has_byte 64 gap) is)
 
 -- a space, and a comment after it
 run_of_space : (run : ℕ) (space comment : List ℕ) → has_byte 64 comment ≡ false → run_after run (space ++ comment) ≡ run_after run space

@@ -1,7 +1,7 @@
 -- Meaning: words of public contracts.
 -- A bibliography's text with its entries in an order: each entry moves with the comment before it, and the white space between entries
--- stays where it is.
-use Rattle.std.specs.Prelude.{◌≡◌, ◌==◌, ◌&&◌, ℕ, ◌+◌, ◌-◌, Bool, true, false, List, [], ◌∷◌, ◌++◌, Option, Some, None, bytes_eq, codes, cond, drop, length, map, slice_get, take}
+-- stays where it is. An at sign that is no entry's, as that of an `@string`, begins a run of entries, over whose start none moves.
+use Rattle.std.specs.Prelude.{◌≡◌, ◌==◌, ◌&&◌, ◌||◌, ℕ, ◌+◌, ◌-◌, Bool, true, false, List, [], ◌∷◌, ◌++◌, Option, Some, None, bytes_eq, codes, cond, drop, length, map, slice_get, take}
 use Rattle.std.specs.Char.{is_ascii_whitespace}
 use Rattle.std.specs.Cmp.Lexicographic.{slice_cmp}
 use Rattle.std.specs.List.{list_any, prefix_len}
@@ -65,14 +65,23 @@ after_blank_line blank kept [] = kept
 after_blank_line blank kept (b ∷ bs) =
     cond (b == char.line_feed) (after_blank_line true (kept_after blank bs kept) bs) (after_blank_line (blank && is_ascii_whitespace b) kept bs)
 
--- what stands before an entry, or, before a file's first entry, what stands there after the last blank line
-abbrev pub near_entry : Bool → List ℕ → List ℕ
-near_entry is_first gap = cond is_first (after_blank_line true gap gap) gap
+-- whether a run begins with an entry: it is a file's first, or an at sign stands before it, as that of an `@string`
+abbrev pub begins_run : Bool → List ℕ → Bool
+begins_run is_first gap = is_first || has_byte char.at gap
 
--- what moves with an entry of what stands between the entry before and it: nothing if an at sign stands there, else all but white space
--- at its start; and before a file's first entry, only what stands after the last blank line
+-- whether an at sign, a closing brace or a quote stands in a text: without them no block begins or ends in it
+abbrev pub has_block_sign : List ℕ → Bool
+has_block_sign text = has_byte char.at text || has_byte char.close_brace text || has_byte char.quote text
+
+-- what moves with the first entry of a run of what stands before it after the last blank line: nothing if a block may begin or end there,
+-- else all but white space at its start
+abbrev pub near_comment : List ℕ → List ℕ
+near_comment near = cond (has_block_sign near) [] (without_white near)
+
+-- what moves with an entry of what stands between the entry before and it: all but white space at its start; and before the first entry of
+-- a run, only of what stands after the last blank line
 abbrev pub comment_in : Bool → List ℕ → List ℕ
-comment_in is_first gap = cond (has_byte char.at gap) [] (without_white (near_entry is_first gap))
+comment_in is_first gap = cond (begins_run is_first gap) (near_comment (after_blank_line true gap gap)) (without_white gap)
 
 -- what stays of it
 abbrev pub space_in : Bool → List ℕ → List ℕ

@@ -41,21 +41,53 @@ fn after_blank_line(gap: &str) -> &str
     kept
 }
 
-// What stands before an entry, or, before a file's first entry, what stands there after the last blank line.
-fn near_entry(is_first: bool, gap: &str) -> &str
-    ensures { result.now ≡ sorted.near_entry is_first gap.now }
+// Whether a closing brace stands in a text.
+fn has_close_brace(text: &str) -> bool
+    ensures { result ≡ has_byte char.close_brace text.now }
 {
-    if is_first { after_blank_line(gap) } else { gap }
+    text.contains('}')
+}
+
+// Whether a quote stands in a text.
+fn has_quote(text: &str) -> bool
+    ensures { result ≡ has_byte char.quote text.now }
+{
+    text.contains('"')
+}
+
+// Whether an at sign, a closing brace or a quote stands in a text.
+fn has_block_sign(text: &str) -> bool
+    ensures { result ≡ sorted.has_block_sign text.now }
+{
+    has_at_sign(text) || has_close_brace(text) || has_quote(text)
+}
+
+// What moves with the first entry of a run of what stands before it after the last blank line.
+fn near_comment(near: &str) -> &str
+    ensures { result.now ≡ sorted.near_comment near.now }
+{
+    if has_block_sign(near) {
+        ""
+    } else {
+        near.trim_ascii_start()
+    }
+}
+
+// Whether a run begins with an entry: it is a file's first, or an at sign stands before it.
+fn begins_run(is_first: bool, gap: &str) -> bool
+    ensures { result ≡ sorted.begins_run is_first gap.now }
+{
+    is_first || has_at_sign(gap)
 }
 
 // What moves with an entry of what stands before it.
 pub(crate) fn comment_in(is_first: bool, gap: &str) -> &str
     ensures { result.now ≡ sorted.comment_in is_first gap.now }
 {
-    if has_at_sign(gap) {
-        ""
+    if begins_run(is_first, gap) {
+        near_comment(after_blank_line(gap))
     } else {
-        near_entry(is_first, gap).trim_ascii_start()
+        gap.trim_ascii_start()
     }
 }
 

@@ -64,9 +64,12 @@ fn laid_out(
 /// Every entry stays byte for byte, and so does everything else:
 ///
 /// - No entry moves over an at sign that is no entry's, as that of an `@string`: the entries between two of these are a run, and are
-///   ordered alone. What stands before the first entry of such a run stays.
+///   ordered alone.
 /// - White space of ASCII after an entry stays where it is. The rest of what stands before an entry, a comment or any other text, moves
-///   with it; before a file's first entry only what stands there after the last blank line.
+///   with it.
+/// - Before the first entry of a run, the file's first or one after such an at sign, only what stands there after the last blank line
+///   moves, but for white space at its start; and nothing moves if an at sign, a closing brace or a quote stands in that, since a block
+///   could end there.
 /// - An entry that a `crossref` of the file names stands after those of its run that none names, and last if it names no entry itself:
 ///   BibTeX reads an entry before the one that it names. A `crossref` names an entry if its value is one text that is the entry's key, but
 ///   for white space round it.

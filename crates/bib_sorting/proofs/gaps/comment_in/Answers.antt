@@ -1,9 +1,10 @@
-use Rattle.std.proofs.Common.{[], cond, sym, ap, ◌∙◌}
+use Rattle.std.proofs.Common.{true, cond, sym, ap, ◌∙◌}
 use Rattle.std.proofs.lemmas.Str.Ascii.{trim_ascii_start_is}
-use Rattle.bib_sorting.specs.Sorted.{near_entry, without_white}
+use Rattle.bib_sorting.specs.Sorted.{after_blank_line, near_comment, without_white}
 use Rattle.bib_sorting.proofs.gaps.comment_in.Goals as goal
 
-pub returns-else-has_at_sign : goal.returns-else-has_at_sign
-returns-else-has_at_sign c =
-    trim_ascii_start_is _ _ c.trim_ascii_start.ensures.value ∙ ap without_white c.near_entry.ensures
-    ∙ sym (ap (λ b. cond b [] (without_white (near_entry c.args.is_first c.args.gap.now))) (sym c.has_at_sign.ensures ∙ c.if-has_at_sign.false))
+pub returns-else-begins_run : goal.returns-else-begins_run
+returns-else-begins_run c =
+    let gap = c.args.gap.now in
+    trim_ascii_start_is _ _ c.trim_ascii_start.ensures.value
+    ∙ sym (ap (λ b. cond b (near_comment (after_blank_line true gap gap)) (without_white gap)) (sym c.begins_run.ensures ∙ c.if-begins_run.false))
