@@ -4,8 +4,10 @@ _bibkit() {
     local codes='unread-bytes syntax unread-field unknown-abbreviation circular-abbreviation duplicate-key circular-reference
         unread-date missing-field superfluous-field malformed-field unknown-field unknown-reference likely-duplicate missing-entry
         unused-entry'
+    local fields='author editor title subtitle booktitle journaltitle journal series edition volume number pages publisher location address
+        institution school organization date year month doi isbn issn url urldate note keywords abstract crossref'
     if [ "$COMP_CWORD" = 1 ]; then
-        mapfile -t COMPREPLY < <(compgen -W 'lint keys get grep cited stats fmt set unset rename remove add help --help --version' -- "$current")
+        mapfile -t COMPREPLY < <(compgen -W 'lint keys get grep cited stats fmt set unset rename remove add strings help --help --version' -- "$current")
         return
     fi
     case $previous in
@@ -31,6 +33,24 @@ _bibkit() {
             mapfile -t COMPREPLY < <(compgen -W 'keep 0 1 2 3' -- "$current")
             return
             ;;
+        --delimiters)
+            mapfile -t COMPREPLY < <(compgen -W 'keep braces quotes' -- "$current")
+            return
+            ;;
+        --sort)
+            mapfile -t COMPREPLY < <(compgen -W 'keep key year author type' -- "$current")
+            return
+            ;;
+        --order | --fields)
+            local before=''
+            [[ $current == *,* ]] && before=${current%,*},
+            mapfile -t COMPREPLY < <(compgen -P "$before" -W "$fields" -- "${current##*,}")
+            return
+            ;;
+        --width | --at-least)
+            COMPREPLY=()
+            return
+            ;;
         --color)
             mapfile -t COMPREPLY < <(compgen -W 'auto always never' -- "$current")
             return
@@ -42,8 +62,10 @@ _bibkit() {
     esac
     if [[ $current == -* ]]; then
         local options='--help'
-        [[ $command =~ ^(set|unset|rename|remove|add)$ ]] && options='--file --write --help'
-        [ "$command" = fmt ] && options='--indent --align --no-align --trailing-comma --no-trailing-comma --blank-lines --check --write --help'
+        [[ $command =~ ^(set|unset|rename|remove|add)$ ]] && options='--file --write --diff --help'
+        [ "$command" = strings ] && options='--expand --collect --fields --at-least --file --write --diff --help'
+        [ "$command" = fmt ] && options='--indent --align --no-align --trailing-comma --no-trailing-comma --blank-lines --delimiters --order
+            --width --sort --check --write --diff --help'
         [ "$command" = lint ] && options='--only --ignore --explain --format --cited --unused --color --help'
         mapfile -t COMPREPLY < <(compgen -W "$options" -- "$current")
         return

@@ -1,9 +1,11 @@
 # Completions of bibkit for fish: put this file into ~/.config/fish/completions.
-set -l commands lint keys get grep cited stats fmt set unset rename remove add help
-set -l edits set unset rename remove add
+set -l commands lint keys get grep cited stats fmt set unset rename remove add strings help
+set -l edits set unset rename remove add strings
 set -l codes unread-bytes syntax unread-field unknown-abbreviation circular-abbreviation duplicate-key circular-reference \
     unread-date missing-field superfluous-field malformed-field unknown-field unknown-reference likely-duplicate missing-entry \
     unused-entry
+set -l fields author editor title subtitle booktitle journaltitle journal series edition volume number pages publisher location address \
+    institution school organization date year month doi isbn issn url urldate note keywords abstract crossref
 
 complete -c bibkit -n "not __fish_seen_subcommand_from $commands" -f
 complete -c bibkit -n "not __fish_seen_subcommand_from $commands" -a lint -d 'Report what is wrong in files, by place'
@@ -18,6 +20,7 @@ complete -c bibkit -n "not __fish_seen_subcommand_from $commands" -a unset -d 'T
 complete -c bibkit -n "not __fish_seen_subcommand_from $commands" -a rename -d 'Give an entry another key'
 complete -c bibkit -n "not __fish_seen_subcommand_from $commands" -a remove -d 'Take entries out'
 complete -c bibkit -n "not __fish_seen_subcommand_from $commands" -a add -d 'Add the entries of standard input'
+complete -c bibkit -n "not __fish_seen_subcommand_from $commands" -a strings -d 'Write abbreviations out, or make them of texts that repeat'
 complete -c bibkit -n "not __fish_seen_subcommand_from $commands" -a help -d 'Print help'
 complete -c bibkit -n "not __fish_seen_subcommand_from $commands" -s V -l version -d 'Print the version'
 complete -c bibkit -s h -l help -d 'Print help'
@@ -34,7 +37,17 @@ complete -c bibkit -n '__fish_seen_subcommand_from fmt' -l no-align -d 'Put them
 complete -c bibkit -n '__fish_seen_subcommand_from fmt' -l trailing-comma -d 'Write a comma after the last field'
 complete -c bibkit -n '__fish_seen_subcommand_from fmt' -l no-trailing-comma -d 'Write no comma after the last field'
 complete -c bibkit -n '__fish_seen_subcommand_from fmt' -x -l blank-lines -a 'keep 0 1 2 3' -d 'Blank lines between entries'
+complete -c bibkit -n '__fish_seen_subcommand_from fmt' -x -l delimiters -a 'keep braces quotes' -d 'Delimiters round texts'
+complete -c bibkit -n '__fish_seen_subcommand_from fmt' -x -l order -a "$fields" -d 'Put these fields first in each entry'
+complete -c bibkit -n '__fish_seen_subcommand_from fmt' -x -l width -d 'Characters of a line with joined texts; 0 for any number'
+complete -c bibkit -n '__fish_seen_subcommand_from fmt' -x -l sort -a 'keep key year author type' -d 'Put entries in an order'
 complete -c bibkit -n '__fish_seen_subcommand_from fmt' -l check -d 'Say which files are not in this style'
 complete -c bibkit -n '__fish_seen_subcommand_from fmt' -l write -d 'Write the new texts into the files'
+complete -c bibkit -n '__fish_seen_subcommand_from fmt' -l diff -d 'Print how the new texts differ'
+complete -c bibkit -n '__fish_seen_subcommand_from strings' -l expand -d 'Write abbreviations out'
+complete -c bibkit -n '__fish_seen_subcommand_from strings' -l collect -d 'Make abbreviations of texts that repeat'
+complete -c bibkit -n '__fish_seen_subcommand_from strings' -x -l fields -a "$fields" -d 'Collect the texts of these fields'
+complete -c bibkit -n '__fish_seen_subcommand_from strings' -x -l at-least -d 'How often a text has to stand there'
 complete -c bibkit -n "__fish_seen_subcommand_from $edits" -r -s f -l file -d 'The file to edit'
 complete -c bibkit -n "__fish_seen_subcommand_from $edits" -l write -d 'Write the new text into the file'
+complete -c bibkit -n "__fish_seen_subcommand_from $edits" -l diff -d 'Print how the new text differs'

@@ -81,7 +81,7 @@ run 'the version' 0 $'bibkit 0.1.0\n' --version
 run 'the version, in short' 0 $'bibkit 0.1.0\n' -V
 for word in help --help -h; do
     run_start "$word" 0 $'Check, search and edit bibliography files\n\nUsage: bibkit <COMMAND>\n' "$word"
-    for command in lint keys get grep cited stats fmt set unset rename remove add; do
+    for command in lint keys get grep cited stats fmt set unset rename remove add strings; do
         holds "$word names $command" grep -qE "^  $command +[A-Z]" results
     done
 done
@@ -94,14 +94,23 @@ run_start 'help of get' 0 $'Print the entries with these keys, as they stand in 
 run_start 'help of grep' 0 $'Print the entries in whose field a text stands, as they stand in the files\n\nUsage: bibkit grep <FIELD> <TEXT> [FILE]...\n' grep --help
 run_start 'help of cited' 0 $'Print the entries that a document cites, as they stand in the files\n\nUsage: bibkit cited <DOCUMENT> [FILE]...\n' cited --help
 run_start 'help of stats' 0 $'Count entries by type and year, fields by name, and findings by code\n\nUsage: bibkit stats [FILE]...\n' stats --help
-for command in lint keys get grep cited stats fmt set unset rename remove add; do
+for command in lint keys get grep cited stats fmt set unset rename remove add strings; do
     "$program" $command --help >output
     holds "help of $command has an example" prints "  bibkit $command"
 done
-for command in set unset rename remove add; do
+for command in set unset rename remove add strings; do
     "$program" $command --help >output
     holds "help of $command names the file" prints '-f, --file <FILE>'
     holds "help of $command names --write" prints '--write'
+    holds "help of $command names --diff" prints '--diff'
+done
+"$program" fmt --help >output
+for option in '--delimiters <DELIMITERS>' '--order <FIELDS>' '--width <CHARACTERS>' '--sort <ORDER>' --diff; do
+    holds "help of fmt names $option" prints "$option"
+done
+"$program" strings --help >output
+for option in --expand --collect '--fields <FIELDS>' '--at-least <TIMES>'; do
+    holds "help of strings names $option" prints "$option"
 done
 run 'no command' 2 ''
 holds 'no command: usage is a message' messages_have 'Usage: bibkit'
@@ -238,6 +247,79 @@ holds 'the file is in the style' cmp -s style.bib <(printf %s "$laid_out")
 holds 'the file has its rights' [ "$(stat -c %a style.bib)" = 600 ]
 run 'a file that is in the style' 0 '' fmt --check style.bib
 
+# delimiters, an order of fields, a width
+printf '@misc{k, year = 1999, title = "T" # {U}, author = {say "x"}, month = jan}\n' >options.bib
+as_listed=$'@misc{k,\n  year = 1999,\n  title = "T" # {U},\n  author = {say "x"},\n  month = jan,\n}\n'
+run 'texts in braces' 0 $'@misc{k,\n  year = 1999,\n  title = {T} # {U},\n  author = {say "x"},\n  month = jan,\n}\n' fmt --delimiters braces options.bib
+run 'texts in quotes, but for one with a quote in it' 0 $'@misc{k,\n  year = 1999,\n  title = "T" # "U",\n  author = {say "x"},\n  month = jan,\n}\n' fmt --delimiters quotes options.bib
+run 'texts between the delimiters that they have' 0 "$as_listed" fmt --delimiters keep options.bib
+printf '@misc{k, a = "{", b = "c"}\n' >unclosed.bib
+run 'a text with a brace that is not closed stays in quotes' 0 $'@misc{k,\n  a = "{",\n  b = {c},\n}\n' fmt --delimiters braces unclosed.bib
+run 'delimiters that are none' 2 '' fmt --delimiters brackets options.bib
+run 'fields in an order' 0 $'@misc{k,\n  author = {say "x"},\n  title = "T" # {U},\n  year = 1999,\n  month = jan,\n}\n' fmt --order author,title options.bib
+run 'fields in an order, by two options in any case' 0 $'@misc{k,\n  title = "T" # {U},\n  author = {say "x"},\n  year = 1999,\n  month = jan,\n}\n' fmt --order Title --order AUTHOR options.bib
+run 'names that no field has' 0 "$as_listed" fmt --order editor,journal options.bib
+run 'a line that is as long as it may be' 0 "$as_listed" fmt --width 20 options.bib
+run 'a line that is longer, and values of one text' 0 $'@misc{k,\n  year = 1999,\n  title = "T"\n          # {U},\n  author = {say "x"},\n  month = jan,\n}\n' fmt --width 19 options.bib
+run 'values of one text are not broken' 0 $'@misc{k,\n  year = 1999,\n  title = "T"\n          # {U},\n  author = {say "x"},\n  month = jan,\n}\n' fmt --width 1 options.bib
+run 'lines that may be of any length' 0 "$as_listed" fmt --width 0 options.bib
+printf '@misc{k,\n  year = 1999,\n  title = "T"\n          # {U},\n}\n' >broken-line.bib
+run 'a line that was broken is one where it may be' 0 $'@misc{k,\n  year = 1999,\n  title = "T" # {U},\n}\n' fmt broken-line.bib
+run 'the greatest width' 0 "$as_listed" fmt --width 1000000 options.bib
+for width in 1000001 -1 x ''; do run "a width that is none, '$width'" 2 '' fmt --width "$width" options.bib; done
+
+# entries in an order: each moves with the comment before it, and one that a crossref names comes last
+cat >mixed.bib <<'BIB'
+% the file
+
+% on C
+@inbook{C, crossref={d}, author={Zoe Young}, year=1998}
+@book{d, editor={Adams, D.}, year={1990}}
+
+% on b
+@phdthesis{b, author={{van} Dam, A. and Abel, Q.}, date={2000-05}}
+@misc{a, editor={Wirth, N.}}
+% end
+BIB
+entry_a=$'@misc{a,\n  editor = {Wirth, N.},\n}'
+entry_b=$'% on b\n@phdthesis{b,\n  author = {{van} Dam, A. and Abel, Q.},\n  date = {2000-05},\n}'
+entry_c=$'% on C\n@inbook{C,\n  crossref = {d},\n  author = {Zoe Young},\n  year = 1998,\n}'
+entry_d=$'@book{d,\n  editor = {Adams, D.},\n  year = {1990},\n}'
+# the file with its entries as they are given
+mixed() { printf -v text '%% the file\n\n%s\n%s\n\n%s\n%s\n%% end\n' "$@"; }
+mixed "$entry_c" "$entry_d" "$entry_b" "$entry_a"
+run 'entries in the order that they have' 0 "$text" fmt mixed.bib
+run 'entries that keep their order' 0 "$text" fmt --sort keep mixed.bib
+mixed "$entry_b" "$entry_a" "$entry_c" "$entry_d"
+run 'entries by their authors or editors, family names first' 0 "$text" fmt --sort author mixed.bib
+mixed "$entry_c" "$entry_b" "$entry_a" "$entry_d"
+run 'entries by their years, or those of their dates, and one without a year' 0 "$text" fmt --sort year mixed.bib
+mixed "$entry_c" "$entry_a" "$entry_b" "$entry_d"
+run 'entries by their types' 0 "$text" fmt --sort type mixed.bib
+mixed "$entry_a" "$entry_b" "$entry_c" "$entry_d"
+run 'entries by their keys, in any case' 0 "$text" fmt --sort key mixed.bib
+"$program" fmt --sort key mixed.bib >once.bib
+run 'entries that are in order stay' 0 "$text" fmt --sort key once.bib
+run 'a file that is in order' 0 '' fmt --check --sort key once.bib
+run_messages 'a file that is not in order' 1 $'bibkit: once.bib: not in this style\n' fmt --check --sort type once.bib
+run 'an order that is none' 2 '' fmt --sort title mixed.bib
+printf '@misc{d,}\n@misc{c,}\n@string{s={x}}\n%% on b\n@misc{b,}\n@misc{a,}\n' >barred.bib
+run 'no entry moves over a definition' 0 $'@misc{c,\n}\n@misc{d,\n}\n@string{s={x}}\n% on b\n@misc{a,\n}\n@misc{b,\n}\n' fmt --sort key barred.bib
+printf '@misc{b,}\n@misc{c,}\n%% mail me@example.org\n@misc{a,}\n' >mail.bib
+run 'no entry moves over an at sign of a comment' 0 $'@misc{b,\n}\n@misc{c,\n}\n% mail me@example.org\n@misc{a,\n}\n' fmt --sort key mail.bib
+printf '@misc{b,}\n@book{z,}\n@misc{a,}\n' >ties.bib
+run 'entries of one type keep their order' 0 $'@book{z,\n}\n@misc{b,\n}\n@misc{a,\n}\n' fmt --sort type ties.bib
+printf '@misc{b,}\n\n\n@misc{a,}@misc{c,}\n' >gaps.bib
+run 'white space stays where it is' 0 $'@misc{a,\n}\n\n\n@misc{b,\n}@misc{c,\n}\n' fmt --sort key gaps.bib
+run 'blank lines between entries in order' 0 $'@misc{a,\n}\n\n@misc{b,\n}\n\n@misc{c,\n}\n' fmt --sort key --blank-lines 1 gaps.bib
+printf '@misc{b,%% note\n}\n@misc{a,}\n' >noted.bib
+run 'an entry in which a comment stands moves too' 0 $'@misc{a,\n}\n@misc{b,% note\n}\n' fmt --sort key noted.bib
+printf '@misc{b,}\r\n@misc{a,}\r\n' >returns.bib
+run 'ends of lines in an order' 0 $'@misc{a,\r\n}\r\n@misc{b,\r\n}\r\n' fmt --sort key returns.bib
+cp gaps.bib ordered.bib
+run 'an order is written' 0 '' fmt --sort key --write ordered.bib
+holds 'the file has the order' cmp -s ordered.bib <(printf '@misc{a,\n}\n\n\n@misc{b,\n}@misc{c,\n}\n')
+
 # edits: the new text is printed, and the file stays
 entry='@misc{a, title={A}, author={B}}'
 run 'a field that is there is set' 0 $'@misc{a, title={C d}, author={B}}\n\n@misc{b, title={x y}, author={Knuth, D.}, year={1984}}\n' set a 'title=C d' -f two.bib
@@ -291,6 +373,185 @@ run 'nothing to set' 2 '' set a -f two.bib
 "$program" remove a -f two.bib >/dev/full 2>messages
 holds 'an edit on a full disk' [ $? = 2 ]
 holds 'an edit on a full disk is reported' messages_have "bibkit: the output can't be written"
+
+# abbreviations that are written out
+printf '@string{acm = {ACM}}\n@string{jacm = {Journal of the } # acm}\n@article{k, journal = jacm, month = jan, note={see }#acm # x}\n' >expand.bib
+expanded=$'@string{acm = {ACM}}\n@string{jacm = {Journal of the } # acm}\n@article{k, journal = {Journal of the } # {ACM}, month = jan, note={see } # {ACM} # x}\n'
+run 'abbreviations are written out' 0 "$expanded" strings --expand -f expand.bib
+cp expand.bib input
+run 'abbreviations of standard input are written out' 0 "$expanded" strings --expand
+: >input
+run 'no abbreviation is written out' 0 "$(cat two.bib)"$'\n' strings --expand -f two.bib
+run 'abbreviations of an empty input' 0 '' strings --expand
+printf '@string{s = "a", s = {b}}\n@misc{k, t = s, u = S}\n' >again.bib
+run 'the last of two definitions' 0 $'@string{s = "a", s = {b}}\n@misc{k, t = {b}, u = S}\n' strings --expand -f again.bib
+printf '@string{z = one}\n@string{one = two}\n@string{two = {y} # one}\n@misc{k, t = z}\n' >cycle.bib
+refuses 'an abbreviation that uses itself' 1 $'cycle.bib:2:9: error: the abbreviation one uses itself [circular-abbreviation]\n' strings --expand -f cycle.bib
+printf '\xef\xbb\xbf@string{\r\n  \xc3\xa9 = {x}, own = own}\r\n@misc{k, t = own}\r\n' >own.bib
+refuses 'the place of an abbreviation that uses itself' 1 $'own.bib:2:12: error: the abbreviation own uses itself [circular-abbreviation]\n' strings --expand -f own.bib
+refuses 'abbreviations of a file with an error' 1 $'broken.bib:3:1: error: expected comma [syntax]\n' strings --expand -f broken.bib
+refuses 'abbreviations of a file that is not there' 2 $'bibkit: no.bib: there is no such file\n' strings --expand -f no.bib
+
+# abbreviations of texts that repeat
+for key in a b; do printf '@article{%s, journal = {Journal of the ACM}, publisher=@, note={n}}\n' $key; done | sed '1s/@,/{ACM},/; 2s/@,/"ACM",/' >collect.bib
+printf '@article{c, journal = {Journal of the ACM}, series={S}, note={n}}\n' >>collect.bib
+run 'texts that repeat are collected' 0 '@string{jota = {Journal of the ACM}}
+@string{acm = {ACM}}
+@article{a, journal = jota, publisher=acm, note={n}}
+@article{b, journal = jota, publisher=acm, note={n}}
+@article{c, journal = jota, series={S}, note={n}}
+' strings --collect -f collect.bib
+run 'texts that repeat three times' 0 '@string{jota = {Journal of the ACM}}
+@article{a, journal = jota, publisher={ACM}, note={n}}
+@article{b, journal = jota, publisher="ACM", note={n}}
+@article{c, journal = jota, series={S}, note={n}}
+' strings --collect --at-least 3 -f collect.bib
+run 'texts of other fields, in any case' 0 '@string{acm = {ACM}}
+@string{n = {n}}
+@article{a, journal = {Journal of the ACM}, publisher=acm, note=n}
+@article{b, journal = {Journal of the ACM}, publisher=acm, note=n}
+@article{c, journal = {Journal of the ACM}, series={S}, note=n}
+' strings --collect --fields publisher,NOTE -f collect.bib
+run 'texts that repeat four times' 0 "$(cat collect.bib)"$'\n' strings --collect --at-least 4 -f collect.bib
+run 'nothing repeats' 0 "$(cat two.bib)"$'\n' strings --collect -f two.bib
+"$program" strings --collect -f collect.bib >collected.bib
+run 'what is collected stays' 0 "$(cat collected.bib)"$'\n' strings --collect -f collected.bib
+run 'what is collected is written out' 0 '@string{jota = {Journal of the ACM}}
+@string{acm = {ACM}}
+@article{a, journal = {Journal of the ACM}, publisher={ACM}, note={n}}
+@article{b, journal = {Journal of the ACM}, publisher={ACM}, note={n}}
+@article{c, journal = {Journal of the ACM}, series={S}, note={n}}
+' strings --expand -f collected.bib
+# names: one that the file defines, one that it uses, a month's, one of another text, none of letters
+while IFS='|' read -r name before text words; do
+    printf '%s@book{a, publisher={%s}}\n@book{b, publisher={%s}%s}\n' "$before" "$text" "$text" "$words" >named.bib
+    run "the name $name" 0 "@string{$name = {$text}}
+$before@book{a, publisher=$name}
+@book{b, publisher=$name$words}
+" strings --collect -f named.bib
+done <<'ROWS'
+acm||ACM|
+acm2|@string{acm = {x}} |ACM|
+acm2||ACM|, note=acm
+acm2|@string{other = acm} |ACM|
+jan2||Jan|
+s||12|
+abcdefgh||Abcdefghij|
+apc||Addison-Wesley Publishing {Company}|, note={apc}
+ROWS
+printf '@book{a, publisher={ACM}, series={A C M}}\n@book{b, publisher={ACM}, series={A C M}}\n' >named.bib
+run 'two texts with the same letters' 0 $'@string{acm = {ACM}}\n@string{acm2 = {A C M}}\n@book{a, publisher=acm, series=acm2}\n@book{b, publisher=acm, series=acm2}\n' strings --collect -f named.bib
+printf '@book{a, publisher="{", series={S} # {T}}\n@book{b, publisher="{", series={S} # {T}}\n' >uncollected.bib
+run 'texts that can not stand in braces, and joined ones, stay' 0 "$(cat uncollected.bib)"$'\n' strings --collect -f uncollected.bib
+printf '\xef\xbb\xbf@book{a, publisher={X}}\n@book{b, publisher={X}}\n' >collect-mark.bib
+run 'definitions stand after a byte order mark' 0 $'\xef\xbb\xbf@string{x = {X}}\n@book{a, publisher=x}\n@book{b, publisher=x}\n' strings --collect -f collect-mark.bib
+run 'abbreviations, and nothing that is done with them' 2 '' strings -f two.bib
+run 'abbreviations that are written out and collected' 2 '' strings --expand --collect -f two.bib
+for times in 1 0 1000001 x; do run "a number of times that is none, $times" 2 '' strings --collect --at-least $times -f two.bib; done
+run 'abbreviations of two files' 2 '' strings --expand two.bib
+run 'abbreviations that are written into no file' 2 '' strings --expand --write
+refuses 'abbreviations that are written into standard input' 2 $'bibkit: --write needs the name of a file\n' strings --expand -f - --write
+cp collect.bib rewritten.bib
+run 'abbreviations are written' 0 '' strings --collect -f rewritten.bib --write
+holds 'the file has the abbreviations' cmp -s rewritten.bib collected.bib
+
+# how new texts differ from old ones
+rest_of_two=$' \n @misc{b, title={x y}, author={Knuth, D.}, year={1984}}\n'
+names_of_two=$'--- two.bib\n+++ two.bib\n'
+run 'the difference of set' 0 "$names_of_two"$'@@ -1,3 +1,3 @@\n-@misc{a, title={A}, author={B}}\n+@misc{a, title={C}, author={B}}\n'"$rest_of_two" set a title=C -f two.bib --diff
+run 'the difference of unset' 0 "$names_of_two"$'@@ -1,3 +1,3 @@\n-@misc{a, title={A}, author={B}}\n+@misc{a, author={B}}\n'"$rest_of_two" unset a title -f two.bib --diff
+run 'the difference of rename' 0 "$names_of_two"$'@@ -1,3 +1,3 @@\n @misc{a, title={A}, author={B}}\n \n-@misc{b, title={x y}, author={Knuth, D.}, year={1984}}\n+@misc{c, title={x y}, author={Knuth, D.}, year={1984}}\n' rename b c -f two.bib --diff
+run 'the difference of remove' 0 "$names_of_two"$'@@ -1,3 +1,1 @@\n-@misc{a, title={A}, author={B}}\n-\n @misc{b, title={x y}, author={Knuth, D.}, year={1984}}\n' remove a -f two.bib --diff
+run 'the difference of all' 0 "$names_of_two"$'@@ -1,3 +0,0 @@\n-@misc{a, title={A}, author={B}}\n-\n-@misc{b, title={x y}, author={Knuth, D.}, year={1984}}\n' remove a b -f two.bib --diff
+printf '@misc{c, title={C}}\n' >input
+run 'the difference of add' 0 "$names_of_two"$'@@ -1,3 +1,5 @@\n @misc{a, title={A}, author={B}}\n'"$rest_of_two"$'+\n+@misc{c, title={C}}\n' add -f two.bib --diff
+cp two.bib input
+run 'the difference of standard input' 0 $'--- -\n+++ -\n@@ -1,3 +1,1 @@\n-@misc{a, title={A}, author={B}}\n-\n @misc{b, title={x y}, author={Knuth, D.}, year={1984}}\n' remove a --diff
+: >input
+run 'the difference of strings' 0 '--- collect.bib
++++ collect.bib
+@@ -1,3 +1,4 @@
+-@article{a, journal = {Journal of the ACM}, publisher={ACM}, note={n}}
+-@article{b, journal = {Journal of the ACM}, publisher="ACM", note={n}}
+-@article{c, journal = {Journal of the ACM}, series={S}, note={n}}
++@string{jota = {Journal of the ACM}}
++@article{a, journal = jota, publisher={ACM}, note={n}}
++@article{b, journal = jota, publisher="ACM", note={n}}
++@article{c, journal = jota, series={S}, note={n}}
+' strings --collect --at-least 3 -f collect.bib --diff
+{ printf '@string{s = {x}}\n@misc{k1, t = s}\n'; for i in 2 3 4 5 6 7 8 9; do printf '@misc{k%d, t = %d}\n' $i $i; done; printf '@misc{k10, t = s}\n'; } >far.bib
+run 'differences that are far from one another' 0 '--- far.bib
++++ far.bib
+@@ -1,5 +1,5 @@
+ @string{s = {x}}
+-@misc{k1, t = s}
++@misc{k1, t = {x}}
+ @misc{k2, t = 2}
+ @misc{k3, t = 3}
+ @misc{k4, t = 4}
+@@ -8,4 +8,4 @@
+ @misc{k7, t = 7}
+ @misc{k8, t = 8}
+ @misc{k9, t = 9}
+-@misc{k10, t = s}
++@misc{k10, t = {x}}
+' strings --expand -f far.bib --diff
+printf '@misc{a, title={A}}\n@misc{b, year=1}' >open.bib
+run 'a difference before a line without an end' 0 $'--- open.bib\n+++ open.bib\n@@ -1,2 +1,2 @@\n-@misc{a, title={A}}\n+@misc{a, title={B}}\n @misc{b, year=1}\n\\ No newline at end of file\n' set a title=B -f open.bib --diff
+run 'a difference in a line without an end' 0 $'--- open.bib\n+++ open.bib\n@@ -1,2 +1,2 @@\n @misc{a, title={A}}\n-@misc{b, year=1}\n\\ No newline at end of file\n+@misc{b, year={2}}\n\\ No newline at end of file\n' set b year=2 -f open.bib --diff
+printf '\xef\xbb\xbf@misc{a, title={A}}\r\n@misc{b, year=1}\r\n' >returned.bib
+run 'a difference with a byte order mark, and ends of lines' 0 $'--- returned.bib\n+++ returned.bib\n@@ -1,2 +1,2 @@\n-\xef\xbb\xbf@misc{a, title={A}}\r\n+\xef\xbb\xbf@misc{a, title={B}}\r\n @misc{b, year=1}\r\n' set a title=B -f returned.bib --diff
+for words in 'set b year=1984' 'unset a year' 'strings --expand' 'strings --collect'; do run "no difference, $words" 0 '' $words -f two.bib --diff; done
+refuses 'no difference of a refused edit' 1 $'bibkit: two.bib: z: no entry has the key\n' remove a z -f two.bib --diff
+printf '@misc{a, title={A}}\n' >unlaid.bib
+laid=$'@misc{a,\n  title = {A},\n}\n'
+difference=$'--- unlaid.bib\n+++ unlaid.bib\n@@ -1,1 +1,3 @@\n-@misc{a, title={A}}\n+@misc{a,\n+  title = {A},\n+}\n'
+run 'the difference of a style' 0 "$difference" fmt --diff unlaid.bib
+run 'the difference of a style, and a status' 1 "$difference" fmt --check --diff unlaid.bib
+run_messages 'the difference of a style, and a message' 1 $'bibkit: unlaid.bib: not in this style\n' fmt --diff --check unlaid.bib
+run_messages 'the difference of a style, and no message' 0 '' fmt --diff unlaid.bib
+printf %s "$laid" >laid.bib
+run 'no difference of a style' 0 '' fmt --diff laid.bib
+run 'no difference of a style, and a status' 0 '' fmt --diff --check laid.bib
+run 'differences of files' 1 "$difference$difference" fmt --check --diff unlaid.bib laid.bib unlaid.bib
+run 'no difference of a file with an error' 1 "$difference" fmt --diff broken.bib unlaid.bib
+cp unlaid.bib input
+run 'the difference of a style from standard input' 0 "${difference//unlaid.bib/-}" fmt --diff
+: >input
+cp unlaid.bib either.bib
+run '--diff after --write' 0 "${difference//unlaid/either}" fmt --write --diff either.bib
+holds '--diff after --write writes nothing' cmp -s either.bib unlaid.bib
+run '--write after --diff' 0 '' fmt --diff --write either.bib
+holds '--write after --diff writes' cmp -s either.bib laid.bib
+printf '%s\n' "$entry" >either.bib
+run '--diff after --write, of an edit' 0 $'--- either.bib\n+++ either.bib\n@@ -1,1 +1,1 @@\n-@misc{a, title={A}, author={B}}\n+@misc{a, title={C}, author={B}}\n' set a title=C -f either.bib --write --diff
+holds '--diff after --write writes no edit' cmp -s either.bib <(printf '%s\n' "$entry")
+run '--write after --diff, of an edit' 0 '' set a title=C -f either.bib --diff --write
+holds '--write after --diff writes the edit' cmp -s either.bib <(printf '@misc{a, title={C}, author={B}}\n')
+"$program" fmt --diff unlaid.bib >/dev/full 2>messages
+holds 'a difference on a full disk' [ $? = 2 ]
+# what `patch` makes of the old file by the difference is the new text: a file, what stands in it then, and the words
+patches() {
+    local file=$1 want=$2
+    shift 2
+    cp "$file" patched.bib
+    "$program" "$@" "$file" --diff >change.diff 2>messages
+    patch --binary -s patched.bib change.diff >output 2>&1
+    holds "a patch of $file by $1" eval 'printf %s "$want" | cmp -s - patched.bib'
+}
+if command -v patch >/dev/null; then
+    mixed $'% on b\n@phdthesis{b,\n  date   = "2000-05",\n  author = "{van} Dam, A. and Abel, Q.",\n}' $'@misc{a,\n  editor = "Wirth, N.",\n}' \
+        $'% on C\n@inbook{C,\n  year     = 1998,\n  crossref = "d",\n  author   = "Zoe Young",\n}' $'@book{d,\n  year   = "1990",\n  editor = "Adams, D.",\n}'
+    patches mixed.bib "$text" fmt --sort author --order year,date --align --delimiters quotes
+    patches returns.bib $'@misc{a,\r\n}\r\n@misc{b,\r\n}\r\n' fmt --sort key
+    patches open.bib $'@misc{b,\n  year = 1,\n}\n@misc{a,\n  title = {A},\n}' fmt --sort year
+    patches open.bib $'@misc{a, title={B}}\n@misc{b, year=1}' set a title=B -f
+    patches open.bib $'@misc{a, title={A}}\n@misc{b, year={2}}' set b year=2 -f
+    patches expand.bib "$expanded" strings --expand -f
+    patches far.bib "$(sed 's/= s}/= {x}}/' far.bib)"$'\n' strings --expand -f
+else
+    left_out=$((left_out + 7))
+fi
 
 # byte order marks, and ends of lines
 printf '\xef\xbb\xbf@misc{a, title={A}}\r\n' >mark.bib
@@ -467,6 +728,32 @@ run 'blank lines of settings' 0 $'@misc{a,\n}\n\n@misc{b,\n}\n\n@misc{c,\n}\n' f
 run 'blank lines of the command line win' 0 $'@misc{a,\n}@misc{b,\n}\n\n\n@misc{c,\n}\n' fmt --blank-lines keep styled/close.bib
 printf '[fmt]\nblank-lines = "keep"\n' >styled/bibkit.toml
 run 'settings that keep what stands between entries' 0 $'@misc{a,\n}@misc{b,\n}\n\n\n@misc{c,\n}\n' fmt styled/close.bib
+cat options.bib close.bib >styled/options.bib
+empty=$'@misc{a,\n}' others=$'@misc{b,\n}\n\n\n@misc{c,\n}\n'
+listed=$'  author = {say "x"},\n' titled=$'  title = "T" # {U},\n' dated=$'  year = 1999,\n' timed=$'  month = jan,\n}'
+printf '[fmt]\ndelimiters = "braces"\norder = ["author", "title"]\nwidth = 19\nsort = "key"\n' >styled/bibkit.toml
+run 'delimiters, orders and a width of settings' 0 "$empty"$'\n@misc{b,\n}@misc{c,\n}\n\n\n@misc{k,\n'"$listed"$'  title = {T}\n          # {U},\n'"$dated$timed"$'\n' fmt styled/options.bib
+run 'delimiters, orders and a width of the command line win' 0 $'@misc{k,\n'"$dated"$'  title = "T" # "U",\n'"$listed$timed"$'\n'"$empty$others" \
+    fmt --delimiters quotes --order year --width 0 --sort keep styled/options.bib
+printf '[fmt]\ndelimiters = "keep"\norder = []\nwidth = 0\nsort = "keep"\n' >styled/bibkit.toml
+run 'settings that change nothing' 0 $'@misc{k,\n'"$dated$titled$listed$timed"$'\n'"$empty$others" fmt styled/options.bib
+printf '[fmt]\ndelimiters = "quotes"\n' >styled/bibkit.toml
+run 'delimiters of settings' 0 $'@misc{k,\n'"$dated"$'  title = "T" # "U",\n'"$listed$timed"$'\n'"$empty$others" fmt styled/options.bib
+printf '[fmt]\norder = ["Month", "TITLE"]\n' >styled/bibkit.toml
+run 'an order of fields of settings' 0 $'@misc{k,\n  month = jan,\n'"$titled$dated$listed"$'}\n'"$empty$others" fmt styled/options.bib
+printf '[fmt]\nwidth = 19\n' >styled/bibkit.toml
+run 'a width of settings' 0 $'@misc{k,\n'"$dated"$'  title = "T"\n          # {U},\n'"$listed$timed"$'\n'"$empty$others" fmt styled/options.bib
+for order in key year author type; do
+    printf '[fmt]\nsort = "%s"\n' $order >styled/bibkit.toml
+    cp mixed.bib styled/mixed.bib
+    case $order in
+        key) mixed "$entry_a" "$entry_b" "$entry_c" "$entry_d" ;;
+        year) mixed "$entry_c" "$entry_b" "$entry_a" "$entry_d" ;;
+        author) mixed "$entry_b" "$entry_a" "$entry_c" "$entry_d" ;;
+        type) mixed "$entry_c" "$entry_a" "$entry_b" "$entry_d" ;;
+    esac
+    run "an order of settings, $order" 0 "$text" fmt styled/mixed.bib
+done
 printf '[fmt]\nindent = 0\n' >styled/bibkit.toml
 run 'a part of a style' 0 $'@book{a,\ntitle = {X},\nyear = 1999,\n}\n' fmt styled/a.bib
 # settings of a style that are wrong: the key, what stands there, and what it has to be
@@ -483,6 +770,15 @@ align|1|fmt.align has to be true or false
 trailing-comma|"no"|fmt.trailing-comma has to be true or false
 blank-lines|4|fmt.blank-lines has to be "keep" or a number from 0 to 3
 blank-lines|"one"|fmt.blank-lines has to be "keep" or a number from 0 to 3
+delimiters|"brackets"|fmt.delimiters has to be "keep", "braces" or "quotes"
+delimiters|true|fmt.delimiters has to be "keep", "braces" or "quotes"
+order|"author"|fmt.order has to be a list of names of fields
+order|["author", 1]|fmt.order has to be a list of names of fields
+width|-1|fmt.width has to be a number, 0 for none
+width|"80"|fmt.width has to be a number, 0 for none
+sort|"title"|fmt.sort has to be "keep", "key", "year", "author" or "type"
+sort|["key"]|fmt.sort has to be "keep", "key", "year", "author" or "type"
+diff|true|there is no setting fmt.diff
 aligned|true|there is no setting fmt.aligned
 ROWS
 printf 'fmt = true\n' >styled/bibkit.toml
@@ -601,6 +897,18 @@ in_bash 'bibkit set --wr' $'--write\n'
 in_bash 'bibkit fmt --no-al' $'--no-align\n'
 in_bash 'bibkit fmt --tr' $'--trailing-comma\n'
 in_bash 'bibkit remove --file refe' $'references.bib\n'
+in_bash 'bibkit str' $'strings\n'
+in_bash 'bibkit strings --' $'--expand\n--collect\n--fields\n--at-least\n--file\n--write\n--diff\n--help\n'
+in_bash 'bibkit strings --fields publisher,ser' $'publisher,series\n'
+in_bash 'bibkit strings --file refe' $'references.bib\n'
+in_bash 'bibkit set --di' $'--diff\n'
+in_bash 'bibkit fmt --d' $'--delimiters\n--diff\n'
+in_bash 'bibkit fmt --so' $'--sort\n'
+in_bash 'bibkit fmt --or' $'--order\n'
+in_bash 'bibkit fmt --wi' $'--width\n'
+in_bash 'bibkit fmt --sort ' $'keep\nkey\nyear\nauthor\ntype\n'
+in_bash 'bibkit fmt --delimiters ' $'keep\nbraces\nquotes\n'
+in_bash 'bibkit fmt --order author,ti' $'author,title\n'
 if command -v fish >/dev/null; then
     in_fish 'bibkit li' $'lint\n'
     in_fish 'bibkit lint --on' $'--only\n'
@@ -608,8 +916,12 @@ if command -v fish >/dev/null; then
     in_fish 'bibkit lint --format j' $'json\n'
     in_fish 'bibkit lint --color ne' $'never\n'
     in_fish 'bibkit keys refe' $'references.bib\n'
+    in_fish 'bibkit str' $'strings\n'
+    in_fish 'bibkit strings --col' $'--collect\n'
+    in_fish 'bibkit fmt --sort au' $'author\n'
+    in_fish 'bibkit fmt --delimiters q' $'quotes\n'
 else
-    left_out=$((left_out + 6))
+    left_out=$((left_out + 10))
 fi
 if command -v zsh >/dev/null; then
     mkdir zsh
@@ -632,8 +944,13 @@ ZSH
     in_zsh 'bibkit lint --format j>' $'bibkit lint --format json\n'
     in_zsh 'bibkit lint --color ne>' $'bibkit lint --color never\n'
     in_zsh 'bibkit keys refe>' $'bibkit keys references.bib\n'
+    in_zsh 'bibkit str>' $'bibkit strings\n'
+    in_zsh 'bibkit strings --col>' $'bibkit strings --collect\n'
+    in_zsh 'bibkit fmt --sort au>' $'bibkit fmt --sort author\n'
+    in_zsh 'bibkit fmt --delimiters q>' $'bibkit fmt --delimiters quotes\n'
+    in_zsh 'bibkit fmt --order author,ti>' $'bibkit fmt --order author,title\n'
 else
-    left_out=$((left_out + 6))
+    left_out=$((left_out + 11))
 fi
 
 # the sessions of guides: a block is one session in a folder of its own; `$ COMMAND` and the lines that it prints
