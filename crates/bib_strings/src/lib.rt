@@ -7,11 +7,17 @@
 //! character that no name and no number goes on with (`ElementFacts` of `bib_format`).
 #![tactic(auto)]
 
+mod braces;
+mod collected;
+pub mod collecting;
 mod definitions;
 mod editing;
 mod elements;
 pub mod errors;
 pub mod expanding;
+mod naming;
+mod taken;
+mod texts;
 mod used;
 mod values;
 mod written;

@@ -1,0 +1,132 @@
+//! Texts of fields collected as abbreviations.
+
+use crate::collected::collected_texts;
+use crate::editing::{Edit, edited_all};
+use crate::naming::new_names;
+use crate::taken::Taken;
+use crate::texts::{counts, named_text, named_texts};
+use crate::values::value_end;
+use bib_documents::document::RawDocument;
+use bib_syntax::raw::{Pair, RawEntry};
+use bib_text::spanned::Spanned;
+use std::alloc::{AllocError, Global};
+use std::collections::BTreeMap;
+
+// Texts with the index of each, and their names.
+#[derive(Drop)]
+struct Collection<'s> {
+    indices: BTreeMap<&'s str, usize>,
+    names: Vec<String>,
+}
+
+// The index of each text.
+fn indices<'s>(alloc: Global, texts: &[&'s str]) -> Result<BTreeMap<&'s str, usize>, AllocError>
+{
+    let mut indices = BTreeMap::new(alloc);
+    'texts: for (index, text) in texts.iter().enumerate() {
+        indices.insert(*text, index)?;
+    }
+    Ok(indices)
+}
+
+// Adds the edit of a field whose text is collected, if it is.
+fn push_edit(
+    edits: &mut Vec<Edit>,
+    alloc: Global,
+    text: &str,
+    fields: &[&str],
+    collection: &Collection<'_>,
+    field: &Pair<'_>,
+) -> Result<(), AllocError>
+{
+    let Some(value) = named_text(fields, field) else {
+        return Ok(());
+    };
+    let Some(index) = collection.indices.get(value) else {
+        return Ok(());
+    };
+    edits.push(Edit {
+        start: field.value.span.start,
+        end: value_end(text, field),
+        text: String::from_str(alloc, collection.names[*index].as_str())?,
+    })?;
+    Ok(())
+}
+
+// Adds the edit of each field whose text is collected.
+fn push_edits(
+    edits: &mut Vec<Edit>,
+    alloc: Global,
+    text: &str,
+    fields: &[&str],
+    collection: &Collection<'_>,
+    among: &[Pair<'_>],
+) -> Result<(), AllocError>
+{
+    'fields: for field in among {
+        push_edit(edits, alloc, text, fields, collection, field)?;
+    }
+    Ok(())
+}
+
+// The edits of the fields of entries whose text is collected.
+fn edits(
+    alloc: Global,
+    text: &str,
+    fields: &[&str],
+    collection: &Collection<'_>,
+    entries: &[Spanned<RawEntry<'_>>],
+) -> Result<Vec<Edit>, AllocError>
+{
+    let mut edits = Vec::new(alloc);
+    'entries: for entry in entries {
+        push_edits(&mut edits, alloc, text, fields, collection, &entry.v.fields)?;
+    }
+    Ok(edits)
+}
+
+// Adds a line that defines a name.
+fn push_definition(new: &mut String, name: &str, text: &str) -> Result<(), AllocError>
+{
+    new.push_str("@string{")?;
+    new.push_str(name)?;
+    new.push_str(" = {")?;
+    new.push_str(text)?;
+    new.push_str("}}\n")?;
+    Ok(())
+}
+
+// A line for each name that defines it.
+fn definitions(alloc: Global, names: &[String], texts: &[&str]) -> Result<String, AllocError>
+{
+    let mut new = String::new(alloc);
+    'names: for (index, name) in names.iter().enumerate() {
+        push_definition(&mut new, name.as_str(), texts[index])?;
+    }
+    Ok(new)
+}
+
+/// The text with abbreviations made of the values that repeat: each text that stands as one literal in at least so many fields of
+/// entries with one of these names, in any ASCII case, becomes an abbreviation (0 and 1 count as 2). Its name takes the place of
+/// each of these values, and a line for each, `@string{name = {text}}`, stands before the old text, in the order in which the
+/// texts first appear. A text that can't stand in braces stays, and so does everything else. Fails only where there is no memory.
+pub fn collect(
+    alloc: Global,
+    document: &RawDocument<'_>,
+    fields: &[&str],
+    at_least: usize,
+) -> Result<String, AllocError>
+{
+    let raw = document.raw();
+    let all = named_texts(alloc, fields, &raw.entries)?;
+    let counts = counts(alloc, &all)?;
+    let texts = collected_texts(alloc, &counts, at_least.max(2), &all)?;
+    let mut taken = Taken::of_file(alloc, raw)?;
+    let names = new_names(alloc, &mut taken, &texts)?;
+    let mut new = definitions(alloc, &names, &texts)?;
+    let collection = Collection { indices: indices(alloc, &texts)?, names };
+    let edits = edits(alloc, document.text(), fields, &collection, &raw.entries)?;
+    let edited = edited_all(alloc, document.text(), &edits)?;
+    new.push_str(edited.as_str())?;
+    Ok(new)
+}
