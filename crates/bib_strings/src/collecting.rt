@@ -1,5 +1,15 @@
 //! Texts of fields collected as abbreviations.
 
+ghost use Rattle.std.specs.Prelude.{◌≡◌, ◌++◌, ◌<◌, IfOk, OnOk, length, map};
+ghost use Rattle.std.specs.List.{AllByRecursion};
+ghost use Rattle.std.specs.String.{string_bytes};
+ghost use Rattle.bib_syntax.specs.Views.{entry_reading_of, field_of};
+ghost use Rattle.bib_documents.specs.Placed.{IsPlaced};
+ghost use Rattle.bib_strings.specs.Collected.{IsCollected, definition_line, definition_lines, text_index};
+ghost use Rattle.bib_strings.specs.Collecting.{collection_by, lent_texts, string_texts};
+ghost use Rattle.bib_strings.specs.Exchanged.{entry_edits, field_edits, value_edits};
+ghost use Rattle.bib_strings.specs.Tables.{AreAllFieldsCut, IsBelow, IsFieldCut, edit_as_written, index_in};
+
 use crate::collected::collected_texts;
 use crate::editing::{Edit, edited_all};
 use crate::naming::new_names;
@@ -21,6 +31,7 @@ struct Collection<'s> {
 
 // The index of each text.
 fn indices<'s>(alloc: Global, texts: &[&'s str]) -> Result<BTreeMap<&'s str, usize>, AllocError>
+    ensures { IfOk result (λ indices. index_in indices ≡ text_index (lent_texts texts.now)) }
 {
     let mut indices = BTreeMap::new(alloc);
     'texts: for (index, text) in texts.iter().enumerate() {
@@ -38,6 +49,10 @@ fn push_edit(
     collection: &Collection<'_>,
     field: &Pair<'_>,
 ) -> Result<(), AllocError>
+    requires below { IsBelow (length collection.now.names.items) (index_in collection.now.indices) }
+    requires cut { IsFieldCut text.now (field_of field.now) }
+    ensures { OnOk result (map edit_as_written edits.new.items ≡ map edit_as_written edits.old.items ++
+        value_edits text.now (field_of field.now) ((collection_by (lent_texts fields.now) (index_in collection.now.indices) (string_texts collection.now.names.items)) (field_of field.now))) }
 {
     let Some(value) = named_text(fields, field) else {
         return Ok(());
@@ -62,6 +77,10 @@ fn push_edits(
     collection: &Collection<'_>,
     among: &[Pair<'_>],
 ) -> Result<(), AllocError>
+    requires below { IsBelow (length collection.now.names.items) (index_in collection.now.indices) }
+    requires cut { AllByRecursion (IsFieldCut text.now) (map field_of among.now) }
+    ensures { OnOk result (map edit_as_written edits.new.items ≡ map edit_as_written edits.old.items ++
+        field_edits (collection_by (lent_texts fields.now) (index_in collection.now.indices) (string_texts collection.now.names.items)) text.now (map field_of among.now)) }
 {
     'fields: for field in among {
         push_edit(edits, alloc, text, fields, collection, field)?;
@@ -77,6 +96,9 @@ fn edits(
     collection: &Collection<'_>,
     entries: &[Spanned<RawEntry<'_>>],
 ) -> Result<Vec<Edit>, AllocError>
+    requires below { IsBelow (length collection.now.names.items) (index_in collection.now.indices) }
+    requires cut { AreAllFieldsCut text.now (map entry_reading_of entries.now) }
+    ensures { IfOk result (λ made. map edit_as_written made.items ≡ entry_edits (collection_by (lent_texts fields.now) (index_in collection.now.indices) (string_texts collection.now.names.items)) text.now (map entry_reading_of entries.now)) }
 {
     let mut edits = Vec::new(alloc);
     'entries: for entry in entries {
@@ -87,6 +109,7 @@ fn edits(
 
 // Adds a line that defines a name.
 fn push_definition(new: &mut String, name: &str, text: &str) -> Result<(), AllocError>
+    ensures { OnOk result (string_bytes new.new ≡ string_bytes new.old ++ definition_line name.now text.now) }
 {
     new.push_str("@string{")?;
     new.push_str(name)?;
@@ -98,6 +121,8 @@ fn push_definition(new: &mut String, name: &str, text: &str) -> Result<(), Alloc
 
 // A line for each name that defines it.
 fn definitions(alloc: Global, names: &[String], texts: &[&str]) -> Result<String, AllocError>
+    requires { length names.now ≡ length texts.now }
+    ensures { IfOk result (λ new. string_bytes new ≡ definition_lines (string_texts names.now) (lent_texts texts.now)) }
 {
     let mut new = String::new(alloc);
     'names: for (index, name) in names.iter().enumerate() {
@@ -116,6 +141,7 @@ pub fn collect(
     fields: &[&str],
     at_least: usize,
 ) -> Result<String, AllocError>
+    ensures { IfOk result (λ new. IsCollected document.now (lent_texts fields.now) at_least (string_bytes new)) }
 {
     let raw = document.raw();
     let all = named_texts(alloc, fields, &raw.entries)?;

@@ -1,11 +1,11 @@
 //! The texts of fields that are collected, and how often each stands among them.
 
-ghost use Rattle.std.specs.Prelude.{◌≡◌, ◌++◌, IfOk, OnOk, map};
+ghost use Rattle.std.specs.Prelude.{◌≡◌, ◌++◌, ℕ, List, IfOk, OnOk, map};
 ghost use Rattle.std.specs.Option.{option_map};
 ghost use Rattle.bib_syntax.specs.Views.{entry_reading_of, field_of, piece_of};
 ghost use Rattle.bib_strings.specs.Collected as spec;
-ghost use Rattle.bib_strings.specs.Collected.{option_list};
-ghost use Rattle.bib_strings.specs.Collecting.{CountsAre, texts_of};
+ghost use Rattle.bib_strings.specs.Collected.{times_of};
+ghost use Rattle.bib_strings.specs.Collecting.{count_in, lent_texts};
 
 use bib_syntax::raw::{Pair, RawChunk, RawEntry, is_word};
 use bib_text::spanned::Spanned;
@@ -27,7 +27,7 @@ fn single_text<'s>(pieces: &[Spanned<RawChunk<'s>>]) -> Option<&'s str>
 
 // Whether a field has one of these names, in any ASCII case.
 fn is_one_of(names: &[&str], field: &Pair<'_>) -> bool
-    ensures { result ≡ spec.is_one_of (map (λ n. n.now) names.now) (field_of field.now) }
+    ensures { result ≡ spec.is_one_of (lent_texts names.now) (field_of field.now) }
 {
     'names: for name in names {
         if is_word(field.key.v, *name) {
@@ -39,7 +39,7 @@ fn is_one_of(names: &[&str], field: &Pair<'_>) -> bool
 
 // The text of a field that has one of these names and is one literal.
 pub(crate) fn named_text<'s>(names: &[&str], field: &Pair<'s>) -> Option<&'s str>
-    ensures { option_map (λ t. t.now) result ≡ spec.named_text (map (λ n. n.now) names.now) (field_of field.now) }
+    ensures { option_map (λ t. t.now) result ≡ spec.named_text (lent_texts names.now) (field_of field.now) }
 {
     if !is_one_of(names, field) {
         return None;
@@ -53,7 +53,7 @@ fn push_texts<'s>(
     names: &[&str],
     fields: &[Pair<'s>],
 ) -> Result<(), AllocError>
-    ensures { OnOk result (texts_of texts.new.items ≡ texts_of texts.old.items ++ spec.field_texts (map (λ n. n.now) names.now) (map field_of fields.now)) }
+    ensures { OnOk result (lent_texts texts.new.items ≡ lent_texts texts.old.items ++ spec.field_texts (lent_texts names.now) (map field_of fields.now)) }
 {
     'fields: for field in fields {
         if let Some(text) = named_text(names, field) {
@@ -69,7 +69,7 @@ pub(crate) fn named_texts<'s>(
     names: &[&str],
     entries: &[Spanned<RawEntry<'s>>],
 ) -> Result<Vec<&'s str>, AllocError>
-    ensures { IfOk result (λ texts. texts_of texts.items ≡ spec.named_texts (map (λ n. n.now) names.now) (map entry_reading_of entries.now)) }
+    ensures { IfOk result (λ texts. lent_texts texts.items ≡ spec.named_texts (lent_texts names.now) (map entry_reading_of entries.now)) }
 {
     let mut texts = Vec::new(alloc);
     'entries: for entry in entries {
@@ -93,7 +93,7 @@ pub(crate) fn counts<'s>(
     alloc: Global,
     texts: &[&'s str],
 ) -> Result<BTreeMap<&'s str, usize>, AllocError>
-    ensures { IfOk result (λ counts. (text : List ℕ) → count_in counts text ≡ times_of text (texts_of texts.now)) }
+    ensures { IfOk result (λ counts. (text : List ℕ) → count_in counts text ≡ times_of text (lent_texts texts.now)) }
 {
     let mut counts = BTreeMap::new(alloc);
     'texts: for text in texts {
