@@ -1,24 +1,34 @@
 -- Names for texts, in the place of values.
-use Rattle.std.proofs.Common.{◌≡◌, ◌⊎◌, inl, inr, ℕ, zero, suc, ◌+◌, ◌-◌, ◌<◌, ◌≤◌, ◌||◌, ◌&&◌, Bool, true, false, cond, not, List, [], ◌∷◌, ◌++◌, length, take, map, get_or, codes, refl, sym, ap, ◌∙◌, subst, arith, append-nil, length-append, Option, Some, None}
-use Rattle.std.specs.Prelude.{IfSome, bytes_eq}
+use Rattle.std.proofs.Common.{◌≡◌, ℕ, zero, suc, ◌+◌, ◌-◌, ◌<◌, Bool, true, false, List, [], ◌∷◌, ◌++◌, length, take, get_or, refl, sym, ap, ◌∙◌, subst, arith, append-nil, Option, Some, None, Result, Ok, Err}
+use Rattle.std.specs.Prelude.{IfOk, IfSome, bytes_eq, max}
 use Rattle.std.specs.List.{AllByRecursion}
 use Rattle.std.specs.Str.{IsUtf8}
 use Rattle.std.proofs.lemmas.List.{take_all}
-use Rattle.bib_text.specs.Places.{Place, place, between}
-use Rattle.bib_syntax.specs.Reading.{Part, Piece, FieldReading, FileReading, part}
-use Rattle.bib_syntax.specs.Reading.Piece.{literal, abbreviation}
+use Rattle.bib_text.specs.Places.{place, between}
+use Rattle.bib_syntax.specs.Reading.{Part, Piece, FileReading}
+use Rattle.bib_syntax.specs.Reading.Piece.{abbreviation}
 use Rattle.std.specs.Option.{option_map}
 use Rattle.bib_syntax.specs.Grammar.{Element, Identifier, IsRawReading, longest}
 use Rattle.bib_documents.specs.Documents.{CanBeName, CanStandInBraces, Document, IsDocument, last_position, or_first, text_at}
 use Rattle.bib_documents.specs.Placed.{IsPlaced}
-use Rattle.bib_strings.specs.Collected.{AreNewNames, FirstOnes, IsCollected, IsNewName, RepeatsInBraces, collection, definition_lines, line_readings, name_value, named_text, named_texts, text_index, text_value, with_definitions}
+use Rattle.bib_strings.specs.Collected.{AreNewNames, FirstOnes, AreMadeAbbreviations, IsNewName, RepeatsInBraces, collection, definition_lines, line_readings, name_value, named_text, named_texts, text_index, text_value, with_definitions}
 use Rattle.bib_strings.specs.Collected.{AreNewNames as new_names}
 use Rattle.bib_strings.specs.Collected.{FirstOnes as ones}
 use Rattle.bib_strings.specs.Exchanged.{Exchange, IsReadPlaceless, NewValue, file_exchanged, text_exchanged}
-use Rattle.bib_strings.specs.Expanded.{laid_out}
-use Rattle.bib_strings.proofs.ElementFacts.{IsElement, can_be_read, IsSome}
+use Rattle.bib_strings.proofs.ElementFacts.{IsElement, can_be_read}
 use Rattle.bib_strings.proofs.ExchangedFacts.{CanBeExchanged, exchanged_read}
 use Rattle.bib_strings.proofs.ExpandFacts.{all_placed, all_weaker, fields_weaker}
+use Rattle.bib_syntax.specs.Reading.{EntryReading}
+use Rattle.bib_documents.specs.Edits.{Edit}
+use Rattle.bib_documents.specs.Stretches.{AreEditsInOrder}
+use Rattle.bib_format.specs.Cuts.{IsPieceCut}
+use Rattle.bib_strings.specs.Collecting.{collection_by}
+use Rattle.bib_strings.specs.Exchanged.{entry_edits}
+use Rattle.bib_strings.specs.Expanded.{Index, elements}
+use Rattle.bib_strings.specs.Tables.{AreAllFieldsCut, IsBelow, IsFieldCut}
+use Rattle.bib_strings.proofs.ElementFacts.{IsValue, file_stands, is_cut}
+use Rattle.bib_strings.proofs.OrderFacts.{file_ordered}
+use Rattle.bib_strings.proofs.TrimmedFacts.{IsFieldPlaced, edits_in_order}
 use Rattle.bib_strings.proofs.LineFacts.{lines_read, with_placeless}
 use Rattle.bib_strings.proofs.NewValueFacts.{CanBeRead}
 use Rattle.bib_strings.proofs.TrimmedFacts.{trimmed_known}
@@ -73,6 +83,29 @@ name_read says name new =
     let read = can_be_read name (e ∷ []) tt (is, tt) in
     subst (λ bytes. CanBeRead (record { bytes = bytes; pieces = e ∷ [] })) (append-nil name) read
 
+-- ---- what the code has
+
+-- the values of a document's fields may be cut out of its text
+pub all_cut : (d : Document) → IsDocument d → AreAllFieldsCut d.text d.says.entries
+all_cut d read = fields_weaker (IsPlaced d.text) (IsValue d.text) (IsFieldCut d.text)
+    (λ f placed value. record { placed = placed; pieces = all_weaker (IsElement d.text) (IsPieceCut d.text) (is_cut d.text) (elements f) value.all }) d.says.entries (all_placed d read) (file_stands d.text refl read).entries
+
+-- the edits of values stand one after another
+pub edits_ordered : (d : Document) (exchange : Exchange) → IsDocument d → IsUtf8 d.text → AreEditsInOrder d.text 0 (entry_edits exchange d.text d.says.entries)
+edits_ordered d exchange read utf8 =
+    edits_in_order exchange d.text 0 d.says.entries (file_ordered read)
+    (fields_weaker (IsPlaced d.text) (IsPlaced d.text) (IsFieldPlaced d.text) (λ f placed again. record { placed = placed; trimmed = trimmed_known d.text f utf8 placed }) d.says.entries (all_placed d read) (all_placed d read))
+
+-- the indices of texts are below the count of their names
+pub index_known : (index : Index) (texts : List (List ℕ)) (count : ℕ) → index ≡ text_index texts → count ≡ length texts → IsBelow count index
+index_known index texts count is size = subst (IsBelow count) (sym is) (subst (λ n. IsBelow n (text_index texts)) (sym size) (text_below texts))
+
+-- the edits, by what the document says
+pub edits_known : (d : Document) (edits : List Edit) (fields texts names : List (List ℕ)) (index : Index) (text : List ℕ) (es : List EntryReading) → text ≡ d.text → es ≡ d.says.entries → index ≡ text_index texts
+    → edits ≡ entry_edits (collection_by fields index names) text es → edits ≡ entry_edits (collection fields texts names) d.text d.says.entries
+edits_known d edits fields texts names index text es same listed is are =
+    are ∙ ap (λ ix. entry_edits (collection_by fields ix names) text es) is ∙ ap (λ t. entry_edits (collection fields texts names) t es) same ∙ ap (entry_edits (collection fields texts names) d.text) listed
+
 -- ---- a document with texts collected
 
 module _ (d : Document) (read : IsDocument d) (utf8 : IsUtf8 d.text) (fields texts names : List (List ℕ)) (as_many : length names ≡ length texts) (new : AreNewNames d.says names) where
@@ -102,3 +135,18 @@ module _ (d : Document) (read : IsDocument d) (utf8 : IsUtf8 d.text) (fields tex
         read = subst (λ t. IsRawReading t lines.tells) (sym is) lines.read;
         alike = lines.alike ∙ with_placeless (line_readings names texts) exchanged.tells (file_exchanged exchange d.says) exchanged.alike;
       }
+
+-- what the call that collects texts answers
+pub collected_answer : {S E : Type 0} (bytes : S → List ℕ) (r : Result S E) (d : Document) (fields texts names : List (List ℕ)) (least : ℕ) → IsDocument d → IsUtf8 d.text → length names ≡ length texts → AreNewNames d.says names
+    → FirstOnes (RepeatsInBraces (max least 2) (named_texts fields d.says.entries)) (named_texts fields d.says.entries) texts
+    → IfOk r (λ new. bytes new ≡ definition_lines names texts ++ text_exchanged (collection fields texts names) d) → IfOk r (λ new. AreMadeAbbreviations d fields least (bytes new))
+collected_answer bytes (Err e) d fields texts names least read utf8 as_many new chosen text = _
+collected_answer bytes (Ok made) d fields texts names least read utf8 as_many new chosen text = record {
+  texts = texts;
+  names = names;
+  chosen = chosen;
+  as_many = as_many;
+  are_new = new;
+  is = text;
+  read = collected_read d read utf8 fields texts names as_many new (max least 2) (bytes made) chosen text;
+}

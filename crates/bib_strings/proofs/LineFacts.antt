@@ -1,17 +1,16 @@
 -- A line that defines a name, and such lines before a text, as the file grammar reads them.
-use Rattle.std.proofs.Common.{◌≡◌, inr, ℕ, ◌+◌, ◌-◌, ◌<◌, ◌≤◌, Bool, true, false, List, [], ◌∷◌, ◌++◌, length, take, drop, map, codes, refl, sym, ap, ◌∙◌, subst, arith, append_assoc, length-append}
+use Rattle.std.proofs.Common.{◌≡◌, inr, ℕ, ◌+◌, ◌-◌, ◌<◌, false, List, [], ◌∷◌, ◌++◌, length, take, drop, map, codes, refl, sym, ap, ◌∙◌, subst, arith, append_assoc, length-append}
 use Rattle.std.specs.Prelude.{◌==◌}
 use Rattle.std.specs.Char.{is_whitespace}
 use Rattle.std.specs.List.{AllByRecursion}
-use Rattle.std.proofs.lemmas.Bool.{ne_eqb}
 use Rattle.std.proofs.lemmas.List.{map-append, take_at}
 use Rattle.bib_text.specs.Places.{Place, place, CharAt, Run, Longest, between}
 use Rattle.bib_text.specs.Places.Run.{stop, step}
-use Rattle.bib_text.proofs.PlaceFacts.{ahead_char, ahead_run, stops_at, test_clash}
-use Rattle.bib_syntax.specs.Characters.{is_id_continue, is_id_start}
-use Rattle.bib_syntax.specs.Reading.{Part, FieldReading, FileReading, empty_reading}
+use Rattle.bib_text.proofs.PlaceFacts.{ahead_char, ahead_run, stops_at}
+use Rattle.bib_syntax.specs.Characters.{is_id_continue}
+use Rattle.bib_syntax.specs.Reading.{Part, FieldReading, FileReading}
 use Rattle.bib_syntax.specs.Reading.Piece.{literal}
-use Rattle.bib_syntax.specs.Grammar.{Block, BlockKind, Body, Element, Elements, Field, Fields, File, Gap, Head, Identifier, IsRawReading, block_kind, longest}
+use Rattle.bib_syntax.specs.Grammar.{Block, Element, Elements, Field, Fields, Gap, Head, Identifier, IsRawReading, longest}
 use Rattle.bib_syntax.specs.Grammar.{Body as body}
 use Rattle.bib_syntax.specs.Grammar.{File as file}
 use Rattle.bib_syntax.proofs.LawFacts.{start_not_white}
@@ -21,7 +20,7 @@ use Rattle.bib_documents.proofs.EditFacts.{ascii_stands, piece_frame, rest_stand
 use Rattle.bib_documents.proofs.JoinedFacts.{documents_joined}
 use Rattle.bib_documents.proofs.ValueFacts.{braced_stands}
 use Rattle.bib_documents.proofs.ZoneFacts.{Inside, char_there, inside_between, run_there}
-use Rattle.bib_strings.specs.Collected.{definition_line, definition_lines, line_readings, with_definitions}
+use Rattle.bib_strings.specs.Collected.{string_line, definition_lines, line_readings, with_definitions}
 use Rattle.bib_strings.specs.Exchanged.{IsReadPlaceless, placeless}
 use Rattle.bib_strings.proofs.ExchangedFacts.{file_placeless}
 
@@ -147,7 +146,7 @@ with_placeless definitions tells says same = own tells ∙ ap (with_definitions 
     own : (r : FileReading) → placeless (with_definitions definitions r) ≡ with_definitions (map (moved_field (λ n. 0)) definitions) (placeless r)
     own r = ap (λ fs. let x : FileReading = record (placeless r) { abbreviations = fs } in x) (map-append (moved_field (λ n. 0)) definitions r.abbreviations)
 
-line_is : (name text rest : List ℕ) → definition_line name text ++ rest ≡ line_text name text ++ 10 ∷ rest
+line_is : (name text rest : List ℕ) → string_line name text ++ rest ≡ line_text name text ++ 10 ∷ rest
 line_is name text rest = ap (λ t. codes "@string{" ++ t)
     (append_assoc name (codes " = {" ++ (text ++ codes "}}\n")) rest
     ∙ ap (λ t. name ++ (codes " = {" ++ t)) (append_assoc text (codes "}}\n") rest ∙ sym (append_assoc text (codes "}") (125 ∷ 10 ∷ rest)) ∙ sym (append_assoc (text ++ codes "}") (codes "}") (10 ∷ rest)))
@@ -161,8 +160,8 @@ lines_read (name ∷ names) (text ∷ texts) d can_names can_texts read =
     let others = lines_read names texts d can_names.1 can_texts.1 read in
     let rest : Document = record { text = definition_lines names texts ++ d.text; says = others.tells } in
     let joined = documents_joined (line_document name text) rest (line_read name text can_names.0 can_texts.0) others.read in
-    let whole : (definition_line name text ++ definition_lines names texts) ++ d.text ≡ line_text name text ++ 10 ∷ rest.text =
-    append_assoc (definition_line name text) (definition_lines names texts) d.text ∙ line_is name text rest.text in
+    let whole : (string_line name text ++ definition_lines names texts) ++ d.text ≡ line_text name text ++ 10 ∷ rest.text =
+    append_assoc (string_line name text) (definition_lines names texts) d.text ∙ line_is name text rest.text in
     let first : FieldReading = moved_field (λ n. 0) (line_field name text) in
     record {
       tells = (joined_documents (line_document name text) rest).says;

@@ -1,14 +1,13 @@
 -- Texts, as they are gone through.
-use Rattle.std.proofs.Common.{◌≡◌, ℕ, zero, suc, ◌+◌, ◌<◌, ◌≤◌, ◌||◌, ◌&&◌, Bool, true, false, cond, not, List, [], ◌∷◌, ◌++◌, length, take, map, get_or, refl, sym, ap, ◌∙◌, subst, arith, append_assoc, append-nil, length-append, Option, Some, None}
-use Rattle.std.specs.Prelude.{MatchBool, bytes_eq, replicate}
+use Rattle.std.proofs.Common.{◌≡◌, ℕ, ◌+◌, ◌<◌, ◌||◌, Bool, true, false, cond, not, List, [], ◌∷◌, ◌++◌, length, take, map, get_or, refl, sym, ap, ◌∙◌, arith, append_assoc, append-nil, Option, Some}
+use Rattle.std.specs.Prelude.{MatchBool, bytes_eq}
 use Rattle.std.proofs.lemmas.Bool.{false≢true}
-use Rattle.std.specs.List.{count_by, flat_map, list_all, list_any}
 use Rattle.std.specs.Option.{option_map_or}
 use Rattle.std.proofs.lemmas.List.{length-map, length-take-le, map-append, take_more}
 use Rattle.std.proofs.lemmas.List.Sums.{fold_push}
 use Rattle.std.proofs.lemmas.Slice.Eq.{bytes_eq-Decides}
 use Rattle.bib_excerpts.specs.Needed.{is_listed}
-use Rattle.bib_strings.specs.Collected.{definition_line, definition_lines, times_of}
+use Rattle.bib_strings.specs.Collected.{string_line, definition_lines, times_of}
 
 module _ {A B : Type 0} (view : A → B) (xs : List A) (i : ℕ) (x : A) (within : i < length xs) (is : x ≡ get_or xs i x) where
   pub one_more : map view (take (i + 1) xs) ≡ map view (take i xs) ++ view x ∷ []
@@ -30,12 +29,12 @@ counted_more text t ts old count counted before = by_case (bytes_eq t text) refl
     by_case false other = let none : times_of text ts ≡ times_of text ts + 0 = omega arith in before ∙ none
 
 -- one more line
-pub lines_push : (names texts : List (List ℕ)) (name text : List ℕ) → length names ≡ length texts → definition_lines (names ++ name ∷ []) (texts ++ text ∷ []) ≡ definition_lines names texts ++ definition_line name text
-lines_push [] [] name text same = append-nil (definition_line name text)
+pub lines_push : (names texts : List (List ℕ)) (name text : List ℕ) → length names ≡ length texts → definition_lines (names ++ name ∷ []) (texts ++ text ∷ []) ≡ definition_lines names texts ++ string_line name text
+lines_push [] [] name text same = append-nil (string_line name text)
 lines_push [] (t ∷ ts) name text same = absurd (omega arith)
 lines_push (n ∷ ns) [] name text same = absurd (omega arith)
 lines_push (n ∷ ns) (t ∷ ts) name text same =
-    ap (λ l. definition_line n t ++ l) (lines_push ns ts name text (omega arith)) ∙ sym (append_assoc (definition_line n t) (definition_lines ns ts) (definition_line name text))
+    ap (λ l. string_line n t ++ l) (lines_push ns ts name text (omega arith)) ∙ sym (append_assoc (string_line n t) (definition_lines ns ts) (string_line name text))
 
 -- ---- names among names
 

@@ -1,6 +1,6 @@
 -- Meaning: words of public contracts.
 -- Texts of fields that repeat, made abbreviations.
-use Rattle.std.specs.Prelude.{◌≡◌, ℕ, ◌+◌, ◌≤◌, ◌||◌, Bool, true, false, List, [], ◌∷◌, ◌++◌, codes, if◌then◌else◌, length, max, slice_index_or, Option, Some, None, bytes_eq}
+use Rattle.std.specs.Prelude.{◌≡◌, ℕ, ◌≤◌, ◌||◌, Bool, true, false, List, [], ◌∷◌, ◌++◌, codes, if◌then◌else◌, length, max, slice_index_or, Option, Some, None, bytes_eq}
 use Rattle.std.specs.List.{count_by, flat_map, list_any}
 use Rattle.std.specs.Option.{option_map}
 use Rattle.bib_text.specs.Places.{place}
@@ -20,12 +20,12 @@ single_text (literal p ∷ []) = Some p.text
 single_text (literal p ∷ other ∷ rest) = None
 
 -- whether a field has one of these names, in any ASCII case
-abbrev pub is_one_of : List (List ℕ) → FieldReading → Bool
-is_one_of names f = list_any (λ name. has_name name f) names
+abbrev pub is_named_by : List (List ℕ) → FieldReading → Bool
+is_named_by names f = list_any (λ name. has_name name f) names
 
 -- the text of a field that has one of these names, if its value is one literal
 abbrev pub named_text : List (List ℕ) → FieldReading → Option (List ℕ)
-named_text names f = if is_one_of names f then single_text (elements f) else None
+named_text names f = if is_named_by names f then single_text (elements f) else None
 
 -- a text as a list, if there is one
 abbrev pub option_texts : Option (List ℕ) → List (List ℕ)
@@ -112,14 +112,14 @@ abbrev pub collection : List (List ℕ) → List (List ℕ) → List (List ℕ) 
 collection fields texts names f = text_value (text_index texts) names (named_text fields f)
 
 -- a line that defines a name as a text
-abbrev pub definition_line : List ℕ → List ℕ → List ℕ
-definition_line name text = codes "@string{" ++ (name ++ (codes " = {" ++ (text ++ codes "}}\n")))
+abbrev pub string_line : List ℕ → List ℕ → List ℕ
+string_line name text = codes "@string{" ++ (name ++ (codes " = {" ++ (text ++ codes "}}\n")))
 
 -- a line for each of some names
 abbrev pub definition_lines : List (List ℕ) → List (List ℕ) → List ℕ
 definition_lines [] texts = []
 definition_lines (name ∷ names) [] = []
-definition_lines (name ∷ names) (text ∷ texts) = definition_line name text ++ definition_lines names texts
+definition_lines (name ∷ names) (text ∷ texts) = string_line name text ++ definition_lines names texts
 
 -- what such lines say, but for places
 abbrev pub line_readings : List (List ℕ) → List (List ℕ) → List FieldReading
@@ -132,10 +132,10 @@ abbrev pub with_definitions : List FieldReading → FileReading → FileReading
 with_definitions definitions says = record says { abbreviations = definitions ++ says.abbreviations }
 
 -- a text is a document's with the texts that repeat in fields with these names made abbreviations, and is read so
-pub record IsCollected (d : Document) (fields : List (List ℕ)) (least : ℕ) (text : List ℕ) : Type 0 where
+pub record AreMadeAbbreviations (d : Document) (fields : List (List ℕ)) (least : ℕ) (text : List ℕ) : Type 0 where
   pub texts : List (List ℕ)
   pub names : List (List ℕ)
-  pub chosen : FirstOnes (RepeatsInBraces (max 2 least) (named_texts fields d.says.entries)) (named_texts fields d.says.entries) texts
+  pub chosen : FirstOnes (RepeatsInBraces (max least 2) (named_texts fields d.says.entries)) (named_texts fields d.says.entries) texts
   pub as_many : length names ≡ length texts
   pub are_new : AreNewNames d.says names
   pub is : text ≡ definition_lines names texts ++ text_exchanged (collection fields texts names) d

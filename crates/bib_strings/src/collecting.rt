@@ -3,11 +3,12 @@
 ghost use Rattle.std.specs.Prelude.{◌≡◌, ◌++◌, ◌<◌, IfOk, OnOk, length, map};
 ghost use Rattle.std.specs.List.{AllByRecursion};
 ghost use Rattle.std.specs.String.{string_bytes};
-ghost use Rattle.bib_syntax.specs.Views.{entry_reading_of, field_of};
-ghost use Rattle.bib_documents.specs.Placed.{IsPlaced};
-ghost use Rattle.bib_strings.specs.Collected.{IsCollected, definition_line, definition_lines, text_index};
+ghost use Rattle.bib_syntax.specs.Grammar.{IsRawReading};
+ghost use Rattle.bib_syntax.specs.Views.{entry_reading_of, field_of, file_of};
+ghost use Rattle.bib_strings.specs.Collected as spec;
+ghost use Rattle.bib_strings.specs.Collected.{AreNewNames, AreMadeAbbreviations, string_line, definition_lines, text_index};
 ghost use Rattle.bib_strings.specs.Collecting.{collection_by, lent_texts, string_texts};
-ghost use Rattle.bib_strings.specs.Exchanged.{entry_edits, field_edits, value_edits};
+ghost use Rattle.bib_strings.specs.Exchanged.{entry_edits, field_edits, text_exchanged, value_edits};
 ghost use Rattle.bib_strings.specs.Tables.{AreAllFieldsCut, IsBelow, IsFieldCut, edit_as_written, index_in};
 
 use crate::collected::collected_texts;
@@ -17,7 +18,7 @@ use crate::taken::Taken;
 use crate::texts::{counts, named_text, named_texts};
 use crate::values::value_end;
 use bib_documents::document::RawDocument;
-use bib_syntax::raw::{Pair, RawEntry};
+use bib_syntax::raw::{Pair, RawBibliography, RawEntry};
 use bib_text::spanned::Spanned;
 use std::alloc::{AllocError, Global};
 use std::collections::BTreeMap;
@@ -109,7 +110,7 @@ fn edits(
 
 // Adds a line that defines a name.
 fn push_definition(new: &mut String, name: &str, text: &str) -> Result<(), AllocError>
-    ensures { OnOk result (string_bytes new.new ≡ string_bytes new.old ++ definition_line name.now text.now) }
+    ensures { OnOk result (string_bytes new.new ≡ string_bytes new.old ++ string_line name.now text.now) }
 {
     new.push_str("@string{")?;
     new.push_str(name)?;
@@ -131,6 +132,44 @@ fn definitions(alloc: Global, names: &[String], texts: &[&str]) -> Result<String
     Ok(new)
 }
 
+// New names for texts, and the index of each text.
+fn collection_of<'s>(
+    alloc: Global,
+    raw: &RawBibliography<'_>,
+    texts: &[&'s str],
+) -> Result<Collection<'s>, AllocError>
+    ensures index { IfOk result (λ made. index_in made.indices ≡ text_index (lent_texts texts.now)) }
+    ensures count { IfOk result (λ made. length made.names.items ≡ length texts.now) }
+    ensures are_new { IfOk result (λ made. AreNewNames (file_of raw.now) (string_texts made.names.items)) }
+{
+    let mut taken = Taken::of_file(alloc, raw)?;
+    let names = new_names(alloc, &mut taken, texts)?;
+    let indices = indices(alloc, texts)?;
+    Ok(Collection { indices, names })
+}
+
+// The text with texts exchanged for their names, after a line for each.
+fn with_collection(
+    alloc: Global,
+    text: &str,
+    raw: &RawBibliography<'_>,
+    fields: &[&str],
+    texts: &[&str],
+    collection: &Collection<'_>,
+) -> Result<String, AllocError>
+    requires read { IsRawReading text.now (file_of raw.now) }
+    requires index { index_in collection.now.indices ≡ text_index (lent_texts texts.now) }
+    requires count { length collection.now.names.items ≡ length texts.now }
+    ensures { IfOk result (λ new. string_bytes new ≡ definition_lines (string_texts collection.now.names.items) (lent_texts texts.now) ++
+        text_exchanged (spec.collection (lent_texts fields.now) (lent_texts texts.now) (string_texts collection.now.names.items)) (record { text = text.now; says = file_of raw.now })) }
+{
+    let made = edits(alloc, text, fields, collection, &raw.entries)?;
+    let edited = edited_all(alloc, text, &made)?;
+    let mut new = definitions(alloc, &collection.names, texts)?;
+    new.push_str(edited.as_str())?;
+    Ok(new)
+}
+
 /// The text with abbreviations made of the values that repeat: each text that stands as one literal in at least so many fields of
 /// entries with one of these names, in any ASCII case, becomes an abbreviation (0 and 1 count as 2). Its name takes the place of
 /// each of these values, and a line for each, `@string{name = {text}}`, stands before the old text, in the order in which the
@@ -141,18 +180,12 @@ pub fn collect(
     fields: &[&str],
     at_least: usize,
 ) -> Result<String, AllocError>
-    ensures { IfOk result (λ new. IsCollected document.now (lent_texts fields.now) at_least (string_bytes new)) }
+    ensures { IfOk result (λ new. AreMadeAbbreviations document.now (lent_texts fields.now) at_least (string_bytes new)) }
 {
     let raw = document.raw();
     let all = named_texts(alloc, fields, &raw.entries)?;
     let counts = counts(alloc, &all)?;
     let texts = collected_texts(alloc, &counts, at_least.max(2), &all)?;
-    let mut taken = Taken::of_file(alloc, raw)?;
-    let names = new_names(alloc, &mut taken, &texts)?;
-    let mut new = definitions(alloc, &names, &texts)?;
-    let collection = Collection { indices: indices(alloc, &texts)?, names };
-    let edits = edits(alloc, document.text(), fields, &collection, &raw.entries)?;
-    let edited = edited_all(alloc, document.text(), &edits)?;
-    new.push_str(edited.as_str())?;
-    Ok(new)
+    let collection = collection_of(alloc, raw, &texts)?;
+    with_collection(alloc, document.text(), raw, fields, &texts, &collection)
 }

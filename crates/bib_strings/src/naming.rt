@@ -56,8 +56,7 @@ fn is_plain(name: &str) -> bool
 }
 
 // Adds the first letter of a word, in lowercase.
-fn push_initial(initials: &mut String, word: &str) -> Result<(), AllocError>
-{
+fn push_initial(initials: &mut String, word: &str) -> Result<(), AllocError> {
     'word: for c in word.chars() {
         if c.is_ascii_alphabetic() {
             initials.push(c.to_ascii_lowercase())?;
@@ -68,8 +67,7 @@ fn push_initial(initials: &mut String, word: &str) -> Result<(), AllocError>
 }
 
 // The first letters of a text's words, in lowercase.
-fn initials(alloc: Global, text: &str) -> Result<String, AllocError>
-{
+fn initials(alloc: Global, text: &str) -> Result<String, AllocError> {
     let mut initials = String::new(alloc);
     'words: for word in text.split_whitespace() {
         push_initial(&mut initials, word)?;
@@ -78,8 +76,7 @@ fn initials(alloc: Global, text: &str) -> Result<String, AllocError>
 }
 
 // The first letters of a word, eight at most, in lowercase.
-fn first_letters(alloc: Global, word: &str) -> Result<String, AllocError>
-{
+fn first_letters(alloc: Global, word: &str) -> Result<String, AllocError> {
     let mut letters = String::new(alloc);
     'word: for c in word.chars() {
         if c.is_ascii_alphabetic() && letters.len() < 8 {
@@ -117,8 +114,7 @@ fn longer(alloc: Global, base: &str, longest: usize) -> Result<String, AllocErro
 }
 
 // A name and the number after it, and none where the number is 1.
-fn numbered(alloc: Global, base: &str, number: u64) -> Result<String, AllocError>
-{
+fn numbered(alloc: Global, base: &str, number: u64) -> Result<String, AllocError> {
     if number == 1 {
         String::from_str(alloc, base)
     } else {

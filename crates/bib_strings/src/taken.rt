@@ -40,7 +40,11 @@ impl Taken {
     }
 
     // Takes the names among elements.
-    fn take_elements(&mut self, alloc: Global, pieces: &[Spanned<RawChunk<'_>>]) -> Result<(), AllocError>
+    fn take_elements(
+        &mut self,
+        alloc: Global,
+        pieces: &[Spanned<RawChunk<'_>>],
+    ) -> Result<(), AllocError>
         requires { IsBounded self.old }
         ensures taken { OnOk result ((other : List ℕ) → is_taken self.new other ≡ (is_listed (element_names (map piece_of pieces.now)) other || is_taken self.old other)) }
         ensures bounded { OnOk result (IsBounded self.new) }
@@ -55,7 +59,11 @@ impl Taken {
     }
 
     // Takes the names that definitions define and use.
-    fn take_definitions(&mut self, alloc: Global, definitions: &[Pair<'_>]) -> Result<(), AllocError>
+    fn take_definitions(
+        &mut self,
+        alloc: Global,
+        definitions: &[Pair<'_>],
+    ) -> Result<(), AllocError>
         requires { IsBounded self.old }
         ensures taken { OnOk result ((other : List ℕ) → is_taken self.new other ≡ (is_listed (definition_names (map field_of definitions.now)) other || is_taken self.old other)) }
         ensures bounded { OnOk result (IsBounded self.new) }
@@ -82,7 +90,11 @@ impl Taken {
     }
 
     // Takes the names that entries use.
-    fn take_entries(&mut self, alloc: Global, entries: &[Spanned<RawEntry<'_>>]) -> Result<(), AllocError>
+    fn take_entries(
+        &mut self,
+        alloc: Global,
+        entries: &[Spanned<RawEntry<'_>>],
+    ) -> Result<(), AllocError>
         requires { IsBounded self.old }
         ensures taken { OnOk result ((other : List ℕ) → is_taken self.new other ≡ (is_listed (flat_map (λ e. used_names e.fields) (map entry_reading_of entries.now)) other || is_taken self.old other)) }
         ensures bounded { OnOk result (IsBounded self.new) }
@@ -100,7 +112,10 @@ impl Taken {
         ensures bounded { IfOk result IsBounded }
         ensures three { IfOk result (λ taken. 3 ≤ taken.longest) }
     {
-        let mut taken = Taken { names: BTreeSet::new(alloc), longest: 3 };
+        let mut taken = Taken {
+            names: BTreeSet::new(alloc),
+            longest: 3,
+        };
         taken.take_definitions(alloc, &raw.abbreviations)?;
         taken.take_entries(alloc, &raw.entries)?;
         Ok(taken)

@@ -26,8 +26,8 @@ fn single_text<'s>(pieces: &[Spanned<RawChunk<'s>>]) -> Option<&'s str>
 }
 
 // Whether a field has one of these names, in any ASCII case.
-fn is_one_of(names: &[&str], field: &Pair<'_>) -> bool
-    ensures { result ≡ spec.is_one_of (lent_texts names.now) (field_of field.now) }
+fn is_named_by(names: &[&str], field: &Pair<'_>) -> bool
+    ensures { result ≡ spec.is_named_by (lent_texts names.now) (field_of field.now) }
 {
     'names: for name in names {
         if is_word(field.key.v, *name) {
@@ -41,7 +41,7 @@ fn is_one_of(names: &[&str], field: &Pair<'_>) -> bool
 pub(crate) fn named_text<'s>(names: &[&str], field: &Pair<'s>) -> Option<&'s str>
     ensures { option_map (λ t. t.now) result ≡ spec.named_text (lent_texts names.now) (field_of field.now) }
 {
-    if !is_one_of(names, field) {
+    if !is_named_by(names, field) {
         return None;
     }
     single_text(&field.value.v)

@@ -1,4 +1,4 @@
-use Rattle.std.proofs.Common.{◌≡◌, ℕ, ◌≤◌, Bool, true, false, List, Result, Ok, Err, sym, subst}
+use Rattle.std.proofs.Common.{◌≡◌, ℕ, ◌≤◌, Bool, true, false, List, Result, Ok, Err, subst}
 use Rattle.std.specs.Prelude.{IfOk, MatchBool}
 use Rattle.bib_documents.specs.Documents.{CanStandInBraces}
 use Rattle.bib_strings.specs.Collected.{RepeatsInBraces, times_of}

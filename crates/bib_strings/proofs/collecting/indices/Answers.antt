@@ -1,4 +1,4 @@
-use Rattle.std.proofs.Common.{◌≡◌, List, ℕ, [], ap, cond, get_or, sym, take, ◌∙◌, Some}
+use Rattle.std.proofs.Common.{List, ℕ, [], ap, cond, get_or, sym, ◌∙◌, Some}
 use Rattle.std.specs.Borrow.{Bor}
 use Rattle.std.proofs.lemmas.List.{get_or_default, take_all}
 use Rattle.std.proofs.lemmas.Map.Text.{btree_map_updates_str}

@@ -1,4 +1,3 @@
-use Rattle.std.proofs.Common.{map}
 use Rattle.bib_syntax.specs.Views.{field_of}
 use Rattle.bib_strings.specs.Collecting.{collection_by, lent_texts, string_texts}
 use Rattle.bib_strings.specs.Exchanged.{value_edits}

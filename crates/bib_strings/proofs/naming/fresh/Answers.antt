@@ -1,5 +1,4 @@
-use Rattle.std.proofs.Common.{sym, ap, ◌∙◌}
-use Rattle.bib_strings.proofs.NameFacts.{longer_fresh, new_fresh}
+use Rattle.bib_strings.proofs.NameFacts.{longer_fresh}
 use Rattle.bib_strings.proofs.naming.fresh.Goals as goal
 
 pub returns : goal.returns
