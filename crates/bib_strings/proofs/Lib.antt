@@ -1,10 +1,14 @@
-mod StandingFacts
+pub mod CollectFacts
 pub mod ElementFacts
 pub mod ExchangedFacts
 pub mod ExpandFacts
+pub mod LineFacts
 pub mod ListFacts
+pub mod NameFacts
 pub mod NewValueFacts
 pub mod OrderFacts
+pub mod StandingFacts
+pub mod TextFacts
 pub mod TrimmedFacts
 pub mod UsedFacts
 pub mod WrittenFacts

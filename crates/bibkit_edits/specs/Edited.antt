@@ -13,7 +13,7 @@ use Rattle.bib_documents.specs.declared.errors.EditError.{EditError}
 use Rattle.bib_format.specs.Formatted.{content, says_in_order, text_in_style}
 use Rattle.bib_format.specs.declared.style.Style.{Style}
 use Rattle.bib_sorting.specs.Sorted.{AreEntriesInOrder, IsSortedText, Item, items, says_sorted, without_places}
-use Rattle.bib_strings.specs.Collected.{IsCollected}
+use Rattle.bib_strings.specs.Collected.{AreMadeAbbreviations}
 use Rattle.bib_strings.specs.Expanded.{ExpandIsRefused, IsExpanded}
 use Rattle.bib_strings.specs.declared.errors.ExpandError.TheVariants as expand_error
 use Rattle.bibkit_edits.specs.Orders.{order_text}
@@ -57,7 +57,7 @@ IsWrittenOut d after = IsExpanded d after.text
 
 -- what comes of making abbreviations of texts that repeat in a document
 abbrev pub AreTextsCollected : List (List ℕ) → ℕ → Document → Document → Type 0
-AreTextsCollected fields at_least d after = IsCollected d fields at_least after.text
+AreTextsCollected fields at_least d after = AreMadeAbbreviations d fields at_least after.text
 
 -- what comes of an edit of a document
 abbrev pub EditOutcome : Edit → Document → Document → Type 0
