@@ -12,7 +12,7 @@ use Rattle.bib_documents.specs.declared.errors.EditError.TheVariants as error
 use Rattle.bib_format.specs.Formatted.{IsReadAlike, says_in_order, text_in_style}
 use Rattle.bib_format.specs.declared.style.Style.{Style}
 use Rattle.bib_sorting.specs.Sorted.{IsReadSorted, IsSortedText}
-use Rattle.bib_strings.specs.Collected.{IsCollected}
+use Rattle.bib_strings.specs.Collected.{AreMadeAbbreviations}
 use Rattle.bib_strings.specs.Expanded.{IsExpanded}
 use Rattle.bibkit_edits.specs.Edited.{AreMade, AreRefused, AreTextsCollected, IsEditRefused, IsInOrder, IsInStyle, IsMade, IsDocumentOf, IsWrittenOut, TextAdded}
 use Rattle.bibkit_edits.specs.Orders.{order_text}
@@ -48,7 +48,7 @@ pub expansion_made : (d : Document) (new : List ℕ) → IsExpanded d new → Is
 expansion_made d new made = record { document = record { text = new; says = made.read.tells }; outcome = made; is = refl; read = made.read.read }
 
 -- a text with abbreviations made of texts that repeat
-pub collection_made : (d : Document) (fields : List (List ℕ)) (at_least : ℕ) (new : List ℕ) → IsCollected d fields at_least new → IsEdited (AreTextsCollected fields at_least d) new
+pub collection_made : (d : Document) (fields : List (List ℕ)) (at_least : ℕ) (new : List ℕ) → AreMadeAbbreviations d fields at_least new → IsEdited (AreTextsCollected fields at_least d) new
 collection_made d fields at_least new made = record { document = record { text = new; says = made.read.tells }; outcome = made; is = refl; read = made.read.read }
 
 -- one edit more
