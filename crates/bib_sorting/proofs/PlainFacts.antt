@@ -35,11 +35,6 @@ ahead_plain {u} Plain.none = ahead_here u
 ahead_plain (Plain.skipped char passes rest) = ahead_then (ahead_char char) (ahead_plain rest)
 ahead_plain (Plain.line_comment sign line feed rest) = ahead_then (ahead_char sign) (ahead_then (ahead_run line) (ahead_then (ahead_char feed) (ahead_plain rest)))
 
-pub plain_then : {u v w : Place} → Plain u v → Plain v w → Plain u w
-plain_then Plain.none others = others
-plain_then (Plain.skipped char passes rest) others = Plain.skipped char passes (plain_then rest others)
-plain_then (Plain.line_comment sign line feed rest) others = Plain.line_comment sign line feed (plain_then rest others)
-
 -- a character stands where it begins, if one does where it ends
 pub stood_plain : {u v : Place} → Plain u v → Stood v → Stood u
 stood_plain Plain.none s = s
