@@ -1,7 +1,8 @@
 //! Reads rows, an edit of a text's abbreviations in each line, and prints each with the text that comes of it, or with why it is
-//! refused: `expand` writes them out.
+//! refused: `expand` writes them out, `collect 2 title journal` makes some of the texts that stand at least twice in these fields.
 
 use bib_documents::document::RawDocument;
+use bib_strings::collecting::collect;
 use bib_strings::errors::ExpandError;
 use bib_strings::expanding::expand;
 use std::alloc::{AllocError, Global};
@@ -18,14 +19,30 @@ fn expanded(alloc: Global, document: &RawDocument<'_>) -> Result<String, AllocEr
     }
 }
 
+// A text with abbreviations made of values of these fields, after so many.
+fn collected(alloc: Global, document: &RawDocument<'_>, words: &str) -> Result<Option<String>, AllocError> {
+    let mut words = words.split(' ');
+    let Some(Ok(at_least)) = words.next().map(|word| word.parse()) else {
+        return Ok(None);
+    };
+    let mut fields = Vec::new(alloc);
+    for word in words {
+        fields.push(word)?;
+    }
+    Ok(Some(collect(alloc, document, &fields, at_least)?))
+}
+
 impl Calls for Strings {
     fn answer(alloc: Global, call: &str, text: &str) -> Result<Option<String>, AllocError> {
         let Ok(document) = RawDocument::parse(alloc, text) else {
             return Ok(Some(String::from_str(alloc, "no bibliography")?));
         };
-        match call {
-            "expand" => Ok(Some(expanded(alloc, &document)?)),
-            _ => Ok(None),
+        match call.strip_prefix("collect ") {
+            Some(words) => collected(alloc, &document, words),
+            None => match call {
+                "expand" => Ok(Some(expanded(alloc, &document)?)),
+                _ => Ok(None),
+            },
         }
     }
 }

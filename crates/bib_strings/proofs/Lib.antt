@@ -1,9 +1,13 @@
+pub mod CollectFacts
 pub mod ElementFacts
 pub mod ExchangedFacts
 pub mod ExpandFacts
+pub mod LineFacts
 pub mod ListFacts
+pub mod NameFacts
 pub mod NewValueFacts
 pub mod OrderFacts
+pub mod TextFacts
 pub mod TrimmedFacts
 pub mod UsedFacts
 pub mod WrittenFacts

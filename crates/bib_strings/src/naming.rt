@@ -1,0 +1,171 @@
+//! Names for texts.
+
+ghost use Rattle.std.specs.Prelude.{◌≡◌, ◌≤◌, ◌&&◌, ◌++◌, ℕ, List, length, true, not, replicate, IfOk, OnOk};
+ghost use Rattle.std.specs.List.{list_all};
+ghost use Rattle.std.specs.String.{string_bytes};
+ghost use Rattle.bib_syntax.specs.Reading.{FileReading};
+ghost use Rattle.bib_excerpts.specs.Needed.{is_listed};
+ghost use Rattle.bib_strings.specs.Collected as spec;
+ghost use Rattle.bib_strings.specs.Collected.{AreNewNames, names_of_file};
+ghost use Rattle.bib_strings.specs.Collecting as plain;
+ghost use Rattle.bib_strings.specs.Collecting.{IsBounded, IsFresh, is_plain_name, is_taken, string_texts};
+
+use crate::taken::Taken;
+use bib_syntax::raw::is_word;
+use std::alloc::{AllocError, Global};
+use std::collections::BTreeMap;
+
+// Whether a name is that of a month.
+fn is_month(name: &str) -> bool
+    ensures { result ≡ spec.is_month name.now }
+{
+    is_word(name, "jan")
+        || is_word(name, "feb")
+        || is_word(name, "mar")
+        || is_word(name, "apr")
+        || is_word(name, "may")
+        || is_word(name, "jun")
+        || is_word(name, "jul")
+        || is_word(name, "aug")
+        || is_word(name, "sep")
+        || is_word(name, "oct")
+        || is_word(name, "nov")
+        || is_word(name, "dec")
+}
+
+// Whether bytes are lowercase letters of ASCII or digits.
+fn are_plain(bytes: &[u8]) -> bool
+    ensures { result ≡ list_all plain.is_plain_byte bytes.now }
+{
+    'bytes: for b in bytes {
+        if !(b.is_ascii_lowercase() || b.is_ascii_digit()) {
+            return false;
+        }
+    }
+    true
+}
+
+// Whether a text is a lowercase letter of ASCII, and others or digits.
+fn is_plain(name: &str) -> bool
+    ensures { result ≡ is_plain_name name.now }
+{
+    match name.as_bytes() {
+        [first, rest @ ..] => first.is_ascii_lowercase() && are_plain(rest),
+        [] => false,
+    }
+}
+
+// Adds the first letter of a word, in lowercase.
+fn push_initial(initials: &mut String, word: &str) -> Result<(), AllocError> {
+    'word: for c in word.chars() {
+        if c.is_ascii_alphabetic() {
+            initials.push(c.to_ascii_lowercase())?;
+            return Ok(());
+        }
+    }
+    Ok(())
+}
+
+// The first letters of a text's words, in lowercase.
+fn initials(alloc: Global, text: &str) -> Result<String, AllocError> {
+    let mut initials = String::new(alloc);
+    'words: for word in text.split_whitespace() {
+        push_initial(&mut initials, word)?;
+    }
+    Ok(initials)
+}
+
+// The first letters of a word, eight at most, in lowercase.
+fn first_letters(alloc: Global, word: &str) -> Result<String, AllocError> {
+    let mut letters = String::new(alloc);
+    'word: for c in word.chars() {
+        if c.is_ascii_alphabetic() && letters.len() < 8 {
+            letters.push(c.to_ascii_lowercase())?;
+        }
+    }
+    Ok(letters)
+}
+
+// What the name of a text begins with: the first letters of its words, or those of its one word; `s` where it has no letter.
+fn base(alloc: Global, text: &str) -> Result<String, AllocError>
+    ensures { IfOk result (λ base. is_plain_name (string_bytes base) ≡ true) }
+{
+    let letters = if text.split_whitespace().count() == 1 {
+        first_letters(alloc, text)?
+    } else {
+        initials(alloc, text)?
+    };
+    if is_plain(letters.as_str()) {
+        Ok(letters)
+    } else {
+        String::from_str(alloc, "s")
+    }
+}
+
+// A name that is longer than others.
+fn longer(alloc: Global, base: &str, longest: usize) -> Result<String, AllocError>
+    ensures { IfOk result (λ name. string_bytes name ≡ base.now ++ replicate longest 48) }
+{
+    let mut name = String::from_str(alloc, base)?;
+    'digits: for _digit in 0..longest {
+        name.push('0')?;
+    }
+    Ok(name)
+}
+
+// A name and the number after it, and none where the number is 1.
+fn numbered(alloc: Global, base: &str, number: u64) -> Result<String, AllocError> {
+    if number == 1 {
+        String::from_str(alloc, base)
+    } else {
+        format!(in alloc; "{base}{number}")
+    }
+}
+
+// Whether a text can be a new name.
+fn is_new(taken: &Taken, name: &str) -> bool
+    ensures { result ≡ (is_plain_name name.now && (not (spec.is_month name.now) && not (is_taken taken.now name.now))) }
+{
+    is_plain(name) && !is_month(name) && !taken.has(name)
+}
+
+// A new name with a number after it from one on, and the number.
+fn fresh(alloc: Global, taken: &Taken, base: &str, from: u64) -> Result<(String, u64), AllocError>
+    requires bounded { IsBounded taken.now }
+    requires three { 3 ≤ taken.now.longest }
+    requires plain { is_plain_name base.now ≡ true }
+    ensures { IfOk result (λ made. IsFresh taken.now (string_bytes made.0)) }
+{
+    'numbers: for number in from..u64::MAX {
+        let name = numbered(alloc, base, number)?;
+        if is_new(taken, name.as_str()) {
+            return Ok((name, number));
+        }
+    }
+    Ok((longer(alloc, base, taken.longest)?, from))
+}
+
+// New names for texts, one for each.
+pub(crate) fn new_names(
+    alloc: Global,
+    taken: &mut Taken,
+    texts: &[&str],
+) -> Result<Vec<String>, AllocError>
+    requires bounded { IsBounded taken.old }
+    requires three { 3 ≤ taken.old.longest }
+    ensures count { IfOk result (λ names. length names.items ≡ length texts.now) }
+    ensures are_new { IfOk result (λ names. (says : FileReading) → ((other : List ℕ) → is_taken taken.old other ≡ is_listed (names_of_file says) other) →
+        AreNewNames says (string_texts names.items)) }
+{
+    let mut numbers = BTreeMap::new(alloc);
+    let mut names = Vec::with_capacity(alloc, texts.len())?;
+    'texts: for text in texts {
+        let base = base(alloc, *text)?;
+        let from = numbers.get(base.as_str()).copied().unwrap_or(1);
+        let (name, number) = fresh(alloc, taken, base.as_str(), from)?;
+        taken.take(alloc, name.as_str())?;
+        numbers.insert(base, number)?;
+        names.push(name)?;
+    }
+    Ok(names)
+}
