@@ -1,6 +1,7 @@
 //! Names for texts.
 
 ghost use Rattle.std.specs.Prelude.{◌≡◌, ◌≤◌, ◌&&◌, ◌++◌, ℕ, List, length, true, not, replicate, IfOk, OnOk};
+ghost use Rattle.std.specs.Char.{is_ascii_lowercase};
 ghost use Rattle.std.specs.List.{list_all};
 ghost use Rattle.std.specs.String.{string_bytes};
 ghost use Rattle.bib_syntax.specs.Reading.{FileReading};
@@ -67,7 +68,9 @@ fn first_letters(alloc: Global, word: &str, count: usize) -> Result<String, Allo
 }
 
 // The first letters of a text's words, in lowercase.
-fn initials(alloc: Global, text: &str) -> Result<String, AllocError> {
+fn initials(alloc: Global, text: &str) -> Result<String, AllocError>
+    ensures { IfOk result (λ initials. list_all is_ascii_lowercase (string_bytes initials) ≡ true) }
+{
     let mut initials = String::new(alloc);
     'words: for word in text.split_whitespace() {
         initials.push_str(&first_letters(alloc, word, 1)?)?;
