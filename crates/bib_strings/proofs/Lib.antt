@@ -2,6 +2,7 @@ pub mod CollectFacts
 pub mod ElementFacts
 pub mod ExchangedFacts
 pub mod ExpandFacts
+pub mod LetterFacts
 pub mod LineFacts
 pub mod ListFacts
 pub mod NameFacts

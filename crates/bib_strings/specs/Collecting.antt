@@ -1,10 +1,12 @@
 -- Machinery: words of private contracts.
 -- Texts, how often they stand, and names that are taken, as the code has them.
-use Rattle.std.specs.Prelude.{◌≡◌, ℕ, ◌≤◌, ◌||◌, ◌&&◌, Bool, true, false, List, [], ◌∷◌, length, map}
+use Rattle.std.specs.Prelude.{◌==◌, if◌then◌else◌, encode_utf8_all, filter, take, ◌≡◌, ℕ, ◌≤◌, ◌||◌, ◌&&◌, Bool, true, false, List, [], ◌∷◌, length, map}
 use Rattle.std.specs.Borrow.{Bor}
 use Rattle.std.specs.BTreeMap.{BTreeMap, get_by}
 use Rattle.std.specs.BTreeSet.{contains_text}
-use Rattle.std.specs.Char.{is_ascii_digit, is_ascii_lowercase}
+use Rattle.std.specs.Char.{is_ascii_alphabetic, is_ascii_digit, is_ascii_lowercase, to_ascii_lowercase}
+use Rattle.std.specs.Fmt.{decimal}
+use Rattle.std.specs.Str.{chars}
 use Rattle.std.specs.Cmp.Lexicographic.{slice_cmp}
 use Rattle.std.specs.List.{list_all}
 use Rattle.std.specs.Option.{option_map_or}
@@ -55,3 +57,11 @@ collection_by fields index names f = text_value index names (named_text fields f
 -- names that are strings
 abbrev pub string_texts : List (String Global) → List (List ℕ)
 string_texts names = map string_bytes names
+
+-- the first letters of ASCII of a word, so many at most, in lowercase
+abbrev pub first_letters : ℕ → List ℕ → List ℕ
+first_letters count word = encode_utf8_all (map to_ascii_lowercase (take count (filter is_ascii_alphabetic (chars word))))
+
+-- the number after a name, and none where it is 1
+abbrev pub number_after : ℕ → List ℕ
+number_after number = if number == 1 then [] else decimal number

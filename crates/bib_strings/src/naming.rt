@@ -1,6 +1,7 @@
 //! Names for texts.
 
 ghost use Rattle.std.specs.Prelude.{◌≡◌, ◌≤◌, ◌&&◌, ◌++◌, ℕ, List, length, true, not, replicate, IfOk, OnOk};
+ghost use Rattle.std.specs.Char.{is_ascii_lowercase};
 ghost use Rattle.std.specs.List.{list_all};
 ghost use Rattle.std.specs.String.{string_bytes};
 ghost use Rattle.bib_syntax.specs.Reading.{FileReading};
@@ -8,7 +9,7 @@ ghost use Rattle.bib_excerpts.specs.Needed.{is_listed};
 ghost use Rattle.bib_strings.specs.Collected as spec;
 ghost use Rattle.bib_strings.specs.Collected.{AreNewNames, names_of_file};
 ghost use Rattle.bib_strings.specs.Collecting as plain;
-ghost use Rattle.bib_strings.specs.Collecting.{IsBounded, IsFresh, is_plain_name, is_taken, string_texts};
+ghost use Rattle.bib_strings.specs.Collecting.{number_after, IsBounded, IsFresh, is_plain_name, is_taken, string_texts};
 
 use crate::taken::Taken;
 use bib_syntax::raw::is_word;
@@ -55,35 +56,26 @@ fn is_plain(name: &str) -> bool
     }
 }
 
-// Adds the first letter of a word, in lowercase.
-fn push_initial(initials: &mut String, word: &str) -> Result<(), AllocError> {
-    'word: for c in word.chars() {
-        if c.is_ascii_alphabetic() {
-            initials.push(c.to_ascii_lowercase())?;
-            return Ok(());
-        }
-    }
-    Ok(())
+// The first letters of a word, so many at most, in lowercase.
+fn first_letters(alloc: Global, word: &str, count: usize) -> Result<String, AllocError>
+    ensures { IfOk result (λ letters. string_bytes letters ≡ plain.first_letters count word.now) }
+{
+    word.chars()
+        .filter(|c| c.is_ascii_alphabetic())
+        .take(count)
+        .map(|c| c.to_ascii_lowercase())
+        .collect(alloc)
 }
 
 // The first letters of a text's words, in lowercase.
-fn initials(alloc: Global, text: &str) -> Result<String, AllocError> {
+fn initials(alloc: Global, text: &str) -> Result<String, AllocError>
+    ensures { IfOk result (λ initials. list_all is_ascii_lowercase (string_bytes initials) ≡ true) }
+{
     let mut initials = String::new(alloc);
     'words: for word in text.split_whitespace() {
-        push_initial(&mut initials, word)?;
+        initials.push_str(&first_letters(alloc, word, 1)?)?;
     }
     Ok(initials)
-}
-
-// The first letters of a word, eight at most, in lowercase.
-fn first_letters(alloc: Global, word: &str) -> Result<String, AllocError> {
-    let mut letters = String::new(alloc);
-    'word: for c in word.chars() {
-        if c.is_ascii_alphabetic() && letters.len() < 8 {
-            letters.push(c.to_ascii_lowercase())?;
-        }
-    }
-    Ok(letters)
 }
 
 // What the name of a text begins with: the first letters of its words, or those of its one word; `s` where it has no letter.
@@ -91,7 +83,7 @@ fn base(alloc: Global, text: &str) -> Result<String, AllocError>
     ensures { IfOk result (λ base. is_plain_name (string_bytes base) ≡ true) }
 {
     let letters = if text.split_whitespace().count() == 1 {
-        first_letters(alloc, text)?
+        first_letters(alloc, text, 8)?
     } else {
         initials(alloc, text)?
     };
@@ -114,7 +106,9 @@ fn longer(alloc: Global, base: &str, longest: usize) -> Result<String, AllocErro
 }
 
 // A name and the number after it, and none where the number is 1.
-fn numbered(alloc: Global, base: &str, number: u64) -> Result<String, AllocError> {
+fn numbered(alloc: Global, base: &str, number: u64) -> Result<String, AllocError>
+    ensures { IfOk result (λ name. string_bytes name ≡ base.now ++ number_after number) }
+{
     if number == 1 {
         String::from_str(alloc, base)
     } else {
