@@ -305,6 +305,10 @@ run_messages 'a file that is not in order' 1 $'bibkit: once.bib: not in this sty
 run 'an order that is none' 2 '' fmt --sort title mixed.bib
 printf '@misc{d,}\n@misc{c,}\n@string{s={x}}\n%% on b\n@misc{b,}\n@misc{a,}\n' >barred.bib
 run 'no entry moves over a definition' 0 $'@misc{c,\n}\n@misc{d,\n}\n@string{s={x}}\n% on b\n@misc{a,\n}\n@misc{b,\n}\n' fmt --sort key barred.bib
+printf '@misc{d,}\n@string{s={x}}\n\n%% on b\n@misc{b,}\n@misc{a,}\n' >section.bib
+run 'a comment after a definition and a blank line moves' 0 $'@misc{d,\n}\n@string{s={x}}\n\n@misc{a,\n}\n% on b\n@misc{b,\n}\n' fmt --sort key section.bib
+printf '%% head\n\n%% a "quote"\n@misc{b,}\n@misc{a,}\n' >quoted.bib
+run 'a comment with a quote before the first entry stays' 0 $'% head\n\n% a "quote"\n@misc{a,\n}\n@misc{b,\n}\n' fmt --sort key quoted.bib
 printf '@misc{b,}\n@misc{c,}\n%% mail me@example.org\n@misc{a,}\n' >mail.bib
 run 'no entry moves over an at sign of a comment' 0 $'@misc{b,\n}\n@misc{c,\n}\n% mail me@example.org\n@misc{a,\n}\n' fmt --sort key mail.bib
 printf '@misc{b,}\n@book{z,}\n@misc{a,}\n' >ties.bib
