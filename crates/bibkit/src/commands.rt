@@ -261,7 +261,7 @@ const STRINGS: [Argument; 7] = [
     Argument {
         name: "collect",
         takes: Takes::NothingOr("expand"),
-        help: "Make abbreviations of texts that stand in several entries",
+        help: "Make abbreviations of texts that stand in several fields",
     },
     Argument {
         name: "fields",
