@@ -61,19 +61,9 @@ struct Argument {
     help: &'static str,
 }
 
-// What files a command takes.
-#[derive(Clone, Copy)]
-enum TakesFiles {
-    // Names of files that it reads, after its other arguments.
-    Many,
-    // One file, by an option.
-    One,
-}
-
 // A command.
 struct Row {
     name: &'static str,
-    files: TakesFiles,
     about: &'static str,
     // What stands at the end of its help.
     help: &'static str,
@@ -420,95 +410,86 @@ const FMT: [Argument; 13] = [
     DIFF,
 ];
 
-// The commands, in the order of help.
-static COMMANDS: [Row; 13] = [
+// The commands that read files, in the order of help.
+static READING: [Row; 7] = [
     Row {
         name: "lint",
-        files: TakesFiles::Many,
         about: "Report what is wrong in files, by place",
         help: LINT_HELP,
         arguments: &LINT,
     },
     Row {
         name: "keys",
-        files: TakesFiles::Many,
         about: "Print the key of each entry",
         help: "Example:\n  bibkit keys refs.bib",
         arguments: &[],
     },
     Row {
         name: "get",
-        files: TakesFiles::Many,
         about: "Print the entries with these keys, as they stand in the files",
         help: "Example:\n  bibkit get tolkien1937,knuth1984 refs.bib\n\nStatus 1 where no entry has one of the keys",
         arguments: &GET,
     },
     Row {
         name: "grep",
-        files: TakesFiles::Many,
         about: "Print the entries in whose field a text stands, as they stand in the files",
         help: "Example:\n  bibkit grep author Knuth refs.bib\n\nStatus 1 where there is no such entry",
         arguments: &GREP,
     },
     Row {
         name: "cited",
-        files: TakesFiles::Many,
         about: "Print the entries that a document cites, as they stand in the files",
         help: "Example:\n  bibkit cited thesis.bcf refs.bib >cited.bib\n\nStatus 1 where no cited entry is found",
         arguments: &CITED,
     },
     Row {
         name: "stats",
-        files: TakesFiles::Many,
         about: "Count entries by type and year, fields by name, and findings by code",
         help: "Example:\n  bibkit stats refs.bib",
         arguments: &[],
     },
     Row {
         name: "fmt",
-        files: TakesFiles::Many,
         about: "Put files in one style, and print the new texts",
         help: FMT_HELP,
         arguments: &FMT,
     },
+];
+
+// The commands that edit a file, in the order of help, where they stand after the others.
+static EDITING: [Row; 6] = [
     Row {
         name: "set",
-        files: TakesFiles::One,
         about: "Set fields of an entry, and print the new text",
         help: SET_HELP,
         arguments: &SET,
     },
     Row {
         name: "unset",
-        files: TakesFiles::One,
         about: "Take fields out of an entry, and print the new text",
         help: UNSET_HELP,
         arguments: &UNSET,
     },
     Row {
         name: "rename",
-        files: TakesFiles::One,
         about: "Give an entry another key, and print the new text",
         help: RENAME_HELP,
         arguments: &RENAME,
     },
     Row {
         name: "remove",
-        files: TakesFiles::One,
         about: "Take entries out, and print the new text",
         help: REMOVE_HELP,
         arguments: &REMOVE,
     },
     Row {
         name: "add",
-        files: TakesFiles::One,
         about: "Add the entries of standard input to a file, and print the new text",
         help: ADD_HELP,
         arguments: &ADD,
     },
     Row {
         name: "strings",
-        files: TakesFiles::One,
         about: "Write abbreviations out, or make them of texts that repeat, and print the new text",
         help: STRINGS_HELP,
         arguments: &STRINGS,
@@ -624,16 +605,6 @@ fn own_arguments<'a>(alloc: Global, rows: &'static [Argument]) -> Result<Vec<Arg
     Ok(arguments)
 }
 
-// The arguments of a command, the files that it reads last.
-fn arguments<'a>(alloc: Global, row: &'static Row) -> Result<Vec<Arg<'a>>, AllocError> {
-    let mut arguments = own_arguments(alloc, row.arguments)?;
-    match row.files {
-        TakesFiles::Many => arguments.push(files(alloc))?,
-        TakesFiles::One => {}
-    }
-    Ok(arguments)
-}
-
 // A command, without its arguments.
 fn described<'a>(alloc: Global, row: &'static Row) -> Command<'a> {
     Command::new(alloc, row.name)
@@ -641,17 +612,33 @@ fn described<'a>(alloc: Global, row: &'static Row) -> Command<'a> {
         .after_help(row.help)
 }
 
-// A command.
-fn command_of<'a>(alloc: Global, row: &'static Row) -> Result<Command<'a>, AllocError> {
-    let arguments = arguments(alloc, row)?;
+// A command that reads files, which stand after its other arguments.
+fn reading_command<'a>(alloc: Global, row: &'static Row) -> Result<Command<'a>, AllocError> {
+    let mut arguments = own_arguments(alloc, row.arguments)?;
+    arguments.push(files(alloc))?;
     described(alloc, row).args(arguments)
 }
 
-// The commands.
-fn commands<'a>(alloc: Global) -> Result<Vec<Command<'a>>, AllocError> {
+// A command that edits a file.
+fn editing_command<'a>(alloc: Global, row: &'static Row) -> Result<Command<'a>, AllocError> {
+    let arguments = own_arguments(alloc, row.arguments)?;
+    described(alloc, row).args(arguments)
+}
+
+// The commands that read files.
+fn reading_commands<'a>(alloc: Global) -> Result<Vec<Command<'a>>, AllocError> {
     let mut commands = Vec::new(alloc);
-    'rows: for row in &COMMANDS {
-        commands.push(command_of(alloc, row)?)?;
+    'rows: for row in &READING {
+        commands.push(reading_command(alloc, row)?)?;
+    }
+    Ok(commands)
+}
+
+// The commands that edit a file.
+fn editing_commands<'a>(alloc: Global) -> Result<Vec<Command<'a>>, AllocError> {
+    let mut commands = Vec::new(alloc);
+    'rows: for row in &EDITING {
+        commands.push(editing_command(alloc, row)?)?;
     }
     Ok(commands)
 }
@@ -665,14 +652,16 @@ fn program<'a>(alloc: Global) -> Command<'a> {
 
 /// Whether the command of this name edits a file.
 pub fn is_editing(name: &str) -> bool {
-    COMMANDS.iter().any(|row| row.name == name && matches!(row.files, TakesFiles::One))
+    EDITING.iter().any(|row| row.name == name)
 }
 
 /// The whole command line.
 pub fn command<'a>(alloc: Global) -> Result<Command<'a>, AllocError> {
-    let commands = commands(alloc)?;
+    let reading = reading_commands(alloc)?;
+    let editing = editing_commands(alloc)?;
     program(alloc)
         .subcommand_required(true)
         .arg_required_else_help(true)
-        .subcommands(commands)
+        .subcommands(reading)?
+        .subcommands(editing)
 }

@@ -359,10 +359,14 @@ fn show_difference(
     is_check: bool,
 ) -> Result<(), Stop> {
     let mut output = Output::new(io::writer(rt));
-    match print_difference(rt.alloc(), name, bytes, edits, &mut output) {
-        Ok(true) if is_check => Err(not_in_style(rt.alloc(), name)?),
-        Ok(_) => Ok(()),
-        Err(why) => Err(unprinted(rt.alloc(), name, bytes, edits, &why)?),
+    let is_changed = match print_difference(rt.alloc(), name, bytes, edits, &mut output) {
+        Ok(is_changed) => is_changed,
+        Err(why) => return Err(unprinted(rt.alloc(), name, bytes, edits, &why)?),
+    };
+    if is_changed && is_check {
+        Err(not_in_style(rt.alloc(), name)?)
+    } else {
+        Ok(())
     }
 }
 
