@@ -438,6 +438,8 @@ acm||ACM|
 acm2|@string{acm = {x}} |ACM|
 acm2||ACM|, note=acm
 acm2|@string{other = acm} |ACM|
+acm2|@string{ACM = {x}} |ACM|
+acm2||ACM|, note=Acm
 jan2||Jan|
 s||12|
 abcdefgh||Abcdefghij|

@@ -1,7 +1,7 @@
 -- Names that are made for texts.
 use Rattle.std.proofs.Common.{◌≡◌, ℕ, zero, suc, ◌+◌, ◌<◌, ◌≤◌, ◌||◌, ◌&&◌, Bool, true, false, not, List, [], ◌∷◌, ◌++◌, length, drop, codes, refl, sym, ap, ◌∙◌, subst, arith, length-append}
-use Rattle.std.specs.Prelude.{bytes_eq, replicate}
-use Rattle.std.specs.Char.{is_ascii_digit, is_ascii_lowercase}
+use Rattle.std.specs.Prelude.{replicate}
+use Rattle.std.specs.Char.{is_ascii_digit, is_ascii_lowercase, to_ascii_lowercase}
 use Rattle.std.specs.List.{list_all}
 use Rattle.std.specs.Str.{str_to_ascii_lowercase}
 use Rattle.std.proofs.lemmas.Bool.{false≢true, and_parts}
@@ -16,12 +16,11 @@ use Rattle.bib_syntax.specs.Grammar.{Identifier, NoDigit, is_word, longest}
 use Rattle.bib_syntax.specs.Reading.{part}
 use Rattle.bib_documents.specs.Documents.{CanBeName}
 use Rattle.bib_documents.proofs.EditFacts.{ascii_stands}
-use Rattle.bib_excerpts.specs.Needed.{is_listed}
 use Rattle.bib_syntax.specs.Reading.{FileReading}
-use Rattle.bib_strings.specs.Collected.{AreNewNames, is_month, names_of_file}
-use Rattle.bib_strings.specs.Collecting.{IsBounded, IsFresh, is_plain_byte, is_plain_name, is_taken}
+use Rattle.bib_strings.specs.Collected.{AreNewNames, is_month, is_one_in_any_case, names_of_file}
+use Rattle.bib_strings.specs.Collecting.{has_lowercase, IsBounded, IsFresh, is_plain_byte, is_plain_name, is_taken}
 use Rattle.bib_strings.specs.declared.taken.Taken.{Taken}
-use Rattle.bib_strings.proofs.TextFacts.{listed_push, not_true, or_assoc, or_none}
+use Rattle.bib_strings.proofs.TextFacts.{any_push, not_true, or_assoc, or_none}
 
 -- ---- plain names are identifiers
 
@@ -106,30 +105,49 @@ longer_fresh taken base name bounded three plain is =
     by_case true held size = absurd (omega (arith, bounded name held))
     by_case false free size = free
 
+same_lower : (c : ℕ) → is_plain_byte c ≡ true → to_ascii_lowercase c ≡ c
+same_lower c is = grind (arith, nat_tests)
+
+letter_is_plain : (c : ℕ) → is_ascii_lowercase c ≡ true → is_plain_byte c ≡ true
+letter_is_plain c is = ap (λ b. b || is_ascii_digit c) is
+
+plain_lower : (bs : List ℕ) → list_all is_plain_byte bs ≡ true → str_to_ascii_lowercase bs ≡ bs
+plain_lower [] all = refl
+plain_lower (b ∷ bs) all =
+    let both = and_parts (is_plain_byte b) (list_all is_plain_byte bs) all in
+    ap (λ c. c ∷ str_to_ascii_lowercase bs) (same_lower b both.0) ∙ ap (λ l. b ∷ l) (plain_lower bs both.1)
+
+-- a plain name is in lowercase
+name_lower : (name : List ℕ) → is_plain_name name ≡ true → str_to_ascii_lowercase name ≡ name
+name_lower [] is = absurd (false≢true is)
+name_lower (b ∷ bs) is =
+    let both = and_parts (is_ascii_lowercase b) (list_all is_plain_byte bs) is in
+    plain_lower (b ∷ bs) (ap (λ x. x && list_all is_plain_byte bs) (letter_is_plain b both.0) ∙ both.1)
+
 -- a name that was looked at
-pub new_fresh : (taken : Taken) (name : List ℕ) → (is_plain_name name && (not (is_month name) && not (is_taken taken name))) ≡ true → IsFresh taken name
+pub new_fresh : (taken : Taken) (name : List ℕ) → (is_plain_name name && (not (is_month name) && not (has_lowercase taken name))) ≡ true → IsFresh taken name
 new_fresh taken name is =
-    let a = and_parts (is_plain_name name) (not (is_month name) && not (is_taken taken name)) is in
-    let b = and_parts (not (is_month name)) (not (is_taken taken name)) a.1 in
-    record { plain = a.0; no_month = not_true (is_month name) b.0; free = not_true (is_taken taken name) b.1 }
+    let a = and_parts (is_plain_name name) (not (is_month name) && not (has_lowercase taken name)) is in
+    let b = and_parts (not (is_month name)) (not (has_lowercase taken name)) a.1 in
+    record { plain = a.0; no_month = not_true (is_month name) b.0; free = ap (has_lowercase taken) (name_lower name a.0) ∙ not_true (has_lowercase taken name) b.1 }
 
 -- ---- names one after another
 
-pub names_more : (says : FileReading) (names : List (List ℕ)) (name : List ℕ) (taken : Taken) (initial : List ℕ → Bool) → IsFresh taken name → ((other : List ℕ) → is_taken taken other ≡ (is_listed names other || initial other))
-    → ((other : List ℕ) → initial other ≡ is_listed (names_of_file says) other) → AreNewNames says names → AreNewNames says (names ++ name ∷ [])
+pub names_more : (says : FileReading) (names : List (List ℕ)) (name : List ℕ) (taken : Taken) (initial : List ℕ → Bool) → IsFresh taken name → ((other : List ℕ) → is_taken taken other ≡ (is_one_in_any_case names other || initial other))
+    → ((other : List ℕ) → initial other ≡ is_one_in_any_case (names_of_file says) other) → AreNewNames says names → AreNewNames says (names ++ name ∷ [])
 names_more says names name taken initial fresh known file new =
-    let none = or_none (is_listed names name) (initial name) (sym (known name) ∙ fresh.free) in
+    let none = or_none (is_one_in_any_case names name) (initial name) (sym (known name) ∙ fresh.free) in
     let can = plain_can name fresh.plain in
     AreNewNames.more names name new (record { can = can.0; no_digit = can.1; no_month = fresh.no_month; free = sym (file name) ∙ none.1 }) none.0
 
-pub taken_more : (names : List (List ℕ)) (name other : List ℕ) (new old initial : Bool) → new ≡ (bytes_eq name other || old) → old ≡ (is_listed names other || initial) → new ≡ (is_listed (names ++ name ∷ []) other || initial)
+pub taken_more : (names : List (List ℕ)) (name other : List ℕ) (new old initial : Bool) → new ≡ (is_word name other || old) → old ≡ (is_one_in_any_case names other || initial) → new ≡ (is_one_in_any_case (names ++ name ∷ []) other || initial)
 taken_more names name other new old initial more known =
-    more ∙ ap (λ b. bytes_eq name other || b) known ∙ or_assoc (bytes_eq name other) (is_listed names other) initial ∙ ap (λ b. b || initial) (sym (listed_push names name other))
+    more ∙ ap (λ b. is_word name other || b) known ∙ or_assoc (is_word name other) (is_one_in_any_case names other) initial ∙ ap (λ b. b || initial) (sym (any_push (λ n. is_word n other) names name))
 
 -- a name that is taken is no longer than the longest
-pub bounded_more : (name other : List ℕ) (before after : ℕ) (new old : Bool) → new ≡ (bytes_eq name other || old) → (old ≡ true → length other ≤ before) → length name ≤ after → before ≤ after → new ≡ true → length other ≤ after
-bounded_more name other before after new old more bounded own grows is = by_case (bytes_eq name other) refl (sym more ∙ is)
+pub bounded_more : (name other : List ℕ) (before after : ℕ) (new old : Bool) → new ≡ (is_word name other || old) → (old ≡ true → length other ≤ before) → length name ≤ after → before ≤ after → new ≡ true → length other ≤ after
+bounded_more name other before after new old more bounded own grows is = by_case (is_word name other) refl (sym more ∙ is)
   where
-    by_case : (b : Bool) → bytes_eq name other ≡ b → (b || old) ≡ true → length other ≤ after
-    by_case true same held = let equal : name ≡ other = (bytes_eq-Decides name other).0 same in omega (arith, ap length equal)
+    by_case : (b : Bool) → is_word name other ≡ b → (b || old) ≡ true → length other ≤ after
+    by_case true same held = omega (arith, word_length name other same)
     by_case false differ held = omega (arith, bounded held)

@@ -2,8 +2,10 @@
 use Rattle.std.proofs.Common.{◌≡◌, ℕ, ◌+◌, ◌<◌, ◌||◌, Bool, true, false, cond, not, List, [], ◌∷◌, ◌++◌, length, take, map, get_or, refl, sym, ap, ◌∙◌, arith, append_assoc, append-nil, Option, Some}
 use Rattle.std.specs.Prelude.{MatchBool, bytes_eq}
 use Rattle.std.proofs.lemmas.Bool.{false≢true}
+use Rattle.std.specs.List.{list_any}
 use Rattle.std.specs.Option.{option_map_or}
 use Rattle.std.proofs.lemmas.List.{length-map, length-take-le, map-append, take_more}
+use Rattle.std.proofs.lemmas.List.Folds.{list_any-append}
 use Rattle.std.proofs.lemmas.List.Sums.{fold_push}
 use Rattle.std.proofs.lemmas.Slice.Eq.{bytes_eq-Decides}
 use Rattle.bib_excerpts.specs.Needed.{is_listed}
@@ -42,24 +44,19 @@ pub or_cond : (b x : Bool) → cond b true x ≡ (b || x)
 or_cond true x = refl
 or_cond false x = refl
 
-pub listed_append : (xs ys : List (List ℕ)) (name : List ℕ) → is_listed (xs ++ ys) name ≡ (is_listed xs name || is_listed ys name)
-listed_append [] ys name = refl
-listed_append (x ∷ xs) ys name = by_case (bytes_eq x name) (listed_append xs ys name)
-  where
-    by_case : (b : Bool) → is_listed (xs ++ ys) name ≡ (is_listed xs name || is_listed ys name) → (b || is_listed (xs ++ ys) name) ≡ ((b || is_listed xs name) || is_listed ys name)
-    by_case true others = refl
-    by_case false others = others
-
-pub listed_push : (xs : List (List ℕ)) (x name : List ℕ) → is_listed (xs ++ x ∷ []) name ≡ (bytes_eq x name || is_listed xs name)
-listed_push xs x name =
-    let last : (is_listed xs name || is_listed (x ∷ []) name) ≡ (bytes_eq x name || is_listed xs name) = by_case (is_listed xs name) (bytes_eq x name) in
-    listed_append xs (x ∷ []) name ∙ last
+pub any_push : {A : Type 0} (test : A → Bool) (xs : List A) (x : A) → list_any test (xs ++ x ∷ []) ≡ (test x || list_any test xs)
+any_push test xs x =
+    let last : (list_any test xs || list_any test (x ∷ [])) ≡ (test x || list_any test xs) = by_case (list_any test xs) (test x) in
+    list_any-append test xs (x ∷ []) ∙ last
   where
     by_case : (a b : Bool) → (a || (b || false)) ≡ (b || a)
     by_case true true = refl
     by_case true false = refl
     by_case false true = refl
     by_case false false = refl
+
+pub listed_push : (xs : List (List ℕ)) (x name : List ℕ) → is_listed (xs ++ x ∷ []) name ≡ (bytes_eq x name || is_listed xs name)
+listed_push xs x name = any_push (λ one. bytes_eq one name) xs x
 
 pub not_true : (b : Bool) → not b ≡ true → b ≡ false
 not_true true is = absurd (false≢true is)

@@ -82,17 +82,21 @@ used_names fields = flat_map (λ f. element_names (elements f)) fields
 abbrev pub names_of_file : FileReading → List (List ℕ)
 names_of_file says = definition_names says.abbreviations ++ flat_map (λ e. used_names e.fields) says.entries
 
--- a name that a file doesn't have: an identifier that doesn't begin with a digit, and no month's
+-- whether a name is one of these, in any ASCII case: BibTeX takes names that differ in case alone as one
+abbrev pub is_one_in_any_case : List (List ℕ) → List ℕ → Bool
+is_one_in_any_case names name = list_any (λ other. is_word other name) names
+
+-- a name that a file has in no case: an identifier that doesn't begin with a digit, and no month's
 pub record IsNewName (says : FileReading) (name : List ℕ) : Type 0 where
   pub can : CanBeName name
   pub no_digit : NoDigit (place name 0)
   pub no_month : is_month name ≡ false
-  pub free : is_listed (names_of_file says) name ≡ false
+  pub free : is_one_in_any_case (names_of_file says) name ≡ false
 
--- names that a file doesn't have, each another
+-- names that a file has in no case, each another in any case
 pub data AreNewNames (says : FileReading) : List (List ℕ) → Type 0 where
   none : AreNewNames says []
-  more : (names : List (List ℕ)) (name : List ℕ) → AreNewNames says names → IsNewName says name → is_listed names name ≡ false → AreNewNames says (names ++ name ∷ [])
+  more : (names : List (List ℕ)) (name : List ℕ) → AreNewNames says names → IsNewName says name → is_one_in_any_case names name ≡ false → AreNewNames says (names ++ name ∷ [])
 
 -- for a text its index among texts, if it is one of them
 abbrev pub text_index : List (List ℕ) → Index

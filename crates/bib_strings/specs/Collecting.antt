@@ -6,7 +6,7 @@ use Rattle.std.specs.BTreeMap.{BTreeMap, get_by}
 use Rattle.std.specs.BTreeSet.{contains_text}
 use Rattle.std.specs.Char.{is_ascii_alphabetic, is_ascii_digit, is_ascii_lowercase, to_ascii_lowercase}
 use Rattle.std.specs.Fmt.{decimal}
-use Rattle.std.specs.Str.{chars}
+use Rattle.std.specs.Str.{chars, str_to_ascii_lowercase}
 use Rattle.std.specs.Cmp.Lexicographic.{slice_cmp}
 use Rattle.std.specs.List.{list_all}
 use Rattle.std.specs.Option.{option_map_or}
@@ -27,9 +27,13 @@ lent_texts items = map (λ t. t.now) items
 abbrev pub count_in : BTreeMap (Bor (List ℕ)) ℕ → List ℕ → ℕ
 count_in counts text = option_map_or (λ n. n) (get_by (λ k. slice_cmp nat_cmp text k.now) counts) 0
 
--- whether a name is taken
+-- whether a name in lowercase is taken
+abbrev pub has_lowercase : Taken → List ℕ → Bool
+has_lowercase taken lowercase = contains_text taken.names lowercase
+
+-- whether a name is taken, in any ASCII case
 abbrev pub is_taken : Taken → List ℕ → Bool
-is_taken taken name = contains_text taken.names name
+is_taken taken name = has_lowercase taken (str_to_ascii_lowercase name)
 
 -- no name that is taken is longer than the longest
 abbrev pub IsBounded : Taken → Type 0

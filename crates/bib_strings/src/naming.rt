@@ -5,11 +5,10 @@ ghost use Rattle.std.specs.Char.{is_ascii_lowercase};
 ghost use Rattle.std.specs.List.{list_all};
 ghost use Rattle.std.specs.String.{string_bytes};
 ghost use Rattle.bib_syntax.specs.Reading.{FileReading};
-ghost use Rattle.bib_excerpts.specs.Needed.{is_listed};
 ghost use Rattle.bib_strings.specs.Collected as spec;
-ghost use Rattle.bib_strings.specs.Collected.{AreNewNames, names_of_file};
+ghost use Rattle.bib_strings.specs.Collected.{AreNewNames, is_one_in_any_case, names_of_file};
 ghost use Rattle.bib_strings.specs.Collecting as plain;
-ghost use Rattle.bib_strings.specs.Collecting.{number_after, IsBounded, IsFresh, is_plain_name, is_taken, string_texts};
+ghost use Rattle.bib_strings.specs.Collecting.{has_lowercase, number_after, IsBounded, IsFresh, is_plain_name, is_taken, string_texts};
 
 use crate::taken::Taken;
 use bib_syntax::raw::is_word;
@@ -118,7 +117,7 @@ fn numbered(alloc: Global, base: &str, number: u64) -> Result<String, AllocError
 
 // Whether a text can be a new name.
 fn is_new(taken: &Taken, name: &str) -> bool
-    ensures { result ≡ (is_plain_name name.now && (not (spec.is_month name.now) && not (is_taken taken.now name.now))) }
+    ensures { result ≡ (is_plain_name name.now && (not (spec.is_month name.now) && not (has_lowercase taken.now name.now))) }
 {
     is_plain(name) && !is_month(name) && !taken.has(name)
 }
@@ -148,7 +147,7 @@ pub(crate) fn new_names(
     requires bounded { IsBounded taken.old }
     requires three { 3 ≤ taken.old.longest }
     ensures count { IfOk result (λ names. length names.items ≡ length texts.now) }
-    ensures are_new { IfOk result (λ names. (says : FileReading) → ((other : List ℕ) → is_taken taken.old other ≡ is_listed (names_of_file says) other) →
+    ensures are_new { IfOk result (λ names. (says : FileReading) → ((other : List ℕ) → is_taken taken.old other ≡ is_one_in_any_case (names_of_file says) other) →
         AreNewNames says (string_texts names.items)) }
 {
     let mut numbers = BTreeMap::new(alloc);

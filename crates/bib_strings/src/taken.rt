@@ -1,18 +1,18 @@
 //! Names that are taken.
 
-ghost use Rattle.std.specs.Prelude.{◌≡◌, ◌≤◌, ◌||◌, ℕ, List, bytes_eq, IfOk, OnOk, map};
+ghost use Rattle.std.specs.Prelude.{◌≡◌, ◌≤◌, ◌||◌, ℕ, List, IfOk, OnOk, map};
 ghost use Rattle.std.specs.List.{flat_map};
+ghost use Rattle.bib_syntax.specs.Grammar.{is_word};
 ghost use Rattle.bib_syntax.specs.Views.{entry_reading_of, field_of, file_of, piece_of};
-ghost use Rattle.bib_excerpts.specs.Needed.{is_listed};
-ghost use Rattle.bib_strings.specs.Collected.{definition_names, element_names, names_of_file, used_names};
-ghost use Rattle.bib_strings.specs.Collecting.{IsBounded, is_taken};
+ghost use Rattle.bib_strings.specs.Collected.{definition_names, element_names, is_one_in_any_case, names_of_file, used_names};
+ghost use Rattle.bib_strings.specs.Collecting.{has_lowercase, IsBounded, is_taken};
 
 use bib_syntax::raw::{Pair, RawBibliography, RawChunk, RawEntry};
 use bib_text::spanned::Spanned;
 use std::alloc::{AllocError, Global};
 use std::collections::BTreeSet;
 
-// Names, and how long the longest is.
+// Names in lowercase, and how long the longest is.
 #[derive(Drop)]
 pub(crate) struct Taken {
     names: BTreeSet<String>,
@@ -20,22 +20,22 @@ pub(crate) struct Taken {
 }
 
 impl Taken {
-    // Whether a name is taken.
-    pub(crate) fn has(&self, name: &str) -> bool
-        ensures { result ≡ is_taken self.now name.now }
+    // Whether a name in lowercase is taken.
+    pub(crate) fn has(&self, lowercase: &str) -> bool
+        ensures { result ≡ has_lowercase self.now lowercase.now }
     {
-        self.names.contains(name)
+        self.names.contains(lowercase)
     }
 
-    // Takes a name.
+    // Takes a name, in any case.
     pub(crate) fn take(&mut self, alloc: Global, name: &str) -> Result<(), AllocError>
         requires { IsBounded self.old }
-        ensures taken { OnOk result ((other : List ℕ) → is_taken self.new other ≡ (bytes_eq name.now other || is_taken self.old other)) }
+        ensures taken { OnOk result ((other : List ℕ) → is_taken self.new other ≡ (is_word name.now other || is_taken self.old other)) }
         ensures bounded { OnOk result (IsBounded self.new) }
         ensures longer { OnOk result (self.old.longest ≤ self.new.longest) }
     {
         self.longest = self.longest.max(name.len());
-        self.names.insert(String::from_str(alloc, name)?)?;
+        self.names.insert(name.to_ascii_lowercase(alloc)?)?;
         Ok(())
     }
 
@@ -46,7 +46,7 @@ impl Taken {
         pieces: &[Spanned<RawChunk<'_>>],
     ) -> Result<(), AllocError>
         requires { IsBounded self.old }
-        ensures taken { OnOk result ((other : List ℕ) → is_taken self.new other ≡ (is_listed (element_names (map piece_of pieces.now)) other || is_taken self.old other)) }
+        ensures taken { OnOk result ((other : List ℕ) → is_taken self.new other ≡ (is_one_in_any_case (element_names (map piece_of pieces.now)) other || is_taken self.old other)) }
         ensures bounded { OnOk result (IsBounded self.new) }
         ensures longer { OnOk result (self.old.longest ≤ self.new.longest) }
     {
@@ -65,7 +65,7 @@ impl Taken {
         definitions: &[Pair<'_>],
     ) -> Result<(), AllocError>
         requires { IsBounded self.old }
-        ensures taken { OnOk result ((other : List ℕ) → is_taken self.new other ≡ (is_listed (definition_names (map field_of definitions.now)) other || is_taken self.old other)) }
+        ensures taken { OnOk result ((other : List ℕ) → is_taken self.new other ≡ (is_one_in_any_case (definition_names (map field_of definitions.now)) other || is_taken self.old other)) }
         ensures bounded { OnOk result (IsBounded self.new) }
         ensures longer { OnOk result (self.old.longest ≤ self.new.longest) }
     {
@@ -79,7 +79,7 @@ impl Taken {
     // Takes the names that fields use.
     fn take_fields(&mut self, alloc: Global, fields: &[Pair<'_>]) -> Result<(), AllocError>
         requires { IsBounded self.old }
-        ensures taken { OnOk result ((other : List ℕ) → is_taken self.new other ≡ (is_listed (used_names (map field_of fields.now)) other || is_taken self.old other)) }
+        ensures taken { OnOk result ((other : List ℕ) → is_taken self.new other ≡ (is_one_in_any_case (used_names (map field_of fields.now)) other || is_taken self.old other)) }
         ensures bounded { OnOk result (IsBounded self.new) }
         ensures longer { OnOk result (self.old.longest ≤ self.new.longest) }
     {
@@ -96,7 +96,7 @@ impl Taken {
         entries: &[Spanned<RawEntry<'_>>],
     ) -> Result<(), AllocError>
         requires { IsBounded self.old }
-        ensures taken { OnOk result ((other : List ℕ) → is_taken self.new other ≡ (is_listed (flat_map (λ e. used_names e.fields) (map entry_reading_of entries.now)) other || is_taken self.old other)) }
+        ensures taken { OnOk result ((other : List ℕ) → is_taken self.new other ≡ (is_one_in_any_case (flat_map (λ e. used_names e.fields) (map entry_reading_of entries.now)) other || is_taken self.old other)) }
         ensures bounded { OnOk result (IsBounded self.new) }
         ensures longer { OnOk result (self.old.longest ≤ self.new.longest) }
     {
@@ -106,9 +106,9 @@ impl Taken {
         Ok(())
     }
 
-    // The names that a file defines or uses.
+    // The names that a file defines or uses, in any case.
     pub(crate) fn of_file(alloc: Global, raw: &RawBibliography<'_>) -> Result<Taken, AllocError>
-        ensures taken { IfOk result (λ taken. (other : List ℕ) → is_taken taken other ≡ is_listed (names_of_file (file_of raw.now)) other) }
+        ensures taken { IfOk result (λ taken. (other : List ℕ) → is_taken taken other ≡ is_one_in_any_case (names_of_file (file_of raw.now)) other) }
         ensures bounded { IfOk result IsBounded }
         ensures three { IfOk result (λ taken. 3 ≤ taken.longest) }
     {

@@ -4,10 +4,10 @@ use Rattle.std.specs.Prelude.{◌||◌}
 use Rattle.std.proofs.lemmas.Bool.{false≢true}
 use Rattle.std.specs.List.{list_any}
 use Rattle.std.proofs.lemmas.List.{drop_more, get_or-drop, get_or-take, length-take, length-take-le}
-use Rattle.bibkit_diff.specs.Comparison.{new_side, old_side}
+use Rattle.bibkit_diff.specs.Comparison.{is_changed, new_side, old_side}
 use Rattle.bibkit_diff.specs.Hunks.{Hunk, Make}
 use Rattle.bibkit_diff.specs.Hunks.{Make as make}
-use Rattle.bibkit_diff.specs.Visible.{AreContext, is_changed, is_visible, near}
+use Rattle.bibkit_diff.specs.Visible.{AreContext, is_visible, near}
 use Rattle.bibkit_diff.specs.declared.comparison.Line.{Line}
 use Rattle.bibkit_diff.specs.declared.comparison.Line.TheVariants.{Context, Removed, Added}
 use Rattle.bibkit_diff.proofs.ComparisonFacts.{new_append, old_append}

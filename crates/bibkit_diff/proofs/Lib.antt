@@ -1,3 +1,4 @@
 mod ComparisonFacts
 mod HunkFacts
 mod LineFacts
+mod NarrowFacts

@@ -1,6 +1,6 @@
 -- Meaning: words of public contracts.
 -- Two lists of lines as one: each line stands in both, in the old one alone or in the new one alone.
-use Rattle.std.specs.Prelude.{ℕ, List, [], ◌∷◌}
+use Rattle.std.specs.Prelude.{ℕ, Bool, true, false, List, [], ◌∷◌}
 use Rattle.bibkit_diff.specs.declared.comparison.Line.{Line}
 use Rattle.bibkit_diff.specs.declared.comparison.Line.TheVariants.{Context, Removed, Added}
 
@@ -17,3 +17,9 @@ new_side [] = []
 new_side (Context line ∷ lines) = line.now ∷ new_side lines
 new_side (Removed line ∷ lines) = new_side lines
 new_side (Added line ∷ lines) = line.now ∷ new_side lines
+
+-- whether a line has changed: it doesn't stand in both texts
+abbrev pub is_changed : Line → Bool
+is_changed (Context line) = false
+is_changed (Removed line) = true
+is_changed (Added line) = true

@@ -2,10 +2,10 @@
 -- The unified format of GNU diff, which patch reads.
 use Rattle.std.specs.Prelude.{◌≡◌, ℕ, ◌-◌, List, [], ◌∷◌, ◌++◌, codes, cond, length, nat_eq}
 use Rattle.std.specs.Fmt.{decimal}
-use Rattle.std.specs.List.{ends_with, flat_map}
+use Rattle.std.specs.List.{AllByRecursion, ends_with, flat_map}
 use lib.Dec.{eqb}
 use Rattle.bibkit_diff.specs.Comparison.{old_side, new_side}
-use Rattle.bibkit_diff.specs.Hunks.{Hunk, Make}
+use Rattle.bibkit_diff.specs.Hunks.{Hunk, IsNarrow, Make}
 use Rattle.bibkit_diff.specs.Lines.{lines_of}
 use Rattle.bibkit_diff.specs.declared.comparison.Line.{Line}
 use Rattle.bibkit_diff.specs.declared.comparison.Line.TheVariants.{Context, Removed, Added}
@@ -42,8 +42,10 @@ abbrev pub unified_text : List ℕ → List Hunk → List ℕ
 unified_text name [] = []
 unified_text name (hunk ∷ hunks) = codes "--- " ++ (name ++ (codes "\n+++ " ++ (name ++ (codes "\n" ++ flat_map hunk_text (hunk ∷ hunks)))))
 
--- a text is hunks that make the lines of the new text of those of the old one
+-- a text is narrow hunks that make the lines of the new text of those of the old one; there is none where the texts are the same
 pub record IsDiff (name old new text : List ℕ) : Type 0 where
   pub hunks : List Hunk
   pub make : Make 1 1 hunks (lines_of old) (lines_of new)
+  pub narrow : AllByRecursion IsNarrow hunks
+  pub same : old ≡ new → hunks ≡ []
   pub is : text ≡ unified_text name hunks

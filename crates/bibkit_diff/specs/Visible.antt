@@ -1,17 +1,11 @@
 -- Machinery: words of private contracts.
 -- Which lines of two texts are shown.
-use Rattle.std.specs.Prelude.{◌≡◌, ℕ, ◌+◌, ◌-◌, min, Bool, true, false, List, drop, length, take}
+use Rattle.std.specs.Prelude.{◌≡◌, ℕ, ◌+◌, ◌-◌, min, Bool, false, List, drop, length, take}
 use Rattle.std.specs.List.{AllByRecursion, list_any}
+use Rattle.bibkit_diff.specs.Comparison.{is_changed}
 use Rattle.bibkit_diff.specs.Hunks.{Hunk}
 use Rattle.bibkit_diff.specs.declared.comparison.Line.{Line}
-use Rattle.bibkit_diff.specs.declared.comparison.Line.TheVariants.{Context, Removed, Added}
 use Rattle.bibkit_diff.specs.declared.hunks.Hunk as code
-
--- whether a line has changed
-abbrev pub is_changed : Line → Bool
-is_changed (Context line) = false
-is_changed (Removed line) = true
-is_changed (Added line) = true
 
 -- the lines at most three lines from the one at an index
 abbrev pub near : List Line → ℕ → List Line

@@ -1,10 +1,12 @@
 //! Hunks: what has changed, with the lines round it.
 
-ghost use Rattle.std.specs.Prelude.{◌≡◌, ◌≤◌, ◌<◌, ◌-◌, ◌∷◌, [], false, IfOk, drop, length, map, take};
+ghost use Rattle.std.specs.Prelude.{◌≡◌, ℕ, ◌≤◌, ◌<◌, ◌-◌, ◌∷◌, [], false, IfOk, drop, length, map, take};
+ghost use Rattle.std.specs.List.{AllByRecursion};
+ghost use Rattle.bibkit_diff.specs.Comparison as comparison;
 ghost use Rattle.bibkit_diff.specs.Comparison.{new_side, old_side};
 ghost use Rattle.bibkit_diff.specs.Visible.{AreContext, hunk_of};
 ghost use Rattle.bibkit_diff.specs.Visible as visible;
-ghost use Rattle.bibkit_diff.specs.Hunks.{Make};
+ghost use Rattle.bibkit_diff.specs.Hunks.{IsNarrow, Make};
 
 use crate::comparison::Line;
 use std::alloc::{AllocError, Global};
@@ -19,7 +21,7 @@ pub(crate) struct Hunk<'c, 't> {
 
 // Whether a line has changed.
 fn is_changed(line: &Line<'_>) -> bool
-    ensures { result ≡ visible.is_changed line.now }
+    ensures { result ≡ comparison.is_changed line.now }
 {
     match line {
         Line::Context(_) => false,
@@ -47,6 +49,7 @@ fn run_end(lines: &[Line<'_>], start: usize, are_visible: bool) -> usize
     requires { start ≤ length lines.now }
     ensures after { start ≤ result }
     ensures within { result ≤ length lines.now }
+    ensures same { (index : ℕ) → start ≤ index → index < result → visible.is_visible lines.now index ≡ are_visible }
     ensures hidden { are_visible ≡ false → AreContext (take (result - start) (drop start lines.now)) }
     ensures moved { start < length lines.now → visible.is_visible lines.now start ≡ are_visible → start < result }
     ensures ended { result < length lines.now → visible.is_visible lines.now result ≡ are_visible → ⊥ }
@@ -112,7 +115,8 @@ pub(crate) fn hunks<'c, 't>(
     alloc: Global,
     lines: &'c [Line<'t>],
 ) -> Result<Vec<Hunk<'c, 't>>, AllocError>
-    ensures { IfOk result (λ hunks. Make 1 1 (map hunk_of hunks.items) (old_side lines.now) (new_side lines.now)) }
+    ensures make { IfOk result (λ hunks. Make 1 1 (map hunk_of hunks.items) (old_side lines.now) (new_side lines.now)) }
+    ensures narrow { IfOk result (λ hunks. AllByRecursion IsNarrow (map hunk_of hunks.items)) }
 {
     let mut hunks = Vec::new(alloc);
     let mut at = 0usize;

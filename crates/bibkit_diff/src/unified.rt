@@ -100,11 +100,15 @@ fn with_name(alloc: Global, name: &str, hunks: &[Hunk<'_, '_>]) -> Result<String
 }
 
 /// How the new text of a file differs from the old one, as `diff -u` prints it and `patch` reads it: nothing where they are the same,
-/// else lines with the file's name, and hunks of what has changed with three lines round it. Which lines are taken as the same where
-/// there is a choice isn't said; the hunks make the new text of the old one. Fails only where there is no memory.
+/// else lines with the file's name, and hunks of what has changed with three lines round it. The hunks make the new text of the old
+/// one, and have no line that is further from a change; which lines are taken as the same where there is a choice isn't said.
+/// Fails only where there is no memory.
 pub fn unified(alloc: Global, name: &str, old: &str, new: &str) -> Result<String, AllocError>
     ensures { IfOk result (λ diff. IsDiff name.now old.now new.now (string_bytes diff)) }
 {
+    if old == new {
+        return Ok(String::new(alloc));
+    }
     let old = lines(alloc, old)?;
     let new = lines(alloc, new)?;
     let partners = found_partners(alloc, &old, &new)?;

@@ -1,7 +1,6 @@
 use Rattle.std.proofs.Common.{◌≡◌, ◌≤◌, ◌||◌, List, ℕ, length}
 use Rattle.bib_syntax.specs.Reading.{FileReading}
-use Rattle.bib_excerpts.specs.Needed.{is_listed}
-use Rattle.bib_strings.specs.Collected.{AreNewNames, names_of_file}
+use Rattle.bib_strings.specs.Collected.{AreNewNames, is_one_in_any_case, names_of_file}
 use Rattle.bib_strings.specs.Collecting.{IsBounded, is_taken, string_texts}
 use Rattle.bib_strings.proofs.naming.new_names.Given as goal
 
@@ -10,6 +9,6 @@ invariant-texts l = record {
   bounded : IsBounded l.taken;
   three : 3 ≤ l.taken.longest;
   count : length l.names.items ≡ l.text-index;
-  are_new : (says : FileReading) → ((other : List ℕ) → is_taken l.initial.taken other ≡ is_listed (names_of_file says) other) → AreNewNames says (string_texts l.names.items);
-  taken : (other : List ℕ) → is_taken l.taken other ≡ (is_listed (string_texts l.names.items) other || is_taken l.initial.taken other);
+  are_new : (says : FileReading) → ((other : List ℕ) → is_taken l.initial.taken other ≡ is_one_in_any_case (names_of_file says) other) → AreNewNames says (string_texts l.names.items);
+  taken : (other : List ℕ) → is_taken l.taken other ≡ (is_one_in_any_case (string_texts l.names.items) other || is_taken l.initial.taken other);
 }

@@ -1,7 +1,8 @@
-use Rattle.std.proofs.Common.{length, ◌-◌, ◌≤◌, ◌++◌, List, ℕ, map, take, ◌+◌}
+use Rattle.std.proofs.Common.{◌≡◌, false, length, ◌-◌, ◌<◌, ◌≤◌, ◌++◌, List, ℕ, map, take, ◌+◌}
+use Rattle.std.specs.List.{AllByRecursion}
 use Rattle.bibkit_diff.specs.Comparison.{new_side, old_side}
-use Rattle.bibkit_diff.specs.Visible.{hunk_of}
-use Rattle.bibkit_diff.specs.Hunks.{Hunk, Make}
+use Rattle.bibkit_diff.specs.Visible.{hunk_of, is_visible}
+use Rattle.bibkit_diff.specs.Hunks.{Hunk, IsNarrow, Make}
 use Rattle.bibkit_diff.proofs.hunks.hunks.Given as goal
 
 -- what hunks after these make of the lines after these, all make of all
@@ -9,6 +10,8 @@ abbrev pub invariant-hunks : goal.invariant-hunks
 invariant-hunks l = record {
   make : (more : List Hunk) (rest rest' : List (List ℕ)) → Make l.old l.new more rest rest'
       → Make 1 1 (map hunk_of l.hunks.items ++ more) (old_side (take l.at l.lines) ++ rest) (new_side (take l.at l.lines) ++ rest');
+  narrow : AllByRecursion IsNarrow (map hunk_of l.hunks.items);
+  ended : 0 < l.at → l.at < length l.lines → is_visible l.lines l.at ≡ false;
   within : l.at ≤ length l.lines;
   old_within : l.old ≤ l.at + 1;
   new_within : l.new ≤ l.at + 1;

@@ -1,6 +1,6 @@
 use Rattle.std.proofs.Common.{◌≡◌, ◌-◌, false, drop, take}
 use Rattle.std.specs.List.{list_any}
-use Rattle.bibkit_diff.specs.Visible.{is_changed}
+use Rattle.bibkit_diff.specs.Comparison.{is_changed}
 use Rattle.bibkit_diff.proofs.hunks.is_visible.Given as goal
 
 abbrev pub invariant-lines : goal.invariant-lines
