@@ -4,6 +4,7 @@ use crate::commands::{command, is_editing};
 use crate::edits::{Editing, Edits, Mode};
 use bib_excerpts::request::{Request as Excerpts, Search};
 use bib_findings::codes::Code;
+use bibkit_convert::target::Target;
 use bibkit_core::request::{Cited, Request};
 use bibkit_core::settings::{Color, Format, Settings};
 use bibkit_edits::edit::Edit;
@@ -33,6 +34,8 @@ pub enum Asked<'a> {
         /// What is done with the new text of each file.
         mode: Mode,
     },
+    /// The entries of files in another format.
+    Convert(Target),
     /// Something else.
     Other(Request<'a>),
 }
@@ -255,6 +258,15 @@ fn format_asked<'a>(alloc: Global, matches: &ArgMatches<'a>) -> Result<Asked<'a>
     })
 }
 
+// The format that files are converted to.
+fn target_of(matches: &ArgMatches<'_>) -> Target {
+    match matches.get_str("to") {
+        Some("json") => Target::Json,
+        Some("ris") => Target::Ris,
+        _ => Target::Csl,
+    }
+}
+
 // What a command was asked for.
 fn request_of<'a>(
     alloc: Global,
@@ -264,6 +276,7 @@ fn request_of<'a>(
     let request = match name {
         "lint" => return lint_asked(alloc, matches),
         "fmt" => return format_asked(alloc, matches),
+        "convert" => return Ok(Asked::Convert(target_of(matches))),
         "get" => Request::Entries(Excerpts::Get(texts(alloc, matches, "KEYS")?)),
         "grep" => Request::Entries(Excerpts::Grep(Search {
             field: matches.get_str("FIELD").unwrap_or(""),

@@ -42,8 +42,12 @@ enum Takes {
     Width,
     // What entries are ordered by.
     Order,
-    // How often a text stands in a file.
+    // Names of fields whose texts are collected, separated by commas.
+    CollectedFields,
+    // How often a text that is collected stands in a file.
     Times,
+    // The format that files are converted to.
+    Target,
     // Nothing: it is an option by itself.
     Nothing,
     // Nothing: it is an option beside the one of this name.
@@ -255,7 +259,7 @@ const STRINGS: [Argument; 7] = [
     },
     Argument {
         name: "fields",
-        takes: Takes::FieldNames,
+        takes: Takes::CollectedFields,
         help: "The fields whose texts are collected",
     },
     Argument {
@@ -332,6 +336,16 @@ Example:
 
 Status: 0 done, 1 a file isn't in this style (--check), or has errors, 2 wrong usage, a file that can't be read, edited or written, or an
 output that can't be written, 3 out of memory";
+
+// What stands at the end of the help of `convert`.
+const CONVERT_HELP: &str = "\
+Entries have what they inherit. The entries of all files stand in one array, or one after another; of a file with errors none does, and
+its first error is reported.
+
+Example:
+  bibkit convert --to csl refs.bib >refs.json
+
+Status: 0 done, 1 a file has errors, 2 wrong usage, a file that can't be read or an output that can't be written, 3 out of memory";
 
 // How many spaces may be asked for before a field.
 static INDENTS: [&str; 9] = ["0", "1", "2", "3", "4", "5", "6", "7", "8"];
@@ -410,8 +424,18 @@ const FMT: [Argument; 13] = [
     DIFF,
 ];
 
+// The formats that files are converted to.
+static TARGETS: [&str; 3] = ["csl", "json", "ris"];
+
+// What `convert` takes.
+const CONVERT: [Argument; 1] = [Argument {
+    name: "to",
+    takes: Takes::Target,
+    help: "Items of CSL-JSON, entries as JSON, or records of RIS",
+}];
+
 // The commands that read files, in the order of help.
-static READING: [Row; 7] = [
+static READING: [Row; 8] = [
     Row {
         name: "lint",
         about: "Report what is wrong in files, by place",
@@ -453,6 +477,12 @@ static READING: [Row; 7] = [
         about: "Put files in one style, and print the new texts",
         help: FMT_HELP,
         arguments: &FMT,
+    },
+    Row {
+        name: "convert",
+        about: "Print entries, with what they inherit, in another format",
+        help: CONVERT_HELP,
+        arguments: &CONVERT,
     },
 ];
 
@@ -579,9 +609,13 @@ fn argument_of<'a>(alloc: Global, row: &'static Argument) -> Result<Arg<'a>, All
             0, 1_000_000,
         ))),
         Takes::Order => Ok(value(alloc, row, "ORDER").value_parser(ORDERS.as_slice())),
-        Takes::Times => Ok(value(alloc, row, "TIMES").value_parser(ValueParser::unsigned(
-            2, 1_000_000,
-        ))),
+        Takes::CollectedFields => field_names(alloc, row).requires_arg("collect"),
+        Takes::Times => value(alloc, row, "TIMES")
+            .value_parser(ValueParser::unsigned(2, 1_000_000))
+            .requires_arg("collect"),
+        Takes::Target => Ok(value(alloc, row, "FORMAT")
+            .value_parser(TARGETS.as_slice())
+            .required(true)),
         Takes::Nothing => Ok(option(alloc, row).action(ArgAction::SetTrue)),
         Takes::NothingBeside(other) => option(alloc, row)
             .action(ArgAction::SetTrue)

@@ -1,18 +1,16 @@
 //! The commands that edit a file.
 
-use crate::files::SystemFiles;
 use crate::replacing::replace;
+use crate::stops::{Stop, bytes_of, error_line, say, syntax_line};
 use crate::streams::Output;
 use bib_documents::errors::EditError;
 use bib_encoding::decoding::decode;
-use bib_lines::positions::Positions;
-use bib_syntax::raw::{Pair, ParseError, RawBibliography};
-use bibkit_core::files::Files;
+use bib_syntax::raw::{Pair, RawBibliography};
 use bibkit_edits::edit::{Edit, Refusal};
 use bibkit_edits::editing::edited_file;
 use bibkit_edits::printing::{Unprinted, print_difference, print_edited};
 use bibkit_files::replacing::ReplaceError;
-use std::alloc::{AllocError, AllocFailed, Global};
+use std::alloc::{AllocError, Global};
 use std::io;
 use std::io::ErrorKind;
 use std::str::from_utf8;
@@ -62,27 +60,6 @@ pub enum Mode {
     },
 }
 
-// Why an edit has no answer, with the message and the status.
-#[derive(Drop)]
-enum Stop {
-    // This is said, and the status is this.
-    Said(String, u8),
-    // There was no memory.
-    OutOfMemory,
-}
-
-impl From<AllocError> for Stop {
-    fn from(_error: AllocError) -> Self {
-        Stop::OutOfMemory
-    }
-}
-
-impl<T: Drop> From<AllocFailed<T>> for Stop {
-    fn from(_error: AllocFailed<T>) -> Self {
-        Stop::OutOfMemory
-    }
-}
-
 // What is wrong with the words of a command.
 fn wrong_usage(alloc: Global, text: &str) -> Result<(), Stop> {
     Err(Stop::Said(format!(in alloc; "bibkit: {text}\n")?, 2))
@@ -98,40 +75,12 @@ fn check(alloc: Global, editing: &Editing<'_>) -> Result<(), Stop> {
     }
 }
 
-// The bytes of a file.
-fn bytes_of(rt: &HostRuntime, name: &str) -> Result<Vec<u8>, Stop> {
-    let mut files = SystemFiles::new(rt);
-    match files.read(rt.alloc(), name) {
-        Ok(bytes) => Ok(bytes),
-        Err(error) => {
-            let error = error.unless_out_of_memory()?;
-            let text = format!(in rt.alloc(); "bibkit: {name}: {}\n", error.text())?;
-            Err(Stop::Said(text, 2))
-        }
-    }
-}
-
 // The bytes of a file after its byte order mark.
 fn after_mark(bytes: &[u8]) -> &[u8] {
     match bytes.strip_prefix(b"\xEF\xBB\xBF") {
         Some(rest) => rest,
         None => bytes,
     }
-}
-
-// What is wrong at a place of bytes.
-fn error_line(
-    alloc: Global,
-    name: &str,
-    bytes: &[u8],
-    at: usize,
-    text: &str,
-) -> Result<String, AllocError> {
-    let position = Positions::of_bytes(bytes).position(at);
-    format!(in alloc;
-        "{name}:{}:{}: error: {text}\n",
-        position.line, position.column
-    )
 }
 
 // What is said of an edit that is refused.
@@ -156,17 +105,6 @@ fn refused_line(
         Some(Edit::Remove { key }) => format!(in alloc; "bibkit: {name}: {key}: {why}\n"),
         _ => format!(in alloc; "bibkit: {name}: {why}\n"),
     }
-}
-
-// What is said of a text with an error.
-fn syntax_line(
-    alloc: Global,
-    name: &str,
-    text: &[u8],
-    error: &ParseError,
-) -> Result<String, AllocError> {
-    let said = format!(in alloc; "{} [syntax]", error.kind)?;
-    error_line(alloc, name, text, error.span.start, &said)
 }
 
 // The line of a definition that refers to itself, and the place, if it is found.
@@ -437,13 +375,6 @@ fn answer(rt: &HostRuntime, editing: &Editing<'_>) -> Result<(), Stop> {
 pub fn run_edits(rt: &HostRuntime, editing: &Editing<'_>) -> u8 {
     match answer(rt, editing) {
         Ok(()) => 0,
-        Err(Stop::Said(text, status)) => {
-            let _ = eprint!(rt; "{text}");
-            status
-        }
-        Err(Stop::OutOfMemory) => {
-            let _ = rt.eprintln("bibkit: out of memory");
-            3
-        }
+        Err(stop) => say(rt, &stop),
     }
 }

@@ -4,11 +4,13 @@
 mod arguments;
 mod commands;
 mod configuration;
+mod converting;
 mod edits;
 mod files;
 mod formatting;
 mod replacing;
 mod start;
+mod stops;
 mod streams;
 
 use crate::start::start;

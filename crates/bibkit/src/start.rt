@@ -2,6 +2,7 @@
 
 use crate::arguments::{Asked, Words, read};
 use crate::configuration::{ConfigurationError, Project, Reader, project_settings};
+use crate::converting::run_convert;
 use crate::edits::{Mode, run_edits};
 use crate::files::SystemFiles;
 use crate::formatting::run_format;
@@ -159,6 +160,7 @@ fn answer(rt: &HostRuntime, words: Words<'_>) -> u8 {
             order,
             mode,
         } => run_style(rt, settings, order, mode, &names),
+        Asked::Convert(target) => run_convert(rt, target, &names),
         Asked::Other(request) => run_request(rt, request, names),
     }
 }

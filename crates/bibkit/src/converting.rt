@@ -1,0 +1,121 @@
+//! The command that converts files.
+
+use crate::stops::{Stop, bytes_of, error_line, say};
+use crate::streams::Output;
+use bib_encoding::decoding::decode;
+use bibkit_convert::converting::{ConvertError, print_converted};
+use bibkit_convert::target::Target;
+use biblatex::{ParseError, Sink};
+use std::alloc::{AllocError, Global};
+use std::io;
+
+// The output can't be written.
+fn not_taken(alloc: Global) -> Result<Stop, AllocError> {
+    let said = String::from_str(alloc, "bibkit: the output can't be written\n")?;
+    Ok(Stop::Said(said, 2))
+}
+
+// What is said of a text that is no bibliography.
+fn refused(
+    alloc: Global,
+    name: &str,
+    text: &str,
+    error: &ParseError,
+) -> Result<Stop, AllocError> {
+    let said = format!(in alloc; "{}", error.kind)?;
+    let line = error_line(alloc, name, text.as_bytes(), error.span.start, &said)?;
+    Ok(Stop::Said(line, 1))
+}
+
+// What is printed so far.
+#[derive(Clone, Copy)]
+struct Progress {
+    // Whether no entry is.
+    is_empty: bool,
+    // The status.
+    status: u8,
+}
+
+// Prints the entries of a text that was read from a file.
+fn convert_text<K: Sink>(
+    rt: &HostRuntime,
+    target: Target,
+    progress: Progress,
+    name: &str,
+    text: &str,
+    output: &mut K,
+) -> Result<Progress, Stop> {
+    match print_converted(rt.alloc(), target, progress.is_empty, text, output) {
+        Ok(is_empty) => Ok(Progress {
+            is_empty,
+            ..progress
+        }),
+        Err(ConvertError::File(error)) => {
+            let stop = refused(rt.alloc(), name, text, &error)?;
+            Ok(Progress {
+                status: say(rt, &stop).max(progress.status),
+                ..progress
+            })
+        }
+        Err(ConvertError::NotTaken) => Err(not_taken(rt.alloc())?),
+        Err(ConvertError::OutOfMemory) => Err(Stop::OutOfMemory),
+    }
+}
+
+// Prints the entries of a file. One that can't be read, or is no bibliography, is reported.
+fn convert_file<K: Sink>(
+    rt: &HostRuntime,
+    target: Target,
+    progress: Progress,
+    name: &str,
+    output: &mut K,
+) -> Result<Progress, Stop> {
+    match bytes_of(rt, name) {
+        Ok(bytes) => {
+            let decoded = decode(rt.alloc(), &bytes)?;
+            convert_text(rt, target, progress, name, &decoded.text, output)
+        }
+        Err(Stop::OutOfMemory) => Err(Stop::OutOfMemory),
+        Err(stop) => Ok(Progress {
+            status: say(rt, &stop).max(progress.status),
+            ..progress
+        }),
+    }
+}
+
+// Prints the end, after the entries of all files.
+fn print_end<K: Sink>(
+    alloc: Global,
+    target: Target,
+    is_empty: bool,
+    output: &mut K,
+) -> Result<(), Stop> {
+    if output.write_str(target.end(is_empty)) {
+        Ok(())
+    } else {
+        Err(not_taken(alloc)?)
+    }
+}
+
+// Prints the entries of files, and answers the greatest status that one has.
+fn convert_files(rt: &HostRuntime, target: Target, names: &[&str]) -> Result<u8, Stop> {
+    let mut output = Output::new(io::writer(rt));
+    let mut progress = Progress {
+        is_empty: true,
+        status: 0,
+    };
+    'names: for name in names {
+        progress = convert_file(rt, target, progress, name, &mut output)?;
+    }
+    print_end(rt.alloc(), target, progress.is_empty, &mut output)?;
+    Ok(progress.status)
+}
+
+/// Prints the entries of files in another format, and answers the status: the greatest that a file has. Where the output refuses a
+/// text, or there is no memory, nothing more is printed.
+pub fn run_convert(rt: &HostRuntime, target: Target, names: &[&str]) -> u8 {
+    match convert_files(rt, target, names) {
+        Ok(status) => status,
+        Err(stop) => say(rt, &stop),
+    }
+}

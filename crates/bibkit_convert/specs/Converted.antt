@@ -1,0 +1,81 @@
+-- Meaning: words of public contracts.
+-- Bibliographies in other formats, as they are printed: arrays of JSON, or records one after another.
+use Rattle.std.specs.Prelude.{◌≡◌, ◌<◌, ◌-◌, ◌^◌, ℕ, Bool, ◌&&◌, true, false, not, if◌then◌else◌, List, [], ◌∷◌, ◌++◌, codes, Option, IfOk}
+use Rattle.std.specs.Io.KnownBytes.{Appends}
+use Rattle.biblatex.specs.Headline.{IsAcceptedText, IsBibliographyOf, IsErrorOf}
+use Rattle.biblatex.specs.Syntax.{Bibliography, Entry}
+use Rattle.bib_entry_types.specs.declared.mechanics.EntryType.{EntryType}
+use Rattle.bib_entry_types.specs.declared.mechanics.EntryType.TheVariants.{XData}
+use Rattle.bibkit_convert.specs.declared.target.Target.{Target}
+use Rattle.bibkit_convert.specs.declared.target.Target.TheVariants.{Csl, Json, Ris}
+use Rattle.bibkit_convert.specs.declared.converting.ConvertError.{ConvertError}
+use Rattle.bibkit_convert.specs.declared.converting.ConvertError.TheVariants.{File, NotTaken, OutOfMemory}
+
+abbrev pub is_xdata : EntryType → Bool
+is_xdata XData = true
+is_xdata _ = false
+
+-- whether an entry is written: one of the type `xdata` only lends its fields, and is written as an entry of JSON alone
+abbrev pub is_written : Target → Entry → Bool
+is_written Json e = true
+is_written Csl e = not (is_xdata e.entry_type)
+is_written Ris e = not (is_xdata e.entry_type)
+
+-- what an entry is in a format
+abbrev pub entry_in : Target → Entry → List ℕ
+entry_in Csl e = e.key
+entry_in Json e = e.key
+entry_in Ris e = e.key
+
+-- what stands before an entry of an array, or at its start
+abbrev pub separator : Bool → List ℕ
+separator true = codes "[\n"
+separator false = codes ",\n"
+
+-- what stands before an entry, and whether it is the first
+abbrev pub before : Target → Bool → List ℕ
+before Csl is_first = separator is_first
+before Json is_first = separator is_first
+before Ris is_first = []
+
+-- the end of an array, or all of one that has nothing
+abbrev pub array_end : Bool → List ℕ
+array_end true = codes "[]\n"
+array_end false = codes "\n]\n"
+
+-- what stands after the last entry, and whether there is none
+abbrev pub end : Target → Bool → List ℕ
+end Csl is_empty = array_end is_empty
+end Json is_empty = array_end is_empty
+end Ris is_empty = []
+
+-- an entry after what stands before it, if it is written
+abbrev pub entry_text : Target → Bool → Entry → List ℕ
+entry_text target is_first e = if is_written target e then before target is_first ++ entry_in target e else []
+
+-- whether none is written yet after an entry
+abbrev pub is_still_first : Target → Bool → Entry → Bool
+is_still_first target is_first e = is_first && not (is_written target e)
+
+-- entries one after another
+abbrev pub entries_text : Target → Bool → List Entry → List ℕ
+entries_text target is_first [] = []
+entries_text target is_first (e ∷ es) = entry_text target is_first e ++ entries_text target (is_still_first target is_first e) es
+
+-- whether none is written yet after entries
+abbrev pub is_first_after : Target → Bool → List Entry → Bool
+is_first_after target is_first [] = is_first
+is_first_after target is_first (e ∷ es) = is_first_after target (is_still_first target is_first e) es
+
+-- the output takes the entries of the bibliography that a text is
+pub record IsConverted {K : Type 0} (taken : K → Option (List ℕ)) (target : Target) (is_first : Bool) (text : List ℕ) (old new : K) (is_first' : Bool) : Type 0 where
+  pub bibliography : Bibliography
+  pub of_text : IsBibliographyOf text bibliography
+  pub printed : Appends (taken old) (taken new) (entries_text target is_first bibliography.entries)
+  pub next : is_first' ≡ is_first_after target is_first bibliography.entries
+
+-- why a text isn't converted: it is no bibliography, and then nothing is printed, or the output refuses an entry
+abbrev pub ConvertFails : {K : Type 0} → (K → ℕ) → List ℕ → K → K → ConvertError → Type 0
+ConvertFails refusals text old new (File e) = IsErrorOf text e × (IsAcceptedText text → ⊥) × (new ≡ old)
+ConvertFails refusals text old new NotTaken = refusals old < 2 ^ 64 - 1 → refusals old < refusals new
+ConvertFails refusals text old new OutOfMemory = refusals new ≡ refusals old

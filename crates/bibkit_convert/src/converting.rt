@@ -1,0 +1,116 @@
+//! What is printed of a bibliography in another format.
+
+ghost use Rattle.std.specs.Prelude.{◌≡◌, ◌<◌, ◌-◌, ◌^◌, IfErr, IfOk};
+ghost use Rattle.std.specs.Io.KnownBytes.{Appends};
+ghost use Rattle.bibkit_convert.specs.Converted.{ConvertFails, IsConverted, entries_text, entry_text, is_first_after, is_still_first};
+ghost use Rattle.bibkit_convert.specs.Converting.{EntryFails, file_error};
+
+use crate::target::Target;
+use biblatex::{Bibliography, Entry, ParseError, Sink};
+use std::alloc::{AllocError, Global};
+
+/// Why a bibliography isn't converted, or not to its end.
+#[derive(Debug, Drop)]
+pub enum ConvertError {
+    /// The text is no bibliography, by this error. Nothing is printed.
+    File(ParseError),
+    /// The output refused the text of an entry.
+    NotTaken,
+    /// There was no memory.
+    OutOfMemory,
+}
+
+impl From<AllocError> for ConvertError {
+    ghost use Rattle.bibkit_convert.specs.declared.converting.ConvertError.TheVariants.{OutOfMemory};
+
+    ghost from_gives = { λ _ error. error ≡ OutOfMemory };
+
+    fn from(_error: AllocError) -> Self {
+        ConvertError::OutOfMemory
+    }
+}
+
+impl From<ParseError> for ConvertError {
+    ghost from_gives = { λ error converted. converted ≡ file_error error };
+
+    fn from(error: ParseError) -> Self {
+        match error.unless_out_of_memory() {
+            Ok(()) => ConvertError::File(error),
+            Err(no_memory) => ConvertError::from(no_memory),
+        }
+    }
+}
+
+// The text of an entry after what stands before it, or nothing where it isn't written.
+fn text_of(
+    alloc: Global,
+    target: Target,
+    is_first: bool,
+    entry: &Entry,
+) -> Result<String, AllocError>
+    ensures { IfOk result (λ text. string_bytes text ≡ entry_text target is_first entry.now) }
+{
+    let mut text = String::new(alloc);
+    if target.has(entry) {
+        text.push_str(target.before(is_first))?;
+        text.push_str(&target.entry_text(alloc, entry)?)?;
+    }
+    Ok(text)
+}
+
+// Prints an entry, and answers whether the next one is still the first.
+fn print_entry<K: Sink>(
+    alloc: Global,
+    target: Target,
+    is_first: bool,
+    entry: &Entry,
+    output: &mut K,
+) -> Result<bool, ConvertError>
+    ensures printed { IfOk result (λ is_still. Appends (K.taken output.old) (K.taken output.new) (entry_text target is_first entry.now)) }
+    ensures next { IfOk result (λ is_still. is_still ≡ is_still_first target is_first entry.now) }
+    ensures same { IfOk result (λ is_still. K.refusals output.new ≡ K.refusals output.old) }
+    ensures failed { IfErr result (EntryFails K.refusals output.old output.new) }
+{
+    let text = text_of(alloc, target, is_first, entry)?;
+    if output.write_str(&text) {
+        Ok(is_first && !target.has(entry))
+    } else {
+        Err(ConvertError::NotTaken)
+    }
+}
+
+// Prints the entries of a bibliography, and answers whether the next one is still the first.
+fn print_entries<K: Sink>(
+    alloc: Global,
+    target: Target,
+    is_first: bool,
+    bibliography: &Bibliography,
+    output: &mut K,
+) -> Result<bool, ConvertError>
+    ensures printed { IfOk result (λ is_still. Appends (K.taken output.old) (K.taken output.new) (entries_text target is_first bibliography.now.entries)) }
+    ensures next { IfOk result (λ is_still. is_still ≡ is_first_after target is_first bibliography.now.entries) }
+    ensures failed { IfErr result (EntryFails K.refusals output.old output.new) }
+{
+    let mut is_still_first = is_first;
+    'entries: for entry in bibliography.iter() {
+        is_still_first = print_entry(alloc, target, is_still_first, entry, output)?;
+    }
+    Ok(is_still_first)
+}
+
+/// Prints the entries of the bibliography that a text is, resolved, each with what stands before it, and answers whether the next
+/// entry would be the first of what is printed, where `is_first` says whether the first of these is. The output is handed one text
+/// for each entry. What stands after the last is [`Target::end`].
+pub fn print_converted<K: Sink>(
+    alloc: Global,
+    target: Target,
+    is_first: bool,
+    text: &str,
+    output: &mut K,
+) -> Result<bool, ConvertError>
+    ensures converted { IfOk result (IsConverted K.taken target is_first text.now output.old output.new) }
+    ensures failed { IfErr result (ConvertFails K.refusals text.now output.old output.new) }
+{
+    let bibliography = Bibliography::parse(alloc, text)?;
+    print_entries(alloc, target, is_first, &bibliography, output)
+}

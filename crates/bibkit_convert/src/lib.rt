@@ -1,0 +1,8 @@
+//! Bibliographies in other formats, as the program prints them.
+//!
+//! `target` is the format, and what an entry is in it; `converting` reads a text and hands the output one text for each entry, so
+//! that one entry's text is held at a time.
+#![tactic(auto)]
+
+pub mod converting;
+pub mod target;

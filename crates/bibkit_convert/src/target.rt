@@ -1,0 +1,64 @@
+//! The formats that a bibliography is converted to.
+
+ghost use Rattle.std.specs.Prelude.{◌≡◌, IfOk};
+ghost use Rattle.std.specs.String.{string_bytes};
+ghost use Rattle.bibkit_convert.specs.Converted as spec;
+
+use biblatex::{Entry, EntryType};
+use std::alloc::{AllocError, Global};
+
+/// A format that a bibliography is converted to.
+#[derive(Debug, Clone, Copy, PartialEq, Eq)]
+pub enum Target {
+    /// Items of CSL-JSON, as citation processors read them.
+    Csl,
+    /// Entries with chunks and typed values, as JSON.
+    Json,
+    /// Records of RIS, as reference managers import them.
+    Ris,
+}
+
+impl Target {
+    // Whether an entry is written: one of the type `xdata` is none by itself.
+    pub(crate) fn has(self, entry: &Entry) -> bool
+        ensures { result ≡ spec.is_written self entry.now }
+    {
+        match self {
+            Target::Json => true,
+            Target::Csl | Target::Ris => entry.entry_type != EntryType::XData,
+        }
+    }
+
+    // What an entry is in the format.
+    pub(crate) fn entry_text(self, alloc: Global, entry: &Entry) -> Result<String, AllocError>
+        ensures { IfOk result (λ text. string_bytes text ≡ spec.entry_in self entry.now) }
+    {
+        match self {
+            Target::Csl => String::from_str(alloc, entry.key.as_str()),
+            Target::Json => String::from_str(alloc, entry.key.as_str()),
+            Target::Ris => String::from_str(alloc, entry.key.as_str()),
+        }
+    }
+
+    // What stands before an entry.
+    pub(crate) fn before(self, is_first: bool) -> &'static str
+        ensures { result.now ≡ spec.before self is_first }
+    {
+        match self {
+            Target::Ris => "",
+            Target::Csl | Target::Json if is_first => "[\n",
+            Target::Csl | Target::Json => ",\n",
+        }
+    }
+
+    /// What stands after the last entry, or alone where there is none.
+    pub fn end(self, is_empty: bool) -> &'static str
+        ensures { result.now ≡ spec.end self is_empty }
+    {
+        match self {
+            Target::Ris => "",
+            Target::Csl | Target::Json if is_empty => "[]\n",
+            Target::Csl | Target::Json => "\n]\n",
+        }
+    }
+}
