@@ -81,7 +81,7 @@ run 'the version' 0 $'bibkit 0.1.0\n' --version
 run 'the version, in short' 0 $'bibkit 0.1.0\n' -V
 for word in help --help -h; do
     run_start "$word" 0 $'Check, search and edit bibliography files\n\nUsage: bibkit <COMMAND>\n' "$word"
-    for command in lint keys get grep cited stats fmt set unset rename remove add strings; do
+    for command in lint keys get grep cited stats fmt convert set unset rename remove add strings; do
         holds "$word names $command" grep -qE "^  $command +[A-Z]" results
     done
 done
@@ -94,7 +94,7 @@ run_start 'help of get' 0 $'Print the entries with these keys, as they stand in 
 run_start 'help of grep' 0 $'Print the entries in whose field a text stands, as they stand in the files\n\nUsage: bibkit grep <FIELD> <TEXT> [FILE]...\n' grep --help
 run_start 'help of cited' 0 $'Print the entries that a document cites, as they stand in the files\n\nUsage: bibkit cited <DOCUMENT> [FILE]...\n' cited --help
 run_start 'help of stats' 0 $'Count entries by type and year, fields by name, and findings by code\n\nUsage: bibkit stats [FILE]...\n' stats --help
-for command in lint keys get grep cited stats fmt set unset rename remove add strings; do
+for command in lint keys get grep cited stats fmt convert set unset rename remove add strings; do
     "$program" $command --help >output
     holds "help of $command has an example" prints "  bibkit $command"
 done
@@ -453,6 +453,7 @@ printf '\xef\xbb\xbf@book{a, publisher={X}}\n@book{b, publisher={X}}\n' >collect
 run 'definitions stand after a byte order mark' 0 $'\xef\xbb\xbf@string{x = {X}}\n@book{a, publisher=x}\n@book{b, publisher=x}\n' strings --collect -f collect-mark.bib
 run 'abbreviations, and nothing that is done with them' 2 '' strings -f two.bib
 run 'abbreviations that are written out and collected' 2 '' strings --expand --collect -f two.bib
+for option in '--fields publisher' '--at-least 3'; do run "$option where nothing is collected" 2 '' strings --expand $option -f two.bib; done
 for times in 1 0 1000001 x; do run "a number of times that is none, $times" 2 '' strings --collect --at-least $times -f two.bib; done
 run 'abbreviations of two files' 2 '' strings --expand two.bib
 run 'abbreviations that are written into no file' 2 '' strings --expand --write
@@ -899,6 +900,8 @@ in_bash 'bibkit lint --format j' $'json\n'
 in_bash 'bibkit lint --color ne' $'never\n'
 in_bash 'bibkit keys refe' $'references.bib\n'
 in_bash 'bibkit rem' $'remove\n'
+in_bash 'bibkit conv' $'convert\n'
+in_bash 'bibkit convert --to ' $'csl\njson\nris\n'
 in_bash 'bibkit set --wr' $'--write\n'
 in_bash 'bibkit fmt --no-al' $'--no-align\n'
 in_bash 'bibkit fmt --tr' $'--trailing-comma\n'

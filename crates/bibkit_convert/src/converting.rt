@@ -1,6 +1,7 @@
 //! What is printed of a bibliography in another format.
 
-ghost use Rattle.std.specs.Prelude.{◌≡◌, ◌<◌, ◌-◌, ◌^◌, IfErr, IfOk};
+ghost use Rattle.std.specs.Prelude.{◌≡◌, IfErr, IfOk};
+ghost use Rattle.std.specs.String.{string_bytes};
 ghost use Rattle.std.specs.Io.KnownBytes.{Appends};
 ghost use Rattle.bibkit_convert.specs.Converted.{ConvertFails, IsConverted, entries_text, entry_text, is_first_after, is_still_first};
 ghost use Rattle.bibkit_convert.specs.Converting.{EntryFails, file_error};
@@ -92,7 +93,7 @@ fn print_entries<K: Sink>(
     ensures failed { IfErr result (EntryFails K.refusals output.old output.new) }
 {
     let mut is_still_first = is_first;
-    'entries: for entry in bibliography.iter() {
+    'entries: for entry in bibliography {
         is_still_first = print_entry(alloc, target, is_still_first, entry, output)?;
     }
     Ok(is_still_first)
