@@ -1,1 +1,2 @@
+mod ArrayFacts
 mod FloatFacts

@@ -1,3 +1,4 @@
+pub mod Arrays
 pub mod Chunks
 pub mod Dates
 pub mod Entries

@@ -1,6 +1,7 @@
 //! Entries of a bibliography as JSON, for programs.
 #![tactic(auto)]
 
+pub mod arrays;
 mod chunks;
 mod dates;
 pub mod entries;
