@@ -1,5 +1,5 @@
 -- No part of an entry is a float, so the text of its object is known.
-use Rattle.std.proofs.Common.{◌≡◌, ℕ, List, [], ◌∷◌, map, ℤ, pos, negsuc, Bool, true, false, ◌||◌, true≢false, if◌then◌else◌, Option, Some, None, option_map, option_and_then, Ordering, Less, Equal, Greater, nat_cmp, refl, ap, ◌∙◌}
+use Rattle.std.proofs.Common.{◌≡◌, ℕ, List, [], ◌∷◌, map, ℤ, pos, negsuc, Bool, true, false, ◌||◌, true≢false, if◌then◌else◌, Option, Some, None, option_map, option_and_then, unwrap_or, Ordering, Less, Equal, Greater, nat_cmp, refl, ap, ◌∙◌}
 use Rattle.std.specs.Cmp.Lexicographic.{slice_cmp}
 use Rattle.std.specs.Ordering.{match_ordering}
 use Rattle.std.specs.FinMap.{entries}
@@ -19,8 +19,6 @@ use Rattle.bib_text.specs.declared.spanned.Spanned.{Spanned}
 use Rattle.bib_values.specs.Enumerations.{pagination_read, gender_read, language_read}
 use Rattle.bib_values.specs.Lists.{strings_read}
 use Rattle.bib_values.specs.Numbers.{number_read}
-use Rattle.bib_values.specs.Permissive.{Permissive, languages_read}
-use Rattle.bib_values.specs.Permissive.Permissive.{typed, as_chunks}
 use Rattle.bib_values.specs.Ranges.{ranges_read}
 use Rattle.serde_json.specs.Data.{Data, Members, no_members, member, put, string, number, boolean}
 use Rattle.serde_json.specs.Find.{of_integer, is_float}
@@ -140,9 +138,9 @@ person_lacks p =
     object_lacks (person_members p)
     (refl, (refl, (refl, (refl, (mapped_lacks string p.id string_lacks, (mapped_lacks string p.prefix_initials string_lacks, (mapped_lacks string p.given_initials string_lacks, (mapped_lacks boolean p.use_prefix boolean_lacks, tt))))))))
 
-language_lacks : (part : Permissive ALanguage) → has_float (language_or_text part) ≡ false
-language_lacks (typed language) = refl
-language_lacks (as_chunks chunks) = refl
+named_lacks : (name : Option ALanguage) (part : Value) → has_float (unwrap_or (option_map language_json name) (part_json part)) ≡ false
+named_lacks None part = refl
+named_lacks (Some language) part = refl
 
 typed_lacks : (type : ValueType) (chunks : Value) → LacksFloat (typed_json type chunks)
 typed_lacks type.People chunks = array_lacks person_json (people_of chunks) person_lacks
@@ -151,7 +149,7 @@ typed_lacks type.Number chunks = mapped_lacks (λ n. number (of_integer n)) (num
 typed_lacks type.Pages chunks = mapped_lacks (array_of range_json) (ranges_read chunks) (λ ranges. array_lacks range_json ranges (λ range. refl))
 typed_lacks type.Keys chunks = array_lacks string (strings_read chunks) string_lacks
 typed_lacks type.Parts chunks = array_lacks part_json (and_list chunks) (λ part. refl)
-typed_lacks type.Languages chunks = array_lacks language_or_text (languages_read chunks) language_lacks
+typed_lacks type.Languages chunks = array_lacks language_or_text (and_list chunks) (λ part. named_lacks (language_read part) part)
 typed_lacks type.Language chunks = mapped_lacks language_json (language_read chunks) (λ language. refl)
 typed_lacks type.Pagination chunks = mapped_lacks _ (pagination_read chunks) (λ scheme. refl)
 typed_lacks type.Role chunks = refl

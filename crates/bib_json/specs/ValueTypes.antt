@@ -38,8 +38,8 @@ abbrev pub role_fields : List (List ℕ)
 role_fields = codes "editortype" ∷ codes "editoratype" ∷ codes "editorbtype" ∷ codes "editorctype" ∷ []
 
 -- whether a name is one of these
-abbrev pub is_one_of : List (List ℕ) → List ℕ → Bool
-is_one_of names name = list_any (bytes_eq name) names
+abbrev pub is_listed_in : List (List ℕ) → List ℕ → Bool
+is_listed_in names name = list_any (bytes_eq name) names
 
 -- what the only field of its type is read as
 abbrev pub single_type : List ℕ → Option ValueType
@@ -53,11 +53,11 @@ single_type name =
 -- what a field of this name is read as, if it has a type
 abbrev pub value_type : List ℕ → Option ValueType
 value_type name =
-    if is_one_of people_fields name then Some People
-    else if is_one_of date_fields name then Some Date
-    else if is_one_of number_fields name then Some Number
-    else if is_one_of comma_fields name then Some Keys
-    else if is_one_of and_fields name then Some Parts
-    else if is_one_of pagination_fields name then Some Pagination
-    else if is_one_of role_fields name then Some Role
+    if is_listed_in people_fields name then Some People
+    else if is_listed_in date_fields name then Some Date
+    else if is_listed_in number_fields name then Some Number
+    else if is_listed_in comma_fields name then Some Keys
+    else if is_listed_in and_fields name then Some Parts
+    else if is_listed_in pagination_fields name then Some Pagination
+    else if is_listed_in role_fields name then Some Role
     else single_type name

@@ -1,6 +1,6 @@
 -- Meaning: words of public contracts.
 -- What fields are read as, in JSON.
-use Rattle.std.specs.Prelude.{ℕ, List, [], ◌∷◌, codes, Option, Some, option_map, option_and_then}
+use Rattle.std.specs.Prelude.{ℕ, List, [], ◌∷◌, codes, Option, Some, option_map, option_and_then, unwrap_or}
 use Rattle.std.specs.declared.ops.Range.{Range}
 use Rattle.bib_chunks.specs.Cuts.{and_list}
 use Rattle.bib_chunks.specs.Values.{Value, text}
@@ -15,8 +15,6 @@ use Rattle.bib_people.specs.declared.person.Person.{Person}
 use Rattle.bib_values.specs.Enumerations.{pagination_read, gender_read, editor_type_read, language_read}
 use Rattle.bib_values.specs.Lists.{strings_read}
 use Rattle.bib_values.specs.Numbers.{number_read}
-use Rattle.bib_values.specs.Permissive.{Permissive, languages_read}
-use Rattle.bib_values.specs.Permissive.Permissive.{typed, as_chunks}
 use Rattle.bib_values.specs.Ranges.{ranges_read}
 use Rattle.serde_json.specs.Data.{Data, number, unsigned, string, boolean}
 use Rattle.serde_json.specs.Find.{of_integer}
@@ -58,10 +56,9 @@ part_json part = string (text part)
 abbrev pub language_json : ALanguage → Data
 language_json language = string (language_row language).name
 
--- a language, or else the text that stands in its place
-abbrev pub language_or_text : Permissive ALanguage → Data
-language_or_text (typed language) = language_json language
-language_or_text (as_chunks chunks) = part_json chunks
+-- the name of the language that a part of a list names, or else its text
+abbrev pub language_or_text : Value → Data
+language_or_text part = unwrap_or (option_map language_json (language_read part)) (part_json part)
 
 -- what chunks are read as by this type, if they are read as one
 abbrev pub typed_json : ValueType → Value → Option Data
@@ -71,7 +68,7 @@ typed_json Number chunks = option_map (λ n. number (of_integer n)) (number_read
 typed_json Pages chunks = option_map (array_of range_json) (ranges_read chunks)
 typed_json Keys chunks = Some (array_of string (strings_read chunks))
 typed_json Parts chunks = Some (array_of part_json (and_list chunks))
-typed_json Languages chunks = Some (array_of language_or_text (languages_read chunks))
+typed_json Languages chunks = Some (array_of language_or_text (and_list chunks))
 typed_json Language chunks = option_map language_json (language_read chunks)
 typed_json Pagination chunks = option_map (λ scheme. string (pagination_name scheme)) (pagination_read chunks)
 typed_json Role chunks = Some (string (editor_type_name (editor_type_read chunks)))

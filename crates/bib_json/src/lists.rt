@@ -5,11 +5,10 @@ ghost use Rattle.serde_json.specs.Data.{string};
 ghost use Rattle.serde_json.specs.View.{view};
 ghost use Rattle.bib_json.specs.Objects.{array_of};
 ghost use Rattle.bib_json.specs.Values.{range_json, part_json, language_json, language_or_text};
-ghost use Rattle.bib_typed.specs.Typed.{permissive_meaning};
 
 use bib_chunks::chunk::{Chunks, ChunksRef, format_verbatim};
 use bib_enums::types::lang::Language;
-use bib_typed::typed::PermissiveType;
+use bib_values::enums::read_language;
 use serde_json::{Map, Value};
 use std::alloc::{AllocError, Global};
 use std::ops::Range;
@@ -75,26 +74,23 @@ pub(crate) fn language_value(alloc: Global, language: Language) -> Result<Value,
     Ok(Value::from(name))
 }
 
-// A language, or else the text that stands in its place.
-fn language_or_text(alloc: Global, part: &PermissiveType<Language>) -> Result<Value, AllocError>
-    ensures { IfOk result (λ value. view value ≡ language_or_text (permissive_meaning (λ language. language) part.now)) }
+// The name of the language that a part of a list names, or else its text.
+fn language_or_text(alloc: Global, part: ChunksRef<'_>) -> Result<Value, AllocError>
+    ensures { IfOk result (λ value. view value ≡ language_or_text part.now) }
 {
-    match part {
-        PermissiveType::Typed(language) => language_value(alloc, *language),
-        PermissiveType::Chunks(chunks) => part_value(alloc, chunks.as_slice()),
+    match read_language(alloc, part)? {
+        Some(language) => language_value(alloc, language),
+        None => part_value(alloc, part),
     }
 }
 
-/// Languages, and the texts that stand in the place of one.
-pub(crate) fn languages_value(
-    alloc: Global,
-    languages: &[PermissiveType<Language>],
-) -> Result<Value, AllocError>
-    ensures { IfOk result (λ value. view value ≡ array_of language_or_text (map (permissive_meaning (λ language. language)) languages.now)) }
+/// The languages that the parts of a list name, and the texts that stand in the place of one.
+pub(crate) fn languages_value(alloc: Global, parts: &[Chunks]) -> Result<Value, AllocError>
+    ensures { IfOk result (λ value. view value ≡ array_of language_or_text parts.now) }
 {
     let mut elements = Vec::new(alloc);
-    'languages: for part in languages {
-        let element = language_or_text(alloc, part)?;
+    'parts: for part in parts {
+        let element = language_or_text(alloc, part.as_slice())?;
         elements.push(element)?;
     }
     Ok(Value::from(elements))

@@ -32,7 +32,7 @@ pub enum ValueType {
 
 // Whether this is a field of people.
 fn is_of_people(name: &str) -> bool
-    ensures { result ≡ spec.is_one_of spec.people_fields name.now }
+    ensures { result ≡ spec.is_listed_in spec.people_fields name.now }
 {
     matches!(
         name,
@@ -56,21 +56,21 @@ fn is_of_people(name: &str) -> bool
 
 // Whether this is the field of a date.
 fn is_of_date(name: &str) -> bool
-    ensures { result ≡ spec.is_one_of spec.date_fields name.now }
+    ensures { result ≡ spec.is_listed_in spec.date_fields name.now }
 {
     matches!(name, "date" | "eventdate" | "origdate" | "urldate")
 }
 
 // Whether this is the field of a whole number.
 fn is_of_number(name: &str) -> bool
-    ensures { result ≡ spec.is_one_of spec.number_fields name.now }
+    ensures { result ≡ spec.is_listed_in spec.number_fields name.now }
 {
     matches!(name, "volume" | "volumes" | "edition")
 }
 
 // Whether this is the field of a list with commas between its texts.
 fn is_of_keys(name: &str) -> bool
-    ensures { result ≡ spec.is_one_of spec.comma_fields name.now }
+    ensures { result ≡ spec.is_listed_in spec.comma_fields name.now }
 {
     matches!(
         name,
@@ -80,7 +80,7 @@ fn is_of_keys(name: &str) -> bool
 
 // Whether this is the field of a list with `and` between its texts.
 fn is_of_parts(name: &str) -> bool
-    ensures { result ≡ spec.is_one_of spec.and_fields name.now }
+    ensures { result ≡ spec.is_listed_in spec.and_fields name.now }
 {
     matches!(
         name,
@@ -97,14 +97,14 @@ fn is_of_parts(name: &str) -> bool
 
 // Whether this is a field of what page numbers count.
 fn is_of_pagination(name: &str) -> bool
-    ensures { result ≡ spec.is_one_of spec.pagination_fields name.now }
+    ensures { result ≡ spec.is_listed_in spec.pagination_fields name.now }
 {
     matches!(name, "pagination" | "bookpagination")
 }
 
 // Whether this is a field of what editors did.
 fn is_of_role(name: &str) -> bool
-    ensures { result ≡ spec.is_one_of spec.role_fields name.now }
+    ensures { result ≡ spec.is_listed_in spec.role_fields name.now }
 {
     matches!(
         name,

@@ -1,11 +1,9 @@
 //! What fields are read as, as JSON.
 
-ghost use Rattle.std.specs.Prelude.{◌≡◌, IfOk, map};
+ghost use Rattle.std.specs.Prelude.{◌≡◌, IfOk};
 ghost use Rattle.std.specs.Option.{option_map};
 ghost use Rattle.serde_json.specs.View.{view};
 ghost use Rattle.bib_dates.specs.Chunks.{date_read};
-ghost use Rattle.bib_values.specs.Permissive.{languages_read};
-ghost use Rattle.bib_typed.specs.Typed.{permissive_meaning};
 ghost use Rattle.bib_json.specs.Dates.{date_json};
 ghost use Rattle.bib_json.specs.Values.{typed_json, value_json};
 ghost use Rattle.bib_json.specs.declared.types.ValueType.TheVariants as type;
@@ -17,9 +15,8 @@ use crate::types::{ValueType, value_type};
 use bib_chunks::chunk::ChunksRef;
 use bib_chunks::chunk::cuts::and_list;
 use bib_dates::date::Date;
-use bib_enums::types::lang::Language;
 use bib_people::people::read_people;
-use bib_typed::typed::{PermissiveType, Type};
+use bib_typed::typed::Type;
 use bib_values::enums::{read_editor_type, read_gender, read_language, read_pagination};
 use bib_values::lists::read_strings;
 use bib_values::numbers::read_number;
@@ -81,25 +78,12 @@ fn parts(alloc: Global, chunks: ChunksRef<'_>) -> Result<Option<Value>, AllocErr
     Ok(Some(parts_value(alloc, parts.as_slice())?))
 }
 
-// The languages that chunks name, and the chunks that name none. Any chunks are read, so the only error is out of memory.
-fn read_languages(
-    alloc: Global,
-    chunks: ChunksRef<'_>,
-) -> Result<Vec<PermissiveType<Language>>, AllocError>
-    ensures { IfOk result (λ languages. map (permissive_meaning (λ language. language)) languages.items ≡ languages_read chunks.now) }
-{
-    match <Vec<PermissiveType<Language>>>::from_chunks(alloc, chunks) {
-        Ok(languages) => Ok(languages),
-        Err(_out_of_memory) => Err(AllocError),
-    }
-}
-
 // Languages with `and` between them.
 fn languages(alloc: Global, chunks: ChunksRef<'_>) -> Result<Option<Value>, AllocError>
     ensures { IfOk result (λ value. option_map view value ≡ typed_json type.Languages chunks.now) }
 {
-    let languages = read_languages(alloc, chunks)?;
-    Ok(Some(languages_value(alloc, languages.as_slice())?))
+    let parts = and_list(alloc, chunks)?;
+    Ok(Some(languages_value(alloc, parts.as_slice())?))
 }
 
 // A language.

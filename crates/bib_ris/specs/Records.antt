@@ -17,7 +17,7 @@ use Rattle.bib_people.specs.People.{people_of}
 use Rattle.bib_people.specs.declared.person.Person.{Person}
 use Rattle.bib_values.specs.Lists.{strings_read}
 use Rattle.bib_values.specs.Ranges.{range_read}
-use Rattle.bib_ris.specs.Lines.{line, lines, line_if_given}
+use Rattle.bib_ris.specs.Lines.{ris_line, ris_lines, line_if_given}
 use Rattle.bib_ris.specs.Types.{ris_type}
 
 -- the chunks of a field, if it is there
@@ -30,8 +30,8 @@ first_field entry [] = None
 first_field entry (name ∷ names) = option_or (field entry name) (first_field entry names)
 
 -- a line with the text of the first of these fields that is there
-abbrev pub field_line : Entry → List ℕ → List (List ℕ) → List ℕ
-field_line entry tag names = line_if_given tag (option_map text (first_field entry names))
+abbrev pub ris_field : Entry → List ℕ → List (List ℕ) → List ℕ
+ris_field entry tag names = line_if_given tag (option_map text (first_field entry names))
 
 -- ---- people
 
@@ -54,7 +54,7 @@ person_text p = family_name p ++ (given_part p ++ suffix_part p)
 -- a line for each person of a field
 abbrev pub people_lines : List ℕ → Option Value → List ℕ
 people_lines tag None = []
-people_lines tag (Some chunks) = lines tag (map person_text (people_of chunks))
+people_lines tag (Some chunks) = ris_lines tag (map person_text (people_of chunks))
 
 -- the authors, and then the editors
 abbrev pub names_part : Entry → List ℕ
@@ -76,8 +76,8 @@ title_given (Some title) subtitle = Some (whole_title title subtitle)
 abbrev pub titles_part : Entry → List ℕ
 titles_part entry =
     line_if_given (codes "TI") (title_given (field entry (codes "title")) (field entry (codes "subtitle")))
-    ++ (field_line entry (codes "T2") (codes "journaltitle" ∷ codes "journal" ∷ codes "booktitle" ∷ [])
-    ++ field_line entry (codes "T3") (codes "series" ∷ []))
+    ++ (ris_field entry (codes "T2") (codes "journaltitle" ∷ codes "journal" ∷ codes "booktitle" ∷ [])
+    ++ ris_field entry (codes "T3") (codes "series" ∷ []))
 
 -- ---- dates
 
@@ -92,8 +92,8 @@ date_or_three None three = three
 date_or_three (Some chunks) three = date_read chunks
 
 -- the date of an entry, if it has one that can be read
-abbrev pub date_of : Entry → Option Date
-date_of entry = date_or_three (field entry (codes "date")) (three_fields_read (field entry (codes "year")) (field entry (codes "month")) (field entry (codes "day")))
+abbrev pub entry_date : Entry → Option Date
+entry_date entry = date_or_three (field entry (codes "date")) (three_fields_read (field entry (codes "year")) (field entry (codes "month")) (field entry (codes "day")))
 
 -- one date, or the end of a range that is known first
 abbrev pub first_date : DateValue → Datetime
@@ -110,22 +110,22 @@ two_digits (Some index) = if nat_lt index 9 then codes "0" ++ decimal (index + 1
 -- the lines of a date: its year, and year, month and day with a slash after each, if the month is known
 abbrev pub day_line : ℤ → Option ℕ → Option ℕ → List ℕ
 day_line year None day = []
-day_line year (Some month) day = line (codes "DA") (signed_decimal year ++ (codes "/" ++ (two_digits (Some month) ++ (codes "/" ++ (two_digits day ++ codes "/")))))
+day_line year (Some month) day = ris_line (codes "DA") (signed_decimal year ++ (codes "/" ++ (two_digits (Some month) ++ (codes "/" ++ (two_digits day ++ codes "/")))))
 
 abbrev pub datetime_lines : Datetime → List ℕ
-datetime_lines d = line (codes "PY") (signed_decimal d.year) ++ day_line d.year d.month d.day
+datetime_lines d = ris_line (codes "PY") (signed_decimal d.year) ++ day_line d.year d.month d.day
 
 -- the same, if there is a date
-abbrev pub date_lines : Option Date → List ℕ
-date_lines None = []
-date_lines (Some d) = datetime_lines (first_date d.value)
+abbrev pub ris_date : Option Date → List ℕ
+ris_date None = []
+ris_date (Some d) = datetime_lines (first_date d.value)
 
 -- ---- numbers
 
 -- the first and the last page of a range, or the text that is no range
 abbrev pub range_lines : Value → Option (Range ℕ) → List ℕ
-range_lines chunks None = line (codes "SP") (text chunks)
-range_lines chunks (Some range) = line (codes "SP") (decimal range.start) ++ line (codes "EP") (decimal range.end)
+range_lines chunks None = ris_line (codes "SP") (text chunks)
+range_lines chunks (Some range) = ris_line (codes "SP") (decimal range.start) ++ ris_line (codes "EP") (decimal range.end)
 
 -- the first range of pages
 abbrev pub pages_lines : Option Value → List ℕ
@@ -135,9 +135,9 @@ pages_lines (Some chunks) = range_lines chunks (range_read chunks)
 -- volume, number, edition and pages
 abbrev pub numbers_part : Entry → List ℕ
 numbers_part entry =
-    field_line entry (codes "VL") (codes "volume" ∷ [])
-    ++ (field_line entry (codes "IS") (codes "number" ∷ codes "issue" ∷ [])
-    ++ (field_line entry (codes "ET") (codes "edition" ∷ [])
+    ris_field entry (codes "VL") (codes "volume" ∷ [])
+    ++ (ris_field entry (codes "IS") (codes "number" ∷ codes "issue" ∷ [])
+    ++ (ris_field entry (codes "ET") (codes "edition" ∷ [])
     ++ pages_lines (field entry (codes "pages"))))
 
 -- ---- publication
@@ -145,43 +145,43 @@ numbers_part entry =
 -- publisher and place
 abbrev pub publisher_part : Entry → List ℕ
 publisher_part entry =
-    field_line entry (codes "PB") (codes "publisher" ∷ codes "institution" ∷ codes "school" ∷ codes "organization" ∷ [])
-    ++ field_line entry (codes "CY") (codes "location" ∷ codes "address" ∷ [])
+    ris_field entry (codes "PB") (codes "publisher" ∷ codes "institution" ∷ codes "school" ∷ codes "organization" ∷ [])
+    ++ ris_field entry (codes "CY") (codes "location" ∷ codes "address" ∷ [])
 
 -- standard numbers and addresses
 abbrev pub links_part : Entry → List ℕ
 links_part entry =
-    field_line entry (codes "SN") (codes "isbn" ∷ codes "issn" ∷ [])
-    ++ (field_line entry (codes "DO") (codes "doi" ∷ []) ++ field_line entry (codes "UR") (codes "url" ∷ []))
+    ris_field entry (codes "SN") (codes "isbn" ∷ codes "issn" ∷ [])
+    ++ (ris_field entry (codes "DO") (codes "doi" ∷ []) ++ ris_field entry (codes "UR") (codes "url" ∷ []))
 
 -- ---- contents
 
 -- a line for each keyword
 abbrev pub keyword_lines : Option Value → List ℕ
 keyword_lines None = []
-keyword_lines (Some chunks) = lines (codes "KW") (strings_read chunks)
+keyword_lines (Some chunks) = ris_lines (codes "KW") (strings_read chunks)
 
 -- abstract, note, keywords and language
 abbrev pub contents_part : Entry → List ℕ
 contents_part entry =
-    field_line entry (codes "AB") (codes "abstract" ∷ [])
-    ++ (field_line entry (codes "N1") (codes "note" ∷ [])
+    ris_field entry (codes "AB") (codes "abstract" ∷ [])
+    ++ (ris_field entry (codes "N1") (codes "note" ∷ [])
     ++ (keyword_lines (field entry (codes "keywords"))
-    ++ field_line entry (codes "LA") (codes "language" ∷ [])))
+    ++ ris_field entry (codes "LA") (codes "language" ∷ [])))
 
 -- ---- records
 
 -- the type
 abbrev pub type_part : Entry → List ℕ
-type_part entry = line (codes "TY") (ris_type entry.entry_type (field entry (codes "entrysubtype")))
+type_part entry = ris_line (codes "TY") (ris_type entry.entry_type (field entry (codes "entrysubtype")))
 
 -- the key, and the end of the record with an empty line after it
 abbrev pub end_part : Entry → List ℕ
-end_part entry = line (codes "ID") entry.key ++ codes "ER  - \n\n"
+end_part entry = ris_line (codes "ID") entry.key ++ codes "ER  - \n\n"
 
 -- what a record says of who wrote what, and when
 abbrev pub work_part : Entry → List ℕ
-work_part entry = type_part entry ++ (names_part entry ++ (titles_part entry ++ date_lines (date_of entry)))
+work_part entry = type_part entry ++ (names_part entry ++ (titles_part entry ++ ris_date (entry_date entry)))
 
 -- where it is published, and what else is known of it
 abbrev pub publication_part : Entry → List ℕ

@@ -49,7 +49,7 @@ fn read_three_fields(
 
 // The date of an entry, if it has one that can be read.
 fn date_of(alloc: Global, entry: &Entry) -> Result<Option<Date>, AllocError>
-    ensures { IfOk result (λ date. date ≡ spec.date_of entry.now) }
+    ensures { IfOk result (λ date. date ≡ spec.entry_date entry.now) }
 {
     match entry.get("date") {
         Some(chunks) => read_date(alloc, chunks),
@@ -104,7 +104,7 @@ fn push_datetime(out: &mut String, alloc: Global, date: Datetime) -> Result<(), 
 
 /// Writes the lines of the date of an entry, if it has one that can be read.
 pub(crate) fn push_date(out: &mut String, alloc: Global, entry: &Entry) -> Result<(), AllocError>
-    ensures { OnOk result (string_bytes out.new ≡ string_bytes out.old ++ spec.date_lines (spec.date_of entry.now)) }
+    ensures { OnOk result (string_bytes out.new ≡ string_bytes out.old ++ spec.ris_date (spec.entry_date entry.now)) }
 {
     match date_of(alloc, entry)? {
         Some(date) => push_datetime(out, alloc, first_date(date.value)),

@@ -31,7 +31,7 @@ pub(crate) fn push_field(
     names: &[&str],
 ) -> Result<(), AllocError>
     ensures { OnOk result (string_bytes out.new ≡ string_bytes out.old ++
-        spec.field_line entry.now tag.now (map (λ n. n.now) names.now)) }
+        spec.ris_field entry.now tag.now (map (λ n. n.now) names.now)) }
 {
     let Some(chunks) = first_field(entry, names) else {
         return Ok(());

@@ -8,7 +8,7 @@ use std::alloc::AllocError;
 
 // A character on one line: a space in place of one that breaks the line.
 fn unbroken(c: char) -> char
-    ensures { result ≡ spec.unbroken c }
+    ensures { result ≡ spec.on_line c }
 {
     if c == '\n' || c == '\r' { ' ' } else { c }
 }
@@ -25,7 +25,7 @@ fn push_one_line(out: &mut String, text: &str) -> Result<(), AllocError>
 
 /// Writes a line of this tag with a text.
 pub(crate) fn push_line(out: &mut String, tag: &str, text: &str) -> Result<(), AllocError>
-    ensures { OnOk result (string_bytes out.new ≡ string_bytes out.old ++ spec.line tag.now text.now) }
+    ensures { OnOk result (string_bytes out.new ≡ string_bytes out.old ++ spec.ris_line tag.now text.now) }
 {
     out.push_str(tag)?;
     out.push_str("  - ")?;
@@ -36,7 +36,7 @@ pub(crate) fn push_line(out: &mut String, tag: &str, text: &str) -> Result<(), A
 /// Writes a line of this tag for each text.
 pub(crate) fn push_lines(out: &mut String, tag: &str, texts: &[String]) -> Result<(), AllocError>
     ensures { OnOk result (string_bytes out.new ≡ string_bytes out.old ++
-        spec.lines tag.now (map (λ t. string_bytes t) texts.now)) }
+        spec.ris_lines tag.now (map (λ t. string_bytes t) texts.now)) }
 {
     'texts: for text in texts {
         push_line(out, tag, text.as_str())?;

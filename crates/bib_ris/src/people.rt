@@ -2,7 +2,7 @@
 
 ghost use Rattle.std.specs.Prelude.{◌≡◌, ◌++◌, map, IfOk, OnOk};
 ghost use Rattle.std.specs.String.{string_bytes};
-ghost use Rattle.bib_ris.specs.Lines.{lines};
+ghost use Rattle.bib_ris.specs.Lines.{ris_lines};
 ghost use Rattle.bib_ris.specs.Records as spec;
 
 use crate::lines::push_line;
@@ -57,7 +57,7 @@ fn person_text(alloc: Global, person: &Person) -> Result<String, AllocError>
 
 // Writes a line for each person.
 fn push_people(out: &mut String, alloc: Global, tag: &str, people: &[Person]) -> Result<(), AllocError>
-    ensures { OnOk result (string_bytes out.new ≡ string_bytes out.old ++ lines tag.now (map spec.person_text people.now)) }
+    ensures { OnOk result (string_bytes out.new ≡ string_bytes out.old ++ ris_lines tag.now (map spec.person_text people.now)) }
 {
     'people: for person in people {
         let text = person_text(alloc, person)?;
