@@ -13,6 +13,7 @@ mod contents;
 mod documents;
 mod entries;
 mod excerpts;
+mod exports;
 mod formats;
 mod sortings;
 mod strings;
@@ -34,6 +35,7 @@ fn rows(alloc: Global, layer: &str, input: &str) -> Result<String, AllocError> {
         "values" => answered::<values::Values>(alloc, input),
         "documents" => answered::<documents::Documents>(alloc, input),
         "excerpts" => answered::<excerpts::Excerpts>(alloc, input),
+        "exports" => answered::<exports::Exports>(alloc, input),
         "formats" => answered::<formats::Formats>(alloc, input),
         "sortings" => answered::<sortings::Sortings>(alloc, input),
         "strings" => answered::<strings::Strings>(alloc, input),

@@ -1,0 +1,2 @@
+mod ArrayFacts
+mod FloatFacts

@@ -1,0 +1,32 @@
+-- Meaning: words of public contracts.
+-- Entries of a bibliography in JSON.
+use Rattle.std.specs.Prelude.{ℕ, List, [], ◌∷◌, codes, Some}
+use Rattle.bib_entry.specs.declared.entry.Entry.{Entry}
+use Rattle.bib_entry_types.specs.EntryType.{entry_type_name}
+use Rattle.bib_entry_types.specs.declared.mechanics.EntryType.{EntryType}
+use Rattle.bib_entry_types.specs.declared.mechanics.EntryType.TheVariants.{Unknown}
+use Rattle.serde_json.specs.Data.{Data, string}
+use Rattle.serde_json.specs.Written.{compact_text}
+use Rattle.bib_json.specs.Fields.{fields_json}
+use Rattle.bib_json.specs.Objects.{Member, object_of}
+
+-- the name of a type; of one that isn't known, that which stands in the file, in lowercase letters
+abbrev pub type_text : EntryType → List ℕ
+type_text (Unknown name) = name
+type_text type = entry_type_name type
+
+-- an entry: its type, its key and its fields
+abbrev pub entry_members : Entry → List Member
+entry_members entry =
+    (codes "type", Some (string (type_text entry.entry_type)))
+    ∷ (codes "key", Some (string entry.key))
+    ∷ (codes "fields", Some (fields_json entry.fields))
+    ∷ []
+
+-- the object of an entry
+abbrev pub json_of : Entry → Data
+json_of entry = object_of (entry_members entry)
+
+-- the text of an entry in JSON, on one line
+abbrev pub json_text_of : Entry → List ℕ
+json_text_of entry = compact_text (json_of entry)

@@ -1,0 +1,27 @@
+-- Meaning: words of public contracts.
+-- Objects and arrays of JSON.
+use Rattle.std.specs.Prelude.{ℕ, List, [], ◌∷◌, map, Option, Some, None}
+use Rattle.serde_json.specs.Data.{Data, array, object, Members, no_members, put}
+use Rattle.serde_json.specs.View.{items_of}
+
+-- a member of an object: its name, and its value if it has one
+abbrev pub Member : Type 0
+Member = List ℕ × Option Data
+
+-- members with a value at this name, if there is one
+abbrev pub given : List ℕ → Option Data → Members → Members
+given name None members = members
+given name (Some value) members = put name value members
+
+-- members and more of them, those that have a value
+abbrev pub with_members : Members → List Member → Members
+with_members members [] = members
+with_members members (m ∷ rest) = with_members (given m.0 m.1 members) rest
+
+-- the object of these members, those that have a value
+abbrev pub object_of : List Member → Data
+object_of members = object (with_members no_members members)
+
+-- the array of what elements are
+abbrev pub array_of : {T : Type 0} → (T → Data) → List T → Data
+array_of element elements = array (items_of (map element elements))

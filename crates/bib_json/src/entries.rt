@@ -1,0 +1,44 @@
+//! Entries as JSON.
+
+ghost use Rattle.std.specs.Prelude.{◌≡◌, IfOk};
+ghost use Rattle.std.specs.String.{string_bytes};
+ghost use Rattle.serde_json.specs.View.{view};
+ghost use Rattle.bib_json.specs.Entries as spec;
+
+use crate::fields::fields_object;
+use crate::members::put_text;
+use bib_entry::entry::Entry;
+use bib_entry_types::mechanics::EntryType;
+use serde_json::{Map, Value};
+use std::alloc::{AllocError, Global};
+
+// The name of a type; of one that isn't known, that which stands in the file, in lowercase letters.
+fn type_name(entry_type: &EntryType) -> &str
+    ensures { result.now ≡ spec.type_text entry_type.now }
+{
+    match entry_type {
+        EntryType::Unknown(name) => name.as_str(),
+        _ => entry_type.name(),
+    }
+}
+
+/// An entry as an object of JSON: its type, its key, and its fields by their names, each with its chunks and what they are
+/// read as.
+pub fn entry_json(alloc: Global, entry: &Entry) -> Result<Value, AllocError>
+    ensures { IfOk result (λ value. view value ≡ spec.json_of entry.now) }
+{
+    let fields = fields_object(alloc, &entry.fields)?;
+    let mut members = Map::new(alloc);
+    put_text(&mut members, alloc, "type", type_name(&entry.entry_type))?;
+    put_text(&mut members, alloc, "key", entry.key.as_str())?;
+    serde_json::put(&mut members, alloc, "fields", fields)?;
+    Ok(Value::from(members))
+}
+
+/// The text of that object, on one line.
+pub fn entry_text(alloc: Global, entry: &Entry) -> Result<String, AllocError>
+    ensures { IfOk result (λ text. string_bytes text ≡ spec.json_text_of entry.now) }
+{
+    let value = entry_json(alloc, entry)?;
+    value.to_string(alloc)
+}

@@ -1,0 +1,13 @@
+//! Entries of a bibliography as JSON, for programs.
+#![tactic(auto)]
+
+pub mod arrays;
+mod chunks;
+mod dates;
+pub mod entries;
+mod fields;
+mod lists;
+mod members;
+mod people;
+pub mod types;
+mod values;

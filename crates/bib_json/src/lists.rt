@@ -1,0 +1,97 @@
+//! Lists as JSON.
+
+ghost use Rattle.std.specs.Prelude.{◌≡◌, IfOk, map, string_bytes};
+ghost use Rattle.serde_json.specs.Data.{string};
+ghost use Rattle.serde_json.specs.View.{view};
+ghost use Rattle.bib_json.specs.Objects.{array_of};
+ghost use Rattle.bib_json.specs.Values.{range_json, part_json, language_json, language_or_text};
+
+use bib_chunks::chunk::{Chunks, ChunksRef, format_verbatim};
+use bib_enums::types::lang::Language;
+use bib_values::enums::read_language;
+use serde_json::{Map, Value};
+use std::alloc::{AllocError, Global};
+use std::ops::Range;
+
+// A range of numbers, from the first to the last.
+fn range_value(alloc: Global, range: &Range<u32>) -> Result<Value, AllocError>
+    ensures { IfOk result (λ value. view value ≡ range_json range.now) }
+{
+    let mut members = Map::new(alloc);
+    serde_json::put(&mut members, alloc, "start", Value::from(range.start))?;
+    serde_json::put(&mut members, alloc, "end", Value::from(range.end))?;
+    Ok(Value::from(members))
+}
+
+/// Ranges of numbers.
+pub(crate) fn ranges_value(alloc: Global, ranges: &[Range<u32>]) -> Result<Value, AllocError>
+    ensures { IfOk result (λ value. view value ≡ array_of range_json ranges.now) }
+{
+    let mut elements = Vec::new(alloc);
+    'page_ranges: for range in ranges {
+        let element = range_value(alloc, range)?;
+        elements.push(element)?;
+    }
+    Ok(Value::from(elements))
+}
+
+/// Texts.
+pub(crate) fn texts_value(alloc: Global, texts: &[String]) -> Result<Value, AllocError>
+    ensures { IfOk result (λ value. view value ≡ array_of string (map (λ s. string_bytes s) texts.now)) }
+{
+    let mut elements = Vec::new(alloc);
+    'texts: for text in texts {
+        let element = Value::try_from_str(alloc, text.as_str())?;
+        elements.push(element)?;
+    }
+    Ok(Value::from(elements))
+}
+
+// The text of a part of a list.
+fn part_value(alloc: Global, part: ChunksRef<'_>) -> Result<Value, AllocError>
+    ensures { IfOk result (λ value. view value ≡ part_json part.now) }
+{
+    Ok(Value::from(format_verbatim(alloc, part)?))
+}
+
+/// The texts of the parts of a list.
+pub(crate) fn parts_value(alloc: Global, parts: &[Chunks]) -> Result<Value, AllocError>
+    ensures { IfOk result (λ value. view value ≡ array_of part_json parts.now) }
+{
+    let mut elements = Vec::new(alloc);
+    'parts: for part in parts {
+        let element = part_value(alloc, part.as_slice())?;
+        elements.push(element)?;
+    }
+    Ok(Value::from(elements))
+}
+
+/// A language by the name that it is written by.
+pub(crate) fn language_value(alloc: Global, language: Language) -> Result<Value, AllocError>
+    ensures { IfOk result (λ value. view value ≡ language_json language) }
+{
+    let name = format!(in alloc; "{language}")?;
+    Ok(Value::from(name))
+}
+
+// The name of the language that a part of a list names, or else its text.
+fn language_or_text(alloc: Global, part: ChunksRef<'_>) -> Result<Value, AllocError>
+    ensures { IfOk result (λ value. view value ≡ language_or_text part.now) }
+{
+    match read_language(alloc, part)? {
+        Some(language) => language_value(alloc, language),
+        None => part_value(alloc, part),
+    }
+}
+
+/// The languages that the parts of a list name, and the texts that stand in the place of one.
+pub(crate) fn languages_value(alloc: Global, parts: &[Chunks]) -> Result<Value, AllocError>
+    ensures { IfOk result (λ value. view value ≡ array_of language_or_text parts.now) }
+{
+    let mut elements = Vec::new(alloc);
+    'parts: for part in parts {
+        let element = language_or_text(alloc, part.as_slice())?;
+        elements.push(element)?;
+    }
+    Ok(Value::from(elements))
+}

@@ -1,0 +1,149 @@
+//! What the contents of fields are read as, by the fields' names.
+
+ghost use Rattle.std.specs.Prelude.{◌≡◌};
+ghost use Rattle.bib_json.specs.ValueTypes as spec;
+
+/// What the contents of a field are read as.
+#[derive(Debug, Clone, Copy, PartialEq, Eq)]
+pub enum ValueType {
+    /// People.
+    People,
+    /// A date or a range of dates.
+    Date,
+    /// A whole number.
+    Number,
+    /// Ranges of pages.
+    Pages,
+    /// Texts with commas between them, as keys and keywords.
+    Keys,
+    /// Texts with `and` between them, as places and publishers.
+    Parts,
+    /// Languages with `and` between them.
+    Languages,
+    /// A language.
+    Language,
+    /// What page numbers count.
+    Pagination,
+    /// What an editor did.
+    Role,
+    /// The gender of a name.
+    Gender,
+}
+
+// Whether this is a field of people.
+fn is_of_people(name: &str) -> bool
+    ensures { result ≡ spec.is_listed_in spec.people_fields name.now }
+{
+    matches!(
+        name,
+        "author"
+            | "editor"
+            | "editora"
+            | "editorb"
+            | "editorc"
+            | "translator"
+            | "annotator"
+            | "commentator"
+            | "introduction"
+            | "foreword"
+            | "afterword"
+            | "bookauthor"
+            | "holder"
+            | "shortauthor"
+            | "shorteditor"
+    )
+}
+
+// Whether this is the field of a date.
+fn is_of_date(name: &str) -> bool
+    ensures { result ≡ spec.is_listed_in spec.date_fields name.now }
+{
+    matches!(name, "date" | "eventdate" | "origdate" | "urldate")
+}
+
+// Whether this is the field of a whole number.
+fn is_of_number(name: &str) -> bool
+    ensures { result ≡ spec.is_listed_in spec.number_fields name.now }
+{
+    matches!(name, "volume" | "volumes" | "edition")
+}
+
+// Whether this is the field of a list with commas between its texts.
+fn is_of_keys(name: &str) -> bool
+    ensures { result ≡ spec.is_listed_in spec.comma_fields name.now }
+{
+    matches!(
+        name,
+        "keywords" | "ids" | "xdata" | "entryset" | "related" | "origlanguage"
+    )
+}
+
+// Whether this is the field of a list with `and` between its texts.
+fn is_of_parts(name: &str) -> bool
+    ensures { result ≡ spec.is_listed_in spec.and_fields name.now }
+{
+    matches!(
+        name,
+        "publisher"
+            | "location"
+            | "address"
+            | "organization"
+            | "institution"
+            | "school"
+            | "origlocation"
+            | "origpublisher"
+    )
+}
+
+// Whether this is a field of what page numbers count.
+fn is_of_pagination(name: &str) -> bool
+    ensures { result ≡ spec.is_listed_in spec.pagination_fields name.now }
+{
+    matches!(name, "pagination" | "bookpagination")
+}
+
+// Whether this is a field of what editors did.
+fn is_of_role(name: &str) -> bool
+    ensures { result ≡ spec.is_listed_in spec.role_fields name.now }
+{
+    matches!(
+        name,
+        "editortype" | "editoratype" | "editorbtype" | "editorctype"
+    )
+}
+
+// What the only field of its type is read as.
+fn single_type(name: &str) -> Option<ValueType>
+    ensures { result ≡ spec.single_type name.now }
+{
+    match name {
+        "pages" => Some(ValueType::Pages),
+        "language" => Some(ValueType::Languages),
+        "langid" => Some(ValueType::Language),
+        "gender" => Some(ValueType::Gender),
+        _ => None,
+    }
+}
+
+/// What a field of this name, in lowercase letters, is read as, if it has a type.
+pub fn value_type(name: &str) -> Option<ValueType>
+    ensures { result ≡ spec.value_type name.now }
+{
+    if is_of_people(name) {
+        Some(ValueType::People)
+    } else if is_of_date(name) {
+        Some(ValueType::Date)
+    } else if is_of_number(name) {
+        Some(ValueType::Number)
+    } else if is_of_keys(name) {
+        Some(ValueType::Keys)
+    } else if is_of_parts(name) {
+        Some(ValueType::Parts)
+    } else if is_of_pagination(name) {
+        Some(ValueType::Pagination)
+    } else if is_of_role(name) {
+        Some(ValueType::Role)
+    } else {
+        single_type(name)
+    }
+}

@@ -1,0 +1,28 @@
+-- Meaning: words of public contracts.
+-- Lines of RIS: a tag, two spaces, a hyphen and a space, and a text.
+use Rattle.std.specs.Prelude.{ℕ, List, [], ◌++◌, map, codes, encode_utf8_all, if◌then◌else◌, Option, Some, None}
+use Rattle.std.specs.List.{flat_map}
+use Rattle.std.specs.Str.{chars}
+use Rattle.bib_chunks.specs.Formatted.{is_break}
+use Rattle.bib_text.specs.Characters as char
+
+-- a character on one line: a space in place of one that breaks the line
+abbrev pub on_line : ℕ → ℕ
+on_line c = if is_break c then char.space else c
+
+-- a text on one line
+abbrev pub one_line : List ℕ → List ℕ
+one_line text = encode_utf8_all (map on_line (chars text))
+
+-- a line of this tag with a text
+abbrev pub ris_line : List ℕ → List ℕ → List ℕ
+ris_line tag text = tag ++ (codes "  - " ++ (one_line text ++ codes "\n"))
+
+-- a line of this tag for each text
+abbrev pub ris_lines : List ℕ → List (List ℕ) → List ℕ
+ris_lines tag texts = flat_map (ris_line tag) texts
+
+-- a line of this tag, if there is a text
+abbrev pub line_if_given : List ℕ → Option (List ℕ) → List ℕ
+line_if_given tag None = []
+line_if_given tag (Some text) = ris_line tag text

@@ -1,0 +1,77 @@
+//! The types of records.
+
+ghost use Rattle.std.specs.Prelude.{◌≡◌, IfOk};
+ghost use Rattle.std.specs.Option.{option_copied};
+ghost use Rattle.bib_ris.specs.Types as spec;
+
+use bib_chunks::chunk::{ChunksRef, format_verbatim};
+use bib_entry_types::mechanics::EntryType;
+use std::alloc::{AllocError, Global};
+
+// The type of an article, by the text of its `entrysubtype`.
+fn periodical_type(subtype: &str) -> &'static str
+    ensures { result.now ≡ spec.periodical_type subtype.now }
+{
+    if subtype.eq_ignore_ascii_case("magazine") {
+        "MGZN"
+    } else if subtype.eq_ignore_ascii_case("newspaper") {
+        "NEWS"
+    } else {
+        "JOUR"
+    }
+}
+
+// The type of an article, where that field may be missing.
+fn article_type(
+    alloc: Global,
+    subtype: Option<ChunksRef<'_>>,
+) -> Result<&'static str, AllocError>
+    ensures { IfOk result (λ name. name.now ≡ spec.article_type (option_copied subtype.entry)) }
+{
+    match subtype {
+        Some(chunks) => {
+            let subtype = format_verbatim(alloc, chunks)?;
+            Ok(periodical_type(subtype.as_str()))
+        }
+        None => Ok("JOUR"),
+    }
+}
+
+/// The type of a record, by the type of its entry and the chunks of its `entrysubtype`.
+pub fn ris_type(
+    alloc: Global,
+    entry_type: &EntryType,
+    subtype: Option<ChunksRef<'_>>,
+) -> Result<&'static str, AllocError>
+    ensures { IfOk result (λ name. name.now ≡
+        spec.ris_type entry_type.now (option_copied subtype.entry)) }
+{
+    Ok(match entry_type {
+        EntryType::Article | EntryType::SuppPeriodical => return article_type(alloc, subtype),
+        EntryType::Book
+        | EntryType::MvBook
+        | EntryType::Manual
+        | EntryType::Collection
+        | EntryType::MvCollection
+        | EntryType::Reference
+        | EntryType::MvReference => "BOOK",
+        EntryType::InBook
+        | EntryType::InCollection
+        | EntryType::BookInBook
+        | EntryType::SuppBook
+        | EntryType::SuppCollection => "CHAP",
+        EntryType::InProceedings => "CPAPER",
+        EntryType::Proceedings | EntryType::MvProceedings => "CONF",
+        EntryType::Thesis | EntryType::MastersThesis | EntryType::PhdThesis => "THES",
+        EntryType::Report | EntryType::TechReport => "RPRT",
+        EntryType::Online => "ELEC",
+        EntryType::Patent => "PAT",
+        EntryType::Dataset => "DATA",
+        EntryType::Software => "COMP",
+        EntryType::Unpublished => "UNPB",
+        EntryType::Periodical => "JFULL",
+        EntryType::Booklet => "PAMP",
+        EntryType::InReference => "ENCYC",
+        EntryType::Misc | EntryType::Set | EntryType::XData | EntryType::Unknown(_) => "GEN",
+    })
+}
