@@ -6,6 +6,9 @@ use Rattle.biblatex.specs.Headline.{IsAcceptedText, IsBibliographyOf, IsErrorOf}
 use Rattle.biblatex.specs.Syntax.{Bibliography, Entry}
 use Rattle.bib_entry_types.specs.declared.mechanics.EntryType.{EntryType}
 use Rattle.bib_entry_types.specs.declared.mechanics.EntryType.TheVariants.{XData}
+use Rattle.bib_json.specs.Arrays.{array_end, before_element}
+use Rattle.bib_json.specs.Entries.{json_text_of}
+use Rattle.bib_ris.specs.Records.{ris_of}
 use Rattle.bibkit_convert.specs.declared.target.Target.{Target}
 use Rattle.bibkit_convert.specs.declared.target.Target.TheVariants.{Csl, Json, Ris}
 use Rattle.bibkit_convert.specs.declared.converting.ConvertError.{ConvertError}
@@ -24,26 +27,16 @@ is_written Ris e = not (is_xdata e.entry_type)
 -- what an entry is in a format
 abbrev pub entry_in : Target → Entry → List ℕ
 entry_in Csl e = e.key
-entry_in Json e = e.key
-entry_in Ris e = e.key
+entry_in Json e = json_text_of e
+entry_in Ris e = ris_of e
 
--- what stands before an entry of an array, or at its start
-abbrev pub separator : Bool → List ℕ
-separator true = codes "[\n"
-separator false = codes ",\n"
-
--- what stands before an entry, and whether it is the first
+-- what stands before an entry, by whether it is the first
 abbrev pub before : Target → Bool → List ℕ
-before Csl is_first = separator is_first
-before Json is_first = separator is_first
+before Csl is_first = before_element is_first
+before Json is_first = before_element is_first
 before Ris is_first = []
 
--- the end of an array, or all of one that has nothing
-abbrev pub array_end : Bool → List ℕ
-array_end true = codes "[]\n"
-array_end false = codes "\n]\n"
-
--- what stands after the last entry, and whether there is none
+-- what stands after the last entry, by whether there is none
 abbrev pub end : Target → Bool → List ℕ
 end Csl is_empty = array_end is_empty
 end Json is_empty = array_end is_empty

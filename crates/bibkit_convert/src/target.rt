@@ -4,6 +4,8 @@ ghost use Rattle.std.specs.Prelude.{◌≡◌, IfOk};
 ghost use Rattle.std.specs.String.{string_bytes};
 ghost use Rattle.bibkit_convert.specs.Converted as spec;
 
+use bib_json::arrays::{array_end, before_element};
+use bib_ris::records::record_text;
 use biblatex::{Entry, EntryType};
 use std::alloc::{AllocError, Global};
 
@@ -35,8 +37,8 @@ impl Target {
     {
         match self {
             Target::Csl => String::from_str(alloc, entry.key.as_str()),
-            Target::Json => String::from_str(alloc, entry.key.as_str()),
-            Target::Ris => String::from_str(alloc, entry.key.as_str()),
+            Target::Json => bib_json::entries::entry_text(alloc, entry),
+            Target::Ris => record_text(alloc, entry),
         }
     }
 
@@ -45,9 +47,8 @@ impl Target {
         ensures { result.now ≡ spec.before self is_first }
     {
         match self {
+            Target::Csl | Target::Json => before_element(is_first),
             Target::Ris => "",
-            Target::Csl | Target::Json if is_first => "[\n",
-            Target::Csl | Target::Json => ",\n",
         }
     }
 
@@ -56,9 +57,8 @@ impl Target {
         ensures { result.now ≡ spec.end self is_empty }
     {
         match self {
+            Target::Csl | Target::Json => array_end(is_empty),
             Target::Ris => "",
-            Target::Csl | Target::Json if is_empty => "[]\n",
-            Target::Csl | Target::Json => "\n]\n",
         }
     }
 }
