@@ -1,20 +1,21 @@
 -- A document with the types and the names of fields of a format: what it is read as.
-use Rattle.std.proofs.Common.{◌≡◌, ℕ, ◌≤◌, List, [], ◌∷◌, ◌++◌, length, map, refl, sym, ap, ◌∙◌, subst, arith, append_assoc, Option, Some, None}
-use Rattle.std.specs.Prelude.{slice_get}
+use Rattle.std.proofs.Common.{◌≡◌, ℕ, ◌≤◌, List, [], ◌∷◌, ◌++◌, length, map, refl, sym, ap, ◌∙◌, subst, arith, append_assoc, Option, Some, None, Result, Ok, Err}
+use Rattle.std.specs.Prelude.{IfOk, slice_get}
 use Rattle.std.specs.List.{flat_map}
 use Rattle.bib_syntax.specs.Reading.{Part, FieldReading, EntryReading, FileReading}
 use Rattle.bib_syntax.specs.Grammar.{BlockKind, IsRawReading, block_kind}
 use Rattle.bib_documents.specs.Edits.{Edit, moved_field, moved_file, moved_place}
 use Rattle.bib_documents.specs.Documents.{CanBeName, Document, IsDocument}
+use Rattle.bib_documents.specs.Stretches.{AreEditsInOrder}
 use Rattle.bib_documents.proofs.AgreementFacts.{agrees_self}
 use Rattle.bib_entry.specs.declared.write.Format.{Format}
 use Rattle.bib_strings.specs.Exchanged.{IsReadPlaceless, placeless}
 use Rattle.bib_strings.proofs.ExchangedFacts.{file_placeless}
-use Rattle.bib_conversion.specs.Conversions.{entry_converted, entry_edits, field_converted, file_converted, file_edits, new_name, new_type, part_edits, text_converted, with_text}
+use Rattle.bib_conversion.specs.Conversions.{IsConverted, entry_converted, entry_edits, field_converted, file_converted, file_edits, new_name, new_type, part_edits, text_converted, with_text}
 use Rattle.bib_conversion.proofs.FieldNameFacts.{name_exchanged_read, name_stretch, with_name}
 use Rattle.bib_conversion.proofs.MadeFacts.{IsPut, Made, field_made, get_here, kind_made, kind_named, less_made, of_entries}
 use Rattle.bib_conversion.proofs.NewNameFacts.{name_known, type_known}
-use Rattle.bib_conversion.proofs.PlaceFacts.{AreEntriesIn, AreNamesIn, IsCut, file_in}
+use Rattle.bib_conversion.proofs.PlaceFacts.{AreEntriesIn, AreNamesIn, edits_in_order, file_in}
 
 -- ---- a field's name
 
@@ -95,3 +96,12 @@ pub converted_read : (d : Document) (format : Format) → IsDocument d → IsRea
 converted_read d format read =
     let made = entries_made d format read [] d.says.entries 0 refl (file_in d.text refl read) in
     record { tells = made.after.says; read = subst (λ t. IsRawReading t made.after.says) made.text made.read; alike = made.alike }
+
+-- its edits stand one after another
+pub file_edits_in_order : (d : Document) (format : Format) → IsDocument d → AreEditsInOrder d.text 0 (file_edits format d.says.entries)
+file_edits_in_order d format read = edits_in_order format d.text 0 d.says.entries (file_in d.text refl read)
+
+-- what the call that converts a document answers
+pub converted_answer : {S E : Type 0} (bytes : S → List ℕ) (r : Result S E) (d : Document) (format : Format) → IsDocument d → IfOk r (λ new. bytes new ≡ text_converted format d) → IfOk r (λ new. IsConverted format d (bytes new))
+converted_answer bytes (Err e) d format read text = _
+converted_answer bytes (Ok new) d format read text = record { is = text; read = subst (IsReadPlaceless (file_converted format d.says)) (sym text) (converted_read d format read) }

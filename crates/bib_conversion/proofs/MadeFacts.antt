@@ -142,15 +142,15 @@ module _ (d after : Document) (edit : Edit) (before others : List EntryReading) 
 
   -- with other fields in the place of one
   put_alike : (entry : EntryReading) (fb now : List FieldReading) (f : FieldReading) (news made : List FieldReading) → slice_get after.says.entries k ≡ Some entry → p.fields ≡ fb ++ f ∷ now → map (moved_field (λ n. 0)) made ≡ map (moved_field (λ n. 0)) news
-      → placeless (fields_put after edit k entry (length fb) made).says ≡ placeless (of_entries d.says (before ++ (record p { fields = fb ++ news ++ now }) ∷ others))
+      → placeless (fields_put after edit k entry (length fb) made).says ≡ placeless (of_entries d.says (before ++ (record p { fields = fb ++ (news ++ now) }) ∷ others))
   put_alike entry fb now f news made here fields same =
       let view = moved_field (λ n. 0) in
       let j : ℕ = length fb in
       let moved : EntryReading = moved_entry move entry in
-      let x : EntryReading = record p { fields = fb ++ news ++ now } in
+      let x : EntryReading = record p { fields = fb ++ (news ++ now) } in
       let with_fields : EntryReading → List FieldReading → EntryReading = λ (e : EntryReading) (fs : List FieldReading). record e { fields = fs } in
-      let listed : put_at j (map view made) (map view p.fields) ≡ map view (fb ++ news ++ now) =
-      ap (λ fs. put_at j (map view made) (map view fs)) fields ∙ put_is view fb now f (map view made) j refl ∙ ap (λ l. map view fb ++ l ++ map view now) same
+      let listed : put_at j (map view made) (map view p.fields) ≡ map view (fb ++ (news ++ now)) =
+      ap (λ fs. put_at j (map view made) (map view fs)) fields ∙ put_is view fb now f (map view made) j refl ∙ ap (λ l. map view fb ++ (l ++ map view now)) same
       ∙ ap (λ l. map view fb ++ l) (sym (map-append view news now)) ∙ sym (map-append view fb (news ++ now)) in
       says_alike (with_fields moved (put_at j made moved.fields)) x
       (ap (with_fields (entry_alone_placeless moved)) (map_put view moved.fields made j)
@@ -240,7 +240,7 @@ pub record IsPut (d : Document) (f : FieldReading) (edit : Edit) (news : List Fi
       → (made : List FieldReading) × (map (moved_field (λ n. 0)) made ≡ map (moved_field (λ n. 0)) news) × IsWithin edit after.text × IsDocument (fields_put after edit k entry j made)
 
 pub field_made : (d : Document) (edits : List Edit) (before others : List EntryReading) (e p : EntryReading) (fb now : List FieldReading) (f : FieldReading) (edit : Edit) (news : List FieldReading) → IsDocument d → slice_get d.says.entries (length before) ≡ Some e
-    → slice_get e.fields (length fb) ≡ Some f → p.fields ≡ fb ++ f ∷ now → IsPut d f edit news → Made d edits (before ++ p ∷ others) f.value.end → Made d (edit ∷ edits) (before ++ (record p { fields = fb ++ news ++ now }) ∷ others) f.name.start
+    → slice_get e.fields (length fb) ≡ Some f → p.fields ≡ fb ++ f ∷ now → IsPut d f edit news → Made d edits (before ++ p ∷ others) f.value.end → Made d (edit ∷ edits) (before ++ (record p { fields = fb ++ (news ++ now) }) ∷ others) f.name.start
 field_made d edits before others e p fb now f edit news read here there fields put made =
     let k : ℕ = length before in
     let j : ℕ = length fb in

@@ -74,63 +74,64 @@ abbrev IsPlainRow : List ℕ × List ℕ → Type 0
 IsPlainRow row = is_plain_name row.1 ≡ true
 
 biblatex_plain : AllByRecursion IsPlainRow biblatex_names
-biblatex_plain = (refl, refl, refl, tt)
+biblatex_plain = (refl, (refl, (refl, tt)))
 
 bibtex_plain : (kind : EntryType) → AllByRecursion IsPlainRow (names_in kind)
-bibtex_plain Article = (refl, refl, tt)
-bibtex_plain Book = (refl, refl, tt)
-bibtex_plain Booklet = (refl, refl, tt)
-bibtex_plain InBook = (refl, refl, tt)
-bibtex_plain InCollection = (refl, refl, tt)
-bibtex_plain InProceedings = (refl, refl, tt)
-bibtex_plain Manual = (refl, refl, tt)
-bibtex_plain MastersThesis = ((refl, refl, refl, tt))
-bibtex_plain PhdThesis = ((refl, refl, refl, tt))
-bibtex_plain Misc = (refl, refl, tt)
-bibtex_plain Proceedings = (refl, refl, tt)
-bibtex_plain TechReport = (refl, refl, tt)
-bibtex_plain Unpublished = (refl, refl, tt)
-bibtex_plain MvBook = (refl, refl, tt)
-bibtex_plain BookInBook = (refl, refl, tt)
-bibtex_plain SuppBook = (refl, refl, tt)
-bibtex_plain Periodical = (refl, refl, tt)
-bibtex_plain SuppPeriodical = (refl, refl, tt)
-bibtex_plain Collection = (refl, refl, tt)
-bibtex_plain MvCollection = (refl, refl, tt)
-bibtex_plain SuppCollection = (refl, refl, tt)
-bibtex_plain Reference = (refl, refl, tt)
-bibtex_plain MvReference = (refl, refl, tt)
-bibtex_plain InReference = (refl, refl, tt)
-bibtex_plain MvProceedings = (refl, refl, tt)
-bibtex_plain Report = (refl, refl, tt)
-bibtex_plain Patent = (refl, refl, tt)
-bibtex_plain Thesis = ((refl, refl, refl, tt))
-bibtex_plain Online = (refl, refl, tt)
-bibtex_plain Software = (refl, refl, tt)
-bibtex_plain Dataset = (refl, refl, tt)
-bibtex_plain Set = (refl, refl, tt)
-bibtex_plain XData = (refl, refl, tt)
-bibtex_plain (Unknown name) = (refl, refl, tt)
+bibtex_plain Article = (refl, (refl, tt))
+bibtex_plain Book = (refl, (refl, tt))
+bibtex_plain Booklet = (refl, (refl, tt))
+bibtex_plain InBook = (refl, (refl, tt))
+bibtex_plain InCollection = (refl, (refl, tt))
+bibtex_plain InProceedings = (refl, (refl, tt))
+bibtex_plain Manual = (refl, (refl, tt))
+bibtex_plain MastersThesis = (refl, (refl, (refl, tt)))
+bibtex_plain PhdThesis = (refl, (refl, (refl, tt)))
+bibtex_plain Misc = (refl, (refl, tt))
+bibtex_plain Proceedings = (refl, (refl, tt))
+bibtex_plain TechReport = (refl, (refl, tt))
+bibtex_plain Unpublished = (refl, (refl, tt))
+bibtex_plain MvBook = (refl, (refl, tt))
+bibtex_plain BookInBook = (refl, (refl, tt))
+bibtex_plain SuppBook = (refl, (refl, tt))
+bibtex_plain Periodical = (refl, (refl, tt))
+bibtex_plain SuppPeriodical = (refl, (refl, tt))
+bibtex_plain Collection = (refl, (refl, tt))
+bibtex_plain MvCollection = (refl, (refl, tt))
+bibtex_plain SuppCollection = (refl, (refl, tt))
+bibtex_plain Reference = (refl, (refl, tt))
+bibtex_plain MvReference = (refl, (refl, tt))
+bibtex_plain InReference = (refl, (refl, tt))
+bibtex_plain MvProceedings = (refl, (refl, tt))
+bibtex_plain Report = (refl, (refl, tt))
+bibtex_plain Patent = (refl, (refl, tt))
+bibtex_plain Thesis = (refl, (refl, (refl, tt)))
+bibtex_plain Online = (refl, (refl, tt))
+bibtex_plain Software = (refl, (refl, tt))
+bibtex_plain Dataset = (refl, (refl, tt))
+bibtex_plain Set = (refl, (refl, tt))
+bibtex_plain XData = (refl, (refl, tt))
+bibtex_plain (Unknown name) = (refl, (refl, tt))
 
 names_plain : (format : Format) (kind : EntryType) → AllByRecursion IsPlainRow (other_names format kind)
 names_plain Biblatex kind = biblatex_plain
 names_plain Bibtex kind = bibtex_plain kind
 
+-- of some rows with one before them, which is kept or isn't
+kept_case : (b : Bool) (row : List ℕ × List ℕ) (rows : List (List ℕ × List ℕ)) → IsPlainRow row → AllByRecursion IsPlainRow rows → AllByRecursion IsPlainRow (cond b (row ∷ rows) rows)
+kept_case true row rows here all = (here, all)
+kept_case false row rows here all = all
+
 kept_plain : (test : List ℕ × List ℕ → Bool) (rows : List (List ℕ × List ℕ)) → AllByRecursion IsPlainRow rows → AllByRecursion IsPlainRow (filter test rows)
 kept_plain test [] all = tt
-kept_plain test (row ∷ rows) all = by_case (test row)
-  where
-    by_case : (b : Bool) → AllByRecursion IsPlainRow (cond b (row ∷ filter test rows) (filter test rows))
-    by_case true = (all.0, kept_plain test rows all.1)
-    by_case false = kept_plain test rows all.1
+kept_plain test (row ∷ rows) all = kept_case (test row) row (filter test rows) all.0 (kept_plain test rows all.1)
+
+found_case : (b : Bool) (other name : List ℕ) (rest : Option (List ℕ)) → is_plain_name other ≡ true → (rest ≡ Some name → is_plain_name name ≡ true) → cond b (Some other) rest ≡ Some name → is_plain_name name ≡ true
+found_case true other name rest plain later same = let is : other ≡ name = cc in subst (λ n. is_plain_name n ≡ true) is plain
+found_case false other name rest plain later same = later same
 
 found_plain : (rows : List (List ℕ × List ℕ)) (text name : List ℕ) → AllByRecursion IsPlainRow rows → other_name rows text ≡ Some name → is_plain_name name ≡ true
 found_plain [] text name all is = absurd (cc)
-found_plain (row ∷ rows) text name all is = by_case (is_word text row.0) is
-  where
-    by_case : (b : Bool) → cond b (Some row.1) (other_name rows text) ≡ Some name → is_plain_name name ≡ true
-    by_case true same = let is : row.1 ≡ name = cc in subst (λ n. is_plain_name n ≡ true) is all.0
-    by_case false same = found_plain rows text name all.1 same
+found_plain (row ∷ rows) text name all is = found_case (is_word text row.0) row.1 name (other_name rows text) all.0 (found_plain rows text name all.1) is
 
 pub name_known : (format : Format) (e : EntryReading) (f : FieldReading) (name : List ℕ) → new_name format e f ≡ Some name → CanBeName name
 name_known format e f name is =

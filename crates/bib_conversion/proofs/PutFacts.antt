@@ -31,7 +31,7 @@ put_at j news [] = []
 put_at zero news (x ∷ xs) = news ++ xs
 put_at (suc j) news (x ∷ xs) = x ∷ put_at j news xs
 
-pub put_is : {A B : Type 0} (view : A → B) (before following : List A) (x : A) (news : List B) (j : ℕ) → length before ≡ j → put_at j news (map view (before ++ x ∷ following)) ≡ map view before ++ news ++ map view following
+pub put_is : {A B : Type 0} (view : A → B) (before following : List A) (x : A) (news : List B) (j : ℕ) → length before ≡ j → put_at j news (map view (before ++ x ∷ following)) ≡ map view before ++ (news ++ map view following)
 put_is view [] following x news zero index = refl
 put_is view [] following x news (suc j) index = absurd (omega arith)
 put_is view (b ∷ bs) following x news zero index = absurd (omega arith)
@@ -60,8 +60,8 @@ new_opens FieldsBefore.none field = record { char = field.name.first; next = fie
 new_opens (FieldsBefore.more field gap comma gap' others) last = record { char = field.name.first; next = field.name.second; here = field.name.here; starts = field.name.starts }
 
 before_append : {u v w : Place} {fs gs : List FieldReading} → FieldsBefore u fs v → FieldsBefore v gs w → FieldsBefore u (fs ++ gs) w
-before_append FieldsBefore.none more = more
-before_append (FieldsBefore.more field gap comma gap' others) more = FieldsBefore.more field gap comma gap' (before_append others more)
+before_append FieldsBefore.none others = others
+before_append (FieldsBefore.more field gap comma gap' first) others = FieldsBefore.more field gap comma gap' (before_append first others)
 
 start_plain : (c : ℕ) → is_id_start c ≡ true → (c == 37) ≡ false
 start_plain c starts = ne_eqb c 37 (λ same. test_clash (is_id_start 37) (subst (λ x. is_id_start x ≡ true) same starts) refl)
@@ -145,7 +145,7 @@ fields_put_read d edit k e j f news s g start_is some past n =
     let first : List FieldReading = map (moved_field move) g.before in
     let following : List FieldReading = map (moved_field move) g.following in
     let listed : (first ++ n.first) ++ n.last ∷ following ≡ put_at j news (map (moved_field move) e.fields) =
-    append_assoc first n.first (n.last ∷ following) ∙ ap (λ l. first ++ l) (sym (append_assoc n.first (n.last ∷ []) following)) ∙ ap (λ l. first ++ l ++ following) (sym n.are)
+    append_assoc first n.first (n.last ∷ following) ∙ ap (λ l. first ++ l) (sym (append_assoc n.first (n.last ∷ []) following)) ∙ ap (λ l. first ++ (l ++ following)) (sym n.are)
     ∙ sym (put_is (moved_field move) g.before g.following f news j g.index) ∙ ap (λ fs. put_at j news (map (moved_field move) fs)) (sym g.whole) in
     let e' : EntryReading = record (moved_entry move e) { fields = put_at j news (map (moved_field move) e.fields) } in
     let block : EntryBlock (goes edit d.text s.start) e' (goes edit d.text s.end) = record {

@@ -23,17 +23,17 @@ fn push_edit(
     edits: &mut Vec<Edit>,
     alloc: Global,
     part: &Spanned<&str>,
-    new: Option<&str>,
+    other: Option<&str>,
 ) -> Result<(), AllocError>
-    ensures { OnOk result (map edit_as_written edits.new.items ≡ map edit_as_written edits.old.items ++ part_edits (part_of part.now) (option_map (λ t. t.now) new)) }
+    ensures { OnOk result (map edit_as_written edits.new.items ≡ map edit_as_written edits.old.items ++ part_edits (part_of part.now) (option_map (λ t. t.now) other.entry)) }
 {
-    let Some(new) = new else {
+    let Some(text) = other else {
         return Ok(());
     };
     edits.push(Edit {
         start: part.span.start,
         end: part.span.end,
-        text: String::from_str(alloc, new)?,
+        text: String::from_str(alloc, text)?,
     })?;
     Ok(())
 }

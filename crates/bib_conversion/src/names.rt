@@ -89,10 +89,11 @@ pub(crate) fn exchanged_names(
 ) -> Result<Vec<(&'static str, &'static str)>, AllocError>
     ensures { IfOk result (λ names. lent_names names.items ≡ spec.free_names (map field_of fields.now) (spec.other_names format kind.now)) }
 {
+    let names = other_names(format, kind);
     let mut free = Vec::new(alloc);
-    'names: for names in other_names(format, kind) {
-        if !has_field(fields, names.1) {
-            free.push(*names)?;
+    'rows: for row in names {
+        if !has_field(fields, row.1) {
+            free.push(*row)?;
         }
     }
     Ok(free)
@@ -105,9 +106,9 @@ pub(crate) fn other_name(
 ) -> Option<&'static str>
     ensures { option_map (λ t. t.now) result ≡ spec.other_name (lent_names names.now) name.now }
 {
-    'names: for names in names {
-        if is_word(name, names.0) {
-            return Some(names.1);
+    'rows: for row in names {
+        if is_word(name, row.0) {
+            return Some(row.1);
         }
     }
     None

@@ -3,5 +3,5 @@ use Rattle.bib_conversion.specs.Conversions.{other_name}
 use Rattle.bib_conversion.specs.Tables.{lent_names}
 use Rattle.bib_conversion.proofs.names.other_name.Given as goal
 
-abbrev pub invariant-names : goal.invariant-names
-invariant-names l = other_name (lent_names l.names) l.name ≡ other_name (lent_names (drop l.names-index l.names)) l.name
+abbrev pub invariant-rows : goal.invariant-rows
+invariant-rows l = other_name (lent_names l.names) l.name ≡ other_name (lent_names (drop l.row-index l.names)) l.name
