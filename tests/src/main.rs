@@ -10,6 +10,7 @@ mod bibliography_calls;
 #[cfg(test)]
 mod calls;
 mod contents;
+mod conversions;
 mod documents;
 mod entries;
 mod excerpts;
@@ -34,6 +35,7 @@ fn rows(alloc: Global, layer: &str, input: &str) -> Result<String, AllocError> {
         "tables" => answered::<tables::Tables>(alloc, input),
         "values" => answered::<values::Values>(alloc, input),
         "documents" => answered::<documents::Documents>(alloc, input),
+        "conversions" => answered::<conversions::Conversions>(alloc, input),
         "excerpts" => answered::<excerpts::Excerpts>(alloc, input),
         "exports" => answered::<exports::Exports>(alloc, input),
         "formats" => answered::<formats::Formats>(alloc, input),

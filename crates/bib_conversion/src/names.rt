@@ -1,0 +1,115 @@
+//! The names of types and fields for which a format has others.
+
+ghost use Rattle.std.specs.Prelude.{◌≡◌, IfOk, map};
+ghost use Rattle.std.specs.Option.{option_map};
+ghost use Rattle.bib_syntax.specs.Views.{field_of};
+ghost use Rattle.bib_entry.specs.Format.{kind_in};
+ghost use Rattle.bib_conversion.specs.Conversions as spec;
+ghost use Rattle.bib_conversion.specs.Tables.{lent_names};
+
+use bib_entry::write::Format;
+use bib_entry_types::mechanics::EntryType;
+use bib_syntax::raw::{Pair, is_word};
+use std::alloc::{AllocError, Global};
+
+// The type that a format has for a type.
+fn kind_in(format: Format, kind: &EntryType) -> EntryType
+    ensures { result ≡ kind_in format kind.now }
+{
+    match format {
+        Format::Biblatex => kind.to_biblatex(),
+        Format::Bibtex => kind.to_bibtex(),
+    }
+}
+
+// Whether a type is none of those that BibTeX and BibLaTeX have.
+fn is_unknown(kind: &EntryType) -> bool
+    ensures { result ≡ spec.is_unknown kind.now }
+{
+    matches!(kind, EntryType::Unknown(_))
+}
+
+// The name of the type that a format has for a type, if that is another one; a type that neither has stays.
+pub(crate) fn other_type(format: Format, kind: &EntryType) -> Option<&'static str>
+    ensures { option_map (λ t. t.now) result ≡ spec.other_type format kind.now }
+{
+    let other = kind_in(format, kind);
+    if is_unknown(kind) || other.name() == kind.name() {
+        return None;
+    }
+    Some(other.name())
+}
+
+// The names for which BibTeX has others in entries of a type, each with the other.
+fn bibtex_names(kind: &EntryType) -> &'static [(&'static str, &'static str)]
+    ensures { lent_names result.now ≡ spec.other_names Format.Bibtex kind.now }
+{
+    match kind {
+        EntryType::Thesis | EntryType::MastersThesis | EntryType::PhdThesis => &[
+            ("institution", "school"),
+            ("journaltitle", "journal"),
+            ("location", "address"),
+        ],
+        _ => &[("journaltitle", "journal"), ("location", "address")],
+    }
+}
+
+// The names for which a format has others in entries of a type, each with the other.
+fn other_names(format: Format, kind: &EntryType) -> &'static [(&'static str, &'static str)]
+    ensures { lent_names result.now ≡ spec.other_names format kind.now }
+{
+    match format {
+        Format::Biblatex => &[
+            ("journal", "journaltitle"),
+            ("address", "location"),
+            ("school", "institution"),
+        ],
+        Format::Bibtex => bibtex_names(kind),
+    }
+}
+
+// Whether one of some fields has a name, in any ASCII case.
+fn has_field(fields: &[Pair<'_>], name: &str) -> bool
+    ensures { result ≡ spec.has_field (map field_of fields.now) name.now }
+{
+    'fields: for field in fields {
+        if is_word(field.key.v, name) {
+            return true;
+        }
+    }
+    false
+}
+
+// The names of an entry's fields that give way, each with the one that takes its place.
+pub(crate) fn exchanged_names(
+    alloc: Global,
+    format: Format,
+    kind: &EntryType,
+    fields: &[Pair<'_>],
+) -> Result<Vec<(&'static str, &'static str)>, AllocError>
+    ensures { IfOk result (λ names. lent_names names.items ≡ spec.free_names (map field_of fields.now) (spec.other_names format kind.now)) }
+{
+    let names = other_names(format, kind);
+    let mut free = Vec::new(alloc);
+    'rows: for row in names {
+        if !has_field(fields, row.1) {
+            free.push(*row)?;
+        }
+    }
+    Ok(free)
+}
+
+// The other name beside a name, in any ASCII case.
+pub(crate) fn other_name(
+    names: &[(&'static str, &'static str)],
+    name: &str,
+) -> Option<&'static str>
+    ensures { option_map (λ t. t.now) result ≡ spec.other_name (lent_names names.now) name.now }
+{
+    'rows: for row in names {
+        if is_word(name, row.0) {
+            return Some(row.1);
+        }
+    }
+    None
+}
