@@ -9,12 +9,14 @@ use Rattle.bib_syntax.proofs.FileFailureFacts.{file_unread}
 use Rattle.bib_documents.specs.Documents.{Document, EntriesAdded, IsEdited}
 use Rattle.bib_documents.specs.declared.errors.EditError.{EditError}
 use Rattle.bib_documents.specs.declared.errors.EditError.TheVariants as error
+use Rattle.bib_conversion.specs.Conversions.{IsConverted}
+use Rattle.bib_entry.specs.declared.write.Format.{Format}
 use Rattle.bib_format.specs.Formatted.{IsReadAlike, says_in_order, text_in_style}
 use Rattle.bib_format.specs.declared.style.Style.{Style}
 use Rattle.bib_sorting.specs.Sorted.{IsReadSorted, IsSortedText}
 use Rattle.bib_strings.specs.Collected.{AreMadeAbbreviations}
 use Rattle.bib_strings.specs.Expanded.{IsExpanded}
-use Rattle.bibkit_edits.specs.Edited.{AreMade, AreRefused, AreTextsCollected, IsEditRefused, IsInOrder, IsInStyle, IsMade, IsDocumentOf, IsWrittenOut, TextAdded}
+use Rattle.bibkit_edits.specs.Edited.{AreMade, AreRefused, AreTextsCollected, IsDocumentConverted, IsEditRefused, IsInOrder, IsInStyle, IsMade, IsDocumentOf, IsWrittenOut, TextAdded}
 use Rattle.bibkit_edits.specs.Orders.{order_text}
 use Rattle.bibkit_edits.specs.declared.order.Order.{Order}
 use Rattle.bibkit_edits.specs.Edited.AreMade.{none, next}
@@ -50,6 +52,10 @@ expansion_made d new made = record { document = record { text = new; says = made
 -- a text with abbreviations made of texts that repeat
 pub collection_made : (d : Document) (fields : List (List ℕ)) (at_least : ℕ) (new : List ℕ) → AreMadeAbbreviations d fields at_least new → IsEdited (AreTextsCollected fields at_least d) new
 collection_made d fields at_least new made = record { document = record { text = new; says = made.read.tells }; outcome = made; is = refl; read = made.read.read }
+
+-- a text with the types and fields of a format
+pub conversion_made : (format : Format) (d : Document) (new : List ℕ) → IsConverted format d new → IsEdited (IsDocumentConverted format d) new
+conversion_made format d new made = record { document = record { text = new; says = made.read.tells }; outcome = made; is = refl; read = made.read.read }
 
 -- one edit more
 pub made_more : {edits : List Edit} {edit : Edit} {text new newer : List ℕ} → AreMade edits text new → IsMade edit new newer → AreMade (edits ++ edit ∷ []) text newer

@@ -7,9 +7,12 @@ use Rattle.bib_syntax.specs.Reading.{FileReading}
 use Rattle.bib_syntax.specs.SyntaxErrors.{IsReported}
 use Rattle.bib_syntax.specs.declared.raw.ParseError.{ParseError}
 use Rattle.bib_encoding.specs.Encoding.{IsFirstInvalid, byte_order_mark, without_byte_order_mark}
+use Rattle.bib_conversion.specs.Conversions.{IsConverted}
 use Rattle.bib_documents.specs.Documents.{Document, EntriesAdded, EntriesAreRefused, EntryIsRefused, EntryRemoved, FieldSet, FieldUnset, IsDocument, IsEdited, SetIsRefused}
 use Rattle.bib_documents.specs.References.{KeyRenamed, RenameIsRefused}
 use Rattle.bib_documents.specs.declared.errors.EditError.{EditError}
+use Rattle.bib_entry.specs.declared.write.Format as names
+use Rattle.bib_entry.specs.declared.write.Format.TheVariants.{Biblatex, Bibtex}
 use Rattle.bib_format.specs.Formatted.{content, says_in_order, text_in_style}
 use Rattle.bib_format.specs.declared.style.Style.{Style}
 use Rattle.bib_sorting.specs.Sorted.{AreEntriesInOrder, IsSortedText, Item, items, says_sorted, without_places}
@@ -19,7 +22,7 @@ use Rattle.bib_strings.specs.declared.errors.ExpandError.TheVariants as expand_e
 use Rattle.bibkit_edits.specs.Orders.{order_text}
 use Rattle.bibkit_edits.specs.declared.edit.Edit.{Edit}
 use Rattle.bibkit_edits.specs.declared.order.Order.{Order}
-use Rattle.bibkit_edits.specs.declared.edit.Edit.TheVariants.{Set, Unset, Rename, Remove, Add, Sort, Expand, Collect, Format}
+use Rattle.bibkit_edits.specs.declared.edit.Edit.TheVariants.{Set, Unset, Rename, Remove, Add, Sort, Expand, Collect, ToBiblatex, ToBibtex, Format}
 use Rattle.bibkit_edits.specs.declared.edit.Refusal.{Refusal}
 use Rattle.bibkit_edits.specs.declared.edit.Refusal.TheVariants as refusal
 
@@ -59,6 +62,10 @@ IsWrittenOut d after = IsExpanded d after.text
 abbrev pub AreTextsCollected : List (List ℕ) → ℕ → Document → Document → Type 0
 AreTextsCollected fields at_least d after = AreMadeAbbreviations d fields at_least after.text
 
+-- what comes of giving the entries of a document the types and fields of a format
+abbrev pub IsDocumentConverted : names.Format → Document → Document → Type 0
+IsDocumentConverted format d after = IsConverted format d after.text
+
 -- what comes of an edit of a document
 abbrev pub EditOutcome : Edit → Document → Document → Type 0
 EditOutcome (Set key name value) d = FieldSet d key.now name.now value.now
@@ -69,6 +76,8 @@ EditOutcome (Add text) d = TextAdded d text.now
 EditOutcome (Sort order) d = IsInOrder order d
 EditOutcome Expand d = IsWrittenOut d
 EditOutcome (Collect fields at_least) d = AreTextsCollected (map (λ name. name.now) fields.now) at_least d
+EditOutcome ToBiblatex d = IsDocumentConverted Biblatex d
+EditOutcome ToBibtex d = IsDocumentConverted Bibtex d
 EditOutcome (Format style) d = IsInStyle style d
 
 -- what an edit makes of a text
@@ -98,6 +107,8 @@ IsEditRefused (Add text) d why = TextIsRefused d text.now why
 IsEditRefused (Sort order) d why = ⊥
 IsEditRefused Expand d why = ⊥
 IsEditRefused (Collect fields at_least) d why = ⊥
+IsEditRefused ToBiblatex d why = ⊥
+IsEditRefused ToBibtex d why = ⊥
 IsEditRefused (Format style) d why = ⊥
 
 -- an edit of a document writes its abbreviations out, and the definition at this index refers to itself
@@ -110,6 +121,8 @@ MeetsCycle (Add text) d definition = ⊥
 MeetsCycle (Sort order) d definition = ⊥
 MeetsCycle Expand d definition = ExpandIsRefused d (expand_error.Cycle definition)
 MeetsCycle (Collect fields at_least) d definition = ⊥
+MeetsCycle ToBiblatex d definition = ⊥
+MeetsCycle ToBibtex d definition = ⊥
 MeetsCycle (Format style) d definition = ⊥
 
 -- an edit adds the entries of this text
@@ -122,6 +135,8 @@ AddsText (Add text) added = added ≡ text.now
 AddsText (Sort order) added = ⊥
 AddsText Expand added = ⊥
 AddsText (Collect fields at_least) added = ⊥
+AddsText ToBiblatex added = ⊥
+AddsText ToBibtex added = ⊥
 AddsText (Format style) added = ⊥
 
 -- why edits of a text are refused: the text isn't one of the file grammar; or first edits are made, and the next adds a text

@@ -59,6 +59,10 @@ pub enum Edit<'a> {
         /// How often a text has to stand there, 2 at least.
         at_least: usize,
     },
+    /// Gives entries the types and fields of BibLaTeX.
+    ToBiblatex,
+    /// Gives entries the types and fields of BibTeX.
+    ToBibtex,
     /// Puts the text in one style.
     Format {
         /// How entries are laid out.

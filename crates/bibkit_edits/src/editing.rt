@@ -4,7 +4,7 @@ ghost use Rattle.std.specs.Prelude.{◌≡◌, ◌≢◌, IfErr, IfOk, OnErr, ma
 ghost use Rattle.std.specs.String.{string_bytes};
 ghost use Rattle.bib_documents.specs.Documents.{IsEdited};
 ghost use Rattle.bib_documents.specs.declared.errors.EditError.TheVariants.{OutOfMemory};
-ghost use Rattle.bibkit_edits.specs.Edited.{AreMade, AreRefused, AreTextsCollected, EditOutcome, IsFileMade, IsFileRefused, IsInOrder, IsInStyle, IsMade, IsWrittenOut};
+ghost use Rattle.bibkit_edits.specs.Edited.{AreMade, AreRefused, AreTextsCollected, EditOutcome, IsDocumentConverted, IsFileMade, IsFileRefused, IsInOrder, IsInStyle, IsMade, IsWrittenOut};
 ghost use Rattle.bib_strings.specs.Expanded.{ExpandIsRefused};
 ghost use Rattle.bibkit_edits.specs.declared.editing.Step.TheVariants.{Added, Refused};
 ghost use Rattle.bibkit_edits.specs.Steps.{IsTextRefused, StepIsRefused, added_refusal, edit_refusal, file_refusal, latest, refusal_at, step_of};
@@ -12,8 +12,10 @@ ghost use Rattle.bibkit_edits.specs.Steps.{IsTextRefused, StepIsRefused, added_r
 use crate::edit::{Edit, Refusal};
 use crate::order::{Order, order_texts};
 use crate::reading::{text_after_mark, with_mark};
+use bib_conversion::converting::convert;
 use bib_documents::document::RawDocument;
 use bib_documents::errors::EditError;
+use bib_entry::write::Format;
 use bib_format::formatting::format;
 use bib_format::style::Style;
 use bib_sorting::sorting::sort_entries;
@@ -91,6 +93,18 @@ fn collected(
     Ok(collect(alloc, document, fields, at_least)?)
 }
 
+// The text of a document with the types and fields of a format.
+fn converted(
+    alloc: Global,
+    document: &RawDocument<'_>,
+    format: Format,
+) -> Result<String, EditError>
+    ensures made { IfOk result (λ new. IsEdited (IsDocumentConverted format document.now) (string_bytes new)) }
+    ensures refused { IfErr result (λ why. why ≡ OutOfMemory) }
+{
+    Ok(convert(alloc, document, format)?)
+}
+
 // The text of a document in one style.
 fn in_style(
     alloc: Global,
@@ -120,6 +134,8 @@ fn edit_document(alloc: Global, document: &RawDocument<'_>, edit: &Edit<'_>) -> 
         Edit::Sort { order } => Ok(in_order(alloc, document, order)?),
         Edit::Expand => Ok(written_out(alloc, document)?),
         Edit::Collect { fields, at_least } => Ok(collected(alloc, document, fields, at_least)?),
+        Edit::ToBiblatex => Ok(converted(alloc, document, Format::Biblatex)?),
+        Edit::ToBibtex => Ok(converted(alloc, document, Format::Bibtex)?),
         Edit::Format { style } => Ok(in_style(alloc, document, &style)?),
     }
 }
