@@ -1,0 +1,59 @@
+//! Items made of entries.
+
+ghost use Rattle.std.specs.Prelude.{◌≡◌, IfOk};
+ghost use Rattle.bib_csl.specs.Items.{type_of_entry, fields_of, item_of};
+
+use crate::dates::add_dates;
+use crate::identifiers::{add_archive, add_identifiers};
+use crate::item::{Field, Item};
+use crate::notes::add_notes;
+use crate::numbers::{add_pages, add_volume};
+use crate::people::add_people;
+use crate::publishing::add_publishing;
+use crate::texts::plain_text;
+use crate::titles::add_titles;
+use crate::types::item_type_of;
+use crate::variables::ItemType;
+use bib_entry::entry::Entry;
+use bib_text::items::Items;
+use std::alloc::{AllocError, Global};
+
+// The type of the item that an entry becomes.
+#[tactic(auto, unfolding(crate::specs::Items::type_of_entry))]
+fn type_of_entry(alloc: Global, entry: &Entry) -> Result<ItemType, AllocError>
+    ensures { IfOk result (λ kind. kind ≡ type_of_entry entry.now) }
+{
+    let subtype = plain_text(alloc, entry, "entrysubtype")?;
+    Ok(item_type_of(&entry.entry_type, subtype.as_str()))
+}
+
+// The variables of an item of this type that an entry becomes.
+#[tactic(auto, unfolding(crate::specs::Items::fields_of))]
+fn fields_of(alloc: Global, kind: ItemType, entry: &Entry) -> Result<Items<Field>, AllocError>
+    ensures { IfOk result (λ fields. fields ≡ fields_of kind entry.now) }
+{
+    let mut fields = Items::new(alloc);
+    add_titles(alloc, kind, entry, &mut fields)?;
+    add_publishing(alloc, entry, &mut fields)?;
+    add_volume(alloc, kind, entry, &mut fields)?;
+    add_pages(alloc, entry, &mut fields)?;
+    add_identifiers(alloc, entry, &mut fields)?;
+    add_archive(alloc, entry, &mut fields)?;
+    add_notes(alloc, entry, &mut fields)?;
+    add_people(alloc, kind, entry, &mut fields)?;
+    add_dates(alloc, entry, &mut fields)?;
+    Ok(fields)
+}
+
+/// The item that an entry becomes. The only error is out of memory.
+#[tactic(auto, unfolding(crate::specs::Items::item_of))]
+pub fn item_of(alloc: Global, entry: &Entry) -> Result<Item, AllocError>
+    ensures { IfOk result (λ item. item ≡ item_of entry.now) }
+{
+    let kind = type_of_entry(alloc, entry)?;
+    Ok(Item {
+        id: entry.key.clone()?,
+        kind,
+        fields: fields_of(alloc, kind, entry)?,
+    })
+}
