@@ -1,6 +1,6 @@
 -- Meaning: words of public contracts.
 -- The dates of an item.
-use Rattle.std.specs.Prelude.{ℕ, ◌+◌, Bool, false, ◌Bool, ◌&&◌, ◌||◌, ◌==◌, if◌then◌else◌, ℤBool, ◌&&◌, ◌||◌, ◌==◌, if◌then◌else◌, ℤ◌, ◌||◌, ◌==◌, if◌then◌else◌, ℤ, pos, ◌-ℤ◌, List, [], ◌∷◌, ◌++◌, length, take, drop, codes, Option, Some, None, bytes_eq}
+use Rattle.std.specs.Prelude.{ℕ, ◌+◌, false, ◌||◌, ◌==◌, if◌then◌else◌, ℤ, pos, ◌-ℤ◌, List, [], ◌∷◌, ◌++◌, length, codes, Option, Some, None}
 use Rattle.std.specs.Option.{option_map}
 use Rattle.std.specs.Ordering.{int_cmp, is_lt}
 use Rattle.bib_chunks.specs.Values.{Value, text}
@@ -20,7 +20,7 @@ use Rattle.bib_csl.specs.Fields.{dated}
 use Rattle.bib_csl.specs.Texts.{field, plain, joined}
 
 -- a year as CSL counts it: the one before 1 is -1
-abbrev pub year_of : ℤ → ℤ
+unfoldable pub year_of : ℤ → ℤ
 year_of year = if is_lt (int_cmp year (pos 1)) then year -ℤ pos 1 else year
 
 -- a number that counts from 0, from 1
@@ -32,14 +32,14 @@ unfoldable pub date_parts : Datetime → DateParts
 date_parts d = record { year = year_of d.year; month = option_map from_one d.month; day = option_map from_one d.day }
 
 -- the dates of a date or a range, those that there are
-abbrev pub parts_of : DateValue → List DateParts
+unfoldable pub parts_of : DateValue → List DateParts
 parts_of (At d) = date_parts d ∷ []
 parts_of (After d) = date_parts d ∷ []
 parts_of (Before d) = date_parts d ∷ []
 parts_of (Between a b) = date_parts a ∷ date_parts b ∷ []
 
 -- the text of a range with one open side, after the Extended Date/Time Format
-abbrev pub open_text : DateValue → Option (List ℕ)
+unfoldable pub open_text : DateValue → Option (List ℕ)
 open_text (At d) = None
 open_text (After d) = Some (datetime_text d ++ codes "/..")
 open_text (Before d) = Some (codes "../" ++ datetime_text d)
@@ -54,11 +54,11 @@ unfoldable pub literal_item : List ℕ → ItemDate
 literal_item text = record { parts = []; season = None; circa = false; literal = Some text }
 
 -- the same, unless the text is empty
-abbrev pub unread : List ℕ → Option ItemDate
+unfoldable pub unread : List ℕ → Option ItemDate
 unread text = if length text == 0 then None else Some (literal_item text)
 
 -- what is read, or else what its text says
-abbrev pub read_or_unread : Option Date → List ℕ → Option ItemDate
+unfoldable pub read_or_unread : Option Date → List ℕ → Option ItemDate
 read_or_unread (Some date) text = Some (date_item date)
 read_or_unread None text = unread text
 
@@ -67,7 +67,7 @@ abbrev pub month_and_year : Option Value → Value → List ℕ
 month_and_year month year = joined (codes " ") (plain month) (text year)
 
 -- the date of a year and of the month and day beside it, if there is one
-abbrev pub three_fields_item : Option Value → Option Value → Option Value → Option ItemDate
+unfoldable pub three_fields_item : Option Value → Option Value → Option Value → Option ItemDate
 three_fields_item None month day = None
 three_fields_item (Some year) month day = read_or_unread (readable_value (three_fields_reading year month day)) (month_and_year month year)
 

@@ -16,6 +16,6 @@ unfoldable pub named : Variable → List Name → List Field
 named variable names = if length names == 0 then [] else record { variable = variable; content = content.Names names } ∷ []
 
 -- a variable with a date, if there is one
-abbrev pub dated : Variable → Option ItemDate → List Field
+unfoldable pub dated : Variable → Option ItemDate → List Field
 dated variable None = []
 dated variable (Some date) = record { variable = variable; content = content.Date date } ∷ []

@@ -10,13 +10,21 @@ use Rattle.bib_csl.specs.Fields.{given}
 use Rattle.bib_csl.specs.Texts.{field, plain, either}
 
 -- the archive of the electronic version, in lowercase letters
-abbrev pub archive_name : Option Value → List ℕ
+unfoldable pub archive_name : Option Value → List ℕ
 archive_name None = []
 archive_name (Some chunks) = lowered chunks
 
 -- the field that names the archive
 abbrev pub archive_field : Entry → Option Value
 archive_field entry = field_or entry (codes "eprinttype") (codes "archiveprefix")
+
+-- the archive that has the electronic version of an entry
+unfoldable pub archive_of : Entry → List ℕ
+archive_of entry = archive_name (archive_field entry)
+
+-- the name of the electronic version there
+unfoldable pub eprint_of : Entry → List ℕ
+eprint_of entry = plain (field entry (codes "eprint"))
 
 -- what an address in one of the archives begins with, or nothing for any other archive
 unfoldable pub archive_address : List ℕ → List ℕ
@@ -38,25 +46,34 @@ address_in archive eprint =
 unfoldable pub unaddressed : List ℕ → List ℕ → List ℕ
 unaddressed archive text = if length (archive_address archive) == 0 then text else []
 
+-- the address: by the field `url`, else in the archive
+unfoldable pub url_of : Entry → List ℕ
+url_of entry = either (plain (field entry (codes "url"))) (address_in (archive_of entry) (eprint_of entry))
+
 -- the number in PubMed
-unfoldable pub pubmed_number : List ℕ → List ℕ → List ℕ
-pubmed_number archive eprint = if bytes_eq archive (codes "pubmed") then eprint else []
+unfoldable pub pubmed_number : Entry → List ℕ
+pubmed_number entry = if bytes_eq (archive_of entry) (codes "pubmed") then eprint_of entry else []
+
+-- the name of an archive without such addresses
+unfoldable pub archive_text : Entry → List ℕ
+archive_text entry = unaddressed (archive_of entry) (plain (archive_field entry))
+
+-- the place in such an archive
+unfoldable pub archive_location : Entry → List ℕ
+archive_location entry = unaddressed (archive_of entry) (eprint_of entry)
 
 -- what identifies an item
 unfoldable pub identifier_fields : Entry → List Field
 identifier_fields entry =
-    let archive = archive_name (archive_field entry) in
-    let eprint = plain (field entry (codes "eprint")) in
     given Doi (plain (field entry (codes "doi"))) ++
-    (given Url (either (plain (field entry (codes "url"))) (address_in archive eprint)) ++
-    (given Pmid (pubmed_number archive eprint) ++
+    (given Url (url_of entry) ++
+    (given Pmid (pubmed_number entry) ++
     (given Isbn (plain (field entry (codes "isbn"))) ++
     given Issn (plain (field entry (codes "issn"))))))
 
 -- where an item is kept
 unfoldable pub archive_fields : Entry → List Field
 archive_fields entry =
-    let archive = archive_name (archive_field entry) in
-    given Archive (unaddressed archive (plain (archive_field entry))) ++
-    (given ArchiveLocation (unaddressed archive (plain (field entry (codes "eprint")))) ++
+    given Archive (archive_text entry) ++
+    (given ArchiveLocation (archive_location entry) ++
     given CallNumber (plain (field entry (codes "library"))))

@@ -1,6 +1,6 @@
 -- Meaning: words of public contracts.
 -- What is said of an item in words.
-use Rattle.std.specs.Prelude.{ℕ, false, List, [], ◌++◌, codes, Option, Some, None}
+use Rattle.std.specs.Prelude.{ℕ, List, [], ◌++◌, codes, Option, Some, None}
 use Rattle.bib_chunks.specs.Values.{Value, text}
 use Rattle.bib_entry.specs.declared.entry.Entry.{Entry}
 use Rattle.bib_entry.specs.Fields.{field_or}
@@ -11,10 +11,10 @@ use Rattle.bib_values.specs.Enumerations.{language_read}
 use Rattle.bib_csl.specs.declared.item.Field.{Field}
 use Rattle.bib_csl.specs.declared.variables.Variable.TheVariants as variable
 use Rattle.bib_csl.specs.Fields.{given}
-use Rattle.bib_csl.specs.Texts.{field, plain, marked, rich_text, joined}
+use Rattle.bib_csl.specs.Texts.{field, plain, rich_text, rich_text_or, joined}
 
 -- the tag of a language, after BCP 47
-abbrev pub tag_of : Language → List ℕ
+unfoldable pub tag_of : Language → List ℕ
 tag_of EnglishUK = codes "en-GB"
 tag_of language = (language_row language).tag
 
@@ -24,7 +24,7 @@ language_or_text None whole = whole
 language_or_text (Some language) whole = tag_of language
 
 -- the language of a field
-abbrev pub language_of : Option Value → List ℕ
+unfoldable pub language_of : Option Value → List ℕ
 language_of None = []
 language_of (Some chunks) = language_or_text (language_read chunks) (text chunks)
 
@@ -38,7 +38,7 @@ note_of entry =
 unfoldable pub note_fields : Entry → List Field
 note_fields entry =
     given variable.Abstract (rich_text entry (codes "abstract")) ++
-    (given variable.Annote (marked false (field_or entry (codes "annotation") (codes "annote"))) ++
+    (given variable.Annote (rich_text_or entry (codes "annotation") (codes "annote")) ++
     (given variable.Note (note_of entry) ++
     (given variable.Status (plain (field entry (codes "pubstate"))) ++
     (given variable.Keyword (plain (field entry (codes "keywords"))) ++

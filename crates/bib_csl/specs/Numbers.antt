@@ -15,15 +15,15 @@ use Rattle.bib_csl.specs.Texts.{field, plain, joined}
 use Rattle.bib_csl.specs.Types.{counts_issues, counts_series}
 
 -- the issue: where the field `number` counts issues, it and `issue`
-abbrev pub issue_of : ItemType → List ℕ → List ℕ → List ℕ
+unfoldable pub issue_of : ItemType → List ℕ → List ℕ → List ℕ
 issue_of kind number issue = if counts_issues kind then joined (codes ", ") number issue else issue
 
 -- the number of the item itself, where `number` counts nothing else
-abbrev pub number_of : ItemType → List ℕ → List ℕ
+unfoldable pub number_of : ItemType → List ℕ → List ℕ
 number_of kind number = if counts_issues kind then [] else if counts_series kind then [] else number
 
 -- the number in the series
-abbrev pub collection_number : ItemType → List ℕ → List ℕ
+unfoldable pub collection_number : ItemType → List ℕ → List ℕ
 collection_number kind number = if counts_series kind then number else []
 
 -- the pages of a range: its first and last with an en dash between them, or the one page
@@ -33,7 +33,7 @@ pages_of range =
     else decimal range.start ++ (encode_utf8 char.en_dash ++ decimal range.end)
 
 -- ranges of pages after some text, with commas between them
-abbrev pub pages_after : List ℕ → List (Range ℕ) → List ℕ
+unfoldable pub pages_after : List ℕ → List (Range ℕ) → List ℕ
 pages_after before [] = before
 pages_after before (range ∷ ranges) = pages_after (joined (codes ", ") before (pages_of range)) ranges
 
@@ -43,7 +43,7 @@ pages_text None whole = whole
 pages_text (Some ranges) whole = pages_after [] ranges
 
 -- the pages of a field
-abbrev pub pages : Option Value → List ℕ
+unfoldable pub pages : Option Value → List ℕ
 pages None = []
 pages (Some chunks) = pages_text (ranges_read chunks) (text chunks)
 

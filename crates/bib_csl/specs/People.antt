@@ -37,7 +37,7 @@ unfoldable pub is_literal : Value → Bool
 is_literal chunks = list_all (λ c. is_braced c.v) chunks || bytes_eq (text chunks) (codes "others")
 
 -- the parts of a person's name, whose prefix counts as part of the family name or not
-abbrev pub parts_with : Bool → Person → NameParts
+unfoldable pub parts_with : Bool → Person → NameParts
 parts_with true p = record { family = p.name; given = p.given_name; suffix = p.suffix; dropping_particle = []; non_dropping_particle = p.prefix }
 parts_with false p = record { family = p.name; given = p.given_name; suffix = p.suffix; dropping_particle = p.prefix; non_dropping_particle = [] }
 
@@ -48,14 +48,14 @@ name_of uses_prefix chunks =
     else Parts (parts_with (unwrap_or (person_of chunks).use_prefix uses_prefix) (person_of chunks))
 
 -- whether a name says nothing
-abbrev pub is_empty : Name → Bool
+unfoldable pub is_empty : Name → Bool
 is_empty (Literal text) = length text == 0
 is_empty (Parts p) =
     (length p.family == 0) && ((length p.given == 0) && ((length p.suffix == 0)
     && ((length p.dropping_particle == 0) && (length p.non_dropping_particle == 0))))
 
 -- a name, unless it says nothing
-abbrev pub unless_empty : Name → List Name
+unfoldable pub unless_empty : Name → List Name
 unless_empty name = if is_empty name then [] else name ∷ []
 
 -- the names of a list of people
@@ -63,12 +63,12 @@ unfoldable pub names_in : Bool → Value → List Name
 names_in uses_prefix chunks = flat_map (λ part. unless_empty (name_of uses_prefix part)) (and_list chunks)
 
 -- the names of a field
-abbrev pub names_of : Bool → Option Value → List Name
+unfoldable pub names_of : Bool → Option Value → List Name
 names_of uses_prefix None = []
 names_of uses_prefix (Some chunks) = names_in uses_prefix chunks
 
 -- whether an option of an entry says that prefixes count as parts of family names
-abbrev pub is_prefix_option : List ℕ → Bool
+unfoldable pub is_prefix_option : List ℕ → Bool
 is_prefix_option option = bytes_eq option (codes "useprefix=true") || bytes_eq option (codes "useprefix")
 
 -- whether one of the options does
@@ -88,7 +88,7 @@ variable_of_role role.Organizer = Organizer
 variable_of_role other = Editor
 
 -- whether editors in this role stand under the variable
-abbrev pub is_under : Variable → EditorType → Bool
+unfoldable pub is_under : Variable → EditorType → Bool
 is_under variable role = bytes_eq (variable_name (variable_of_role role)) (variable_name variable)
 
 -- the people that the field of the first name holds, where their role, which the field of the second names, stands under the variable

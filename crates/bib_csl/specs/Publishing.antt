@@ -1,20 +1,19 @@
 -- Meaning: words of public contracts.
 -- Who published an item and where, and what kind of work it is.
-use Rattle.std.specs.Prelude.{ℕ, false, ◌==◌, if◌then◌else◌, List, [], ◌++◌, length, codes, bytes_eq}
+use Rattle.std.specs.Prelude.{ℕ, if◌then◌else◌, List, [], ◌++◌, codes, bytes_eq}
 use Rattle.bib_entry.specs.declared.entry.Entry.{Entry}
-use Rattle.bib_entry.specs.Fields.{field_or}
 use Rattle.bib_entry_types.specs.declared.mechanics.EntryType.{EntryType}
 use Rattle.bib_entry_types.specs.declared.mechanics.EntryType.TheVariants.{MastersThesis, PhdThesis, TechReport}
 use Rattle.bib_csl.specs.declared.item.Field.{Field}
-use Rattle.bib_csl.specs.declared.variables.Variable.TheVariants.{Publisher, PublisherPlace, OriginalPublisher, OriginalPublisherPlace, EventPlace, Genre}
+use Rattle.bib_csl.specs.declared.variables.Variable.TheVariants.{Publisher, PublisherPlace, OriginalPublisher, OriginalPublisherPlace, Genre}
 use Rattle.bib_csl.specs.Fields.{given}
-use Rattle.bib_csl.specs.Texts.{marked, rich_text, either}
+use Rattle.bib_csl.specs.Texts.{rich_text, rich_text_or, either}
 
 -- the publisher, else the institution or school, else the organization
 unfoldable pub publisher_of : Entry → List ℕ
 publisher_of entry =
     either (rich_text entry (codes "publisher"))
-    (either (marked false (field_or entry (codes "institution") (codes "school"))) (rich_text entry (codes "organization")))
+    (either (rich_text_or entry (codes "institution") (codes "school")) (rich_text entry (codes "organization")))
 
 -- what the keys of BibLaTeX's field `type` stand for; any other text stays
 unfoldable pub genre_named : List ℕ → List ℕ
@@ -27,7 +26,7 @@ genre_named text =
     else text
 
 -- what the type of an entry says of the kind of work
-abbrev pub genre_of_type : EntryType → List ℕ
+unfoldable pub genre_of_type : EntryType → List ℕ
 genre_of_type MastersThesis = codes "Master's thesis"
 genre_of_type PhdThesis = codes "PhD thesis"
 genre_of_type TechReport = codes "technical report"
@@ -37,12 +36,11 @@ genre_of_type other = []
 unfoldable pub genre_of : Entry → List ℕ
 genre_of entry = either (genre_named (rich_text entry (codes "type"))) (genre_of_type entry.entry_type)
 
--- who published an item and where
+-- who published an item and where, and what kind of work it is
 unfoldable pub publishing_fields : Entry → List Field
 publishing_fields entry =
     given Publisher (publisher_of entry) ++
-    (given PublisherPlace (marked false (field_or entry (codes "location") (codes "address"))) ++
+    (given PublisherPlace (rich_text_or entry (codes "location") (codes "address")) ++
     (given OriginalPublisher (rich_text entry (codes "origpublisher")) ++
     (given OriginalPublisherPlace (rich_text entry (codes "origlocation")) ++
-    (given EventPlace (rich_text entry (codes "venue")) ++
-    given Genre (genre_of entry)))))
+    given Genre (genre_of entry))))

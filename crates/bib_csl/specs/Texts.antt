@@ -17,7 +17,7 @@ abbrev pub field : Entry → List ℕ → Option Value
 field entry name = by_name.get entry.fields name
 
 -- the plain text of a field: its formatted text, or nothing where it isn't there
-abbrev pub plain : Option Value → List ℕ
+unfoldable pub plain : Option Value → List ℕ
 plain None = []
 plain (Some chunks) = text chunks
 
@@ -30,15 +30,15 @@ escape c =
     else c ∷ []
 
 -- a text, given by its characters, as HTML writes it
-abbrev pub escaped : List ℕ → List ℕ
+unfoldable pub escaped : List ℕ → List ℕ
 escaped text = flat_map escape text
 
 -- a text whose case no style changes
-abbrev pub keeping_case : List ℕ → List ℕ
+unfoldable pub keeping_case : List ℕ → List ℕ
 keeping_case text = if length text == 0 then [] else codes "<span class=\"nocase\">" ++ (text ++ codes "</span>")
 
 -- the text of a chunk of a title, where verbatim text keeps its case
-abbrev pub cased : Bool → Chunk → List ℕ → List ℕ
+unfoldable pub cased : Bool → Chunk → List ℕ → List ℕ
 cased is_title (Normal chars) text = text
 cased is_title (Verbatim chars) text = if is_title then keeping_case text else text
 cased is_title (Math chars) text = text
@@ -52,24 +52,28 @@ unfoldable pub marked_chunks : Bool → Value → List ℕ
 marked_chunks is_title chunks = flat_map (marked_chunk is_title) chunks
 
 -- the text of a field with HTML's tags and escapes, or nothing where the field isn't there
-abbrev pub marked : Bool → Option Value → List ℕ
+unfoldable pub marked : Bool → Option Value → List ℕ
 marked is_title None = []
 marked is_title (Some chunks) = marked_chunks is_title chunks
 
 -- the text of a title
-abbrev pub title_text : Entry → List ℕ → List ℕ
+unfoldable pub title_text : Entry → List ℕ → List ℕ
 title_text entry name = marked true (field entry name)
 
 -- the text of another field with HTML's tags and escapes
-abbrev pub rich_text : Entry → List ℕ → List ℕ
+unfoldable pub rich_text : Entry → List ℕ → List ℕ
 rich_text entry name = marked false (field entry name)
 
+-- the same of the field of this name, or else of the other
+unfoldable pub rich_text_or : Entry → List ℕ → List ℕ → List ℕ
+rich_text_or entry name other = marked false (field_or entry name other)
+
 -- the first text that isn't empty
-abbrev pub either : List ℕ → List ℕ → List ℕ
+unfoldable pub either : List ℕ → List ℕ → List ℕ
 either first other = if length first == 0 then other else first
 
 -- two texts with what separates them between them, where neither is empty
-abbrev pub joined : List ℕ → List ℕ → List ℕ → List ℕ
+unfoldable pub joined : List ℕ → List ℕ → List ℕ → List ℕ
 joined separator first next =
     if length next == 0 then first
     else if length first == 0 then next

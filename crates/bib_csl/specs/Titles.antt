@@ -5,9 +5,9 @@ use Rattle.bib_entry.specs.declared.entry.Entry.{Entry}
 use Rattle.bib_entry.specs.Fields.{field_or}
 use Rattle.bib_csl.specs.declared.item.Field.{Field}
 use Rattle.bib_csl.specs.declared.variables.ItemType.{ItemType}
-use Rattle.bib_csl.specs.declared.variables.Variable.TheVariants.{Title, TitleShort, VolumeTitle, ContainerTitle, ContainerTitleShort, CollectionTitle, OriginalTitle, EventTitle}
+use Rattle.bib_csl.specs.declared.variables.Variable.TheVariants.{Title, TitleShort, VolumeTitle, ContainerTitle, ContainerTitleShort, CollectionTitle, OriginalTitle, EventTitle, EventPlace}
 use Rattle.bib_csl.specs.Fields.{given}
-use Rattle.bib_csl.specs.Texts.{marked, title_text, either, joined}
+use Rattle.bib_csl.specs.Texts.{marked, title_text, rich_text, either, joined}
 use Rattle.bib_csl.specs.Types.{is_article, is_in_book, is_volume}
 
 -- a title with its subtitle and what is added to it, in fields of these names
@@ -61,8 +61,13 @@ title_fields kind entry =
     given Title (title_of kind entry) ++
     (given TitleShort (title_text entry (codes "shorttitle")) ++
     (given VolumeTitle (volume_title kind entry) ++
-    (given ContainerTitle (container_title kind entry) ++
+    given OriginalTitle (title_text entry (codes "origtitle"))))
+
+-- what an item is a part of, and the conference that it comes from
+unfoldable pub container_fields : ItemType → Entry → List Field
+container_fields kind entry =
+    given ContainerTitle (container_title kind entry) ++
     (given ContainerTitleShort (title_text entry (codes "shortjournal")) ++
     (given CollectionTitle (title_text entry (codes "series")) ++
-    (given OriginalTitle (title_text entry (codes "origtitle")) ++
-    given EventTitle (event_title entry)))))))
+    (given EventTitle (event_title entry) ++
+    given EventPlace (rich_text entry (codes "venue")))))

@@ -18,6 +18,7 @@ use bib_text::text::Text;
 use std::alloc::{AllocError, Global};
 
 // A year as CSL counts it.
+#[tactic(auto, unfolding(crate::specs::Dates::year_of))]
 fn year_of(year: i32) -> i64
     ensures { result ≡ spec.year_of year }
 {
@@ -50,6 +51,7 @@ fn date_parts(date: &Datetime) -> DateParts
 }
 
 // The dates of a date or a range, those that there are.
+#[tactic(auto, unfolding(crate::specs::Dates::parts_of))]
 fn parts_of(alloc: Global, value: &DateValue) -> Result<Items<DateParts>, AllocError>
     ensures { IfOk result (λ parts. parts ≡ spec.parts_of value.now) }
 {
@@ -67,6 +69,7 @@ fn parts_of(alloc: Global, value: &DateValue) -> Result<Items<DateParts>, AllocE
 }
 
 // The text of a range with one open side.
+#[tactic(auto, unfolding(crate::specs::Dates::open_text))]
 fn open_text(alloc: Global, value: &DateValue) -> Result<Option<Text>, AllocError>
     ensures { IfOk result (λ text. text ≡ spec.open_text value.now) }
 {
@@ -107,6 +110,7 @@ fn literal_item(alloc: Global, text: Text) -> ItemDate
 }
 
 // What is read, or else what its text says.
+#[tactic(auto, unfolding(crate::specs::Dates::read_or_unread, crate::specs::Dates::unread))]
 fn read_or_unread(
     alloc: Global,
     date: Option<Date>,
@@ -156,6 +160,7 @@ fn read_fields(
 }
 
 // The date of a year and of the month and day beside it, if there is one.
+#[tactic(auto, unfolding(crate::specs::Dates::three_fields_item))]
 fn three_fields_item(
     alloc: Global,
     year: Option<ChunksRef<'_>>,

@@ -48,6 +48,7 @@ pub(crate) fn add_names(
 }
 
 // Appends a variable with a date, if there is one.
+#[tactic(auto, unfolding(crate::specs::Fields::dated))]
 pub(crate) fn add_date(
     fields: &mut Items<Field>,
     variable: Variable,

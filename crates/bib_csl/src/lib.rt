@@ -5,6 +5,7 @@
 //! `texts` and `markup`, names from `people`, dates from `dates`. `json` makes the object of an item.
 #![tactic(auto)]
 
+mod adding;
 mod dates;
 mod fields;
 mod identifiers;

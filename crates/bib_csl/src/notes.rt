@@ -4,10 +4,10 @@ ghost use Rattle.std.specs.Prelude.{◌≡◌, ◌++◌, OnOk, IfOk};
 ghost use Rattle.std.specs.Option.{option_copied};
 ghost use Rattle.bib_csl.specs.Notes as spec;
 
+use crate::adding::{add_plain, add_rich, add_rich_or};
 use crate::fields::add_text;
 use crate::item::Field;
-use crate::markup::marked;
-use crate::texts::{field_or, joined, plain, plain_text, rich_text};
+use crate::texts::{field_or, joined, rich_text, shown};
 use crate::variables::Variable;
 use bib_chunks::chunk::ChunksRef;
 use bib_entry::entry::Entry;
@@ -18,6 +18,7 @@ use bib_values::enums::read_language;
 use std::alloc::{AllocError, Global};
 
 // The tag of a language, after BCP 47.
+#[tactic(auto, unfolding(crate::specs::Notes::tag_of))]
 fn tag_of(language: Language) -> &'static str
     ensures { result.now ≡ spec.tag_of language }
 {
@@ -28,6 +29,7 @@ fn tag_of(language: Language) -> &'static str
 }
 
 // The language of a field: the tag of what its text is read as, or the text.
+#[tactic(auto, unfolding(crate::specs::Notes::language_of))]
 fn language_of(alloc: Global, field: Option<ChunksRef<'_>>) -> Result<Text, AllocError>
     ensures { IfOk result (λ text. text ≡ spec.language_of (option_copied field.entry)) }
 {
@@ -36,7 +38,7 @@ fn language_of(alloc: Global, field: Option<ChunksRef<'_>>) -> Result<Text, Allo
     };
     match read_language(alloc, chunks)? {
         Some(language) => Text::from_str(alloc, tag_of(language)),
-        None => plain(alloc, field),
+        None => shown(alloc, chunks),
     }
 }
 
@@ -59,12 +61,11 @@ pub(crate) fn add_notes(
 ) -> Result<(), AllocError>
     ensures { OnOk result (fields.new ≡ fields.old ++ spec.note_fields entry.now) }
 {
-    add_text(fields, Variable::Abstract, rich_text(alloc, entry, "abstract")?)?;
-    let annotation = marked(alloc, false, field_or(entry, "annotation", "annote"))?;
-    add_text(fields, Variable::Annote, annotation)?;
+    add_rich(alloc, Variable::Abstract, entry, "abstract", fields)?;
+    add_rich_or(alloc, Variable::Annote, entry, "annotation", "annote", fields)?;
     add_text(fields, Variable::Note, note_of(alloc, entry)?)?;
-    add_text(fields, Variable::Status, plain_text(alloc, entry, "pubstate")?)?;
-    add_text(fields, Variable::Keyword, plain_text(alloc, entry, "keywords")?)?;
+    add_plain(alloc, Variable::Status, entry, "pubstate", fields)?;
+    add_plain(alloc, Variable::Keyword, entry, "keywords", fields)?;
     let language = language_of(alloc, field_or(entry, "langid", "language"))?;
     add_text(fields, Variable::Language, language)
 }

@@ -4,9 +4,10 @@ ghost use Rattle.std.specs.Prelude.{◌≡◌, [], ◌++◌, OnOk, IfOk};
 ghost use Rattle.std.specs.Option.{option_copied};
 ghost use Rattle.bib_csl.specs.Numbers as spec;
 
+use crate::adding::add_plain;
 use crate::fields::add_text;
 use crate::item::Field;
-use crate::texts::{joined, plain, plain_text};
+use crate::texts::{joined, plain_text, shown};
 use crate::types::{counts_issues, counts_series};
 use crate::variables::{ItemType, Variable};
 use bib_chunks::chunk::ChunksRef;
@@ -18,6 +19,7 @@ use std::alloc::{AllocError, Global};
 use std::ops::Range;
 
 // The issue: where the field `number` counts issues, it and `issue`.
+#[tactic(auto, unfolding(crate::specs::Numbers::issue_of))]
 fn issue_of(kind: ItemType, number: &Text, issue: Text) -> Result<Text, AllocError>
     ensures { IfOk result (λ text. text ≡ spec.issue_of kind number.now issue) }
 {
@@ -28,6 +30,7 @@ fn issue_of(kind: ItemType, number: &Text, issue: Text) -> Result<Text, AllocErr
 }
 
 // The number of the item itself, where `number` counts nothing else.
+#[tactic(auto, unfolding(crate::specs::Numbers::number_of))]
 fn number_of(alloc: Global, kind: ItemType, number: &Text) -> Result<Text, AllocError>
     ensures { IfOk result (λ text. text ≡ spec.number_of kind number.now) }
 {
@@ -38,6 +41,7 @@ fn number_of(alloc: Global, kind: ItemType, number: &Text) -> Result<Text, Alloc
 }
 
 // The number in the series.
+#[tactic(auto, unfolding(crate::specs::Numbers::collection_number))]
 fn collection_number(alloc: Global, kind: ItemType, number: &Text) -> Result<Text, AllocError>
     ensures { IfOk result (λ text. text ≡ spec.collection_number kind number.now) }
 {
@@ -63,17 +67,19 @@ fn pages_of(alloc: Global, range: &Range<u32>) -> Result<Text, AllocError>
 }
 
 // Ranges of pages with commas between them.
+#[tactic(auto, unfolding(crate::specs::Numbers::pages_after))]
 fn pages_after(alloc: Global, ranges: &[Range<u32>]) -> Result<Text, AllocError>
     ensures { IfOk result (λ text. text ≡ spec.pages_after [] ranges.now) }
 {
     let mut text = Text::new(alloc);
-    'ranges: for range in ranges {
+    'pages: for range in ranges {
         text = joined(", ", text, pages_of(alloc, range)?)?;
     }
     Ok(text)
 }
 
 // The pages of a field.
+#[tactic(auto, unfolding(crate::specs::Numbers::pages))]
 fn pages(alloc: Global, field: Option<ChunksRef<'_>>) -> Result<Text, AllocError>
     ensures { IfOk result (λ text. text ≡ spec.pages (option_copied field.entry)) }
 {
@@ -82,7 +88,7 @@ fn pages(alloc: Global, field: Option<ChunksRef<'_>>) -> Result<Text, AllocError
     };
     match read_ranges(alloc, chunks)? {
         Some(ranges) => pages_after(alloc, ranges.as_slice()),
-        None => plain(alloc, field),
+        None => shown(alloc, chunks),
     }
 }
 
@@ -96,10 +102,10 @@ pub(crate) fn add_volume(
 ) -> Result<(), AllocError>
     ensures { OnOk result (fields.new ≡ fields.old ++ spec.volume_fields kind entry.now) }
 {
+    add_plain(alloc, Variable::Volume, entry, "volume", fields)?;
+    add_plain(alloc, Variable::NumberOfVolumes, entry, "volumes", fields)?;
+    add_plain(alloc, Variable::PartNumber, entry, "part", fields)?;
     let number = plain_text(alloc, entry, "number")?;
-    add_text(fields, Variable::Volume, plain_text(alloc, entry, "volume")?)?;
-    add_text(fields, Variable::NumberOfVolumes, plain_text(alloc, entry, "volumes")?)?;
-    add_text(fields, Variable::PartNumber, plain_text(alloc, entry, "part")?)?;
     let issue = plain_text(alloc, entry, "issue")?;
     add_text(fields, Variable::Issue, issue_of(kind, &number, issue)?)?;
     add_text(fields, Variable::Number, number_of(alloc, kind, &number)?)?;
@@ -116,9 +122,9 @@ pub(crate) fn add_pages(
 ) -> Result<(), AllocError>
     ensures { OnOk result (fields.new ≡ fields.old ++ spec.page_fields entry.now) }
 {
-    add_text(fields, Variable::Edition, plain_text(alloc, entry, "edition")?)?;
-    add_text(fields, Variable::ChapterNumber, plain_text(alloc, entry, "chapter")?)?;
+    add_plain(alloc, Variable::Edition, entry, "edition", fields)?;
+    add_plain(alloc, Variable::ChapterNumber, entry, "chapter", fields)?;
     add_text(fields, Variable::Page, pages(alloc, entry.get("pages"))?)?;
-    add_text(fields, Variable::NumberOfPages, plain_text(alloc, entry, "pagetotal")?)?;
-    add_text(fields, Variable::Version, plain_text(alloc, entry, "version")?)
+    add_plain(alloc, Variable::NumberOfPages, entry, "pagetotal", fields)?;
+    add_plain(alloc, Variable::Version, entry, "version", fields)
 }

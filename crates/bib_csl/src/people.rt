@@ -5,6 +5,7 @@ ghost use Rattle.std.specs.List.{list_all};
 ghost use Rattle.std.specs.Option.{option_copied};
 ghost use Rattle.bib_chunks.specs.Values.{text};
 ghost use Rattle.bib_entry.specs.Editors.{role_of};
+ghost use Rattle.bib_csl.specs.Fields.{named};
 ghost use Rattle.bib_csl.specs.People as spec;
 
 use crate::fields::add_names;
@@ -39,6 +40,7 @@ fn is_all_braced(chunks: ChunksRef<'_>) -> bool
 }
 
 // The parts of a person's name, whose prefix counts as part of the family name or not.
+#[tactic(auto, unfolding(crate::specs::People::parts_with))]
 fn parts_with(alloc: Global, uses_prefix: bool, person: Person) -> NameParts
     ensures { result ≡ spec.parts_with uses_prefix person }
 {
@@ -75,6 +77,7 @@ fn name_of(alloc: Global, uses_prefix: bool, chunks: ChunksRef<'_>) -> Result<Na
 }
 
 // Whether a name says nothing.
+#[tactic(auto, unfolding(crate::specs::People::is_empty))]
 fn is_empty(name: &Name) -> bool
     ensures { result ≡ spec.is_empty name.now }
 {
@@ -91,6 +94,7 @@ fn is_empty(name: &Name) -> bool
 }
 
 // Appends a name, unless it says nothing.
+#[tactic(auto, unfolding(crate::specs::People::unless_empty))]
 fn add_unless_empty(names: &mut Items<Name>, name: Name) -> Result<(), AllocError>
     ensures { OnOk result (names.new ≡ names.old ++ spec.unless_empty name) }
 {
@@ -101,6 +105,7 @@ fn add_unless_empty(names: &mut Items<Name>, name: Name) -> Result<(), AllocErro
 }
 
 // Appends the names of a list of people.
+#[tactic(auto, unfolding(crate::specs::People::names_in))]
 fn add_names_in(
     alloc: Global,
     uses_prefix: bool,
@@ -117,6 +122,7 @@ fn add_names_in(
 }
 
 // Appends the names of a field.
+#[tactic(auto, unfolding(crate::specs::People::names_of))]
 fn add_names_of(
     alloc: Global,
     uses_prefix: bool,
@@ -132,6 +138,7 @@ fn add_names_of(
 }
 
 // Whether an option of an entry says that prefixes count as parts of family names.
+#[tactic(auto, unfolding(crate::specs::People::is_prefix_option))]
 fn is_prefix_option(alloc: Global, option: ChunksRef<'_>) -> Result<bool, AllocError>
     ensures { IfOk result (λ is. is ≡ spec.is_prefix_option (text option.now)) }
 {
@@ -175,6 +182,14 @@ fn variable_of_role(role: &EditorType) -> Variable
     }
 }
 
+// Whether editors in this role stand under the variable.
+#[tactic(auto, unfolding(crate::specs::People::is_under))]
+fn is_under(variable: Variable, role: &EditorType) -> bool
+    ensures { result ≡ spec.is_under variable role.now }
+{
+    variable_of_role(role).name() == variable.name()
+}
+
 // The role that a field names.
 fn role_of(alloc: Global, field: Option<ChunksRef<'_>>) -> Result<EditorType, AllocError>
     ensures { IfOk result (λ role. role ≡ role_of (option_copied field.entry)) }
@@ -199,11 +214,11 @@ fn add_editors_in(
     ensures { OnOk result (names.new ≡ names.old ++ spec.editors_in variable entry.now people.now role.now) }
 {
     let role = role_of(alloc, entry.get(role))?;
-    if variable_of_role(&role).name() != variable.name() {
-        return Ok(());
+    if is_under(variable, &role) {
+        let uses_prefix = uses_prefix(alloc, entry)?;
+        return add_names_of(alloc, uses_prefix, entry.get(people), names);
     }
-    let uses_prefix = uses_prefix(alloc, entry)?;
-    add_names_of(alloc, uses_prefix, entry.get(people), names)
+    Ok(())
 }
 
 // The editors of an entry that stand under the variable.
@@ -223,6 +238,18 @@ fn editors_under(
     Ok(names)
 }
 
+// Appends the editors of an entry that stand under the variable.
+fn add_editors(
+    alloc: Global,
+    variable: Variable,
+    entry: &Entry,
+    fields: &mut Items<Field>,
+) -> Result<(), AllocError>
+    ensures { OnOk result (fields.new ≡ fields.old ++ named variable (spec.editors_under variable entry.now)) }
+{
+    add_names(fields, variable, editors_under(alloc, variable, entry)?)
+}
+
 // The people of the field of this name.
 #[tactic(auto, unfolding(crate::specs::People::people))]
 fn people(alloc: Global, entry: &Entry, name: &str) -> Result<Items<Name>, AllocError>
@@ -232,6 +259,19 @@ fn people(alloc: Global, entry: &Entry, name: &str) -> Result<Items<Name>, Alloc
     let uses_prefix = uses_prefix(alloc, entry)?;
     add_names_of(alloc, uses_prefix, entry.get(name), &mut names)?;
     Ok(names)
+}
+
+// Appends the people of the field of this name.
+fn add_people_of(
+    alloc: Global,
+    variable: Variable,
+    entry: &Entry,
+    name: &str,
+    fields: &mut Items<Field>,
+) -> Result<(), AllocError>
+    ensures { OnOk result (fields.new ≡ fields.old ++ named variable (spec.people entry.now name.now)) }
+{
+    add_names(fields, variable, people(alloc, entry, name)?)
 }
 
 // Whether the item is a patent.
@@ -264,14 +304,10 @@ pub(crate) fn add_people(
     ensures { OnOk result (fields.new ≡ fields.old ++ spec.people_fields kind entry.now) }
 {
     add_names(fields, Variable::Author, authors_of(alloc, kind, entry)?)?;
-    let editors = editors_under(alloc, Variable::Editor, entry)?;
-    add_names(fields, Variable::Editor, editors)?;
-    let compilers = editors_under(alloc, Variable::Compiler, entry)?;
-    add_names(fields, Variable::Compiler, compilers)?;
-    let directors = editors_under(alloc, Variable::Director, entry)?;
-    add_names(fields, Variable::Director, directors)?;
-    let organizers = editors_under(alloc, Variable::Organizer, entry)?;
-    add_names(fields, Variable::Organizer, organizers)?;
-    add_names(fields, Variable::Translator, people(alloc, entry, "translator")?)?;
-    add_names(fields, Variable::ContainerAuthor, people(alloc, entry, "bookauthor")?)
+    add_editors(alloc, Variable::Editor, entry, fields)?;
+    add_editors(alloc, Variable::Compiler, entry, fields)?;
+    add_editors(alloc, Variable::Director, entry, fields)?;
+    add_editors(alloc, Variable::Organizer, entry, fields)?;
+    add_people_of(alloc, Variable::Translator, entry, "translator", fields)?;
+    add_people_of(alloc, Variable::ContainerAuthor, entry, "bookauthor", fields)
 }

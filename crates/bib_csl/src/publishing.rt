@@ -3,10 +3,10 @@
 ghost use Rattle.std.specs.Prelude.{◌≡◌, ◌++◌, OnOk, IfOk};
 ghost use Rattle.bib_csl.specs.Publishing as spec;
 
+use crate::adding::{add_rich, add_rich_or};
 use crate::fields::add_text;
 use crate::item::Field;
-use crate::markup::marked;
-use crate::texts::{either, field_or, rich_text};
+use crate::texts::{either, rich_text, rich_text_or};
 use crate::variables::Variable;
 use bib_entry::entry::Entry;
 use bib_entry_types::mechanics::EntryType;
@@ -19,7 +19,7 @@ use std::alloc::{AllocError, Global};
 fn publisher_of(alloc: Global, entry: &Entry) -> Result<Text, AllocError>
     ensures { IfOk result (λ text. text ≡ spec.publisher_of entry.now) }
 {
-    let institution = marked(alloc, false, field_or(entry, "institution", "school"))?;
+    let institution = rich_text_or(alloc, entry, "institution", "school")?;
     let other = either(institution, rich_text(alloc, entry, "organization")?);
     Ok(either(rich_text(alloc, entry, "publisher")?, other))
 }
@@ -40,6 +40,7 @@ fn genre_named(text: &str) -> &str
 }
 
 // What the type of an entry says of the kind of work.
+#[tactic(auto, unfolding(crate::specs::Publishing::genre_of_type))]
 fn genre_of_type(entry_type: &EntryType) -> &'static str
     ensures { result.now ≡ spec.genre_of_type entry_type.now }
 {
@@ -62,7 +63,7 @@ fn genre_of(alloc: Global, entry: &Entry) -> Result<Text, AllocError>
     Ok(either(named, of_type))
 }
 
-// Appends who published an item and where.
+// Appends who published an item and where, and what kind of work it is.
 #[tactic(auto, unfolding(crate::specs::Publishing::publishing_fields))]
 pub(crate) fn add_publishing(
     alloc: Global,
@@ -72,12 +73,8 @@ pub(crate) fn add_publishing(
     ensures { OnOk result (fields.new ≡ fields.old ++ spec.publishing_fields entry.now) }
 {
     add_text(fields, Variable::Publisher, publisher_of(alloc, entry)?)?;
-    let place = marked(alloc, false, field_or(entry, "location", "address"))?;
-    add_text(fields, Variable::PublisherPlace, place)?;
-    let original = rich_text(alloc, entry, "origpublisher")?;
-    add_text(fields, Variable::OriginalPublisher, original)?;
-    let original_place = rich_text(alloc, entry, "origlocation")?;
-    add_text(fields, Variable::OriginalPublisherPlace, original_place)?;
-    add_text(fields, Variable::EventPlace, rich_text(alloc, entry, "venue")?)?;
+    add_rich_or(alloc, Variable::PublisherPlace, entry, "location", "address", fields)?;
+    add_rich(alloc, Variable::OriginalPublisher, entry, "origpublisher", fields)?;
+    add_rich(alloc, Variable::OriginalPublisherPlace, entry, "origlocation", fields)?;
     add_text(fields, Variable::Genre, genre_of(alloc, entry)?)
 }

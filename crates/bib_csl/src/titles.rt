@@ -3,6 +3,7 @@
 ghost use Rattle.std.specs.Prelude.{◌≡◌, ◌++◌, OnOk, IfOk};
 ghost use Rattle.bib_csl.specs.Titles as spec;
 
+use crate::adding::{add_rich, add_title};
 use crate::fields::add_text;
 use crate::item::Field;
 use crate::markup::marked;
@@ -130,13 +131,24 @@ pub(crate) fn add_titles(
     ensures { OnOk result (fields.new ≡ fields.old ++ spec.title_fields kind entry.now) }
 {
     add_text(fields, Variable::Title, title_of(alloc, kind, entry)?)?;
-    let short = title_text(alloc, entry, "shorttitle")?;
-    add_text(fields, Variable::TitleShort, short)?;
+    add_title(alloc, Variable::TitleShort, entry, "shorttitle", fields)?;
     add_text(fields, Variable::VolumeTitle, volume_title(alloc, kind, entry)?)?;
+    add_title(alloc, Variable::OriginalTitle, entry, "origtitle", fields)
+}
+
+// Appends what an item is a part of, and the conference that it comes from.
+#[tactic(auto, unfolding(crate::specs::Titles::container_fields))]
+pub(crate) fn add_container(
+    alloc: Global,
+    kind: ItemType,
+    entry: &Entry,
+    fields: &mut Items<Field>,
+) -> Result<(), AllocError>
+    ensures { OnOk result (fields.new ≡ fields.old ++ spec.container_fields kind entry.now) }
+{
     add_text(fields, Variable::ContainerTitle, container_title(alloc, kind, entry)?)?;
-    let container_short = title_text(alloc, entry, "shortjournal")?;
-    add_text(fields, Variable::ContainerTitleShort, container_short)?;
-    add_text(fields, Variable::CollectionTitle, title_text(alloc, entry, "series")?)?;
-    add_text(fields, Variable::OriginalTitle, title_text(alloc, entry, "origtitle")?)?;
-    add_text(fields, Variable::EventTitle, event_title(alloc, entry)?)
+    add_title(alloc, Variable::ContainerTitleShort, entry, "shortjournal", fields)?;
+    add_title(alloc, Variable::CollectionTitle, entry, "series", fields)?;
+    add_text(fields, Variable::EventTitle, event_title(alloc, entry)?)?;
+    add_rich(alloc, Variable::EventPlace, entry, "venue", fields)
 }
