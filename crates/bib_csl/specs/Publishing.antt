@@ -36,11 +36,18 @@ genre_of_type other = []
 unfoldable pub genre_of : Entry → List ℕ
 genre_of entry = either (genre_named (rich_text entry (codes "type"))) (genre_of_type entry.entry_type)
 
--- who published an item and where, and what kind of work it is
-unfoldable pub publishing_fields : Entry → List Field
-publishing_fields entry =
+-- who published an item and where
+unfoldable pub publisher_fields : Entry → List Field
+publisher_fields entry =
     given Publisher (publisher_of entry) ++
-    (given PublisherPlace (rich_text_or entry (codes "location") (codes "address")) ++
-    (given OriginalPublisher (rich_text entry (codes "origpublisher")) ++
-    (given OriginalPublisherPlace (rich_text entry (codes "origlocation")) ++
-    given Genre (genre_of entry))))
+    given PublisherPlace (rich_text_or entry (codes "location") (codes "address"))
+
+-- who published the original and where
+unfoldable pub original_fields : Entry → List Field
+original_fields entry =
+    given OriginalPublisher (rich_text entry (codes "origpublisher")) ++
+    given OriginalPublisherPlace (rich_text entry (codes "origlocation"))
+
+-- who published an item and the original, and what kind of work it is
+unfoldable pub publishing_fields : Entry → List Field
+publishing_fields entry = publisher_fields entry ++ (original_fields entry ++ given Genre (genre_of entry))

@@ -3,11 +3,11 @@
 use Rattle.std.specs.Prelude.{ℕ, Bool, true, false, ◌==◌, if◌then◌else◌, List, [], ◌∷◌, ◌++◌, length, codes, encode_utf8_all, Option, Some, None}
 use Rattle.std.specs.FinMap as by_name
 use Rattle.std.specs.List.{flat_map}
+use Rattle.std.specs.Str.{chars}
 use Rattle.bib_text.specs.Characters as char
 use Rattle.bib_text.specs.declared.spanned.Spanned.{Spanned}
 use Rattle.bib_chunks.specs.declared.chunk.Chunk.{Chunk}
 use Rattle.bib_chunks.specs.declared.chunk.Chunk.TheVariants.{Normal, Verbatim, Math}
-use Rattle.bib_chunks.specs.Formatted.{formatted}
 use Rattle.bib_chunks.specs.Values.{Value, text}
 use Rattle.bib_entry.specs.declared.entry.Entry.{Entry}
 use Rattle.bib_entry.specs.Fields.{field_or}
@@ -39,13 +39,13 @@ keeping_case text = if length text == 0 then [] else codes "<span class=\"nocase
 
 -- the text of a chunk of a title, where verbatim text keeps its case
 unfoldable pub cased : Bool → Chunk → List ℕ → List ℕ
-cased is_title (Normal chars) text = text
-cased is_title (Verbatim chars) text = if is_title then keeping_case text else text
-cased is_title (Math chars) text = text
+cased is_title (Normal whole) text = text
+cased is_title (Verbatim whole) text = if is_title then keeping_case text else text
+cased is_title (Math whole) text = text
 
 -- a chunk with HTML's tags and escapes, formatted by itself
 unfoldable pub marked_chunk : Bool → Spanned Chunk → List ℕ
-marked_chunk is_title c = cased is_title c.v (encode_utf8_all (escaped (formatted (c ∷ []))))
+marked_chunk is_title c = cased is_title c.v (encode_utf8_all (escaped (chars (text (c ∷ [])))))
 
 -- chunks with HTML's tags and escapes
 unfoldable pub marked_chunks : Bool → Value → List ℕ

@@ -63,11 +63,13 @@ title_fields kind entry =
     (given VolumeTitle (volume_title kind entry) ++
     given OriginalTitle (title_text entry (codes "origtitle"))))
 
--- what an item is a part of, and the conference that it comes from
+-- what an item is a part of
 unfoldable pub container_fields : ItemType → Entry → List Field
 container_fields kind entry =
     given ContainerTitle (container_title kind entry) ++
     (given ContainerTitleShort (title_text entry (codes "shortjournal")) ++
-    (given CollectionTitle (title_text entry (codes "series")) ++
-    (given EventTitle (event_title entry) ++
-    given EventPlace (rich_text entry (codes "venue")))))
+    given CollectionTitle (title_text entry (codes "series")))
+
+-- the conference that an item comes from
+unfoldable pub event_fields : Entry → List Field
+event_fields entry = given EventTitle (event_title entry) ++ given EventPlace (rich_text entry (codes "venue"))

@@ -63,7 +63,29 @@ fn genre_of(alloc: Global, entry: &Entry) -> Result<Text, AllocError>
     Ok(either(named, of_type))
 }
 
-// Appends who published an item and where, and what kind of work it is.
+// Appends who published an item and where.
+#[tactic(auto, unfolding(crate::specs::Publishing::publisher_fields))]
+fn add_publisher(
+    alloc: Global,
+    entry: &Entry,
+    fields: &mut Items<Field>,
+) -> Result<(), AllocError>
+    ensures { OnOk result (fields.new ≡ fields.old ++ spec.publisher_fields entry.now) }
+{
+    add_text(fields, Variable::Publisher, publisher_of(alloc, entry)?)?;
+    add_rich_or(alloc, Variable::PublisherPlace, entry, "location", "address", fields)
+}
+
+// Appends who published the original and where.
+#[tactic(auto, unfolding(crate::specs::Publishing::original_fields))]
+fn add_original(alloc: Global, entry: &Entry, fields: &mut Items<Field>) -> Result<(), AllocError>
+    ensures { OnOk result (fields.new ≡ fields.old ++ spec.original_fields entry.now) }
+{
+    add_rich(alloc, Variable::OriginalPublisher, entry, "origpublisher", fields)?;
+    add_rich(alloc, Variable::OriginalPublisherPlace, entry, "origlocation", fields)
+}
+
+// Appends who published an item and the original, and what kind of work it is.
 #[tactic(auto, unfolding(crate::specs::Publishing::publishing_fields))]
 pub(crate) fn add_publishing(
     alloc: Global,
@@ -72,9 +94,7 @@ pub(crate) fn add_publishing(
 ) -> Result<(), AllocError>
     ensures { OnOk result (fields.new ≡ fields.old ++ spec.publishing_fields entry.now) }
 {
-    add_text(fields, Variable::Publisher, publisher_of(alloc, entry)?)?;
-    add_rich_or(alloc, Variable::PublisherPlace, entry, "location", "address", fields)?;
-    add_rich(alloc, Variable::OriginalPublisher, entry, "origpublisher", fields)?;
-    add_rich(alloc, Variable::OriginalPublisherPlace, entry, "origlocation", fields)?;
+    add_publisher(alloc, entry, fields)?;
+    add_original(alloc, entry, fields)?;
     add_text(fields, Variable::Genre, genre_of(alloc, entry)?)
 }

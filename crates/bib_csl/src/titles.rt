@@ -136,7 +136,7 @@ pub(crate) fn add_titles(
     add_title(alloc, Variable::OriginalTitle, entry, "origtitle", fields)
 }
 
-// Appends what an item is a part of, and the conference that it comes from.
+// Appends what an item is a part of.
 #[tactic(auto, unfolding(crate::specs::Titles::container_fields))]
 pub(crate) fn add_container(
     alloc: Global,
@@ -148,7 +148,18 @@ pub(crate) fn add_container(
 {
     add_text(fields, Variable::ContainerTitle, container_title(alloc, kind, entry)?)?;
     add_title(alloc, Variable::ContainerTitleShort, entry, "shortjournal", fields)?;
-    add_title(alloc, Variable::CollectionTitle, entry, "series", fields)?;
+    add_title(alloc, Variable::CollectionTitle, entry, "series", fields)
+}
+
+// Appends the conference that an item comes from.
+#[tactic(auto, unfolding(crate::specs::Titles::event_fields))]
+pub(crate) fn add_event(
+    alloc: Global,
+    entry: &Entry,
+    fields: &mut Items<Field>,
+) -> Result<(), AllocError>
+    ensures { OnOk result (fields.new ≡ fields.old ++ spec.event_fields entry.now) }
+{
     add_text(fields, Variable::EventTitle, event_title(alloc, entry)?)?;
     add_rich(alloc, Variable::EventPlace, entry, "venue", fields)
 }
