@@ -1,2 +1,3 @@
 pub mod AppendFacts
+pub mod FloatFacts
 pub mod MarkupFacts

@@ -2,6 +2,7 @@ pub mod Dates
 pub mod Fields
 pub mod Identifiers
 pub mod Items
+pub mod Json
 pub mod Names
 pub mod Notes
 pub mod Numbers

@@ -10,6 +10,7 @@ mod dates;
 mod fields;
 mod identifiers;
 pub mod item;
+pub mod json;
 pub mod making;
 mod markup;
 mod notes;
