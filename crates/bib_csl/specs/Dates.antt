@@ -1,8 +1,11 @@
 -- Meaning: words of public contracts.
 -- The dates of an item.
-use Rattle.std.specs.Prelude.{ℕ, ◌+◌, false, ◌||◌, ◌==◌, if◌then◌else◌, ℤ, pos, ◌-ℤ◌, List, [], ◌∷◌, ◌++◌, length, codes, Option, Some, None}
-use Rattle.std.specs.Option.{option_map}
+use Rattle.std.specs.Prelude.{ℕ, ◌+◌, ◌-◌, ◌*◌, Bool, false, ◌&&◌, ◌||◌, ◌==◌, if◌then◌else◌, ℤ, pos, ◌-ℤ◌, List, [], ◌∷◌, ◌++◌, length, take, slice_index, codes, Option, Some, None}
+use Rattle.std.specs.Char.{is_ascii_digit}
+use Rattle.std.specs.List.{list_all}
+use Rattle.std.specs.Option.{option_map, unwrap_or}
 use Rattle.std.specs.Ordering.{int_cmp, is_lt}
+use Rattle.bib_text.specs.Characters as char
 use Rattle.bib_chunks.specs.Values.{Value, text}
 use Rattle.bib_dates.specs.Chunks.{date_read, three_fields_reading}
 use Rattle.bib_dates.specs.Readings.{readable_value}
@@ -15,6 +18,8 @@ use Rattle.bib_entry.specs.declared.entry.Entry.{Entry}
 use Rattle.bib_csl.specs.declared.item.DateParts.{DateParts}
 use Rattle.bib_csl.specs.declared.item.Field.{Field}
 use Rattle.bib_csl.specs.declared.item.ItemDate.{ItemDate}
+use Rattle.bib_csl.specs.declared.item.Season.{Season}
+use Rattle.bib_csl.specs.declared.item.Season.TheVariants.{Spring, Summer, Autumn, Winter}
 use Rattle.bib_csl.specs.declared.variables.Variable.TheVariants.{Issued, Accessed, EventDate, OriginalDate}
 use Rattle.bib_csl.specs.Fields.{dated}
 use Rattle.bib_csl.specs.Texts.{field, plain, joined}
@@ -53,9 +58,36 @@ date_item d = record { parts = parts_of d.value; season = None; circa = d.uncert
 unfoldable pub literal_item : List ℕ → ItemDate
 literal_item text = record { parts = []; season = None; circa = false; literal = Some text }
 
--- the same, unless the text is empty
+-- the number that a byte of a text is as a digit
+unfoldable pub digit : List ℕ → ℕ → ℕ
+digit text i = slice_index text i - char.zero
+
+-- the year that the first four digits of a text spell
+unfoldable pub first_year : List ℕ → ℕ
+first_year text = 1000 * digit text 0 + 100 * digit text 1 + 10 * digit text 2 + digit text 3
+
+-- whether a text is four digits of a year, a hyphen, and one of the numbers from 20 on that the Extended Date/Time Format has for seasons
+unfoldable pub is_season_text : List ℕ → Bool
+is_season_text text =
+    (length text == 7) && (list_all is_ascii_digit (take 4 text) && ((slice_index text 4 == char.hyphen) && (digit text 5 == 2)))
+
+-- the season with this number after 20
+abbrev pub season_numbered : ℕ → Option Season
+season_numbered n =
+    if n == 1 then Some Spring else if n == 2 then Some Summer else if n == 3 then Some Autumn else if n == 4 then Some Winter else None
+
+-- a season of a year
+unfoldable pub season_item : ℕ → Season → ItemDate
+season_item year season =
+    record { parts = record { year = year_of (pos year); month = None; day = None } ∷ []; season = Some season; circa = false; literal = None }
+
+-- the season of a year that a text names
+unfoldable pub season_of : List ℕ → Option ItemDate
+season_of text = if is_season_text text then option_map (season_item (first_year text)) (season_numbered (digit text 6)) else None
+
+-- what a text says that isn't read: a season, or else the text, unless it is empty
 unfoldable pub unread : List ℕ → Option ItemDate
-unread text = if length text == 0 then None else Some (literal_item text)
+unread text = if length text == 0 then None else Some (unwrap_or (season_of text) (literal_item text))
 
 -- what is read, or else what its text says
 unfoldable pub read_or_unread : Option Date → List ℕ → Option ItemDate

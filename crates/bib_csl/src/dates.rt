@@ -1,13 +1,15 @@
 //! The dates of an item.
 
-ghost use Rattle.std.specs.Prelude.{◌≡◌, ◌++◌, OnOk, IfOk};
+ghost use Rattle.std.specs.Prelude.{◌≡◌, ◌<◌, pos, true, length, ◌++◌, OnOk, IfOk};
+ghost use Rattle.std.specs.Char.{is_ascii_digit};
+ghost use Rattle.std.specs.List.{list_all};
 ghost use Rattle.std.specs.Option.{option_map, option_copied};
 ghost use Rattle.bib_dates.specs.Chunks.{date_read, three_fields_reading};
 ghost use Rattle.bib_dates.specs.Readings.{readable_value};
 ghost use Rattle.bib_csl.specs.Dates as spec;
 
 use crate::fields::add_date;
-use crate::item::{DateParts, Field, ItemDate};
+use crate::item::{DateParts, Field, ItemDate, Season};
 use crate::texts::{joined, plain};
 use crate::variables::Variable;
 use bib_chunks::chunk::{ChunksRef, format_verbatim};
@@ -109,8 +111,105 @@ fn literal_item(alloc: Global, text: Text) -> ItemDate
     }
 }
 
+// The number that a byte of a text is as a digit.
+#[tactic(auto, unfolding(crate::specs::Dates::digit))]
+fn digit(text: &[u8], i: usize) -> u32
+    requires { i < length text.now }
+    ensures value { result ≡ spec.digit text.now i }
+    ensures small { result < 256 }
+{
+    text[i].saturating_sub(b'0') as u32
+}
+
+// The year that the first four digits of a text spell.
+#[tactic(auto, unfolding(crate::specs::Dates::first_year))]
+fn first_year(text: &[u8]) -> i32
+    requires { 3 < length text.now }
+    ensures { result ≡ pos (spec.first_year text.now) }
+{
+    let year = 1000 * digit(text, 0) + 100 * digit(text, 1) + 10 * digit(text, 2) + digit(text, 3);
+    year as i32
+}
+
+// Whether bytes are digits.
+fn are_digits(text: &[u8]) -> bool
+    ensures { result ≡ list_all is_ascii_digit text.now }
+{
+    text.iter().all(|byte| byte.is_ascii_digit())
+}
+
+// Whether a text is four digits of a year, a hyphen, and one of the numbers from 20 on.
+#[tactic(auto, unfolding(crate::specs::Dates::is_season_text))]
+fn is_season_text(text: &[u8]) -> bool
+    ensures value { result ≡ spec.is_season_text text.now }
+    ensures long { result ≡ true → 6 < length text.now }
+{
+    text.len() == 7 && are_digits(&text[..4]) && text[4] == b'-' && digit(text, 5) == 2
+}
+
+// The season with this number after 20.
+fn season_numbered(number: u32) -> Option<Season>
+    ensures { result ≡ spec.season_numbered number }
+{
+    match number {
+        1 => Some(Season::Spring),
+        2 => Some(Season::Summer),
+        3 => Some(Season::Autumn),
+        4 => Some(Season::Winter),
+        _ => None,
+    }
+}
+
+// A season of a year.
+#[tactic(auto, unfolding(crate::specs::Dates::season_item))]
+fn season_item(alloc: Global, text: &[u8], season: Season) -> Result<ItemDate, AllocError>
+    requires { 3 < length text.now }
+    ensures { IfOk result (λ item. item ≡ spec.season_item (spec.first_year text.now) season) }
+{
+    let mut parts = Items::new(alloc);
+    parts.push(DateParts {
+        year: year_of(first_year(text)),
+        month: None,
+        day: None,
+    })?;
+    Ok(ItemDate {
+        parts,
+        season: Some(season),
+        circa: false,
+        literal: None,
+    })
+}
+
+// The season of a year that a text names.
+#[tactic(auto, unfolding(crate::specs::Dates::season_of))]
+fn season_of(alloc: Global, text: &[u8]) -> Result<Option<ItemDate>, AllocError>
+    ensures { IfOk result (λ item. item ≡ spec.season_of text.now) }
+{
+    if !is_season_text(text) {
+        return Ok(None);
+    }
+    match season_numbered(digit(text, 6)) {
+        Some(season) => Ok(Some(season_item(alloc, text, season)?)),
+        None => Ok(None),
+    }
+}
+
+// What a text says that isn't read: a season, or else the text, unless it is empty.
+#[tactic(auto, unfolding(crate::specs::Dates::unread))]
+fn unread(alloc: Global, text: Text) -> Result<Option<ItemDate>, AllocError>
+    ensures { IfOk result (λ item. item ≡ spec.unread text) }
+{
+    if text.is_empty() {
+        return Ok(None);
+    }
+    match season_of(alloc, text.as_str().as_bytes())? {
+        Some(season) => Ok(Some(season)),
+        None => Ok(Some(literal_item(alloc, text))),
+    }
+}
+
 // What is read, or else what its text says.
-#[tactic(auto, unfolding(crate::specs::Dates::read_or_unread, crate::specs::Dates::unread))]
+#[tactic(auto, unfolding(crate::specs::Dates::read_or_unread))]
 fn read_or_unread(
     alloc: Global,
     date: Option<Date>,
@@ -121,10 +220,7 @@ fn read_or_unread(
     if let Some(date) = date {
         return Ok(Some(date_item(alloc, &date)?));
     }
-    if text.is_empty() {
-        return Ok(None);
-    }
-    Ok(Some(literal_item(alloc, text)))
+    unread(alloc, text)
 }
 
 // The date that chunks are read as.
