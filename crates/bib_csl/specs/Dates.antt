@@ -1,0 +1,121 @@
+-- Meaning: words of public contracts.
+-- The dates of an item.
+use Rattle.std.specs.Prelude.{ℕ, ◌+◌, ◌-◌, ◌*◌, Bool, false, ◌&&◌, ◌||◌, ◌==◌, if◌then◌else◌, ℤ, pos, ◌-ℤ◌, List, [], ◌∷◌, ◌++◌, length, take, slice_index, codes, Option, Some, None}
+use Rattle.std.specs.Char.{is_ascii_digit}
+use Rattle.std.specs.List.{list_all}
+use Rattle.std.specs.Option.{option_map, unwrap_or}
+use Rattle.std.specs.Ordering.{int_cmp, is_lt}
+use Rattle.bib_text.specs.Characters as char
+use Rattle.bib_chunks.specs.Values.{Value, text}
+use Rattle.bib_dates.specs.Chunks.{date_read, three_fields_reading}
+use Rattle.bib_dates.specs.Readings.{readable_value}
+use Rattle.bib_dates.specs.Written.{datetime_text}
+use Rattle.bib_dates.specs.declared.date.Date.{Date}
+use Rattle.bib_dates.specs.declared.date.DateValue.{DateValue}
+use Rattle.bib_dates.specs.declared.date.DateValue.TheVariants.{At, After, Before, Between}
+use Rattle.bib_dates.specs.declared.date.Datetime.{Datetime}
+use Rattle.bib_entry.specs.declared.entry.Entry.{Entry}
+use Rattle.bib_csl.specs.declared.item.DateParts.{DateParts}
+use Rattle.bib_csl.specs.declared.item.Field.{Field}
+use Rattle.bib_csl.specs.declared.item.ItemDate.{ItemDate}
+use Rattle.bib_csl.specs.declared.item.Season.{Season}
+use Rattle.bib_csl.specs.declared.item.Season.TheVariants.{Spring, Summer, Autumn, Winter}
+use Rattle.bib_csl.specs.declared.variables.Variable.TheVariants.{Issued, Accessed, EventDate, OriginalDate}
+use Rattle.bib_csl.specs.Fields.{dated}
+use Rattle.bib_csl.specs.Texts.{field, plain, joined}
+
+-- a year as CSL counts it: the one before 1 is -1
+unfoldable pub year_of : ℤ → ℤ
+year_of year = if is_lt (int_cmp year (pos 1)) then year -ℤ pos 1 else year
+
+-- a number that counts from 0, from 1
+abbrev pub from_one : ℕ → ℕ
+from_one n = n + 1
+
+-- year, month and day of a date; its time is dropped
+unfoldable pub date_parts : Datetime → DateParts
+date_parts d = record { year = year_of d.year; month = option_map from_one d.month; day = option_map from_one d.day }
+
+-- the dates of a date or a range, those that there are
+unfoldable pub parts_of : DateValue → List DateParts
+parts_of (At d) = date_parts d ∷ []
+parts_of (After d) = date_parts d ∷ []
+parts_of (Before d) = date_parts d ∷ []
+parts_of (Between a b) = date_parts a ∷ date_parts b ∷ []
+
+-- the text of a range with one open side, after the Extended Date/Time Format
+unfoldable pub open_text : DateValue → Option (List ℕ)
+open_text (At d) = None
+open_text (After d) = Some (datetime_text d ++ codes "/..")
+open_text (Before d) = Some (codes "../" ++ datetime_text d)
+open_text (Between a b) = None
+
+-- a date that is read
+unfoldable pub date_item : Date → ItemDate
+date_item d = record { parts = parts_of d.value; season = None; circa = d.uncertain || d.approximate; literal = open_text d.value }
+
+-- a date that isn't read, by its text
+unfoldable pub literal_item : List ℕ → ItemDate
+literal_item text = record { parts = []; season = None; circa = false; literal = Some text }
+
+-- the number that a byte of a text is as a digit
+unfoldable pub digit : List ℕ → ℕ → ℕ
+digit text i = slice_index text i - char.zero
+
+-- the year that the first four digits of a text spell
+unfoldable pub first_year : List ℕ → ℕ
+first_year text = 1000 * digit text 0 + 100 * digit text 1 + 10 * digit text 2 + digit text 3
+
+-- whether a text is four digits of a year, a hyphen, and one of the numbers from 20 on that the Extended Date/Time Format has for seasons
+unfoldable pub is_season_text : List ℕ → Bool
+is_season_text text =
+    (length text == 7) && (list_all is_ascii_digit (take 4 text) && ((slice_index text 4 == char.hyphen) && (digit text 5 == 2)))
+
+-- the season with this number after 20
+abbrev pub season_numbered : ℕ → Option Season
+season_numbered n =
+    if n == 1 then Some Spring else if n == 2 then Some Summer else if n == 3 then Some Autumn else if n == 4 then Some Winter else None
+
+-- a season of a year
+unfoldable pub season_item : ℕ → Season → ItemDate
+season_item year season =
+    record { parts = record { year = year_of (pos year); month = None; day = None } ∷ []; season = Some season; circa = false; literal = None }
+
+-- the season of a year that a text names
+unfoldable pub season_of : List ℕ → Option ItemDate
+season_of text = if is_season_text text then option_map (season_item (first_year text)) (season_numbered (digit text 6)) else None
+
+-- what a text says that isn't read: a season, or else the text, unless it is empty
+unfoldable pub unread : List ℕ → Option ItemDate
+unread text = if length text == 0 then None else Some (unwrap_or (season_of text) (literal_item text))
+
+-- what is read, or else what its text says
+unfoldable pub read_or_unread : Option Date → List ℕ → Option ItemDate
+read_or_unread (Some date) text = Some (date_item date)
+read_or_unread None text = unread text
+
+-- the text of a month and a year that aren't read
+abbrev pub month_and_year : Option Value → Value → List ℕ
+month_and_year month year = joined (codes " ") (plain month) (text year)
+
+-- the date of a year and of the month and day beside it, if there is one
+unfoldable pub three_fields_item : Option Value → Option Value → Option Value → Option ItemDate
+three_fields_item None month day = None
+three_fields_item (Some year) month day = read_or_unread (readable_value (three_fields_reading year month day)) (month_and_year month year)
+
+-- the date of a field, else that of the three
+abbrev pub date_or_fields : Option Value → Option Value → Option Value → Option Value → Option ItemDate
+date_or_fields (Some date) year month day = read_or_unread (date_read date) (text date)
+date_or_fields None year month day = three_fields_item year month day
+
+-- the date of the field of the first name, else of those of the other three
+unfoldable pub date_in : Entry → List ℕ → List ℕ → List ℕ → List ℕ → Option ItemDate
+date_in entry date year month day = date_or_fields (field entry date) (field entry year) (field entry month) (field entry day)
+
+-- the dates of an item
+unfoldable pub date_fields : Entry → List Field
+date_fields entry =
+    dated Issued (date_in entry (codes "date") (codes "year") (codes "month") (codes "day")) ++
+    (dated Accessed (date_in entry (codes "urldate") (codes "urlyear") (codes "urlmonth") (codes "urlday")) ++
+    (dated EventDate (date_in entry (codes "eventdate") (codes "eventyear") (codes "eventmonth") (codes "eventday")) ++
+    dated OriginalDate (date_in entry (codes "origdate") (codes "origyear") (codes "origmonth") (codes "origday"))))

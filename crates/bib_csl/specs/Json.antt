@@ -1,0 +1,105 @@
+-- Meaning: words of public contracts.
+-- Items as JSON, by the schema of CSL. The members of an object stand in the order of their names.
+use Rattle.std.specs.Prelude.{ℕ, Bool, true, false, ◌==◌, if◌then◌else◌, List, [], ◌∷◌, length, map, codes, Option, Some, None}
+use Rattle.serde_json.specs.Data.{Data, number, string, array, object, boolean, unsigned, Items, no_items, item, Members, no_members, put}
+use Rattle.serde_json.specs.Find.{of_integer}
+use Rattle.serde_json.specs.View.{items_of}
+use Rattle.bib_csl.specs.declared.item.Content.{Content}
+use Rattle.bib_csl.specs.declared.item.Content.TheVariants as content
+use Rattle.bib_csl.specs.declared.item.DateParts.{DateParts}
+use Rattle.bib_csl.specs.declared.item.Field.{Field}
+use Rattle.bib_csl.specs.declared.item.Item.{Item}
+use Rattle.bib_csl.specs.declared.item.ItemDate.{ItemDate}
+use Rattle.bib_csl.specs.declared.item.Name.{Name}
+use Rattle.bib_csl.specs.declared.item.Name.TheVariants.{Literal, Parts}
+use Rattle.bib_csl.specs.declared.item.NameParts.{NameParts}
+use Rattle.bib_csl.specs.declared.item.Season.{Season}
+use Rattle.bib_csl.specs.declared.item.Season.TheVariants.{Spring, Summer, Autumn, Winter}
+use Rattle.bib_csl.specs.Names.{type_name, variable_name}
+
+-- members, with a text of this name unless it is empty
+unfoldable pub with_text : List ℕ → List ℕ → Members → Members
+with_text name text members = if length text == 0 then members else put name (string text) members
+
+-- the members of a person's name
+unfoldable pub parts_members : NameParts → Members
+parts_members p =
+    with_text (codes "non-dropping-particle") p.non_dropping_particle (with_text (codes "dropping-particle") p.dropping_particle
+    (with_text (codes "suffix") p.suffix (with_text (codes "given") p.given (with_text (codes "family") p.family no_members))))
+
+-- the members of a name
+unfoldable pub name_members : Name → Members
+name_members (Literal text) = put (codes "literal") (string text) no_members
+name_members (Parts p) = parts_members p
+
+-- a name
+unfoldable pub name_json : Name → Data
+name_json name = object (name_members name)
+
+-- a day of a month, if there is one
+abbrev pub day_items : Option ℕ → Items
+day_items None = no_items
+day_items (Some day) = item (number (unsigned day)) no_items
+
+-- a month and its day, if there is one; there is no day without a month
+abbrev pub month_items : Option ℕ → Option ℕ → Items
+month_items None day = no_items
+month_items (Some month) day = item (number (unsigned month)) (day_items day)
+
+-- year, month and day as a list
+unfoldable pub date_parts_json : DateParts → Data
+date_parts_json p = array (item (number (of_integer p.year)) (month_items p.month p.day))
+
+-- members, with the dates unless there are none
+unfoldable pub with_parts : List DateParts → Members → Members
+with_parts parts members =
+    if length parts == 0 then members else put (codes "date-parts") (array (items_of (map date_parts_json parts))) members
+
+-- the number of a season
+abbrev pub season_number : Season → ℕ
+season_number Spring = 1
+season_number Summer = 2
+season_number Autumn = 3
+season_number Winter = 4
+
+-- members, with the season if there is one
+unfoldable pub with_season : Option Season → Members → Members
+with_season None members = members
+with_season (Some season) members = put (codes "season") (number (unsigned (season_number season))) members
+
+-- members, with the word that a date isn't exact, where it isn't
+unfoldable pub with_circa : Bool → Members → Members
+with_circa true members = put (codes "circa") (boolean true) members
+with_circa false members = members
+
+-- members, with the text of a date if there is one
+unfoldable pub with_literal : Option (List ℕ) → Members → Members
+with_literal None members = members
+with_literal (Some text) members = put (codes "literal") (string text) members
+
+-- the members of a date
+unfoldable pub date_members : ItemDate → Members
+date_members d = with_literal d.literal (with_circa d.circa (with_season d.season (with_parts d.parts no_members)))
+
+-- what a variable holds
+unfoldable pub content_json : Content → Data
+content_json (content.Text text) = string text
+content_json (content.Names names) = array (items_of (map name_json names))
+content_json (content.Date date) = object (date_members date)
+
+-- members, with a variable
+unfoldable pub with_field : Field → Members → Members
+with_field field members = put (variable_name field.variable) (content_json field.content) members
+
+-- members, with variables one after another
+abbrev pub with_fields : List Field → Members → Members
+with_fields [] members = members
+with_fields (field ∷ fields) members = with_fields fields (with_field field members)
+
+-- what an item is called and its type
+unfoldable pub head_members : Item → Members
+head_members work = put (codes "type") (string (type_name work.kind)) (put (codes "id") (string work.id) no_members)
+
+-- an item
+unfoldable pub json_of : Item → Data
+json_of work = object (with_fields work.fields (head_members work))

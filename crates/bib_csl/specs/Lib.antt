@@ -1,0 +1,13 @@
+pub mod Dates
+pub mod Fields
+pub mod Identifiers
+pub mod Items
+pub mod Json
+pub mod Names
+pub mod Notes
+pub mod Numbers
+pub mod People
+pub mod Publishing
+pub mod Texts
+pub mod Titles
+pub mod Types

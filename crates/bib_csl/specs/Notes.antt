@@ -1,0 +1,45 @@
+-- Meaning: words of public contracts.
+-- What is said of an item in words.
+use Rattle.std.specs.Prelude.{ℕ, List, [], ◌++◌, codes, Option, Some, None}
+use Rattle.bib_chunks.specs.Values.{Value, text}
+use Rattle.bib_entry.specs.declared.entry.Entry.{Entry}
+use Rattle.bib_entry.specs.Fields.{field_or}
+use Rattle.bib_enums.specs.Language.{language_row}
+use Rattle.bib_enums.specs.declared.types.lang.Language.{Language}
+use Rattle.bib_enums.specs.declared.types.lang.Language.TheVariants.{EnglishUK}
+use Rattle.bib_values.specs.Enumerations.{language_read}
+use Rattle.bib_csl.specs.declared.item.Field.{Field}
+use Rattle.bib_csl.specs.declared.variables.Variable.TheVariants as variable
+use Rattle.bib_csl.specs.Fields.{given}
+use Rattle.bib_csl.specs.Texts.{field, plain, rich_text, rich_text_or, joined}
+
+-- the tag of a language, after BCP 47
+unfoldable pub tag_of : Language → List ℕ
+tag_of EnglishUK = codes "en-GB"
+tag_of language = (language_row language).tag
+
+-- the tag of the language that a text is read as, or the text
+abbrev pub language_or_text : Option Language → List ℕ → List ℕ
+language_or_text None whole = whole
+language_or_text (Some language) whole = tag_of language
+
+-- the language of a field
+unfoldable pub language_of : Option Value → List ℕ
+language_of None = []
+language_of (Some chunks) = language_or_text (language_read chunks) (text chunks)
+
+-- a note, and what else is said of the work or of how it was published
+unfoldable pub note_of : Entry → List ℕ
+note_of entry =
+    joined (codes ". ") (joined (codes ". ") (rich_text entry (codes "note")) (rich_text entry (codes "addendum")))
+    (rich_text entry (codes "howpublished"))
+
+-- what is said of an item in words
+unfoldable pub note_fields : Entry → List Field
+note_fields entry =
+    given variable.Abstract (rich_text entry (codes "abstract")) ++
+    (given variable.Annote (rich_text_or entry (codes "annotation") (codes "annote")) ++
+    (given variable.Note (note_of entry) ++
+    (given variable.Status (plain (field entry (codes "pubstate"))) ++
+    (given variable.Keyword (plain (field entry (codes "keywords"))) ++
+    given variable.Language (language_of (field_or entry (codes "langid") (codes "language")))))))

@@ -1,0 +1,68 @@
+-- Meaning: words of public contracts.
+-- The numbers of an item.
+use Rattle.std.specs.Prelude.{ℕ, ◌==◌, if◌then◌else◌, List, [], ◌∷◌, ◌++◌, length, codes, encode_utf8, Option, Some, None}
+use Rattle.std.specs.Fmt.{decimal}
+use Rattle.std.specs.declared.ops.Range.{Range}
+use Rattle.bib_text.specs.Characters as char
+use Rattle.bib_chunks.specs.Values.{Value, text}
+use Rattle.bib_entry.specs.declared.entry.Entry.{Entry}
+use Rattle.bib_values.specs.Ranges.{ranges_read}
+use Rattle.bib_csl.specs.declared.item.Field.{Field}
+use Rattle.bib_csl.specs.declared.variables.ItemType.{ItemType}
+use Rattle.bib_csl.specs.declared.variables.Variable.TheVariants.{Volume, NumberOfVolumes, PartNumber, Issue, Number, CollectionNumber, Edition, ChapterNumber, Page, NumberOfPages, Version}
+use Rattle.bib_csl.specs.Fields.{given}
+use Rattle.bib_csl.specs.Texts.{field, plain, joined}
+use Rattle.bib_csl.specs.Types.{counts_issues, counts_series}
+
+-- the issue: where the field `number` counts issues, it and `issue`
+unfoldable pub issue_of : ItemType → List ℕ → List ℕ → List ℕ
+issue_of kind number issue = if counts_issues kind then joined (codes ", ") number issue else issue
+
+-- the number of the item itself, where `number` counts nothing else
+unfoldable pub number_of : ItemType → List ℕ → List ℕ
+number_of kind number = if counts_issues kind then [] else if counts_series kind then [] else number
+
+-- the number in the series
+unfoldable pub collection_number : ItemType → List ℕ → List ℕ
+collection_number kind number = if counts_series kind then number else []
+
+-- the pages of a range: its first and last with an en dash between them, or the one page
+unfoldable pub pages_of : Range ℕ → List ℕ
+pages_of range =
+    if range.start == range.end then decimal range.start
+    else decimal range.start ++ (encode_utf8 char.en_dash ++ decimal range.end)
+
+-- ranges of pages after some text, with commas between them
+unfoldable pub pages_after : List ℕ → List (Range ℕ) → List ℕ
+pages_after before [] = before
+pages_after before (range ∷ ranges) = pages_after (joined (codes ", ") before (pages_of range)) ranges
+
+-- the pages of the ranges that chunks are read as, or the text of chunks that aren't
+abbrev pub pages_text : Option (List (Range ℕ)) → List ℕ → List ℕ
+pages_text None whole = whole
+pages_text (Some ranges) whole = pages_after [] ranges
+
+-- the pages of a field
+unfoldable pub pages : Option Value → List ℕ
+pages None = []
+pages (Some chunks) = pages_text (ranges_read chunks) (text chunks)
+
+-- the volume, the issue, and where the item stands in a series
+unfoldable pub volume_fields : ItemType → Entry → List Field
+volume_fields kind entry =
+    let number = plain (field entry (codes "number")) in
+    given Volume (plain (field entry (codes "volume"))) ++
+    (given NumberOfVolumes (plain (field entry (codes "volumes"))) ++
+    (given PartNumber (plain (field entry (codes "part"))) ++
+    (given Issue (issue_of kind number (plain (field entry (codes "issue")))) ++
+    (given Number (number_of kind number) ++
+    given CollectionNumber (collection_number kind number)))))
+
+-- the edition and the pages
+unfoldable pub page_fields : Entry → List Field
+page_fields entry =
+    given Edition (plain (field entry (codes "edition"))) ++
+    (given ChapterNumber (plain (field entry (codes "chapter"))) ++
+    (given Page (pages (field entry (codes "pages"))) ++
+    (given NumberOfPages (plain (field entry (codes "pagetotal"))) ++
+    given Version (plain (field entry (codes "version"))))))

@@ -1,0 +1,131 @@
+-- Meaning: words of public contracts.
+-- The people of an item.
+use Rattle.std.specs.Prelude.{ℕ, Bool, true, false, ◌&&◌, ◌||◌, ◌==◌, not, if◌then◌else◌, List, [], ◌∷◌, ◌++◌, length, codes, bytes_eq, Option, Some, None}
+use Rattle.std.specs.List.{flat_map, list_all, list_any}
+use Rattle.std.specs.Option.{unwrap_or}
+use Rattle.bib_text.specs.declared.spanned.Spanned.{Spanned}
+use Rattle.bib_chunks.specs.declared.chunk.Chunk.{Chunk}
+use Rattle.bib_chunks.specs.declared.chunk.Chunk.TheVariants.{Normal, Verbatim, Math}
+use Rattle.bib_chunks.specs.Cuts.{and_list, comma_list}
+use Rattle.bib_chunks.specs.Values.{Value, text}
+use Rattle.bib_entry.specs.declared.entry.Entry.{Entry}
+use Rattle.bib_entry.specs.Editors.{role_of}
+use Rattle.bib_enums.specs.declared.types.EditorType.{EditorType}
+use Rattle.bib_enums.specs.declared.types.EditorType.TheVariants as role
+use Rattle.bib_people.specs.declared.person.Person.{Person}
+use Rattle.bib_people.specs.Names.{person_of}
+use Rattle.bib_csl.specs.declared.item.Field.{Field}
+use Rattle.bib_csl.specs.declared.item.Name.{Name}
+use Rattle.bib_csl.specs.declared.item.Name.TheVariants.{Literal, Parts}
+use Rattle.bib_csl.specs.declared.item.NameParts.{NameParts}
+use Rattle.bib_csl.specs.declared.variables.ItemType.{ItemType}
+use Rattle.bib_csl.specs.declared.variables.ItemType.TheVariants as item_type
+use Rattle.bib_csl.specs.declared.variables.Variable.{Variable}
+use Rattle.bib_csl.specs.declared.variables.Variable.TheVariants.{Author, Editor, Compiler, Director, Organizer, Translator, ContainerAuthor}
+use Rattle.bib_csl.specs.Fields.{named}
+use Rattle.bib_csl.specs.Names.{variable_name}
+use Rattle.bib_csl.specs.Texts.{field}
+
+-- whether a chunk has no character outside braces
+abbrev pub is_braced : Chunk → Bool
+is_braced (Normal chars) = length chars == 0
+is_braced (Verbatim chars) = true
+is_braced (Math chars) = false
+
+-- whether a name isn't taken apart: it stands in braces, or says that there are others
+unfoldable pub is_literal : Value → Bool
+is_literal chunks = list_all (λ c. is_braced c.v) chunks || bytes_eq (text chunks) (codes "others")
+
+-- the parts of a person's name, whose prefix counts as part of the family name or not
+unfoldable pub parts_with : Bool → Person → NameParts
+parts_with true p = record { family = p.name; given = p.given_name; suffix = p.suffix; dropping_particle = []; non_dropping_particle = p.prefix }
+parts_with false p = record { family = p.name; given = p.given_name; suffix = p.suffix; dropping_particle = p.prefix; non_dropping_particle = [] }
+
+-- the name that chunks spell; the person's own word on the prefix goes before that of the entry
+unfoldable pub name_of : Bool → Value → Name
+name_of uses_prefix chunks =
+    if is_literal chunks then Literal (text chunks)
+    else Parts (parts_with (unwrap_or (person_of chunks).use_prefix uses_prefix) (person_of chunks))
+
+-- whether a name says nothing
+unfoldable pub is_empty : Name → Bool
+is_empty (Literal text) = length text == 0
+is_empty (Parts p) =
+    (length p.family == 0) && ((length p.given == 0) && ((length p.suffix == 0)
+    && ((length p.dropping_particle == 0) && (length p.non_dropping_particle == 0))))
+
+-- a name, unless it says nothing
+unfoldable pub unless_empty : Name → List Name
+unless_empty name = if is_empty name then [] else name ∷ []
+
+-- the names of a list of people
+unfoldable pub names_in : Bool → Value → List Name
+names_in uses_prefix chunks = flat_map (λ part. unless_empty (name_of uses_prefix part)) (and_list chunks)
+
+-- the names of a field
+unfoldable pub names_of : Bool → Option Value → List Name
+names_of uses_prefix None = []
+names_of uses_prefix (Some chunks) = names_in uses_prefix chunks
+
+-- whether an option of an entry says that prefixes count as parts of family names
+unfoldable pub is_prefix_option : List ℕ → Bool
+is_prefix_option option = bytes_eq option (codes "useprefix=true") || bytes_eq option (codes "useprefix")
+
+-- whether one of the options does
+abbrev pub uses_prefix_in : Option Value → Bool
+uses_prefix_in None = false
+uses_prefix_in (Some options) = list_any (λ option. is_prefix_option (text option)) (comma_list options)
+
+-- whether prefixes count as parts of family names in an entry
+unfoldable pub uses_prefix : Entry → Bool
+uses_prefix entry = uses_prefix_in (field entry (codes "options"))
+
+-- the variable of those who did this; CSL has no other roles of editors
+abbrev pub variable_of_role : EditorType → Variable
+variable_of_role role.Compiler = Compiler
+variable_of_role role.Director = Director
+variable_of_role role.Organizer = Organizer
+variable_of_role other = Editor
+
+-- whether editors in this role stand under the variable
+unfoldable pub is_under : Variable → EditorType → Bool
+is_under variable role = bytes_eq (variable_name (variable_of_role role)) (variable_name variable)
+
+-- the people that the field of the first name holds, where their role, which the field of the second names, stands under the variable
+unfoldable pub editors_in : Variable → Entry → List ℕ → List ℕ → List Name
+editors_in variable entry people role =
+    if is_under variable (role_of (field entry role)) then names_of (uses_prefix entry) (field entry people) else []
+
+-- the editors of an entry that stand under the variable
+unfoldable pub editors_under : Variable → Entry → List Name
+editors_under variable entry =
+    editors_in variable entry (codes "editor") (codes "editortype") ++
+    (editors_in variable entry (codes "editora") (codes "editoratype") ++
+    (editors_in variable entry (codes "editorb") (codes "editorbtype") ++
+    editors_in variable entry (codes "editorc") (codes "editorctype")))
+
+-- the people of the field of this name
+unfoldable pub people : Entry → List ℕ → List Name
+people entry name = names_of (uses_prefix entry) (field entry name)
+
+-- whether the item is a patent
+abbrev pub is_patent : ItemType → Bool
+is_patent item_type.Patent = true
+is_patent other = false
+
+-- the authors; of a patent without any its holders
+unfoldable pub authors_of : ItemType → Entry → List Name
+authors_of kind entry =
+    if is_patent kind && (length (people entry (codes "author")) == 0) then people entry (codes "holder")
+    else people entry (codes "author")
+
+-- the people of an item
+unfoldable pub people_fields : ItemType → Entry → List Field
+people_fields kind entry =
+    named Author (authors_of kind entry) ++
+    (named Editor (editors_under Editor entry) ++
+    (named Compiler (editors_under Compiler entry) ++
+    (named Director (editors_under Director entry) ++
+    (named Organizer (editors_under Organizer entry) ++
+    (named Translator (people entry (codes "translator")) ++
+    named ContainerAuthor (people entry (codes "bookauthor")))))))

@@ -1,0 +1,53 @@
+-- Meaning: words of public contracts.
+-- Who published an item and where, and what kind of work it is.
+use Rattle.std.specs.Prelude.{ℕ, if◌then◌else◌, List, [], ◌++◌, codes, bytes_eq}
+use Rattle.bib_entry.specs.declared.entry.Entry.{Entry}
+use Rattle.bib_entry_types.specs.declared.mechanics.EntryType.{EntryType}
+use Rattle.bib_entry_types.specs.declared.mechanics.EntryType.TheVariants.{MastersThesis, PhdThesis, TechReport}
+use Rattle.bib_csl.specs.declared.item.Field.{Field}
+use Rattle.bib_csl.specs.declared.variables.Variable.TheVariants.{Publisher, PublisherPlace, OriginalPublisher, OriginalPublisherPlace, Genre}
+use Rattle.bib_csl.specs.Fields.{given}
+use Rattle.bib_csl.specs.Texts.{rich_text, rich_text_or, either}
+
+-- the publisher, else the institution or school, else the organization
+unfoldable pub publisher_of : Entry → List ℕ
+publisher_of entry =
+    either (rich_text entry (codes "publisher"))
+    (either (rich_text_or entry (codes "institution") (codes "school")) (rich_text entry (codes "organization")))
+
+-- what the keys of BibLaTeX's field `type` stand for; any other text stays
+unfoldable pub genre_named : List ℕ → List ℕ
+genre_named text =
+    if bytes_eq text (codes "mathesis") then codes "Master's thesis"
+    else if bytes_eq text (codes "phdthesis") then codes "PhD thesis"
+    else if bytes_eq text (codes "candthesis") then codes "Candidate thesis"
+    else if bytes_eq text (codes "techreport") then codes "technical report"
+    else if bytes_eq text (codes "resreport") then codes "research report"
+    else text
+
+-- what the type of an entry says of the kind of work
+unfoldable pub genre_of_type : EntryType → List ℕ
+genre_of_type MastersThesis = codes "Master's thesis"
+genre_of_type PhdThesis = codes "PhD thesis"
+genre_of_type TechReport = codes "technical report"
+genre_of_type other = []
+
+-- the kind of work, in words: by the field `type`, else by the type of the entry
+unfoldable pub genre_of : Entry → List ℕ
+genre_of entry = either (genre_named (rich_text entry (codes "type"))) (genre_of_type entry.entry_type)
+
+-- who published an item and where
+unfoldable pub publisher_fields : Entry → List Field
+publisher_fields entry =
+    given Publisher (publisher_of entry) ++
+    given PublisherPlace (rich_text_or entry (codes "location") (codes "address"))
+
+-- who published the original and where
+unfoldable pub original_fields : Entry → List Field
+original_fields entry =
+    given OriginalPublisher (rich_text entry (codes "origpublisher")) ++
+    given OriginalPublisherPlace (rich_text entry (codes "origlocation"))
+
+-- who published an item and the original, and what kind of work it is
+unfoldable pub publishing_fields : Entry → List Field
+publishing_fields entry = publisher_fields entry ++ (original_fields entry ++ given Genre (genre_of entry))

@@ -1,0 +1,75 @@
+-- Meaning: words of public contracts.
+-- The titles of an item, and of what it is a part of.
+use Rattle.std.specs.Prelude.{ℕ, true, ◌==◌, if◌then◌else◌, List, [], ◌++◌, length, codes}
+use Rattle.bib_entry.specs.declared.entry.Entry.{Entry}
+use Rattle.bib_entry.specs.Fields.{field_or}
+use Rattle.bib_csl.specs.declared.item.Field.{Field}
+use Rattle.bib_csl.specs.declared.variables.ItemType.{ItemType}
+use Rattle.bib_csl.specs.declared.variables.Variable.TheVariants.{Title, TitleShort, VolumeTitle, ContainerTitle, ContainerTitleShort, CollectionTitle, OriginalTitle, EventTitle, EventPlace}
+use Rattle.bib_csl.specs.Fields.{given}
+use Rattle.bib_csl.specs.Texts.{marked, title_text, rich_text, either, joined}
+use Rattle.bib_csl.specs.Types.{is_article, is_in_book, is_volume}
+
+-- a title with its subtitle and what is added to it, in fields of these names
+unfoldable pub with_subtitle : Entry → List ℕ → List ℕ → List ℕ → List ℕ
+with_subtitle entry title subtitle addon =
+    joined (codes ". ") (joined (codes ": ") title (title_text entry subtitle)) (title_text entry addon)
+
+-- the title of the work itself
+unfoldable pub own_title : Entry → List ℕ
+own_title entry = with_subtitle entry (title_text entry (codes "title")) (codes "subtitle") (codes "titleaddon")
+
+-- the title of a work of several volumes
+unfoldable pub main_title : Entry → List ℕ
+main_title entry = with_subtitle entry (title_text entry (codes "maintitle")) (codes "mainsubtitle") (codes "maintitleaddon")
+
+-- the title of the book that the work is a part of
+unfoldable pub book_title : Entry → List ℕ
+book_title entry = with_subtitle entry (title_text entry (codes "booktitle")) (codes "booksubtitle") (codes "booktitleaddon")
+
+-- the title of the journal
+unfoldable pub journal_title : Entry → List ℕ
+journal_title entry =
+    with_subtitle entry (marked true (field_or entry (codes "journaltitle") (codes "journal"))) (codes "journalsubtitle") (codes "journaltitleaddon")
+
+-- the title of the item: of a volume of a work, that of the work
+unfoldable pub title_of : ItemType → Entry → List ℕ
+title_of kind entry = if is_volume kind then either (main_title entry) (own_title entry) else own_title entry
+
+-- the title of the one volume, in a work of several with a title of its own
+unfoldable pub volume_title : ItemType → Entry → List ℕ
+volume_title kind entry =
+    if length (main_title entry) == 0 then []
+    else if is_volume kind then own_title entry
+    else if is_in_book kind then book_title entry
+    else []
+
+-- the title of what the item is a part of
+unfoldable pub container_title : ItemType → Entry → List ℕ
+container_title kind entry =
+    if is_in_book kind then either (main_title entry) (book_title entry)
+    else if is_article kind then journal_title entry
+    else either (journal_title entry) (book_title entry)
+
+-- the name of the conference
+unfoldable pub event_title : Entry → List ℕ
+event_title entry = joined (codes ". ") (title_text entry (codes "eventtitle")) (title_text entry (codes "eventtitleaddon"))
+
+-- the titles of an item
+unfoldable pub title_fields : ItemType → Entry → List Field
+title_fields kind entry =
+    given Title (title_of kind entry) ++
+    (given TitleShort (title_text entry (codes "shorttitle")) ++
+    (given VolumeTitle (volume_title kind entry) ++
+    given OriginalTitle (title_text entry (codes "origtitle"))))
+
+-- what an item is a part of
+unfoldable pub container_fields : ItemType → Entry → List Field
+container_fields kind entry =
+    given ContainerTitle (container_title kind entry) ++
+    (given ContainerTitleShort (title_text entry (codes "shortjournal")) ++
+    given CollectionTitle (title_text entry (codes "series")))
+
+-- the conference that an item comes from
+unfoldable pub event_fields : Entry → List Field
+event_fields entry = given EventTitle (event_title entry) ++ given EventPlace (rich_text entry (codes "venue"))

@@ -1,0 +1,314 @@
+//! The dates of an item.
+
+ghost use Rattle.std.specs.Prelude.{◌≡◌, ◌<◌, pos, true, length, ◌++◌, OnOk, IfOk};
+ghost use Rattle.std.specs.Char.{is_ascii_digit};
+ghost use Rattle.std.specs.List.{list_all};
+ghost use Rattle.std.specs.Option.{option_map, option_copied};
+ghost use Rattle.bib_dates.specs.Chunks.{date_read, three_fields_reading};
+ghost use Rattle.bib_dates.specs.Readings.{readable_value};
+ghost use Rattle.bib_csl.specs.Dates as spec;
+
+use crate::fields::add_date;
+use crate::item::{DateParts, Field, ItemDate, Season};
+use crate::texts::{joined, plain};
+use crate::variables::Variable;
+use bib_chunks::chunk::{ChunksRef, format_verbatim};
+use bib_dates::date::{Date, DateValue, Datetime};
+use bib_entry::entry::Entry;
+use bib_text::items::Items;
+use bib_text::text::Text;
+use std::alloc::{AllocError, Global};
+
+// A year as CSL counts it.
+#[tactic(auto, unfolding(crate::specs::Dates::year_of))]
+fn year_of(year: i32) -> i64
+    ensures { result ≡ spec.year_of year }
+{
+    if year < 1 {
+        return year as i64 - 1;
+    }
+    year as i64
+}
+
+// A number that counts from 0, from 1.
+fn from_one(number: Option<u8>) -> Option<u16>
+    ensures { result ≡ option_map spec.from_one number }
+{
+    match number {
+        Some(n) => Some(n as u16 + 1),
+        None => None,
+    }
+}
+
+// Year, month and day of a date.
+#[tactic(auto, unfolding(crate::specs::Dates::date_parts))]
+fn date_parts(date: &Datetime) -> DateParts
+    ensures { result ≡ spec.date_parts date.now }
+{
+    DateParts {
+        year: year_of(date.year),
+        month: from_one(date.month),
+        day: from_one(date.day),
+    }
+}
+
+// The dates of a date or a range, those that there are.
+#[tactic(auto, unfolding(crate::specs::Dates::parts_of))]
+fn parts_of(alloc: Global, value: &DateValue) -> Result<Items<DateParts>, AllocError>
+    ensures { IfOk result (λ parts. parts ≡ spec.parts_of value.now) }
+{
+    let mut parts = Items::new(alloc);
+    match value {
+        DateValue::At(date) => parts.push(date_parts(date))?,
+        DateValue::After(start) => parts.push(date_parts(start))?,
+        DateValue::Before(end) => parts.push(date_parts(end))?,
+        DateValue::Between(start, end) => {
+            parts.push(date_parts(start))?;
+            parts.push(date_parts(end))?;
+        }
+    }
+    Ok(parts)
+}
+
+// The text of a range with one open side.
+#[tactic(auto, unfolding(crate::specs::Dates::open_text))]
+fn open_text(alloc: Global, value: &DateValue) -> Result<Option<Text>, AllocError>
+    ensures { IfOk result (λ text. text ≡ spec.open_text value.now) }
+{
+    match value {
+        DateValue::At(_) => Ok(None),
+        DateValue::After(start) => {
+            Ok(Some(Text::from_string(format!(in alloc; "{}/..", start)?)))
+        }
+        DateValue::Before(end) => Ok(Some(Text::from_string(format!(in alloc; "../{}", end)?))),
+        DateValue::Between(_, _) => Ok(None),
+    }
+}
+
+// A date that is read.
+#[tactic(auto, unfolding(crate::specs::Dates::date_item))]
+fn date_item(alloc: Global, date: &Date) -> Result<ItemDate, AllocError>
+    ensures { IfOk result (λ item. item ≡ spec.date_item date.now) }
+{
+    Ok(ItemDate {
+        parts: parts_of(alloc, &date.value)?,
+        season: None,
+        circa: date.uncertain || date.approximate,
+        literal: open_text(alloc, &date.value)?,
+    })
+}
+
+// A date that isn't read, by its text.
+#[tactic(auto, unfolding(crate::specs::Dates::literal_item))]
+fn literal_item(alloc: Global, text: Text) -> ItemDate
+    ensures { result ≡ spec.literal_item text }
+{
+    ItemDate {
+        parts: Items::new(alloc),
+        season: None,
+        circa: false,
+        literal: Some(text),
+    }
+}
+
+// The number that a byte of a text is as a digit.
+#[tactic(auto, unfolding(crate::specs::Dates::digit))]
+fn digit(text: &[u8], i: usize) -> u32
+    requires { i < length text.now }
+    ensures value { result ≡ spec.digit text.now i }
+    ensures small { result < 256 }
+{
+    text[i].saturating_sub(b'0') as u32
+}
+
+// The year that the first four digits of a text spell.
+#[tactic(auto, unfolding(crate::specs::Dates::first_year))]
+fn first_year(text: &[u8]) -> i32
+    requires { 3 < length text.now }
+    ensures { result ≡ pos (spec.first_year text.now) }
+{
+    let year = 1000 * digit(text, 0) + 100 * digit(text, 1) + 10 * digit(text, 2) + digit(text, 3);
+    year as i32
+}
+
+// Whether bytes are digits.
+fn are_digits(text: &[u8]) -> bool
+    ensures { result ≡ list_all is_ascii_digit text.now }
+{
+    text.iter().all(|byte| byte.is_ascii_digit())
+}
+
+// Whether a text is four digits of a year, a hyphen, and one of the numbers from 20 on.
+#[tactic(auto, unfolding(crate::specs::Dates::is_season_text))]
+fn is_season_text(text: &[u8]) -> bool
+    ensures value { result ≡ spec.is_season_text text.now }
+    ensures long { result ≡ true → 6 < length text.now }
+{
+    text.len() == 7 && are_digits(&text[..4]) && text[4] == b'-' && digit(text, 5) == 2
+}
+
+// The season with this number after 20.
+fn season_numbered(number: u32) -> Option<Season>
+    ensures { result ≡ spec.season_numbered number }
+{
+    match number {
+        1 => Some(Season::Spring),
+        2 => Some(Season::Summer),
+        3 => Some(Season::Autumn),
+        4 => Some(Season::Winter),
+        _ => None,
+    }
+}
+
+// A season of a year.
+#[tactic(auto, unfolding(crate::specs::Dates::season_item))]
+fn season_item(alloc: Global, text: &[u8], season: Season) -> Result<ItemDate, AllocError>
+    requires { 3 < length text.now }
+    ensures { IfOk result (λ item. item ≡ spec.season_item (spec.first_year text.now) season) }
+{
+    let mut parts = Items::new(alloc);
+    parts.push(DateParts {
+        year: year_of(first_year(text)),
+        month: None,
+        day: None,
+    })?;
+    Ok(ItemDate {
+        parts,
+        season: Some(season),
+        circa: false,
+        literal: None,
+    })
+}
+
+// The season of a year that a text names.
+#[tactic(auto, unfolding(crate::specs::Dates::season_of))]
+fn season_of(alloc: Global, text: &[u8]) -> Result<Option<ItemDate>, AllocError>
+    ensures { IfOk result (λ item. item ≡ spec.season_of text.now) }
+{
+    if !is_season_text(text) {
+        return Ok(None);
+    }
+    match season_numbered(digit(text, 6)) {
+        Some(season) => Ok(Some(season_item(alloc, text, season)?)),
+        None => Ok(None),
+    }
+}
+
+// What a text says that isn't read: a season, or else the text, unless it is empty.
+#[tactic(auto, unfolding(crate::specs::Dates::unread))]
+fn unread(alloc: Global, text: Text) -> Result<Option<ItemDate>, AllocError>
+    ensures { IfOk result (λ item. item ≡ spec.unread text) }
+{
+    if text.is_empty() {
+        return Ok(None);
+    }
+    match season_of(alloc, text.as_str().as_bytes())? {
+        Some(season) => Ok(Some(season)),
+        None => Ok(Some(literal_item(alloc, text))),
+    }
+}
+
+// What is read, or else what its text says.
+#[tactic(auto, unfolding(crate::specs::Dates::read_or_unread))]
+fn read_or_unread(
+    alloc: Global,
+    date: Option<Date>,
+    text: Text,
+) -> Result<Option<ItemDate>, AllocError>
+    ensures { IfOk result (λ item. item ≡ spec.read_or_unread date text) }
+{
+    if let Some(date) = date {
+        return Ok(Some(date_item(alloc, &date)?));
+    }
+    unread(alloc, text)
+}
+
+// The date that chunks are read as.
+fn read_date(alloc: Global, chunks: ChunksRef<'_>) -> Result<Option<Date>, AllocError>
+    ensures { IfOk result (λ date. date ≡ date_read chunks.now) }
+{
+    match Date::parse(alloc, chunks) {
+        Ok(date) => Ok(Some(date)),
+        Err(e) => {
+            let _unread = e.unless_out_of_memory()?;
+            Ok(None)
+        }
+    }
+}
+
+// The date that a year and the month and day beside it are read as.
+fn read_fields(
+    alloc: Global,
+    year: ChunksRef<'_>,
+    month: Option<ChunksRef<'_>>,
+    day: Option<ChunksRef<'_>>,
+) -> Result<Option<Date>, AllocError>
+    ensures { IfOk result (λ date. date ≡ readable_value (three_fields_reading year.now
+        (option_copied month.entry) (option_copied day.entry))) }
+{
+    match Date::parse_three_fields(alloc, year, month, day) {
+        Ok(date) => Ok(Some(date)),
+        Err(e) => {
+            let _unread = e.unless_out_of_memory()?;
+            Ok(None)
+        }
+    }
+}
+
+// The date of a year and of the month and day beside it, if there is one.
+#[tactic(auto, unfolding(crate::specs::Dates::three_fields_item))]
+fn three_fields_item(
+    alloc: Global,
+    year: Option<ChunksRef<'_>>,
+    month: Option<ChunksRef<'_>>,
+    day: Option<ChunksRef<'_>>,
+) -> Result<Option<ItemDate>, AllocError>
+    ensures { IfOk result (λ item. item ≡ spec.three_fields_item (option_copied year.entry)
+        (option_copied month.entry) (option_copied day.entry)) }
+{
+    let Some(year) = year else {
+        return Ok(None);
+    };
+    let date = read_fields(alloc, year, month, day)?;
+    let text = Text::from_string(format_verbatim(alloc, year)?);
+    let text = joined(" ", plain(alloc, month)?, text)?;
+    read_or_unread(alloc, date, text)
+}
+
+// The date of the field of the first name, else of those of the other three.
+#[tactic(auto, unfolding(crate::specs::Dates::date_in))]
+fn date_in(
+    alloc: Global,
+    entry: &Entry,
+    date: &str,
+    year: &str,
+    month: &str,
+    day: &str,
+) -> Result<Option<ItemDate>, AllocError>
+    ensures { IfOk result (λ item. item ≡ spec.date_in entry.now date.now year.now month.now day.now) }
+{
+    let Some(chunks) = entry.get(date) else {
+        return three_fields_item(alloc, entry.get(year), entry.get(month), entry.get(day));
+    };
+    let text = Text::from_string(format_verbatim(alloc, chunks)?);
+    read_or_unread(alloc, read_date(alloc, chunks)?, text)
+}
+
+// Appends the dates of an item.
+#[tactic(auto, unfolding(crate::specs::Dates::date_fields))]
+pub(crate) fn add_dates(
+    alloc: Global,
+    entry: &Entry,
+    fields: &mut Items<Field>,
+) -> Result<(), AllocError>
+    ensures { OnOk result (fields.new ≡ fields.old ++ spec.date_fields entry.now) }
+{
+    let issued = date_in(alloc, entry, "date", "year", "month", "day")?;
+    add_date(fields, Variable::Issued, issued)?;
+    let accessed = date_in(alloc, entry, "urldate", "urlyear", "urlmonth", "urlday")?;
+    add_date(fields, Variable::Accessed, accessed)?;
+    let event = date_in(alloc, entry, "eventdate", "eventyear", "eventmonth", "eventday")?;
+    add_date(fields, Variable::EventDate, event)?;
+    let original = date_in(alloc, entry, "origdate", "origyear", "origmonth", "origday")?;
+    add_date(fields, Variable::OriginalDate, original)
+}

@@ -1,0 +1,87 @@
+//! Items made of entries.
+
+ghost use Rattle.std.specs.Prelude.{◌≡◌, ◌++◌, OnOk, IfOk};
+ghost use Rattle.bib_csl.specs.Items.{type_of_entry, work_fields, detail_fields, fields_of, item_of};
+
+use crate::dates::add_dates;
+use crate::identifiers::{add_archive, add_identifiers};
+use crate::item::{Field, Item};
+use crate::notes::add_notes;
+use crate::numbers::{add_pages, add_volume};
+use crate::people::add_people;
+use crate::publishing::add_publishing;
+use crate::texts::plain_text;
+use crate::titles::{add_container, add_event, add_titles};
+use crate::types::item_type_of;
+use crate::variables::ItemType;
+use bib_entry::entry::Entry;
+use bib_text::items::Items;
+use std::alloc::{AllocError, Global};
+
+// The type of the item that an entry becomes.
+#[tactic(auto, unfolding(crate::specs::Items::type_of_entry))]
+fn type_of_entry(alloc: Global, entry: &Entry) -> Result<ItemType, AllocError>
+    ensures { IfOk result (λ kind. kind ≡ type_of_entry entry.now) }
+{
+    let subtype = plain_text(alloc, entry, "entrysubtype")?;
+    Ok(item_type_of(&entry.entry_type, subtype.as_str()))
+}
+
+// Appends what an item is called, what it is a part of, and who published it.
+#[tactic(auto, unfolding(crate::specs::Items::work_fields))]
+fn add_work(
+    alloc: Global,
+    kind: ItemType,
+    entry: &Entry,
+    fields: &mut Items<Field>,
+) -> Result<(), AllocError>
+    ensures { OnOk result (fields.new ≡ fields.old ++ work_fields kind entry.now) }
+{
+    add_titles(alloc, kind, entry, fields)?;
+    add_container(alloc, kind, entry, fields)?;
+    add_event(alloc, entry, fields)?;
+    add_publishing(alloc, entry, fields)
+}
+
+// Appends the other variables that hold texts.
+#[tactic(auto, unfolding(crate::specs::Items::detail_fields))]
+fn add_details(
+    alloc: Global,
+    kind: ItemType,
+    entry: &Entry,
+    fields: &mut Items<Field>,
+) -> Result<(), AllocError>
+    ensures { OnOk result (fields.new ≡ fields.old ++ detail_fields kind entry.now) }
+{
+    add_volume(alloc, kind, entry, fields)?;
+    add_pages(alloc, entry, fields)?;
+    add_identifiers(alloc, entry, fields)?;
+    add_archive(alloc, entry, fields)?;
+    add_notes(alloc, entry, fields)
+}
+
+// The variables of an item of this type that an entry becomes.
+#[tactic(auto, unfolding(crate::specs::Items::fields_of))]
+fn fields_of(alloc: Global, kind: ItemType, entry: &Entry) -> Result<Items<Field>, AllocError>
+    ensures { IfOk result (λ fields. fields ≡ fields_of kind entry.now) }
+{
+    let mut fields = Items::new(alloc);
+    add_work(alloc, kind, entry, &mut fields)?;
+    add_details(alloc, kind, entry, &mut fields)?;
+    add_people(alloc, kind, entry, &mut fields)?;
+    add_dates(alloc, entry, &mut fields)?;
+    Ok(fields)
+}
+
+/// The item that an entry becomes. The only error is out of memory.
+#[tactic(auto, unfolding(crate::specs::Items::item_of))]
+pub fn item_of(alloc: Global, entry: &Entry) -> Result<Item, AllocError>
+    ensures { IfOk result (λ item. item ≡ item_of entry.now) }
+{
+    let kind = type_of_entry(alloc, entry)?;
+    Ok(Item {
+        id: entry.key.clone()?,
+        kind,
+        fields: fields_of(alloc, kind, entry)?,
+    })
+}

@@ -1,0 +1,71 @@
+//! What is said of an item in words.
+
+ghost use Rattle.std.specs.Prelude.{◌≡◌, ◌++◌, OnOk, IfOk};
+ghost use Rattle.std.specs.Option.{option_copied};
+ghost use Rattle.bib_csl.specs.Notes as spec;
+
+use crate::adding::{add_plain, add_rich, add_rich_or};
+use crate::fields::add_text;
+use crate::item::Field;
+use crate::texts::{field_or, joined, rich_text, shown};
+use crate::variables::Variable;
+use bib_chunks::chunk::ChunksRef;
+use bib_entry::entry::Entry;
+use bib_enums::types::lang::Language;
+use bib_text::items::Items;
+use bib_text::text::Text;
+use bib_values::enums::read_language;
+use std::alloc::{AllocError, Global};
+
+// The tag of a language, after BCP 47.
+#[tactic(auto, unfolding(crate::specs::Notes::tag_of))]
+fn tag_of(language: Language) -> &'static str
+    ensures { result.now ≡ spec.tag_of language }
+{
+    match language {
+        Language::EnglishUK => "en-GB",
+        other => other.tag(),
+    }
+}
+
+// The language of a field: the tag of what its text is read as, or the text.
+#[tactic(auto, unfolding(crate::specs::Notes::language_of))]
+fn language_of(alloc: Global, field: Option<ChunksRef<'_>>) -> Result<Text, AllocError>
+    ensures { IfOk result (λ text. text ≡ spec.language_of (option_copied field.entry)) }
+{
+    let Some(chunks) = field else {
+        return Ok(Text::new(alloc));
+    };
+    match read_language(alloc, chunks)? {
+        Some(language) => Text::from_str(alloc, tag_of(language)),
+        None => shown(alloc, chunks),
+    }
+}
+
+// A note, and what else is said of the work or of how it was published.
+#[tactic(auto, unfolding(crate::specs::Notes::note_of))]
+fn note_of(alloc: Global, entry: &Entry) -> Result<Text, AllocError>
+    ensures { IfOk result (λ text. text ≡ spec.note_of entry.now) }
+{
+    let note = rich_text(alloc, entry, "note")?;
+    let both = joined(". ", note, rich_text(alloc, entry, "addendum")?)?;
+    joined(". ", both, rich_text(alloc, entry, "howpublished")?)
+}
+
+// Appends what is said of an item in words.
+#[tactic(auto, unfolding(crate::specs::Notes::note_fields))]
+pub(crate) fn add_notes(
+    alloc: Global,
+    entry: &Entry,
+    fields: &mut Items<Field>,
+) -> Result<(), AllocError>
+    ensures { OnOk result (fields.new ≡ fields.old ++ spec.note_fields entry.now) }
+{
+    add_rich(alloc, Variable::Abstract, entry, "abstract", fields)?;
+    add_rich_or(alloc, Variable::Annote, entry, "annotation", "annote", fields)?;
+    add_text(fields, Variable::Note, note_of(alloc, entry)?)?;
+    add_plain(alloc, Variable::Status, entry, "pubstate", fields)?;
+    add_plain(alloc, Variable::Keyword, entry, "keywords", fields)?;
+    let language = language_of(alloc, field_or(entry, "langid", "language"))?;
+    add_text(fields, Variable::Language, language)
+}

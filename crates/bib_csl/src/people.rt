@@ -1,0 +1,313 @@
+//! The people of an item.
+
+ghost use Rattle.std.specs.Prelude.{◌≡◌, ◌++◌, OnOk, IfOk};
+ghost use Rattle.std.specs.List.{list_all};
+ghost use Rattle.std.specs.Option.{option_copied};
+ghost use Rattle.bib_chunks.specs.Values.{text};
+ghost use Rattle.bib_entry.specs.Editors.{role_of};
+ghost use Rattle.bib_csl.specs.Fields.{named};
+ghost use Rattle.bib_csl.specs.People as spec;
+
+use crate::fields::add_names;
+use crate::item::{Field, Name, NameParts};
+use crate::variables::{ItemType, Variable};
+use bib_chunks::chunk::cuts::{and_list, comma_list};
+use bib_chunks::chunk::{Chunk, ChunksRef, format_verbatim};
+use bib_entry::entry::Entry;
+use bib_enums::types::EditorType;
+use bib_people::person::Person;
+use bib_text::items::Items;
+use bib_text::text::Text;
+use bib_values::enums::read_editor_type;
+use std::alloc::{AllocError, Global};
+
+// Whether a chunk has no character outside braces.
+fn is_braced(chunk: &Chunk) -> bool
+    ensures { result ≡ spec.is_braced chunk.now }
+{
+    match chunk {
+        Chunk::Normal(text) => text.is_empty(),
+        Chunk::Verbatim(_) => true,
+        Chunk::Math(_) => false,
+    }
+}
+
+// Whether all chunks are such.
+fn is_all_braced(chunks: ChunksRef<'_>) -> bool
+    ensures { result ≡ list_all (λ c. spec.is_braced c.v) chunks.now }
+{
+    chunks.iter().all(|chunk| is_braced(&chunk.v))
+}
+
+// The parts of a person's name, whose prefix counts as part of the family name or not.
+#[tactic(auto, unfolding(crate::specs::People::parts_with))]
+fn parts_with(alloc: Global, uses_prefix: bool, person: Person) -> NameParts
+    ensures { result ≡ spec.parts_with uses_prefix person }
+{
+    if uses_prefix {
+        return NameParts {
+            family: person.name,
+            given: person.given_name,
+            suffix: person.suffix,
+            dropping_particle: Text::new(alloc),
+            non_dropping_particle: person.prefix,
+        };
+    }
+    NameParts {
+        family: person.name,
+        given: person.given_name,
+        suffix: person.suffix,
+        dropping_particle: person.prefix,
+        non_dropping_particle: Text::new(alloc),
+    }
+}
+
+// The name that chunks spell; the person's own word on the prefix goes before that of the entry.
+#[tactic(auto, unfolding(crate::specs::People::name_of, crate::specs::People::is_literal))]
+fn name_of(alloc: Global, uses_prefix: bool, chunks: ChunksRef<'_>) -> Result<Name, AllocError>
+    ensures { IfOk result (λ name. name ≡ spec.name_of uses_prefix chunks.now) }
+{
+    let text = format_verbatim(alloc, chunks)?;
+    if is_all_braced(chunks) || text.as_str() == "others" {
+        return Ok(Name::Literal(Text::from_string(text)));
+    }
+    let person = Person::parse(alloc, chunks)?;
+    let uses_prefix = person.use_prefix.unwrap_or(uses_prefix);
+    Ok(Name::Parts(parts_with(alloc, uses_prefix, person)))
+}
+
+// Whether a name says nothing.
+#[tactic(auto, unfolding(crate::specs::People::is_empty))]
+fn is_empty(name: &Name) -> bool
+    ensures { result ≡ spec.is_empty name.now }
+{
+    match name {
+        Name::Literal(text) => text.is_empty(),
+        Name::Parts(parts) => {
+            parts.family.is_empty()
+                && parts.given.is_empty()
+                && parts.suffix.is_empty()
+                && parts.dropping_particle.is_empty()
+                && parts.non_dropping_particle.is_empty()
+        }
+    }
+}
+
+// Appends a name, unless it says nothing.
+#[tactic(auto, unfolding(crate::specs::People::unless_empty))]
+fn add_unless_empty(names: &mut Items<Name>, name: Name) -> Result<(), AllocError>
+    ensures { OnOk result (names.new ≡ names.old ++ spec.unless_empty name) }
+{
+    if !is_empty(&name) {
+        names.push(name)?;
+    }
+    Ok(())
+}
+
+// Appends the names of a list of people.
+#[tactic(auto, unfolding(crate::specs::People::names_in))]
+fn add_names_in(
+    alloc: Global,
+    uses_prefix: bool,
+    chunks: ChunksRef<'_>,
+    names: &mut Items<Name>,
+) -> Result<(), AllocError>
+    ensures { OnOk result (names.new ≡ names.old ++ spec.names_in uses_prefix chunks.now) }
+{
+    let list = and_list(alloc, chunks)?;
+    'people: for part in list.as_slice() {
+        add_unless_empty(names, name_of(alloc, uses_prefix, part.as_slice())?)?;
+    }
+    Ok(())
+}
+
+// Appends the names of a field.
+#[tactic(auto, unfolding(crate::specs::People::names_of))]
+fn add_names_of(
+    alloc: Global,
+    uses_prefix: bool,
+    field: Option<ChunksRef<'_>>,
+    names: &mut Items<Name>,
+) -> Result<(), AllocError>
+    ensures { OnOk result (names.new ≡ names.old ++ spec.names_of uses_prefix (option_copied field.entry)) }
+{
+    match field {
+        Some(chunks) => add_names_in(alloc, uses_prefix, chunks, names),
+        None => Ok(()),
+    }
+}
+
+// Whether an option of an entry says that prefixes count as parts of family names.
+#[tactic(auto, unfolding(crate::specs::People::is_prefix_option))]
+fn is_prefix_option(alloc: Global, option: ChunksRef<'_>) -> Result<bool, AllocError>
+    ensures { IfOk result (λ is. is ≡ spec.is_prefix_option (text option.now)) }
+{
+    let text = format_verbatim(alloc, option)?;
+    Ok(text.as_str() == "useprefix=true" || text.as_str() == "useprefix")
+}
+
+// Whether one of the options does.
+fn uses_prefix_in(alloc: Global, options: Option<ChunksRef<'_>>) -> Result<bool, AllocError>
+    ensures { IfOk result (λ uses. uses ≡ spec.uses_prefix_in (option_copied options.entry)) }
+{
+    let Some(chunks) = options else {
+        return Ok(false);
+    };
+    let list = comma_list(alloc, chunks)?;
+    'options: for option in list.as_slice() {
+        if is_prefix_option(alloc, option.as_slice())? {
+            return Ok(true);
+        }
+    }
+    Ok(false)
+}
+
+// Whether prefixes count as parts of family names in an entry.
+#[tactic(auto, unfolding(crate::specs::People::uses_prefix))]
+fn uses_prefix(alloc: Global, entry: &Entry) -> Result<bool, AllocError>
+    ensures { IfOk result (λ uses. uses ≡ spec.uses_prefix entry.now) }
+{
+    uses_prefix_in(alloc, entry.get("options"))
+}
+
+// The variable of those who did this; CSL has no other roles of editors.
+fn variable_of_role(role: &EditorType) -> Variable
+    ensures { result ≡ spec.variable_of_role role.now }
+{
+    match role {
+        EditorType::Compiler => Variable::Compiler,
+        EditorType::Director => Variable::Director,
+        EditorType::Organizer => Variable::Organizer,
+        _ => Variable::Editor,
+    }
+}
+
+// Whether editors in this role stand under the variable.
+#[tactic(auto, unfolding(crate::specs::People::is_under))]
+fn is_under(variable: Variable, role: &EditorType) -> bool
+    ensures { result ≡ spec.is_under variable role.now }
+{
+    variable_of_role(role).name() == variable.name()
+}
+
+// The role that a field names.
+fn role_of(alloc: Global, field: Option<ChunksRef<'_>>) -> Result<EditorType, AllocError>
+    ensures { IfOk result (λ role. role ≡ role_of (option_copied field.entry)) }
+{
+    match field {
+        Some(chunks) => read_editor_type(alloc, chunks),
+        None => Ok(EditorType::Editor),
+    }
+}
+
+// Appends the people that the field of the first name holds, where their role, which the field of the second names, stands under the
+// variable.
+#[tactic(auto, unfolding(crate::specs::People::editors_in))]
+fn add_editors_in(
+    alloc: Global,
+    variable: Variable,
+    entry: &Entry,
+    people: &str,
+    role: &str,
+    names: &mut Items<Name>,
+) -> Result<(), AllocError>
+    ensures { OnOk result (names.new ≡ names.old ++ spec.editors_in variable entry.now people.now role.now) }
+{
+    let role = role_of(alloc, entry.get(role))?;
+    if is_under(variable, &role) {
+        let uses_prefix = uses_prefix(alloc, entry)?;
+        return add_names_of(alloc, uses_prefix, entry.get(people), names);
+    }
+    Ok(())
+}
+
+// The editors of an entry that stand under the variable.
+#[tactic(auto, unfolding(crate::specs::People::editors_under))]
+fn editors_under(
+    alloc: Global,
+    variable: Variable,
+    entry: &Entry,
+) -> Result<Items<Name>, AllocError>
+    ensures { IfOk result (λ names. names ≡ spec.editors_under variable entry.now) }
+{
+    let mut names = Items::new(alloc);
+    add_editors_in(alloc, variable, entry, "editor", "editortype", &mut names)?;
+    add_editors_in(alloc, variable, entry, "editora", "editoratype", &mut names)?;
+    add_editors_in(alloc, variable, entry, "editorb", "editorbtype", &mut names)?;
+    add_editors_in(alloc, variable, entry, "editorc", "editorctype", &mut names)?;
+    Ok(names)
+}
+
+// Appends the editors of an entry that stand under the variable.
+fn add_editors(
+    alloc: Global,
+    variable: Variable,
+    entry: &Entry,
+    fields: &mut Items<Field>,
+) -> Result<(), AllocError>
+    ensures { OnOk result (fields.new ≡ fields.old ++ named variable (spec.editors_under variable entry.now)) }
+{
+    add_names(fields, variable, editors_under(alloc, variable, entry)?)
+}
+
+// The people of the field of this name.
+#[tactic(auto, unfolding(crate::specs::People::people))]
+fn people(alloc: Global, entry: &Entry, name: &str) -> Result<Items<Name>, AllocError>
+    ensures { IfOk result (λ names. names ≡ spec.people entry.now name.now) }
+{
+    let mut names = Items::new(alloc);
+    let uses_prefix = uses_prefix(alloc, entry)?;
+    add_names_of(alloc, uses_prefix, entry.get(name), &mut names)?;
+    Ok(names)
+}
+
+// Appends the people of the field of this name.
+fn add_people_of(
+    alloc: Global,
+    variable: Variable,
+    entry: &Entry,
+    name: &str,
+    fields: &mut Items<Field>,
+) -> Result<(), AllocError>
+    ensures { OnOk result (fields.new ≡ fields.old ++ named variable (spec.people entry.now name.now)) }
+{
+    add_names(fields, variable, people(alloc, entry, name)?)
+}
+
+// Whether the item is a patent.
+fn is_patent(kind: ItemType) -> bool
+    ensures { result ≡ spec.is_patent kind }
+{
+    matches!(kind, ItemType::Patent)
+}
+
+// The authors; of a patent without any its holders.
+#[tactic(auto, unfolding(crate::specs::People::authors_of))]
+fn authors_of(alloc: Global, kind: ItemType, entry: &Entry) -> Result<Items<Name>, AllocError>
+    ensures { IfOk result (λ names. names ≡ spec.authors_of kind entry.now) }
+{
+    let authors = people(alloc, entry, "author")?;
+    if is_patent(kind) && authors.is_empty() {
+        return people(alloc, entry, "holder");
+    }
+    Ok(authors)
+}
+
+// Appends the people of an item.
+#[tactic(auto, unfolding(crate::specs::People::people_fields))]
+pub(crate) fn add_people(
+    alloc: Global,
+    kind: ItemType,
+    entry: &Entry,
+    fields: &mut Items<Field>,
+) -> Result<(), AllocError>
+    ensures { OnOk result (fields.new ≡ fields.old ++ spec.people_fields kind entry.now) }
+{
+    add_names(fields, Variable::Author, authors_of(alloc, kind, entry)?)?;
+    add_editors(alloc, Variable::Editor, entry, fields)?;
+    add_editors(alloc, Variable::Compiler, entry, fields)?;
+    add_editors(alloc, Variable::Director, entry, fields)?;
+    add_editors(alloc, Variable::Organizer, entry, fields)?;
+    add_people_of(alloc, Variable::Translator, entry, "translator", fields)?;
+    add_people_of(alloc, Variable::ContainerAuthor, entry, "bookauthor", fields)
+}

@@ -1,0 +1,102 @@
+//! The texts of fields, plain or with HTML's tags and escapes.
+
+ghost use Rattle.std.specs.Prelude.{◌≡◌, IfOk};
+ghost use Rattle.std.specs.Option.{option_copied};
+ghost use Rattle.bib_chunks.specs.Values.{text};
+ghost use Rattle.bib_entry.specs.Fields.{field_or};
+ghost use Rattle.bib_csl.specs.Texts.{field, plain, title_text, rich_text, rich_text_or, either, joined};
+
+use crate::markup::marked;
+use bib_chunks::chunk::{ChunksRef, format_verbatim};
+use bib_entry::entry::Entry;
+use bib_text::text::Text;
+use std::alloc::{AllocError, Global};
+
+// The field of this name, or else of the other.
+pub(crate) fn field_or<'e>(entry: &'e Entry, name: &str, other: &str) -> Option<ChunksRef<'e>>
+    ensures { option_copied result ≡ field_or entry.now name.now other.now }
+{
+    match entry.get(name) {
+        Some(chunks) => Some(chunks),
+        None => entry.get(other),
+    }
+}
+
+// The formatted text of chunks.
+pub(crate) fn shown(alloc: Global, chunks: ChunksRef<'_>) -> Result<Text, AllocError>
+    ensures { IfOk result (λ shown. shown ≡ text chunks.now) }
+{
+    Ok(Text::from_string(format_verbatim(alloc, chunks)?))
+}
+
+// The plain text of a field, or nothing where it isn't there.
+#[tactic(auto, unfolding(crate::specs::Texts::plain))]
+pub(crate) fn plain(alloc: Global, field: Option<ChunksRef<'_>>) -> Result<Text, AllocError>
+    ensures { IfOk result (λ shown. shown ≡ plain (option_copied field.entry)) }
+{
+    match field {
+        Some(chunks) => shown(alloc, chunks),
+        None => Ok(Text::new(alloc)),
+    }
+}
+
+// The plain text of the field of this name.
+pub(crate) fn plain_text(alloc: Global, entry: &Entry, name: &str) -> Result<Text, AllocError>
+    ensures { IfOk result (λ shown. shown ≡ plain (field entry.now name.now)) }
+{
+    plain(alloc, entry.get(name))
+}
+
+// The text of a title.
+#[tactic(auto, unfolding(crate::specs::Texts::title_text))]
+pub(crate) fn title_text(alloc: Global, entry: &Entry, name: &str) -> Result<Text, AllocError>
+    ensures { IfOk result (λ shown. shown ≡ title_text entry.now name.now) }
+{
+    marked(alloc, true, entry.get(name))
+}
+
+// The text of another field with HTML's tags and escapes.
+#[tactic(auto, unfolding(crate::specs::Texts::rich_text))]
+pub(crate) fn rich_text(alloc: Global, entry: &Entry, name: &str) -> Result<Text, AllocError>
+    ensures { IfOk result (λ shown. shown ≡ rich_text entry.now name.now) }
+{
+    marked(alloc, false, entry.get(name))
+}
+
+// The same of the field of this name, or else of the other.
+#[tactic(auto, unfolding(crate::specs::Texts::rich_text_or))]
+pub(crate) fn rich_text_or(
+    alloc: Global,
+    entry: &Entry,
+    name: &str,
+    other: &str,
+) -> Result<Text, AllocError>
+    ensures { IfOk result (λ shown. shown ≡ rich_text_or entry.now name.now other.now) }
+{
+    marked(alloc, false, field_or(entry, name, other))
+}
+
+// The first text that isn't empty.
+#[tactic(auto, unfolding(crate::specs::Texts::either))]
+pub(crate) fn either(first: Text, other: Text) -> Text
+    ensures { result ≡ either first other }
+{
+    if first.is_empty() { other } else { first }
+}
+
+// Two texts with what separates them between them, where neither is empty.
+#[tactic(auto, unfolding(crate::specs::Texts::joined))]
+pub(crate) fn joined(separator: &str, first: Text, next: Text) -> Result<Text, AllocError>
+    ensures { IfOk result (λ shown. shown ≡ joined separator.now first next) }
+{
+    if next.is_empty() {
+        return Ok(first);
+    }
+    if first.is_empty() {
+        return Ok(next);
+    }
+    let mut text = first;
+    text.push_str(separator)?;
+    text.push_str(next.as_str())?;
+    Ok(text)
+}

@@ -1,0 +1,165 @@
+//! The titles of an item, and of what it is a part of.
+
+ghost use Rattle.std.specs.Prelude.{◌≡◌, ◌++◌, OnOk, IfOk};
+ghost use Rattle.bib_csl.specs.Titles as spec;
+
+use crate::adding::{add_rich, add_title};
+use crate::fields::add_text;
+use crate::item::Field;
+use crate::markup::marked;
+use crate::texts::{either, field_or, joined, title_text};
+use crate::types::{is_article, is_in_book, is_volume};
+use crate::variables::{ItemType, Variable};
+use bib_entry::entry::Entry;
+use bib_text::items::Items;
+use bib_text::text::Text;
+use std::alloc::{AllocError, Global};
+
+// A title with its subtitle and what is added to it, in fields of these names.
+#[tactic(auto, unfolding(crate::specs::Titles::with_subtitle))]
+fn with_subtitle(
+    alloc: Global,
+    entry: &Entry,
+    title: Text,
+    subtitle: &str,
+    addon: &str,
+) -> Result<Text, AllocError>
+    ensures { IfOk result (λ text. text ≡ spec.with_subtitle entry.now title subtitle.now addon.now) }
+{
+    let both = joined(": ", title, title_text(alloc, entry, subtitle)?)?;
+    joined(". ", both, title_text(alloc, entry, addon)?)
+}
+
+// The title of the work itself.
+#[tactic(auto, unfolding(crate::specs::Titles::own_title))]
+fn own_title(alloc: Global, entry: &Entry) -> Result<Text, AllocError>
+    ensures { IfOk result (λ text. text ≡ spec.own_title entry.now) }
+{
+    let title = title_text(alloc, entry, "title")?;
+    with_subtitle(alloc, entry, title, "subtitle", "titleaddon")
+}
+
+// The title of a work of several volumes.
+#[tactic(auto, unfolding(crate::specs::Titles::main_title))]
+fn main_title(alloc: Global, entry: &Entry) -> Result<Text, AllocError>
+    ensures { IfOk result (λ text. text ≡ spec.main_title entry.now) }
+{
+    let title = title_text(alloc, entry, "maintitle")?;
+    with_subtitle(alloc, entry, title, "mainsubtitle", "maintitleaddon")
+}
+
+// The title of the book that the work is a part of.
+#[tactic(auto, unfolding(crate::specs::Titles::book_title))]
+fn book_title(alloc: Global, entry: &Entry) -> Result<Text, AllocError>
+    ensures { IfOk result (λ text. text ≡ spec.book_title entry.now) }
+{
+    let title = title_text(alloc, entry, "booktitle")?;
+    with_subtitle(alloc, entry, title, "booksubtitle", "booktitleaddon")
+}
+
+// The title of the journal.
+#[tactic(auto, unfolding(crate::specs::Titles::journal_title))]
+fn journal_title(alloc: Global, entry: &Entry) -> Result<Text, AllocError>
+    ensures { IfOk result (λ text. text ≡ spec.journal_title entry.now) }
+{
+    let title = marked(alloc, true, field_or(entry, "journaltitle", "journal"))?;
+    with_subtitle(alloc, entry, title, "journalsubtitle", "journaltitleaddon")
+}
+
+// The title of the item: of a volume of a work, that of the work.
+#[tactic(auto, unfolding(crate::specs::Titles::title_of))]
+fn title_of(alloc: Global, kind: ItemType, entry: &Entry) -> Result<Text, AllocError>
+    ensures { IfOk result (λ text. text ≡ spec.title_of kind entry.now) }
+{
+    let own = own_title(alloc, entry)?;
+    if !is_volume(kind) {
+        return Ok(own);
+    }
+    Ok(either(main_title(alloc, entry)?, own))
+}
+
+// The title of the one volume, in a work of several with a title of its own.
+#[tactic(auto, unfolding(crate::specs::Titles::volume_title))]
+fn volume_title(alloc: Global, kind: ItemType, entry: &Entry) -> Result<Text, AllocError>
+    ensures { IfOk result (λ text. text ≡ spec.volume_title kind entry.now) }
+{
+    let main = main_title(alloc, entry)?;
+    if main.is_empty() {
+        return Ok(main);
+    }
+    if is_volume(kind) {
+        return own_title(alloc, entry);
+    }
+    if is_in_book(kind) {
+        return book_title(alloc, entry);
+    }
+    Ok(Text::new(alloc))
+}
+
+// The title of what the item is a part of.
+#[tactic(auto, unfolding(crate::specs::Titles::container_title))]
+fn container_title(alloc: Global, kind: ItemType, entry: &Entry) -> Result<Text, AllocError>
+    ensures { IfOk result (λ text. text ≡ spec.container_title kind entry.now) }
+{
+    if is_in_book(kind) {
+        return Ok(either(main_title(alloc, entry)?, book_title(alloc, entry)?));
+    }
+    let journal = journal_title(alloc, entry)?;
+    if is_article(kind) {
+        return Ok(journal);
+    }
+    Ok(either(journal, book_title(alloc, entry)?))
+}
+
+// The name of the conference.
+#[tactic(auto, unfolding(crate::specs::Titles::event_title))]
+fn event_title(alloc: Global, entry: &Entry) -> Result<Text, AllocError>
+    ensures { IfOk result (λ text. text ≡ spec.event_title entry.now) }
+{
+    let title = title_text(alloc, entry, "eventtitle")?;
+    joined(". ", title, title_text(alloc, entry, "eventtitleaddon")?)
+}
+
+// Appends the titles of an item.
+#[tactic(auto, unfolding(crate::specs::Titles::title_fields))]
+pub(crate) fn add_titles(
+    alloc: Global,
+    kind: ItemType,
+    entry: &Entry,
+    fields: &mut Items<Field>,
+) -> Result<(), AllocError>
+    ensures { OnOk result (fields.new ≡ fields.old ++ spec.title_fields kind entry.now) }
+{
+    add_text(fields, Variable::Title, title_of(alloc, kind, entry)?)?;
+    add_title(alloc, Variable::TitleShort, entry, "shorttitle", fields)?;
+    add_text(fields, Variable::VolumeTitle, volume_title(alloc, kind, entry)?)?;
+    add_title(alloc, Variable::OriginalTitle, entry, "origtitle", fields)
+}
+
+// Appends what an item is a part of.
+#[tactic(auto, unfolding(crate::specs::Titles::container_fields))]
+pub(crate) fn add_container(
+    alloc: Global,
+    kind: ItemType,
+    entry: &Entry,
+    fields: &mut Items<Field>,
+) -> Result<(), AllocError>
+    ensures { OnOk result (fields.new ≡ fields.old ++ spec.container_fields kind entry.now) }
+{
+    add_text(fields, Variable::ContainerTitle, container_title(alloc, kind, entry)?)?;
+    add_title(alloc, Variable::ContainerTitleShort, entry, "shortjournal", fields)?;
+    add_title(alloc, Variable::CollectionTitle, entry, "series", fields)
+}
+
+// Appends the conference that an item comes from.
+#[tactic(auto, unfolding(crate::specs::Titles::event_fields))]
+pub(crate) fn add_event(
+    alloc: Global,
+    entry: &Entry,
+    fields: &mut Items<Field>,
+) -> Result<(), AllocError>
+    ensures { OnOk result (fields.new ≡ fields.old ++ spec.event_fields entry.now) }
+{
+    add_text(fields, Variable::EventTitle, event_title(alloc, entry)?)?;
+    add_rich(alloc, Variable::EventPlace, entry, "venue", fields)
+}

@@ -1,0 +1,109 @@
+//! Which type of item an entry becomes, and which items are alike.
+
+ghost use Rattle.std.specs.Prelude.{◌≡◌};
+ghost use Rattle.bib_csl.specs.Types.{type_of_article, item_type_of, is_article, is_in_book, is_volume, counts_issues, counts_series};
+
+use crate::variables::ItemType;
+use bib_entry_types::mechanics::EntryType;
+
+// The type of an article, by the text of the field `entrysubtype`.
+fn type_of_article(subtype: &str) -> ItemType
+    ensures { result ≡ type_of_article subtype.now }
+{
+    match subtype {
+        "magazine" => ItemType::ArticleMagazine,
+        "newspaper" => ItemType::ArticleNewspaper,
+        _ => ItemType::ArticleJournal,
+    }
+}
+
+// The type of the item that an entry of this type and with this `entrysubtype` becomes.
+pub(crate) fn item_type_of(entry_type: &EntryType, subtype: &str) -> ItemType
+    ensures { result ≡ item_type_of entry_type.now subtype.now }
+{
+    match entry_type {
+        EntryType::Article | EntryType::SuppPeriodical => type_of_article(subtype),
+        EntryType::Periodical => ItemType::Periodical,
+        EntryType::Book
+        | EntryType::MvBook
+        | EntryType::Collection
+        | EntryType::MvCollection
+        | EntryType::Proceedings
+        | EntryType::MvProceedings
+        | EntryType::Reference
+        | EntryType::MvReference
+        | EntryType::Manual => ItemType::Book,
+        EntryType::InBook
+        | EntryType::BookInBook
+        | EntryType::SuppBook
+        | EntryType::InCollection
+        | EntryType::SuppCollection => ItemType::Chapter,
+        EntryType::InReference => ItemType::EntryEncyclopedia,
+        EntryType::InProceedings => ItemType::PaperConference,
+        EntryType::Booklet => ItemType::Pamphlet,
+        EntryType::Thesis | EntryType::MastersThesis | EntryType::PhdThesis => ItemType::Thesis,
+        EntryType::Report | EntryType::TechReport => ItemType::Report,
+        EntryType::Patent => ItemType::Patent,
+        EntryType::Online => ItemType::Webpage,
+        EntryType::Dataset => ItemType::Dataset,
+        EntryType::Software => ItemType::Software,
+        EntryType::Unpublished => ItemType::Manuscript,
+        EntryType::Misc | EntryType::Set | EntryType::XData | EntryType::Unknown(_) => {
+            ItemType::Document
+        }
+    }
+}
+
+// Whether the item is an article.
+pub(crate) fn is_article(kind: ItemType) -> bool
+    ensures { result ≡ is_article kind }
+{
+    matches!(
+        kind,
+        ItemType::ArticleJournal | ItemType::ArticleMagazine | ItemType::ArticleNewspaper
+    )
+}
+
+// Whether the item is a part of a book.
+pub(crate) fn is_in_book(kind: ItemType) -> bool
+    ensures { result ≡ is_in_book kind }
+{
+    matches!(
+        kind,
+        ItemType::Chapter | ItemType::PaperConference | ItemType::EntryEncyclopedia
+    )
+}
+
+// Whether the item is a whole that may be one of several volumes.
+pub(crate) fn is_volume(kind: ItemType) -> bool
+    ensures { result ≡ is_volume kind }
+{
+    matches!(kind, ItemType::Book | ItemType::Periodical)
+}
+
+// Whether the field `number` counts the issues of a periodical.
+pub(crate) fn counts_issues(kind: ItemType) -> bool
+    ensures { result ≡ counts_issues kind }
+{
+    matches!(
+        kind,
+        ItemType::ArticleJournal
+            | ItemType::ArticleMagazine
+            | ItemType::ArticleNewspaper
+            | ItemType::Periodical
+    )
+}
+
+// Whether the field `number` counts the works of a series.
+pub(crate) fn counts_series(kind: ItemType) -> bool
+    ensures { result ≡ counts_series kind }
+{
+    matches!(
+        kind,
+        ItemType::Book
+            | ItemType::Chapter
+            | ItemType::PaperConference
+            | ItemType::EntryEncyclopedia
+            | ItemType::Pamphlet
+    )
+}
