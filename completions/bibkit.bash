@@ -26,7 +26,7 @@ _bibkit() {
             return
             ;;
         --to)
-            mapfile -t COMPREPLY < <(compgen -W 'csl json ris' -- "$current")
+            mapfile -t COMPREPLY < <(compgen -W 'csl json ris biblatex bibtex' -- "$current")
             return
             ;;
         --indent)

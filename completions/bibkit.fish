@@ -45,7 +45,7 @@ complete -c bibkit -n '__fish_seen_subcommand_from fmt' -x -l sort -a 'keep key 
 complete -c bibkit -n '__fish_seen_subcommand_from fmt' -l check -d 'Say which files are not in this style'
 complete -c bibkit -n '__fish_seen_subcommand_from fmt' -l write -d 'Write the new texts into the files'
 complete -c bibkit -n '__fish_seen_subcommand_from fmt' -l diff -d 'Print how the new texts differ'
-complete -c bibkit -n '__fish_seen_subcommand_from convert' -x -l to -a 'csl json ris' -d 'The format'
+complete -c bibkit -n '__fish_seen_subcommand_from convert' -x -l to -a 'csl json ris biblatex bibtex' -d 'The format'
 complete -c bibkit -n '__fish_seen_subcommand_from strings' -l expand -d 'Write abbreviations out'
 complete -c bibkit -n '__fish_seen_subcommand_from strings' -l collect -d 'Make abbreviations of texts that repeat'
 complete -c bibkit -n '__fish_seen_subcommand_from strings' -x -l fields -a "$fields" -d 'Collect the texts of these fields'

@@ -36,6 +36,8 @@ pub enum Asked<'a> {
     },
     /// The entries of files in another format.
     Convert(Target),
+    /// The files with this edit made of each.
+    Rewrite(Edit<'a>),
     /// Something else.
     Other(Request<'a>),
 }
@@ -258,12 +260,14 @@ fn format_asked<'a>(alloc: Global, matches: &ArgMatches<'a>) -> Result<Asked<'a>
     })
 }
 
-// The format that files are converted to.
-fn target_of(matches: &ArgMatches<'_>) -> Target {
+// What `convert` was asked for.
+fn convert_asked<'a>(matches: &ArgMatches<'a>) -> Asked<'a> {
     match matches.get_str("to") {
-        Some("json") => Target::Json,
-        Some("ris") => Target::Ris,
-        _ => Target::Csl,
+        Some("biblatex") => Asked::Rewrite(Edit::ToBiblatex),
+        Some("bibtex") => Asked::Rewrite(Edit::ToBibtex),
+        Some("json") => Asked::Convert(Target::Json),
+        Some("ris") => Asked::Convert(Target::Ris),
+        _ => Asked::Convert(Target::Csl),
     }
 }
 
@@ -276,7 +280,7 @@ fn request_of<'a>(
     let request = match name {
         "lint" => return lint_asked(alloc, matches),
         "fmt" => return format_asked(alloc, matches),
-        "convert" => return Ok(Asked::Convert(target_of(matches))),
+        "convert" => return Ok(convert_asked(matches)),
         "get" => Request::Entries(Excerpts::Get(texts(alloc, matches, "KEYS")?)),
         "grep" => Request::Entries(Excerpts::Grep(Search {
             field: matches.get_str("FIELD").unwrap_or(""),

@@ -339,11 +339,13 @@ output that can't be written, 3 out of memory";
 
 // What stands at the end of the help of `convert`.
 const CONVERT_HELP: &str = "\
-Entries have what they inherit. The entries of all files stand in one array, or one after another; of a file with errors none does, and
-its first error is reported.
+As items of CSL-JSON, as JSON and as records of RIS entries have what they inherit, and those of all files stand in one array, or one after
+another. For BibLaTeX or BibTeX the names of types and fields change, and for BibTeX dates are divided; all else stays as it is.
+Of a file with errors nothing is printed, and its first error is reported.
 
-Example:
+Examples:
   bibkit convert --to csl refs.bib >refs.json
+  bibkit convert --to bibtex refs.bib >old.bib
 
 Status: 0 done, 1 a file has errors, 2 wrong usage, a file that can't be read or an output that can't be written, 3 out of memory";
 
@@ -425,13 +427,13 @@ const FMT: [Argument; 13] = [
 ];
 
 // The formats that files are converted to.
-static TARGETS: [&str; 3] = ["csl", "json", "ris"];
+static TARGETS: [&str; 5] = ["csl", "json", "ris", "biblatex", "bibtex"];
 
 // What `convert` takes.
 const CONVERT: [Argument; 1] = [Argument {
     name: "to",
     takes: Takes::Target,
-    help: "Items of CSL-JSON, entries as JSON, or records of RIS",
+    help: "Items of CSL-JSON, entries as JSON, records of RIS, or the types and fields of BibLaTeX or of BibTeX",
 }];
 
 // The commands that read files, in the order of help.
@@ -480,7 +482,7 @@ static READING: [Row; 8] = [
     },
     Row {
         name: "convert",
-        about: "Print entries, with what they inherit, in another format",
+        about: "Print files in another format",
         help: CONVERT_HELP,
         arguments: &CONVERT,
     },

@@ -1,10 +1,12 @@
 //! The command that converts files.
 
+use crate::edits::{Editing, Edits, Mode, run_edits};
 use crate::stops::{Stop, bytes_of, error_line, say};
 use crate::streams::Output;
 use bib_encoding::decoding::decode;
 use bibkit_convert::converting::{ConvertError, print_converted};
 use bibkit_convert::target::Target;
+use bibkit_edits::edit::Edit;
 use biblatex::{ParseError, Sink};
 use std::alloc::{AllocError, Global};
 use std::io;
@@ -118,4 +120,28 @@ pub fn run_convert(rt: &HostRuntime, target: Target, names: &[&str]) -> u8 {
         Ok(status) => status,
         Err(stop) => say(rt, &stop),
     }
+}
+
+// Prints a file with an edit made of it, and answers the status.
+fn rewrite_file(rt: &HostRuntime, edit: Edit<'_>, name: &str) -> u8 {
+    match vec![in rt.alloc(); edit] {
+        Ok(edits) => run_edits(
+            rt,
+            &Editing {
+                edits: Edits::These(edits),
+                name,
+                mode: Mode::Print,
+            },
+        ),
+        Err(_) => say(rt, &Stop::OutOfMemory),
+    }
+}
+
+/// Prints files with an edit made of each, one after another, and answers the greatest status.
+pub fn run_rewrite(rt: &HostRuntime, edit: Edit<'_>, names: &[&str]) -> u8 {
+    let mut status = 0;
+    'names: for name in names {
+        status = rewrite_file(rt, edit, name).max(status);
+    }
+    status
 }

@@ -2,7 +2,7 @@
 
 use crate::arguments::{Asked, Words, read};
 use crate::configuration::{ConfigurationError, Project, Reader, project_settings};
-use crate::converting::run_convert;
+use crate::converting::{run_convert, run_rewrite};
 use crate::edits::{Mode, run_edits};
 use crate::files::SystemFiles;
 use crate::formatting::run_format;
@@ -161,6 +161,7 @@ fn answer(rt: &HostRuntime, words: Words<'_>) -> u8 {
             mode,
         } => run_style(rt, settings, order, mode, &names),
         Asked::Convert(target) => run_convert(rt, target, &names),
+        Asked::Rewrite(edit) => run_rewrite(rt, edit, &names),
         Asked::Other(request) => run_request(rt, request, names),
     }
 }

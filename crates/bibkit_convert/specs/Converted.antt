@@ -6,6 +6,9 @@ use Rattle.biblatex.specs.Headline.{IsAcceptedText, IsBibliographyOf, IsErrorOf}
 use Rattle.biblatex.specs.Syntax.{Bibliography, Entry}
 use Rattle.bib_entry_types.specs.declared.mechanics.EntryType.{EntryType}
 use Rattle.bib_entry_types.specs.declared.mechanics.EntryType.TheVariants.{XData}
+use Rattle.serde_json.specs.Written.{compact_text}
+use Rattle.bib_csl.specs.Items.{item_of}
+use Rattle.bib_csl.specs.Json.{json_of as item_json}
 use Rattle.bib_json.specs.Arrays.{array_end, before_element}
 use Rattle.bib_json.specs.Entries.{json_text_of}
 use Rattle.bib_ris.specs.Records.{ris_of}
@@ -26,7 +29,7 @@ is_written Ris e = not (is_xdata e.entry_type)
 
 -- what an entry is in a format
 abbrev pub entry_in : Target → Entry → List ℕ
-entry_in Csl e = e.key
+entry_in Csl e = compact_text (item_json (item_of e))
 entry_in Json e = json_text_of e
 entry_in Ris e = ris_of e
 

@@ -4,6 +4,7 @@ ghost use Rattle.std.specs.Prelude.{◌≡◌, IfOk};
 ghost use Rattle.std.specs.String.{string_bytes};
 ghost use Rattle.bibkit_convert.specs.Converted as spec;
 
+use bib_csl::json::item_text;
 use bib_json::arrays::{array_end, before_element};
 use bib_ris::records::record_text;
 use biblatex::{Entry, EntryType};
@@ -36,7 +37,7 @@ impl Target {
         ensures { IfOk result (λ text. string_bytes text ≡ spec.entry_in self entry.now) }
     {
         match self {
-            Target::Csl => String::from_str(alloc, entry.key.as_str()),
+            Target::Csl => item_text(alloc, entry),
             Target::Json => bib_json::entries::entry_text(alloc, entry),
             Target::Ris => record_text(alloc, entry),
         }
