@@ -38,6 +38,16 @@ struct Progress {
     status: u8,
 }
 
+impl Progress {
+    // The same with this status, if it is greater.
+    fn with_status(self, status: u8) -> Progress {
+        Progress {
+            status: self.status.max(status),
+            ..self
+        }
+    }
+}
+
 // Prints the entries of a text that was read from a file.
 fn convert_text<K: Sink>(
     rt: &HostRuntime,
@@ -52,15 +62,13 @@ fn convert_text<K: Sink>(
             is_empty,
             ..progress
         }),
-        Err(ConvertError::File(error)) => {
-            let stop = refused(rt.alloc(), name, text, &error)?;
-            Ok(Progress {
-                status: say(rt, &stop).max(progress.status),
-                ..progress
-            })
-        }
-        Err(ConvertError::NotTaken) => Err(not_taken(rt.alloc())?),
-        Err(ConvertError::OutOfMemory) => Err(Stop::OutOfMemory),
+        Err(error) => match error.unless_out_of_memory()? {
+            ConvertError::File(error) => {
+                let stop = refused(rt.alloc(), name, text, &error)?;
+                Ok(progress.with_status(say(rt, &stop)))
+            }
+            _ => Err(not_taken(rt.alloc())?),
+        },
     }
 }
 
@@ -77,11 +85,10 @@ fn convert_file<K: Sink>(
             let decoded = decode(rt.alloc(), &bytes)?;
             convert_text(rt, target, progress, name, &decoded.text, output)
         }
-        Err(Stop::OutOfMemory) => Err(Stop::OutOfMemory),
-        Err(stop) => Ok(Progress {
-            status: say(rt, &stop).max(progress.status),
-            ..progress
-        }),
+        Err(stop) => {
+            let stop = stop.unless_out_of_memory()?;
+            Ok(progress.with_status(say(rt, &stop)))
+        }
     }
 }
 
@@ -133,7 +140,7 @@ fn rewrite_file(rt: &HostRuntime, edit: Edit<'_>, name: &str) -> u8 {
                 mode: Mode::Print,
             },
         ),
-        Err(_) => say(rt, &Stop::OutOfMemory),
+        Err(error) => say(rt, &Stop::from(error)),
     }
 }
 

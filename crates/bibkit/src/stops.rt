@@ -27,6 +27,16 @@ impl<T: Drop> From<AllocFailed<T>> for Stop {
     }
 }
 
+impl Stop {
+    /// Passes out of memory on as such: Ok with any other stop.
+    pub fn unless_out_of_memory(self) -> Result<Stop, AllocError> {
+        match self {
+            Stop::OutOfMemory => Err(AllocError),
+            said => Ok(said),
+        }
+    }
+}
+
 /// The bytes of a file.
 pub fn bytes_of(rt: &HostRuntime, name: &str) -> Result<Vec<u8>, Stop> {
     let mut files = SystemFiles::new(rt);

@@ -8,19 +8,19 @@ use Rattle.bib_syntax.specs.declared.raw.ParseErrorKind.TheVariants as kind
 use Rattle.std.specs.Io.KnownBytes.{Appends}
 use Rattle.biblatex.specs.Headline.{IsAcceptedText, IsBibliographyOf, IsErrorOf}
 use Rattle.biblatex.specs.Syntax.{Bibliography, Entry}
-use Rattle.bibkit_convert.specs.Converted.{ConvertFails, IsConverted}
-use Rattle.bibkit_convert.specs.Converting.{file_error, unless_no_memory}
+use Rattle.bibkit_convert.specs.Converted.{ConvertFails, IsExported}
+use Rattle.bibkit_convert.specs.Converting.{file_error, unless_of_memory}
 use Rattle.bibkit_convert.specs.declared.converting.ConvertError.TheVariants.{File}
-use Rattle.bibkit_convert.specs.Converted.{entries_text, entry_text, is_first_after, is_still_first}
+use Rattle.bibkit_convert.specs.Converted.{texts_after, text_after, is_first_after, is_still_first}
 use Rattle.bibkit_convert.specs.declared.target.Target.{Target}
 
 -- one more entry
 pub text_push : (target : Target) (is_first : Bool) (es : List Entry) (e : Entry)
-    → entries_text target is_first (es ++ e ∷ []) ≡ entries_text target is_first es ++ entry_text target (is_first_after target is_first es) e
-text_push target is_first [] e = append-nil (entry_text target is_first e)
+    → texts_after target is_first (es ++ e ∷ []) ≡ texts_after target is_first es ++ text_after target (is_first_after target is_first es) e
+text_push target is_first [] e = append-nil (text_after target is_first e)
 text_push target is_first (x ∷ es) e =
-    ap (λ text. entry_text target is_first x ++ text) (text_push target (is_still_first target is_first x) es e)
-    ∙ sym (append_assoc (entry_text target is_first x) (entries_text target (is_still_first target is_first x) es) (entry_text target (is_first_after target (is_still_first target is_first x) es) e))
+    ap (λ text. text_after target is_first x ++ text) (text_push target (is_still_first target is_first x) es e)
+    ∙ sym (append_assoc (text_after target is_first x) (texts_after target (is_still_first target is_first x) es) (text_after target (is_first_after target (is_still_first target is_first x) es) e))
 
 pub first_push : (target : Target) (is_first : Bool) (es : List Entry) (e : Entry) → is_first_after target is_first (es ++ e ∷ []) ≡ is_still_first target (is_first_after target is_first es) e
 first_push target is_first [] e = refl
@@ -37,7 +37,7 @@ module _ {K : Type 0} (refusals : K → ℕ) (text : List ℕ) (output : K) wher
   of_text e other (inl out) = absurd (other (ap (λ e. e.kind) out))
   of_text e other (inr error) = (error.0, error.1, refl)
 
-  by_kind : (e : ParseError) (k : ParseErrorKind) → e.kind ≡ k → IsUnread text e → ConvertFails refusals text output output (unless_no_memory k (File e))
+  by_kind : (e : ParseError) (k : ParseErrorKind) → e.kind ≡ k → IsUnread text e → ConvertFails refusals text output output (unless_of_memory k (File e))
   by_kind e kind.OutOfMemory is unread = refl
   by_kind e kind.UnexpectedEof is unread = of_text e (λ out. let clash : kind.UnexpectedEof ≡ kind.OutOfMemory = sym is ∙ out in cc) unread
   by_kind e (kind.Unexpected t) is unread = of_text e (λ out. let clash : kind.Unexpected t ≡ kind.OutOfMemory = sym is ∙ out in cc) unread
@@ -57,7 +57,7 @@ module _ {K : Type 0} (refusals : K → ℕ) (text : List ℕ) (output : K) wher
 
 -- what is answered of a bibliography whose entries are printed
 pub converted : {K E : Type 0} (taken : K → Option (List ℕ)) (target : Target) (is_first : Bool) (text : List ℕ) (old new : K) (b : Bibliography) (r : Result Bool E) → IsBibliographyOf text b
-    → IfOk r (λ next. Appends (taken old) (taken new) (entries_text target is_first b.entries)) → IfOk r (λ next. next ≡ is_first_after target is_first b.entries)
-    → IfOk r (IsConverted taken target is_first text old new)
+    → IfOk r (λ next. Appends (taken old) (taken new) (texts_after target is_first b.entries)) → IfOk r (λ next. next ≡ is_first_after target is_first b.entries)
+    → IfOk r (IsExported taken target is_first text old new)
 converted taken target is_first text old new b (Err e) of_text printed next = _
 converted taken target is_first text old new b (Ok first') of_text printed next = record { bibliography = b; of_text = of_text; printed = printed; next = next }

@@ -28,16 +28,16 @@ is_written Csl e = not (is_xdata e.entry_type)
 is_written Ris e = not (is_xdata e.entry_type)
 
 -- what an entry is in a format
-abbrev pub entry_in : Target → Entry → List ℕ
-entry_in Csl e = compact_text (item_json (item_of e))
-entry_in Json e = json_text_of e
-entry_in Ris e = ris_of e
+abbrev pub exported : Target → Entry → List ℕ
+exported Csl e = compact_text (item_json (item_of e))
+exported Json e = json_text_of e
+exported Ris e = ris_of e
 
 -- what stands before an entry, by whether it is the first
-abbrev pub before : Target → Bool → List ℕ
-before Csl is_first = before_element is_first
-before Json is_first = before_element is_first
-before Ris is_first = []
+abbrev pub before_next : Target → Bool → List ℕ
+before_next Csl is_first = before_element is_first
+before_next Json is_first = before_element is_first
+before_next Ris is_first = []
 
 -- what stands after the last entry, by whether there is none
 abbrev pub end : Target → Bool → List ℕ
@@ -46,17 +46,17 @@ end Json is_empty = array_end is_empty
 end Ris is_empty = []
 
 -- an entry after what stands before it, if it is written
-abbrev pub entry_text : Target → Bool → Entry → List ℕ
-entry_text target is_first e = if is_written target e then before target is_first ++ entry_in target e else []
+abbrev pub text_after : Target → Bool → Entry → List ℕ
+text_after target is_first e = if is_written target e then before_next target is_first ++ exported target e else []
 
 -- whether none is written yet after an entry
 abbrev pub is_still_first : Target → Bool → Entry → Bool
 is_still_first target is_first e = is_first && not (is_written target e)
 
 -- entries one after another
-abbrev pub entries_text : Target → Bool → List Entry → List ℕ
-entries_text target is_first [] = []
-entries_text target is_first (e ∷ es) = entry_text target is_first e ++ entries_text target (is_still_first target is_first e) es
+abbrev pub texts_after : Target → Bool → List Entry → List ℕ
+texts_after target is_first [] = []
+texts_after target is_first (e ∷ es) = text_after target is_first e ++ texts_after target (is_still_first target is_first e) es
 
 -- whether none is written yet after entries
 abbrev pub is_first_after : Target → Bool → List Entry → Bool
@@ -64,10 +64,10 @@ is_first_after target is_first [] = is_first
 is_first_after target is_first (e ∷ es) = is_first_after target (is_still_first target is_first e) es
 
 -- the output takes the entries of the bibliography that a text is
-pub record IsConverted {K : Type 0} (taken : K → Option (List ℕ)) (target : Target) (is_first : Bool) (text : List ℕ) (old new : K) (is_first' : Bool) : Type 0 where
+pub record IsExported {K : Type 0} (taken : K → Option (List ℕ)) (target : Target) (is_first : Bool) (text : List ℕ) (old new : K) (is_first' : Bool) : Type 0 where
   pub bibliography : Bibliography
   pub of_text : IsBibliographyOf text bibliography
-  pub printed : Appends (taken old) (taken new) (entries_text target is_first bibliography.entries)
+  pub printed : Appends (taken old) (taken new) (texts_after target is_first bibliography.entries)
   pub next : is_first' ≡ is_first_after target is_first bibliography.entries
 
 -- why a text isn't converted: it is no bibliography, and then nothing is printed, or the output refuses an entry

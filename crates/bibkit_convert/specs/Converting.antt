@@ -8,13 +8,13 @@ use Rattle.bibkit_convert.specs.declared.converting.ConvertError.{ConvertError}
 use Rattle.bibkit_convert.specs.declared.converting.ConvertError.TheVariants.{File, NotTaken, OutOfMemory}
 
 -- an error, unless its kind is that there was no memory
-abbrev pub unless_no_memory : ParseErrorKind → ConvertError → ConvertError
-unless_no_memory kind.OutOfMemory error = OutOfMemory
-unless_no_memory _ error = error
+abbrev pub unless_of_memory : ParseErrorKind → ConvertError → ConvertError
+unless_of_memory kind.OutOfMemory error = OutOfMemory
+unless_of_memory _ error = error
 
 -- what an error of a text is
 abbrev pub file_error : ParseError → ConvertError
-file_error e = unless_no_memory e.kind (File e)
+file_error e = unless_of_memory e.kind (File e)
 
 -- why an entry isn't printed
 abbrev pub EntryFails : {K : Type 0} → (K → ℕ) → K → K → ConvertError → Type 0

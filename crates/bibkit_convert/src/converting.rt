@@ -1,9 +1,9 @@
 //! What is printed of a bibliography in another format.
 
-ghost use Rattle.std.specs.Prelude.{◌≡◌, IfErr, IfOk};
+ghost use Rattle.std.specs.Prelude.{◌≡◌, ◌≢◌, IfErr, IfOk, OnErr};
 ghost use Rattle.std.specs.String.{string_bytes};
 ghost use Rattle.std.specs.Io.KnownBytes.{Appends};
-ghost use Rattle.bibkit_convert.specs.Converted.{ConvertFails, IsConverted, entries_text, entry_text, is_first_after, is_still_first};
+ghost use Rattle.bibkit_convert.specs.Converted.{ConvertFails, IsExported, texts_after, text_after, is_first_after, is_still_first};
 ghost use Rattle.bibkit_convert.specs.Converting.{EntryFails, file_error};
 
 use crate::target::Target;
@@ -19,6 +19,19 @@ pub enum ConvertError {
     NotTaken,
     /// There was no memory.
     OutOfMemory,
+}
+
+impl ConvertError {
+    /// Passes out of memory on as such: Ok with any other error.
+    pub fn unless_out_of_memory(self) -> Result<ConvertError, AllocError>
+        ensures other { IfOk result (λ other. (other ≡ self) × (self ≢ ConvertError.OutOfMemory)) }
+        ensures no_memory { OnErr result (self ≡ ConvertError.OutOfMemory) }
+    {
+        match self {
+            ConvertError::OutOfMemory => Err(AllocError),
+            other => Ok(other),
+        }
+    }
 }
 
 impl From<AllocError> for ConvertError {
@@ -49,12 +62,12 @@ fn text_of(
     is_first: bool,
     entry: &Entry,
 ) -> Result<String, AllocError>
-    ensures { IfOk result (λ text. string_bytes text ≡ entry_text target is_first entry.now) }
+    ensures { IfOk result (λ text. string_bytes text ≡ text_after target is_first entry.now) }
 {
     let mut text = String::new(alloc);
     if target.has(entry) {
         text.push_str(target.before(is_first))?;
-        text.push_str(&target.entry_text(alloc, entry)?)?;
+        text.push_str(&target.text_of(alloc, entry)?)?;
     }
     Ok(text)
 }
@@ -67,7 +80,7 @@ fn print_entry<K: Sink>(
     entry: &Entry,
     output: &mut K,
 ) -> Result<bool, ConvertError>
-    ensures printed { IfOk result (λ is_still. Appends (K.taken output.old) (K.taken output.new) (entry_text target is_first entry.now)) }
+    ensures printed { IfOk result (λ is_still. Appends (K.taken output.old) (K.taken output.new) (text_after target is_first entry.now)) }
     ensures next { IfOk result (λ is_still. is_still ≡ is_still_first target is_first entry.now) }
     ensures same { IfOk result (λ is_still. K.refusals output.new ≡ K.refusals output.old) }
     ensures failed { IfErr result (EntryFails K.refusals output.old output.new) }
@@ -88,7 +101,7 @@ fn print_entries<K: Sink>(
     bibliography: &Bibliography,
     output: &mut K,
 ) -> Result<bool, ConvertError>
-    ensures printed { IfOk result (λ is_still. Appends (K.taken output.old) (K.taken output.new) (entries_text target is_first bibliography.now.entries)) }
+    ensures printed { IfOk result (λ is_still. Appends (K.taken output.old) (K.taken output.new) (texts_after target is_first bibliography.now.entries)) }
     ensures next { IfOk result (λ is_still. is_still ≡ is_first_after target is_first bibliography.now.entries) }
     ensures failed { IfErr result (EntryFails K.refusals output.old output.new) }
 {
@@ -109,7 +122,7 @@ pub fn print_converted<K: Sink>(
     text: &str,
     output: &mut K,
 ) -> Result<bool, ConvertError>
-    ensures converted { IfOk result (IsConverted K.taken target is_first text.now output.old output.new) }
+    ensures converted { IfOk result (IsExported K.taken target is_first text.now output.old output.new) }
     ensures failed { IfErr result (ConvertFails K.refusals text.now output.old output.new) }
 {
     let bibliography = Bibliography::parse(alloc, text)?;

@@ -33,8 +33,8 @@ impl Target {
     }
 
     // What an entry is in the format.
-    pub(crate) fn entry_text(self, alloc: Global, entry: &Entry) -> Result<String, AllocError>
-        ensures { IfOk result (λ text. string_bytes text ≡ spec.entry_in self entry.now) }
+    pub(crate) fn text_of(self, alloc: Global, entry: &Entry) -> Result<String, AllocError>
+        ensures { IfOk result (λ text. string_bytes text ≡ spec.exported self entry.now) }
     {
         match self {
             Target::Csl => item_text(alloc, entry),
@@ -45,7 +45,7 @@ impl Target {
 
     // What stands before an entry.
     pub(crate) fn before(self, is_first: bool) -> &'static str
-        ensures { result.now ≡ spec.before self is_first }
+        ensures { result.now ≡ spec.before_next self is_first }
     {
         match self {
             Target::Csl | Target::Json => before_element(is_first),

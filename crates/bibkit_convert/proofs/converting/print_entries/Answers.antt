@@ -4,7 +4,7 @@ use Rattle.std.proofs.lemmas.Iterator.{YieldsList-from_slice}
 use Rattle.std.proofs.lemmas.Iterator.Consumers.{YieldsList-end}
 use Rattle.std.proofs.lemmas.List.{map-append}
 use Rattle.biblatex.proofs.WritingFacts.{appends_more}
-use Rattle.bibkit_convert.specs.Converted.{entries_text, entry_text, is_first_after, is_still_first}
+use Rattle.bibkit_convert.specs.Converted.{texts_after, text_after, is_first_after, is_still_first}
 use Rattle.bibkit_convert.proofs.ConvertedFacts.{first_push, text_push}
 use Rattle.bibkit_convert.proofs.converting.print_entries.Goals as goal
 
@@ -15,8 +15,8 @@ entries-preserved g c =
     let more = map-append (λ e. e.now) c.entries.yielded (c.in-Some.entry ∷ []) in
     record {
       printed = appends_more _ _ _ _ _ _ c.entries.invariant.printed c.in_ok-is_still_first.ensures.printed
-          (ap (entries_text c.args.target c.args.is_first) more ∙ text_push c.args.target c.args.is_first done entry
-          ∙ ap (λ b. entries_text c.args.target c.args.is_first done ++ entry_text c.args.target b entry) (sym c.entries.invariant.next));
+          (ap (texts_after c.args.target c.args.is_first) more ∙ text_push c.args.target c.args.is_first done entry
+          ∙ ap (λ b. texts_after c.args.target c.args.is_first done ++ text_after c.args.target b entry) (sym c.entries.invariant.next));
       next = c.in_ok-is_still_first.ensures.next ∙ ap (λ b. is_still_first c.args.target b entry) c.entries.invariant.next
           ∙ sym (first_push c.args.target c.args.is_first done entry) ∙ ap (is_first_after c.args.target c.args.is_first) (sym more);
       same = c.in_ok-is_still_first.ensures.same ∙ c.entries.invariant.same;
@@ -25,7 +25,7 @@ entries-preserved g c =
 pub returns-clause-printed : goal.returns-clause-printed
 returns-clause-printed g c =
     let all = YieldsList-end (YieldsList-from_slice c.args.bibliography.now.entries c.into_iter-entry-iterator.ensures.into_iter_gives) c.entries.yielded _ c.entries.yielded_by _ _ c.in-None.is c.next.ensures.steps in
-    subst (λ entries. Appends (g.K.Sink.taken c.args.output.now) (g.K.Sink.taken c.entries.output) (entries_text c.args.target c.args.is_first entries)) all.0 c.entries.invariant.printed
+    subst (λ entries. Appends (g.K.Sink.taken c.args.output.now) (g.K.Sink.taken c.entries.output) (texts_after c.args.target c.args.is_first entries)) all.0 c.entries.invariant.printed
 
 pub returns-clause-next : goal.returns-clause-next
 returns-clause-next g c =
