@@ -1,4 +1,9 @@
+mod ChangeFacts
 mod ConvertedFacts
+mod DateFacts
+mod DateReadFacts
+mod DividedFacts
+mod EntryEditFacts
 mod FieldNameFacts
 mod KindFacts
 mod MadeFacts

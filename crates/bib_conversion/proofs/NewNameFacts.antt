@@ -1,5 +1,5 @@
 -- The names that a format has: each can be a name of a type, or of a field.
-use Rattle.std.proofs.Common.{◌≡◌, ℕ, Bool, true, false, cond, List, [], ◌∷◌, refl, sym, ap, ◌∙◌, subst, Option, Some, None}
+use Rattle.std.proofs.Common.{◌≡◌, ℕ, Bool, true, false, cond, List, [], ◌∷◌, refl, subst, Option, Some, None}
 use Rattle.std.specs.Prelude.{bytes_eq, filter, not, ◌||◌}
 use Rattle.std.specs.List.{AllByRecursion}
 use Rattle.bib_syntax.specs.Reading.{EntryReading, FieldReading}
