@@ -6,17 +6,17 @@ use Rattle.bib_syntax.specs.Reading.{EntryReading, FieldReading}
 use Rattle.bib_documents.specs.Documents.{CanBeName, has_name}
 use Rattle.bib_entry.specs.declared.write.Format.{Format}
 use Rattle.bib_strings.specs.Collected.{single_text}
-use Rattle.bib_conversion.specs.Conversions.{Change, change_of, divides_date, exchanged_date, field_change, new_name, value_sides}
-use Rattle.bib_conversion.specs.Dates.{Sides, from_names, more_fields, to_fields, year_field}
+use Rattle.bib_conversion.specs.Conversions.{FieldChange, change_of, divides_date, exchanged_date, field_change, new_field_name, value_sides}
+use Rattle.bib_conversion.specs.Dates.{Sides, from_names, more_fields, to_fields, side_year}
 use Rattle.bib_conversion.proofs.DateFacts.{AreKnown, date_known, sides_put}
 use Rattle.bib_conversion.proofs.DividedFacts.{CanBePut}
 use Rattle.bib_conversion.proofs.NewNameFacts.{name_known}
 
 -- a name can be one, and fields can be put in
-abbrev pub CanBeMade : Option Change → Type 0
+abbrev pub CanBeMade : Option FieldChange → Type 0
 CanBeMade None = Unit {0}
-CanBeMade (Some (Change.renamed name)) = CanBeName name
-CanBeMade (Some (Change.divided sides)) = CanBePut (year_field from_names sides.from) × AllByRecursion CanBePut (more_fields from_names sides.from ++ to_fields sides.to)
+CanBeMade (Some (FieldChange.renamed name)) = CanBeName name
+CanBeMade (Some (FieldChange.divided sides)) = CanBePut (side_year from_names sides.from) × AllByRecursion CanBePut (more_fields from_names sides.from ++ to_fields sides.to)
 
 value_known : (text : Option (List ℕ)) (sides : Sides) → value_sides text ≡ Some sides → AreKnown sides
 value_known None sides is = absurd (cc)
@@ -35,4 +35,4 @@ made_case None (Some sides) names dates = sides_put sides (dates sides refl)
 made_case None None names dates = tt
 
 pub change_known : (format : Format) (e : EntryReading) (f : FieldReading) → CanBeMade (field_change format e f)
-change_known format e f = made_case (new_name format e f) (exchanged_date format e f) (name_known format e f) (exchanged_known format e f)
+change_known format e f = made_case (new_field_name format e f) (exchanged_date format e f) (name_known format e f) (exchanged_known format e f)

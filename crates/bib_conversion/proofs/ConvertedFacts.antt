@@ -16,8 +16,8 @@ use Rattle.bib_strings.proofs.ExchangedFacts.{file_placeless}
 use Rattle.bib_strings.proofs.ExpandFacts.{all_placed, fields_weaker}
 use Rattle.bib_strings.proofs.TrimmedFacts.{IsFieldPlaced, trimmed_known}
 use Rattle.bib_documents.specs.Placed.{IsPlaced}
-use Rattle.bib_conversion.specs.Conversions.{Change, IsConverted, entry_converted, field_change, field_edits, fields_converted, file_converted, file_edits, new_type, part_edits, text_converted, with_text, written_sides}
-use Rattle.bib_conversion.specs.Dates.{field_reading, from_names, more_fields, to_fields, year_field}
+use Rattle.bib_conversion.specs.Conversions.{FieldChange, IsConverted, entry_converted, field_change, edits_of_field, fields_converted, file_converted, edits_of_file, new_type, part_edits, text_converted, with_other_text, written_sides}
+use Rattle.bib_conversion.specs.Dates.{field_reading, from_names, more_fields, to_fields, side_year}
 use Rattle.bib_conversion.proofs.ChangeFacts.{CanBeMade, change_known}
 use Rattle.bib_conversion.proofs.DividedFacts.{divided_put, divided_stretch}
 use Rattle.bib_conversion.proofs.FieldNameFacts.{name_exchanged_read, name_stretch, with_name}
@@ -50,47 +50,47 @@ module _ (d : Document) (format : Format) (read : IsDocument d) where
   abbrev with_fields : EntryReading → List FieldReading → EntryReading
   with_fields e fs = record e { fields = fs }
 
-  field_case : (before rest others : List EntryReading) (later : List Edit) (e : EntryReading) (fb : List FieldReading) (f : FieldReading) (fs now : List FieldReading) (at : ℕ) (o : Option Change) → CanBeMade o
+  field_case : (before rest others : List EntryReading) (later : List Edit) (e : EntryReading) (fb : List FieldReading) (f : FieldReading) (fs now : List FieldReading) (at : ℕ) (o : Option FieldChange) → CanBeMade o
       → d.says.entries ≡ before ++ e ∷ rest → e.fields ≡ fb ++ f ∷ fs → at ≤ f.name.start → IsIn d.text f → IsTrimmed d.text f
       → Made d later (before ++ with_fields e (fb ++ f ∷ now) ∷ others) f.value.end
-      → Made d (field_edits d.text f o ++ later) (before ++ with_fields e (fb ++ (fields_converted f o ++ now)) ∷ others) at
+      → Made d (edits_of_field d.text f o ++ later) (before ++ with_fields e (fb ++ (fields_converted f o ++ now)) ∷ others) at
   field_case before rest others later e fb f fs now at None can whole cut less is trimmed made = less_made d later _ f.value.end at (omega (arith, is.name.some, is.ordered, is.value)) made
-  field_case before rest others later e fb f fs now at (Some (Change.renamed name)) can whole cut less is trimmed made =
+  field_case before rest others later e fb f fs now at (Some (FieldChange.renamed name)) can whole cut less is trimmed made =
       let here : slice_get d.says.entries (length before) ≡ Some e = ap (λ es. slice_get es (length before)) whole ∙ get_here before e rest in
       let there : slice_get e.fields (length fb) ≡ Some f = ap (λ xs. slice_get xs (length fb)) cut ∙ get_here fb f fs in
       less_made d _ _ f.name.start at less (field_made d later before others e (with_fields e (fb ++ f ∷ now)) fb now f (name_stretch f name) _ read here there refl (name_put d f name can) made)
-  field_case before rest others later e fb f fs now at (Some (Change.divided sides)) can whole cut less is trimmed made =
+  field_case before rest others later e fb f fs now at (Some (FieldChange.divided sides)) can whole cut less is trimmed made =
       let here : slice_get d.says.entries (length before) ≡ Some e = ap (λ es. slice_get es (length before)) whole ∙ get_here before e rest in
       let there : slice_get e.fields (length fb) ≡ Some f = ap (λ xs. slice_get xs (length fb)) cut ∙ get_here fb f fs in
-      let n = year_field from_names sides.from in
+      let n = side_year from_names sides.from in
       let ns = more_fields from_names sides.from ++ to_fields sides.to in
       let put = divided_put d f n ns trimmed (omega (arith, is.name.some, is.ordered)) can.0 can.1 in
       less_made d _ _ f.name.start at less (field_made d later before others e (with_fields e (fb ++ f ∷ now)) fb now f (divided_stretch d.text f (written_sides sides)) (map field_reading (n ∷ ns)) read here there refl put made)
 
   fields_made : (before rest others : List EntryReading) (later : List Edit) (e : EntryReading) (fb fs : List FieldReading) (at end : ℕ) → d.says.entries ≡ before ++ e ∷ rest → e.fields ≡ fb ++ fs
       → AreFieldsIn d.text at fs end → AllByRecursion (IsFieldPlaced d.text) fs → Made d later (before ++ e ∷ others) end
-      → Made d (flat_map (λ f. field_edits d.text f (field_change format e f)) fs ++ later) (before ++ with_fields e (fb ++ flat_map (λ f. fields_converted f (field_change format e f)) fs) ∷ others) at
+      → Made d (flat_map (λ f. edits_of_field d.text f (field_change format e f)) fs ++ later) (before ++ with_fields e (fb ++ flat_map (λ f. fields_converted f (field_change format e f)) fs) ∷ others) at
   fields_made before rest others later e fb [] at end whole cut order all made =
       less_made d later _ end at order (subst (λ xs. Made d later (before ++ with_fields e xs ∷ others) end) cut made)
   fields_made before rest others later e fb (f ∷ fs) at end whole cut order all made =
-      let edits : List Edit = flat_map (λ g. field_edits d.text g (field_change format e g)) fs in
+      let edits : List Edit = flat_map (λ g. edits_of_field d.text g (field_change format e g)) fs in
       let now : List FieldReading = flat_map (λ g. fields_converted g (field_change format e g)) fs in
       let more = fields_made before rest others later e (fb ++ f ∷ []) fs f.value.end end whole (cut ∙ sym (append_assoc fb (f ∷ []) fs)) order.2 all.1 made in
       let made' = subst (λ xs. Made d (edits ++ later) (before ++ with_fields e xs ∷ others) f.value.end) (append_assoc fb (f ∷ []) now) more in
       let change = field_change format e f in
-      subst (λ es. Made d es (before ++ with_fields e (fb ++ (fields_converted f change ++ now)) ∷ others) at) (sym (append_assoc (field_edits d.text f change) edits later))
+      subst (λ es. Made d es (before ++ with_fields e (fb ++ (fields_converted f change ++ now)) ∷ others) at) (sym (append_assoc (edits_of_field d.text f change) edits later))
       (field_case before rest others (edits ++ later) e fb f fs now at change (change_known format e f) whole cut order.0 order.1 all.0.trimmed made')
 
   kind_case : (before rest others : List EntryReading) (later : List Edit) (e : EntryReading) (fs : List FieldReading) (at : ℕ) (o : Option (List ℕ)) → ((name : List ℕ) → o ≡ Some name → CanBeName name × (block_kind name ≡ BlockKind.entry))
       → d.says.entries ≡ before ++ e ∷ rest → at ≤ e.kind.start → e.kind.start ≤ e.kind.end
-      → Made d later (before ++ with_fields e fs ∷ others) e.kind.end → Made d (part_edits e.kind o ++ later) (before ++ (record e { kind = with_text e.kind o; fields = fs }) ∷ others) at
+      → Made d later (before ++ with_fields e fs ∷ others) e.kind.end → Made d (part_edits e.kind o ++ later) (before ++ (record e { kind = with_other_text e.kind o; fields = fs }) ∷ others) at
   kind_case before rest others later e fs at None can whole less ordered made = less_made d later _ e.kind.end at (omega arith) made
   kind_case before rest others later e fs at (Some name) can whole less ordered made =
       let here : slice_get d.says.entries (length before) ≡ Some e = ap (λ es. slice_get es (length before)) whole ∙ get_here before e rest in
       let known = can name refl in
       less_made d _ _ e.kind.start at less (kind_made d later before others e (with_fields e fs) name read here known.0 known.1 made)
 
-  entries_made : (before es : List EntryReading) (at : ℕ) → d.says.entries ≡ before ++ es → AreEntriesIn d.text at es → AllByRecursion (λ e. AllByRecursion (IsFieldPlaced d.text) e.fields) es → Made d (file_edits format d.text es) (before ++ map (entry_converted format) es) at
+  entries_made : (before es : List EntryReading) (at : ℕ) → d.says.entries ≡ before ++ es → AreEntriesIn d.text at es → AllByRecursion (λ e. AllByRecursion (IsFieldPlaced d.text) e.fields) es → Made d (edits_of_file format d.text es) (before ++ map (entry_converted format) es) at
   entries_made before [] at whole order all = record {
     after = d;
     read = read;
@@ -100,10 +100,10 @@ module _ (d : Document) (format : Format) (read : IsDocument d) where
     alike = ap (λ es. placeless (of_entries d.says es)) whole;
   }
   entries_made before (e ∷ es) at whole order all =
-      let edits : List Edit = flat_map (λ f. field_edits d.text f (field_change format e f)) e.fields in
+      let edits : List Edit = flat_map (λ f. edits_of_field d.text f (field_change format e f)) e.fields in
       let now : List FieldReading = flat_map (λ f. fields_converted f (field_change format e f)) e.fields in
       let others : List EntryReading = map (entry_converted format) es in
-      let later : List Edit = file_edits format d.text es in
+      let later : List Edit = edits_of_file format d.text es in
       let more = entries_made (before ++ e ∷ []) es order.0 (whole ∙ sym (append_assoc before (e ∷ []) es)) order.4 all.1 in
       let made = subst (λ xs. Made d later xs order.0) (append_assoc before (e ∷ []) others) more in
       let fields = fields_made before es others later e [] e.fields e.kind.end order.0 whole refl order.3 all.0 made in
@@ -123,7 +123,7 @@ converted_read d format read utf8 =
     record { tells = made.after.says; read = subst (λ t. IsRawReading t made.after.says) made.text made.read; alike = made.alike }
 
 -- its edits stand one after another
-pub file_edits_in_order : (d : Document) (format : Format) → IsDocument d → IsUtf8 d.text → AreEditsInOrder d.text 0 (file_edits format d.text d.says.entries)
+pub file_edits_in_order : (d : Document) (format : Format) → IsDocument d → IsUtf8 d.text → AreEditsInOrder d.text 0 (edits_of_file format d.text d.says.entries)
 file_edits_in_order d format read utf8 = edits_in_order format d.text 0 d.says.entries (file_in d.text refl read) (fields_placed d read utf8)
 
 -- what the call that converts a document answers

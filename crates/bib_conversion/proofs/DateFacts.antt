@@ -22,7 +22,7 @@ use Rattle.bib_strings.proofs.NameFacts.{plain_can}
 use Rattle.bib_strings.proofs.NewValueFacts.{CanBeRead}
 use Rattle.bib_dates.specs.Dates.{date_of}
 use Rattle.bib_dates.specs.Readings.{readable_value}
-use Rattle.bib_conversion.specs.Dates.{Side, SideNames, Sides, are_digits, braced_field, date_sides, day_fields, from_names, month_fields, month_side, months, more_fields, side_in, side_of, sides_of, one_side, two_sides, to_fields, to_names, year_field}
+use Rattle.bib_conversion.specs.Dates.{Side, SideNames, Sides, are_digits, braced_field, date_sides, day_fields, from_names, month_fields, month_side, month_abbreviations, more_fields, side_in, side_of, sides_of, one_side, two_sides, to_fields, to_names, side_year}
 use Rattle.bib_conversion.proofs.DividedFacts.{CanBePut, element_read}
 
 -- ---- digits in braces
@@ -93,8 +93,8 @@ named_plain (row ∷ rows) text name all is = row_case (bytes_eq row.0 text) row
     row_case true first name rest plain later same = let is : first ≡ name = cc in subst (λ n. is_plain_name n ≡ true) is plain
     row_case false first name rest plain later same = later same
 
-month_plain : (text name : List ℕ) → named months text ≡ Some name → is_plain_name name ≡ true
-month_plain text name is = named_plain months text name (refl, (refl, (refl, (refl, (refl, (refl, (refl, (refl, (refl, (refl, (refl, (refl, tt)))))))))))) is
+month_plain : (text name : List ℕ) → named month_abbreviations text ≡ Some name → is_plain_name name ≡ true
+month_plain text name is = named_plain month_abbreviations text name (refl, (refl, (refl, (refl, (refl, (refl, (refl, (refl, (refl, (refl, (refl, (refl, tt)))))))))))) is
 
 digits_of : (count : ℕ) (text : List ℕ) → are_digits count text ≡ true → list_all is_ascii_digit text ≡ true
 digits_of count text is = (and_parts (length text == count) (list_all is_ascii_digit text) is).1
@@ -123,11 +123,11 @@ side_known : (parts : List (List ℕ)) (side : Side) → side_of parts ≡ Some 
 side_known [] side is = absurd (cc)
 side_known (year ∷ []) side is = year_case (are_digits 4 year) year side (digits_of 4 year) is
 side_known (year ∷ month ∷ []) side is =
-    month_case (are_digits 4 year) (month_side year (named months month) None) side (λ digits. month_known year (named months month) None side (digits_of 4 year digits) (month_plain month) (λ t given. absurd (cc))) is
+    month_case (are_digits 4 year) (month_side year (named month_abbreviations month) None) side (λ digits. month_known year (named month_abbreviations month) None side (digits_of 4 year digits) (month_plain month) (λ t given. absurd (cc))) is
 side_known (year ∷ month ∷ day ∷ []) side is =
-    month_case (are_digits 4 year && are_digits 2 day) (month_side year (named months month) (Some day)) side (λ digits.
+    month_case (are_digits 4 year && are_digits 2 day) (month_side year (named month_abbreviations month) (Some day)) side (λ digits.
     let both = and_parts (are_digits 4 year) (are_digits 2 day) digits in
-    month_known year (named months month) (Some day) side (digits_of 4 year both.0) (month_plain month) (day_digits day (digits_of 2 day both.1))) is
+    month_known year (named month_abbreviations month) (Some day) side (digits_of 4 year both.0) (month_plain month) (day_digits day (digits_of 2 day both.1))) is
   where
     day_digits : (day : List ℕ) → list_all is_ascii_digit day ≡ true → (text : List ℕ) → Some day ≡ Some text → list_all is_ascii_digit text ≡ true
     day_digits day digits text given = let same : day ≡ text = cc in subst (λ t. list_all is_ascii_digit t ≡ true) same digits
@@ -201,7 +201,7 @@ to_put (Some side) known =
     let plain : ArePlain to_names = record { year = refl; month = refl; day = refl } in
     (digits_put to_names.year side.year plain.year (known side refl).year, more_put to_names side plain (known side refl))
 
-pub sides_put : (sides : Sides) → AreKnown sides → CanBePut (year_field from_names sides.from) × AllByRecursion CanBePut (more_fields from_names sides.from ++ to_fields sides.to)
+pub sides_put : (sides : Sides) → AreKnown sides → CanBePut (side_year from_names sides.from) × AllByRecursion CanBePut (more_fields from_names sides.from ++ to_fields sides.to)
 sides_put sides known =
     let plain : ArePlain from_names = record { year = refl; month = refl; day = refl } in
     (digits_put from_names.year sides.from.year plain.year known.from.year, all_append CanBePut (more_fields from_names sides.from) (to_fields sides.to) (more_put from_names sides.from plain known.from) (to_put sides.to known.to))

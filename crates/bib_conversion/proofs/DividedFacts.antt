@@ -32,7 +32,7 @@ use Rattle.bib_format.proofs.StandsFacts.{Stands, ascii, first_part, last_part, 
 use Rattle.bib_strings.specs.Tables.{IsTrimmed}
 use Rattle.bib_strings.proofs.NewValueFacts.{CanBeRead, after_ending}
 use Rattle.bib_strings.proofs.StandingFacts.{element_stands}
-use Rattle.bib_conversion.specs.Dates.{NewField, field_reading, written_field, written_more}
+use Rattle.bib_conversion.specs.Dates.{NewField, field_reading, new_field_text, more_field_texts}
 use Rattle.bib_conversion.proofs.KindFacts.{IsWithin}
 use Rattle.bib_conversion.proofs.MadeFacts.{IsPut}
 use Rattle.bib_conversion.proofs.PutFacts.{NewFields, fields_put, fields_put_read, new_opens, start_plain}
@@ -65,7 +65,7 @@ record IsRead (n : NewField) (u w : Place) : Type 0 where
   field : Field longest u reading w
   alike : moved_field (λ n. 0) reading ≡ moved_field (λ n. 0) (field_reading n)
 
-field_read : {u v w : Place} (n : NewField) → CanBePut n → Stands u (written_field n) v → Ending v → Longest is_whitespace v w → Stops (λ c. c == 35) w → IsRead n u w
+field_read : {u v w : Place} (n : NewField) → CanBePut n → Stands u (new_field_text n) v → Ending v → Longest is_whitespace v w → Stops (λ c. c == 35) w → IsRead n u w
 field_read {u} {v} {w} n can s ending over no_hash =
     let bytes : List ℕ = n.value.bytes in
     let name = first_part n.name (codes " = " ++ bytes) s in
@@ -105,17 +105,17 @@ pub record AreFieldsRead (fields : List NewField) (u w : Place) : Type 0 where
   pub news : NewFields u readings w
   pub alike : map (moved_field (λ n. 0)) readings ≡ map (moved_field (λ n. 0)) (map field_reading fields)
 
-pub fields_read : {u v w : Place} (n : NewField) (ns : List NewField) → CanBePut n → AllByRecursion CanBePut ns → Stands u (written_field n ++ written_more ns) v → Ending v → Longest is_whitespace v w → Stops (λ c. c == 35) w → AreFieldsRead (n ∷ ns) u w
+pub fields_read : {u v w : Place} (n : NewField) (ns : List NewField) → CanBePut n → AllByRecursion CanBePut ns → Stands u (new_field_text n ++ more_field_texts ns) v → Ending v → Longest is_whitespace v w → Stops (λ c. c == 35) w → AreFieldsRead (n ∷ ns) u w
 fields_read {u} {v} {w} n [] can all s ending over no_hash =
-    let x = field_read n can (subst (λ t. Stands u t v) (append-nil (written_field n)) s) ending over no_hash in
+    let x = field_read n can (subst (λ t. Stands u t v) (append-nil (new_field_text n)) s) ending over no_hash in
     record {
       readings = x.reading ∷ [];
       news = record { first = []; last = x.reading; middle = u; before = FieldsBefore.none; field = x.field; are = refl };
       alike = ap (λ r. r ∷ []) x.alike;
     }
 fields_read {u} {v} {w} n (m ∷ ms) can all s ending over no_hash =
-    let written : List ℕ = written_field n in
-    let rest : List ℕ = written_field m ++ written_more ms in
+    let written : List ℕ = new_field_text n in
+    let rest : List ℕ = new_field_text m ++ more_field_texts ms in
     let first = first_part written (44 ∷ 32 ∷ rest) s in
     let s1 = last_part written (44 ∷ 32 ∷ rest) s in
     let comma = ascii 44 (omega arith) (first_part (44 ∷ []) (32 ∷ rest) s1) in
@@ -165,7 +165,7 @@ divided_stretch text f bytes = record { start = f.name.start; end = f.value.star
 
 module _ (d : Document) (f : FieldReading) (n : NewField) (ns : List NewField) (trimmed : IsTrimmed d.text f) (ordered : f.name.start < f.value.start) (can : CanBePut n) (all : AllByRecursion CanBePut ns) where
   abbrev edit : Edit
-  edit = divided_stretch d.text f (written_field n ++ written_more ns)
+  edit = divided_stretch d.text f (new_field_text n ++ more_field_texts ns)
 
   divided_read : (at k : ℕ) (after : Document) (entry : EntryReading) (j : ℕ) → f.value.end ≤ at → Agrees at d after → IsDocument after → slice_get after.says.entries k ≡ Some entry → slice_get entry.fields j ≡ Some f
       → (made : List FieldReading) × (map (moved_field (λ n. 0)) made ≡ map (moved_field (λ n. 0)) (map field_reading (n ∷ ns))) × IsWithin edit after.text × IsDocument (fields_put after edit k entry j made)

@@ -8,6 +8,7 @@ mod FieldNameFacts
 mod KindFacts
 mod MadeFacts
 mod NewNameFacts
+mod NoteFacts
 mod PlaceFacts
 mod PutFacts
 mod StandFacts

@@ -20,7 +20,7 @@ use Rattle.bib_documents.proofs.BoundaryFacts.{char_boundary}
 use Rattle.bib_documents.proofs.SplitFacts.{EntryBlock, entry_block, one_entry}
 use Rattle.bib_documents.proofs.ValueFacts.{run_stands}
 use Rattle.bib_strings.proofs.TrimmedFacts.{IsFieldPlaced}
-use Rattle.bib_conversion.specs.Conversions.{Change, field_change, field_edits, file_edits, new_type, part_edits}
+use Rattle.bib_conversion.specs.Conversions.{FieldChange, field_change, edits_of_field, edits_of_file, new_type, part_edits}
 use Rattle.bib_entry.specs.declared.write.Format.{Format}
 
 -- a part that isn't empty, and where it may be cut out
@@ -132,26 +132,26 @@ part_in_order : (text : List ℕ) (at : ℕ) (p : Part) (new : Option (List ℕ)
 part_in_order text at p None more before cut order = edits_earlier text p.end at more (omega (arith, cut.some)) order
 part_in_order text at p (Some new) more before cut order = (before, omega (arith, cut.some), cut.start, cut.end, order)
 
-field_in_order : (text : List ℕ) (at : ℕ) (f : FieldReading) (change : Option Change) (more : List Edit) → at ≤ f.name.start → IsIn text f → IsFieldPlaced text f → AreEditsInOrder text f.value.end more → AreEditsInOrder text at (field_edits text f change ++ more)
+field_in_order : (text : List ℕ) (at : ℕ) (f : FieldReading) (change : Option FieldChange) (more : List Edit) → at ≤ f.name.start → IsIn text f → IsFieldPlaced text f → AreEditsInOrder text f.value.end more → AreEditsInOrder text at (edits_of_field text f change ++ more)
 field_in_order text at f None more before is placed order = edits_earlier text f.value.end at more (omega (arith, is.name.some, is.ordered, is.value)) order
-field_in_order text at f (Some (Change.renamed name)) more before is placed order =
+field_in_order text at f (Some (FieldChange.renamed name)) more before is placed order =
     (before, omega (arith, is.name.some), is.name.start, is.name.end, edits_earlier text f.value.end f.name.end more (omega (arith, is.ordered, is.value)) order)
-field_in_order text at f (Some (Change.divided sides)) more before is placed order =
+field_in_order text at f (Some (FieldChange.divided sides)) more before is placed order =
     let end : ℕ = f.value.start + length (trim_end (value_stretch text f)) in
     (before, omega (arith, is.name.some, is.ordered), is.name.start, run_boundary {u = place text end} {v = place text f.value.end} placed.trimmed placed.placed.end, edits_earlier text f.value.end end more (ahead_run placed.trimmed).at order)
 
 fields_in_order : (format : Format) (e : EntryReading) (text : List ℕ) (at end : ℕ) (fs : List FieldReading) (more : List Edit) → AreFieldsIn text at fs end → AllByRecursion (IsFieldPlaced text) fs → AreEditsInOrder text end more
-    → AreEditsInOrder text at (flat_map (λ f. field_edits text f (field_change format e f)) fs ++ more)
+    → AreEditsInOrder text at (flat_map (λ f. edits_of_field text f (field_change format e f)) fs ++ more)
 fields_in_order format e text at end [] more order all rest = edits_earlier text end at more order rest
 fields_in_order format e text at end (f ∷ fs) more order all rest =
-    let others : List Edit = flat_map (λ g. field_edits text g (field_change format e g)) fs in
-    subst (AreEditsInOrder text at) (sym (append_assoc (field_edits text f (field_change format e f)) others more))
+    let others : List Edit = flat_map (λ g. edits_of_field text g (field_change format e g)) fs in
+    subst (AreEditsInOrder text at) (sym (append_assoc (edits_of_field text f (field_change format e f)) others more))
     (field_in_order text at f (field_change format e f) (others ++ more) order.0 order.1 all.0 (fields_in_order format e text f.value.end end fs more order.2 all.1 rest))
 
-pub edits_in_order : (format : Format) (text : List ℕ) (at : ℕ) (es : List EntryReading) → AreEntriesIn text at es → AllByRecursion (λ e. AllByRecursion (IsFieldPlaced text) e.fields) es → AreEditsInOrder text at (file_edits format text es)
+pub edits_in_order : (format : Format) (text : List ℕ) (at : ℕ) (es : List EntryReading) → AreEntriesIn text at es → AllByRecursion (λ e. AllByRecursion (IsFieldPlaced text) e.fields) es → AreEditsInOrder text at (edits_of_file format text es)
 edits_in_order format text at [] order all = tt
 edits_in_order format text at (e ∷ es) order all =
-    let fields : List Edit = flat_map (λ f. field_edits text f (field_change format e f)) e.fields in
-    let more : List Edit = file_edits format text es in
+    let fields : List Edit = flat_map (λ f. edits_of_field text f (field_change format e f)) e.fields in
+    let more : List Edit = edits_of_file format text es in
     subst (AreEditsInOrder text at) (sym (append_assoc (part_edits e.kind (new_type format e)) fields more))
     (part_in_order text at e.kind (new_type format e) (fields ++ more) order.1 order.2 (fields_in_order format e text e.kind.end order.0 e.fields more order.3 all.0 (edits_in_order format text order.0 es order.4 all.1)))

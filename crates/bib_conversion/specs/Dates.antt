@@ -27,20 +27,20 @@ abbrev pub bare_field : List ℕ → List ℕ → NewField
 bare_field name abbreviation = record { name = name; value = name_value abbreviation }
 
 -- a field as it is written
-abbrev pub written_field : NewField → List ℕ
-written_field n = n.name ++ (codes " = " ++ n.value.bytes)
+abbrev pub new_field_text : NewField → List ℕ
+new_field_text n = n.name ++ (codes " = " ++ n.value.bytes)
 
 -- fields as they are written after another one
-abbrev pub written_more : List NewField → List ℕ
-written_more fields = flat_map (λ n. codes ", " ++ written_field n) fields
+abbrev pub more_field_texts : List NewField → List ℕ
+more_field_texts fields = flat_map (λ n. codes ", " ++ new_field_text n) fields
 
 -- what a field that is put in is read as, but for places
 abbrev pub field_reading : NewField → FieldReading
 field_reading n = record { name = text_at 0 n.name; value = record { pieces = n.value.pieces; start = 0; end = 0 } }
 
--- the numbers of the months, each with the abbreviation that stands for it
-abbrev pub months : List (List ℕ × List ℕ)
-months =
+-- the numbers of the month_abbreviations, each with the abbreviation that stands for it
+abbrev pub month_abbreviations : List (List ℕ × List ℕ)
+month_abbreviations =
     (codes "01", codes "jan") ∷ (codes "02", codes "feb") ∷ (codes "03", codes "mar") ∷ (codes "04", codes "apr") ∷ (codes "05", codes "may") ∷ (codes "06", codes "jun")
     ∷ (codes "07", codes "jul") ∷ (codes "08", codes "aug") ∷ (codes "09", codes "sep") ∷ (codes "10", codes "oct") ∷ (codes "11", codes "nov") ∷ (codes "12", codes "dec") ∷ []
 
@@ -63,8 +63,8 @@ month_side year (Some month) day = Some (record { year = year; month = Some mont
 abbrev pub side_of : List (List ℕ) → Option Side
 side_of [] = None
 side_of (year ∷ []) = if are_digits 4 year then Some (record { year = year; month = None; day = None }) else None
-side_of (year ∷ month ∷ []) = if are_digits 4 year then month_side year (named months month) None else None
-side_of (year ∷ month ∷ day ∷ []) = if are_digits 4 year && are_digits 2 day then month_side year (named months month) (Some day) else None
+side_of (year ∷ month ∷ []) = if are_digits 4 year then month_side year (named month_abbreviations month) None else None
+side_of (year ∷ month ∷ day ∷ []) = if are_digits 4 year && are_digits 2 day then month_side year (named month_abbreviations month) (Some day) else None
 side_of (year ∷ month ∷ day ∷ other ∷ rest) = None
 
 -- the side that the parts of a text between its hyphens are
@@ -129,10 +129,10 @@ abbrev pub more_fields : SideNames → Side → List NewField
 more_fields names side = month_fields names.month side.month ++ day_fields names.day side.day
 
 -- the field of a side's year
-abbrev pub year_field : SideNames → Side → NewField
-year_field names side = braced_field names.year side.year
+abbrev pub side_year : SideNames → Side → NewField
+side_year names side = braced_field names.year side.year
 
 -- the fields of a second side, if there is one
 abbrev pub to_fields : Option Side → List NewField
 to_fields None = []
-to_fields (Some side) = year_field to_names side ∷ more_fields to_names side
+to_fields (Some side) = side_year to_names side ∷ more_fields to_names side

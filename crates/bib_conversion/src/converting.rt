@@ -5,9 +5,9 @@ ghost use Rattle.std.specs.List.{AllByRecursion};
 ghost use Rattle.std.specs.String.{string_bytes};
 ghost use Rattle.bib_syntax.specs.Views.{entry_reading_of, field_of, part_of};
 ghost use Rattle.bib_documents.specs.Placed.{IsPlaced};
-ghost use Rattle.bib_conversion.specs.Conversions.{IsConverted, date_among, entry_edits, field_edits, file_edits, part_edits};
+ghost use Rattle.bib_conversion.specs.Conversions.{IsConverted, date_among, edits_of_entry, edits_of_field, edits_of_file, part_edits};
 ghost use Rattle.bib_conversion.specs.Conversions as spec;
-ghost use Rattle.bib_conversion.specs.Tables.{all_change_edits, change_edits, edit_as_written, lent_names, lent_text};
+ghost use Rattle.bib_conversion.specs.Tables.{all_change_edits, change_edits, edit_in_bytes, lent_names, lent_text};
 
 use crate::dates::written_sides;
 use crate::editing::{Edit, edited_all};
@@ -27,7 +27,7 @@ fn push_part_edit(
     part: &Spanned<&str>,
     other: Option<&str>,
 ) -> Result<(), AllocError>
-    ensures { OnOk result (map edit_as_written edits.new.items ≡ map edit_as_written edits.old.items ++ part_edits (part_of part.now) (lent_text other.entry)) }
+    ensures { OnOk result (map edit_in_bytes edits.new.items ≡ map edit_in_bytes edits.old.items ++ part_edits (part_of part.now) (lent_text other.entry)) }
 {
     let Some(text) = other else {
         return Ok(());
@@ -49,8 +49,8 @@ fn push_date_edit(
     field: &Pair<'_>,
 ) -> Result<(), AllocError>
     requires { IsPlaced text.now (field_of field.now) }
-    ensures { OnOk result (map edit_as_written edits.new.items ≡ map edit_as_written edits.old.items ++
-        field_edits text.now (field_of field.now) (spec.change_of None (date_among divides (field_of field.now)))) }
+    ensures { OnOk result (map edit_in_bytes edits.new.items ≡ map edit_in_bytes edits.old.items ++
+        edits_of_field text.now (field_of field.now) (spec.change_of None (date_among divides (field_of field.now)))) }
 {
     let Some(sides) = exchanged_date(alloc, divides, field)? else {
         return Ok(());
@@ -73,7 +73,7 @@ fn push_field_edit(
     field: &Pair<'_>,
 ) -> Result<(), AllocError>
     requires { IsPlaced text.now (field_of field.now) }
-    ensures { OnOk result (map edit_as_written edits.new.items ≡ map edit_as_written edits.old.items ++ change_edits (lent_names names.now) divides text.now (field_of field.now)) }
+    ensures { OnOk result (map edit_in_bytes edits.new.items ≡ map edit_in_bytes edits.old.items ++ change_edits (lent_names names.now) divides text.now (field_of field.now)) }
 {
     match other_name(names, field.key.v) {
         Some(name) => push_part_edit(edits, alloc, &field.key, Some(name)),
@@ -91,7 +91,7 @@ fn push_field_edits(
     fields: &[Pair<'_>],
 ) -> Result<(), AllocError>
     requires { AllByRecursion (IsPlaced text.now) (map field_of fields.now) }
-    ensures { OnOk result (map edit_as_written edits.new.items ≡ map edit_as_written edits.old.items ++ all_change_edits (lent_names names.now) divides text.now (map field_of fields.now)) }
+    ensures { OnOk result (map edit_in_bytes edits.new.items ≡ map edit_in_bytes edits.old.items ++ all_change_edits (lent_names names.now) divides text.now (map field_of fields.now)) }
 {
     'fields: for field in fields {
         push_field_edit(edits, alloc, text, names, divides, field)?;
@@ -108,7 +108,7 @@ fn push_entry_edits(
     entry: &Spanned<RawEntry<'_>>,
 ) -> Result<(), AllocError>
     requires { AllByRecursion (IsPlaced text.now) (entry_reading_of entry.now).fields }
-    ensures { OnOk result (map edit_as_written edits.new.items ≡ map edit_as_written edits.old.items ++ entry_edits format text.now (entry_reading_of entry.now)) }
+    ensures { OnOk result (map edit_in_bytes edits.new.items ≡ map edit_in_bytes edits.old.items ++ edits_of_entry format text.now (entry_reading_of entry.now)) }
 {
     let kind = EntryType::new(alloc, entry.v.kind.v)?;
     push_part_edit(edits, alloc, &entry.v.kind, other_type(format, &kind))?;
@@ -126,7 +126,7 @@ fn edits(
     entries: &[Spanned<RawEntry<'_>>],
 ) -> Result<Vec<Edit>, AllocError>
     requires { AllByRecursion (λ e. AllByRecursion (IsPlaced text.now) e.fields) (map entry_reading_of entries.now) }
-    ensures { IfOk result (λ made. map edit_as_written made.items ≡ file_edits format text.now (map entry_reading_of entries.now)) }
+    ensures { IfOk result (λ made. map edit_in_bytes made.items ≡ edits_of_file format text.now (map entry_reading_of entries.now)) }
 {
     let mut edits = Vec::new(alloc);
     'entries: for entry in entries {

@@ -10,8 +10,9 @@ ghost use Rattle.bib_dates.specs.Dates.{date_of};
 ghost use Rattle.bib_dates.specs.Readings.{readable_value};
 ghost use Rattle.bib_conversion.specs.Conversions as conversions;
 ghost use Rattle.bib_conversion.specs.Dates as spec;
-ghost use Rattle.bib_conversion.specs.Dates.{bare_field, braced_field, more_fields, months, names_after, written_field, written_more, year_field};
-ghost use Rattle.bib_conversion.specs.Tables.{lent_text, lent_texts, side_as_written, sides_as_written};
+ghost use Rattle.bib_conversion.specs.Dates.{bare_field, braced_field, more_fields, month_abbreviations, names_after, new_field_text, more_field_texts, side_year};
+ghost use Rattle.bib_strings.specs.Collecting.{lent_texts};
+ghost use Rattle.bib_conversion.specs.Tables.{lent_text, side_as_written, sides_as_written};
 
 use bib_chunks::chunk::making::verbatim;
 use bib_dates::date::Date;
@@ -34,7 +35,7 @@ pub(crate) struct Sides<'t> {
 
 // The abbreviation that stands for the month with a number.
 fn month_name(number: &str) -> Option<&'static str>
-    ensures { lent_text result ≡ named months number.now }
+    ensures { lent_text result ≡ named month_abbreviations number.now }
 {
     match number {
         "01" => Some("jan"),
@@ -88,7 +89,7 @@ fn year_side(year: &str) -> Option<Side<'_>>
 
 // The side with a month, if the month has an abbreviation.
 fn month_side<'t>(year: &'t str, month: &str, day: Option<&'t str>) -> Option<Side<'t>>
-    ensures { option_map side_as_written result ≡ spec.month_side year.now (named months month.now) (lent_text day.entry) }
+    ensures { option_map side_as_written result ≡ spec.month_side year.now (named month_abbreviations month.now) (lent_text day.entry) }
 {
     Some(Side {
         year,
@@ -200,7 +201,7 @@ pub(crate) fn date_sides<'t>(alloc: Global, text: &'t str) -> Result<Option<Side
 
 // Adds a field whose value is a text in braces.
 fn push_braced(out: &mut String, prefix: &str, name: &str, text: &str) -> Result<(), AllocError>
-    ensures { OnOk result (string_bytes out.new ≡ string_bytes out.old ++ written_field (braced_field (prefix.now ++ name.now) text.now)) }
+    ensures { OnOk result (string_bytes out.new ≡ string_bytes out.old ++ new_field_text (braced_field (prefix.now ++ name.now) text.now)) }
 {
     out.push_str(prefix)?;
     out.push_str(name)?;
@@ -212,7 +213,7 @@ fn push_braced(out: &mut String, prefix: &str, name: &str, text: &str) -> Result
 
 // Adds the field of a month after another field, if there is a month.
 fn push_month(out: &mut String, prefix: &str, month: Option<&'static str>) -> Result<(), AllocError>
-    ensures { OnOk result (string_bytes out.new ≡ string_bytes out.old ++ written_more (spec.month_fields (prefix.now ++ codes "month") (lent_text month.entry))) }
+    ensures { OnOk result (string_bytes out.new ≡ string_bytes out.old ++ more_field_texts (spec.month_fields (prefix.now ++ codes "month") (lent_text month.entry))) }
 {
     let Some(month) = month else {
         return Ok(());
@@ -226,7 +227,7 @@ fn push_month(out: &mut String, prefix: &str, month: Option<&'static str>) -> Re
 
 // Adds the field of a day after another field, if there is a day.
 fn push_day(out: &mut String, prefix: &str, day: Option<&str>) -> Result<(), AllocError>
-    ensures { OnOk result (string_bytes out.new ≡ string_bytes out.old ++ written_more (spec.day_fields (prefix.now ++ codes "day") (lent_text day.entry))) }
+    ensures { OnOk result (string_bytes out.new ≡ string_bytes out.old ++ more_field_texts (spec.day_fields (prefix.now ++ codes "day") (lent_text day.entry))) }
 {
     let Some(day) = day else {
         return Ok(());
@@ -237,7 +238,7 @@ fn push_day(out: &mut String, prefix: &str, day: Option<&str>) -> Result<(), All
 
 // Adds the fields of a side.
 fn push_side(out: &mut String, prefix: &str, side: &Side<'_>) -> Result<(), AllocError>
-    ensures { OnOk result (string_bytes out.new ≡ string_bytes out.old ++ (written_field (year_field (names_after prefix.now) (side_as_written side.now)) ++ written_more (more_fields (names_after prefix.now) (side_as_written side.now)))) }
+    ensures { OnOk result (string_bytes out.new ≡ string_bytes out.old ++ (new_field_text (side_year (names_after prefix.now) (side_as_written side.now)) ++ more_field_texts (more_fields (names_after prefix.now) (side_as_written side.now)))) }
 {
     push_braced(out, prefix, "year", side.year)?;
     push_month(out, prefix, side.month)?;

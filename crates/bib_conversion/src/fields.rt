@@ -9,7 +9,8 @@ ghost use Rattle.bib_documents.specs.Documents.{has_name, value_stretch};
 ghost use Rattle.bib_documents.specs.Placed.{IsPlaced};
 ghost use Rattle.bib_strings.specs.Collected as values;
 ghost use Rattle.bib_conversion.specs.Conversions as spec;
-ghost use Rattle.bib_conversion.specs.Tables.{lent_text, lent_texts, sides_as_written};
+ghost use Rattle.bib_strings.specs.Collecting.{lent_texts};
+ghost use Rattle.bib_conversion.specs.Tables.{lent_text, sides_as_written};
 
 use crate::dates::{Sides, date_sides};
 use crate::names::has_field;
@@ -43,7 +44,7 @@ fn single_text<'s>(pieces: &[Spanned<RawChunk<'s>>]) -> Option<&'s str>
 
 // Whether one of some fields has one of these names.
 fn has_any(fields: &[Pair<'_>], names: &[&str]) -> bool
-    ensures { result ≡ list_any (spec.has_field (map field_of fields.now)) (lent_texts names.now) }
+    ensures { result ≡ list_any (spec.is_field_there (map field_of fields.now)) (lent_texts names.now) }
 {
     'names: for name in names {
         if has_field(fields, *name) {

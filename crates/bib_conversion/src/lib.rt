@@ -11,3 +11,4 @@ mod dates;
 mod editing;
 mod fields;
 mod names;
+pub mod notes;

@@ -23,7 +23,7 @@ fn kind_in(format: Format, kind: &EntryType) -> EntryType
 
 // Whether a type is none of those that BibTeX and BibLaTeX have.
 fn is_unknown(kind: &EntryType) -> bool
-    ensures { result ≡ spec.is_unknown kind.now }
+    ensures { result ≡ spec.is_unnamed_type kind.now }
 {
     matches!(kind, EntryType::Unknown(_))
 }
@@ -54,7 +54,10 @@ fn bibtex_names(kind: &EntryType) -> &'static [(&'static str, &'static str)]
 }
 
 // The names for which a format has others in entries of a type, each with the other.
-fn other_names(format: Format, kind: &EntryType) -> &'static [(&'static str, &'static str)]
+pub(crate) fn other_names(
+    format: Format,
+    kind: &EntryType,
+) -> &'static [(&'static str, &'static str)]
     ensures { lent_names result.now ≡ spec.other_names format kind.now }
 {
     match format {
@@ -69,7 +72,7 @@ fn other_names(format: Format, kind: &EntryType) -> &'static [(&'static str, &'s
 
 // Whether one of some fields has a name, in any ASCII case.
 pub(crate) fn has_field(fields: &[Pair<'_>], name: &str) -> bool
-    ensures { result ≡ spec.has_field (map field_of fields.now) name.now }
+    ensures { result ≡ spec.is_field_there (map field_of fields.now) name.now }
 {
     'fields: for field in fields {
         if is_word(field.key.v, name) {

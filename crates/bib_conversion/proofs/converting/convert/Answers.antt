@@ -9,8 +9,8 @@ use Rattle.bib_documents.specs.Edits.{edited_all}
 use Rattle.bib_documents.specs.Placed.{IsPlaced}
 use Rattle.bib_documents.specs.Stretches.{AreEditsInOrder}
 use Rattle.bib_strings.proofs.ExpandFacts.{all_placed}
-use Rattle.bib_conversion.specs.Conversions.{file_edits}
-use Rattle.bib_conversion.specs.Tables.{edit_as_written}
+use Rattle.bib_conversion.specs.Conversions.{edits_of_file}
+use Rattle.bib_conversion.specs.Tables.{edit_in_bytes}
 use Rattle.bib_conversion.proofs.ConvertedFacts.{converted_answer, file_edits_in_order}
 use Rattle.bib_conversion.proofs.converting.convert.Goals as goal
 
@@ -23,18 +23,18 @@ edits-requires c =
 pub edited_all-requires : goal.edited_all-requires
 edited_all-requires c =
     let d : Document = c.args.document.now in
-    let edits : map edit_as_written c.deref-2.result.now ≡ file_edits c.args.format d.text d.says.entries =
-    ap (map edit_as_written) c.deref-2.ensures.value ∙ c.in_ok-edits.ensures ∙ ap (λ t. file_edits c.args.format t (map entry_reading_of c.deref.result.now)) c.text-text.ensures
-    ∙ ap (λ es. file_edits c.args.format d.text (map entry_reading_of es)) c.deref.ensures.value ∙ ap (λ f. file_edits c.args.format d.text f.entries) c.raw.ensures.says in
-    subst (λ t. AreEditsInOrder t 0 (map edit_as_written c.deref-2.result.now)) (sym c.text-text.ensures)
+    let edits : map edit_in_bytes c.deref-2.result.now ≡ edits_of_file c.args.format d.text d.says.entries =
+    ap (map edit_in_bytes) c.deref-2.ensures.value ∙ c.in_ok-edits.ensures ∙ ap (λ t. edits_of_file c.args.format t (map entry_reading_of c.deref.result.now)) c.text-text.ensures
+    ∙ ap (λ es. edits_of_file c.args.format d.text (map entry_reading_of es)) c.deref.ensures.value ∙ ap (λ f. edits_of_file c.args.format d.text f.entries) c.raw.ensures.says in
+    subst (λ t. AreEditsInOrder t 0 (map edit_in_bytes c.deref-2.result.now)) (sym c.text-text.ensures)
     (subst (AreEditsInOrder d.text 0) (sym edits) (file_edits_in_order d c.args.format c.raw.ensures.read (subst IsUtf8 c.text-text.ensures c.text-text.utf8)))
 
 pub returns : goal.returns
 returns c =
     let d : Document = c.args.document.now in
-    let edits : map edit_as_written c.deref-2.result.now ≡ file_edits c.args.format d.text d.says.entries =
-    ap (map edit_as_written) c.deref-2.ensures.value ∙ c.in_ok-edits.ensures ∙ ap (λ t. file_edits c.args.format t (map entry_reading_of c.deref.result.now)) c.text-text.ensures
-    ∙ ap (λ es. file_edits c.args.format d.text (map entry_reading_of es)) c.deref.ensures.value ∙ ap (λ f. file_edits c.args.format d.text f.entries) c.raw.ensures.says in
+    let edits : map edit_in_bytes c.deref-2.result.now ≡ edits_of_file c.args.format d.text d.says.entries =
+    ap (map edit_in_bytes) c.deref-2.ensures.value ∙ c.in_ok-edits.ensures ∙ ap (λ t. edits_of_file c.args.format t (map entry_reading_of c.deref.result.now)) c.text-text.ensures
+    ∙ ap (λ es. edits_of_file c.args.format d.text (map entry_reading_of es)) c.deref.ensures.value ∙ ap (λ f. edits_of_file c.args.format d.text f.entries) c.raw.ensures.says in
     converted_answer string_bytes c.edited_all.result d c.args.format c.raw.ensures.read (subst IsUtf8 c.text-text.ensures c.text-text.utf8)
     (subst (λ es. IfOk c.edited_all.result (λ new. string_bytes new ≡ edited_all es d.text)) edits
-    (subst (λ t. IfOk c.edited_all.result (λ new. string_bytes new ≡ edited_all (map edit_as_written c.deref-2.result.now) t)) c.text-text.ensures c.edited_all.ensures))
+    (subst (λ t. IfOk c.edited_all.result (λ new. string_bytes new ≡ edited_all (map edit_in_bytes c.deref-2.result.now) t)) c.text-text.ensures c.edited_all.ensures))

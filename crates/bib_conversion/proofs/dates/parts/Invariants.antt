@@ -1,5 +1,5 @@
 use Rattle.std.proofs.Common.{◌≡◌, map}
-use Rattle.bib_conversion.specs.Tables.{lent_texts}
+use Rattle.bib_strings.specs.Collecting.{lent_texts}
 use Rattle.bib_conversion.proofs.dates.parts.Given as goal
 
 abbrev pub invariant-parts : goal.invariant-parts
