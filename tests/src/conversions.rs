@@ -1,6 +1,8 @@
-//! Reads rows, a format and a text in each line, and prints each with the text in that format's types and names of fields.
+//! Reads rows, a format and a text in each line, and prints each with the text in that format's types and fields. With `notes` before the
+//! format it prints what is to know of fields that stay: the index of the entry, that of the field, and what.
 
 use bib_conversion::converting::convert;
+use bib_conversion::notes::{NoteKind, notes};
 use bib_documents::document::RawDocument;
 use bib_entry::write::Format;
 use std::alloc::{AllocError, Global};
@@ -17,13 +19,38 @@ fn format_named(name: &str) -> Option<Format> {
     }
 }
 
+// A word for what is to know.
+fn word(kind: NoteKind) -> &'static str {
+    match kind {
+        NoteKind::NameIsThere => "name is there",
+        NoteKind::DateStays => "date stays",
+        NoteKind::NotRead => "not read",
+    }
+}
+
+// The notes on a document, one after another.
+fn noted(alloc: Global, document: &RawDocument<'_>, format: Format) -> Result<String, AllocError> {
+    let mut out = String::new(alloc);
+    for note in &notes(alloc, document, format)? {
+        let line = format!(in alloc; "{}.{} {}; ", note.entry, note.field, word(note.kind))?;
+        out.push_str(line.as_str())?;
+    }
+    Ok(out)
+}
+
 impl Calls for Conversions {
     fn answer(alloc: Global, call: &str, text: &str) -> Result<Option<String>, AllocError> {
-        let Some(format) = format_named(call) else {
-            return Ok(None);
-        };
         let Ok(document) = RawDocument::parse(alloc, text) else {
             return Ok(Some(String::from_str(alloc, "no bibliography")?));
+        };
+        if let Some(name) = call.strip_prefix("notes ") {
+            let Some(format) = format_named(name) else {
+                return Ok(None);
+            };
+            return Ok(Some(noted(alloc, &document, format)?));
+        }
+        let Some(format) = format_named(call) else {
+            return Ok(None);
         };
         Ok(Some(convert(alloc, &document, format)?))
     }

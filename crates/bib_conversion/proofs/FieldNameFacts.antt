@@ -4,7 +4,7 @@ use Rattle.std.specs.Prelude.{slice_get}
 use Rattle.std.proofs.lemmas.Str.{len_utf8_bounds}
 use Rattle.bib_text.specs.Places.{Place, place, CharAt}
 use Rattle.bib_text.proofs.PlaceFacts.{ahead_char, ahead_run, ahead_then}
-use Rattle.bib_syntax.specs.Reading.{Part, EntryReading, FieldReading}
+use Rattle.bib_syntax.specs.Reading.{EntryReading, FieldReading}
 use Rattle.bib_syntax.specs.Grammar.{Field, Identifier, longest}
 use Rattle.bib_syntax.proofs.FieldFacts.{ahead_elements, ahead_field, ahead_gap, ahead_identifier}
 use Rattle.bib_syntax.proofs.FileFacts.{ahead_head}

@@ -1,8 +1,8 @@
 -- An entry with another name of its type.
-use Rattle.std.proofs.Common.{◌≡◌, inr, ℕ, ◌+◌, ◌<◌, ◌≤◌, List, length, drop, refl, sym, ap, ◌∙◌, subst, arith, Some}
+use Rattle.std.proofs.Common.{◌≡◌, inr, ℕ, ◌+◌, ◌<◌, ◌≤◌, List, length, drop, sym, ap, ◌∙◌, subst, arith, Some}
 use Rattle.std.specs.Prelude.{slice_get}
 use Rattle.std.proofs.lemmas.Str.{len_utf8_bounds}
-use Rattle.bib_text.specs.Places.{Place, place, CharAt}
+use Rattle.bib_text.specs.Places.{place, CharAt}
 use Rattle.bib_text.proofs.PlaceFacts.{ahead_char, ahead_run, ahead_then}
 use Rattle.bib_syntax.specs.Reading.{Part, EntryReading}
 use Rattle.bib_syntax.specs.Grammar.{BlockKind, Head, Identifier, block_kind, longest}
@@ -10,7 +10,7 @@ use Rattle.bib_syntax.proofs.FieldFacts.{ahead_fields, ahead_gap, ahead_identifi
 use Rattle.bib_documents.specs.Edits.{Edit, edited, moved_place, moved_part, moved_entry}
 use Rattle.bib_documents.specs.Documents.{CanBeName, Document, IsDocument, entry_edited, text_at}
 use Rattle.bib_documents.proofs.EditFacts.{Fits, before_frame, after_frame, moved_before, moved_after, new_bytes, zone_before, zone_after}
-use Rattle.bib_documents.proofs.ZoneFacts.{Inside, char_there, inside, inside_between, longest_there, part_there, there}
+use Rattle.bib_documents.proofs.ZoneFacts.{Inside, char_there, inside, inside_between, longest_there, part_there}
 use Rattle.bib_documents.proofs.GrammarFacts.{below_between, below_char, fields_there, gap_there}
 use Rattle.bib_documents.proofs.SplitFacts.{EntryBlock, ahead_file_before, block_of, split_file}
 use Rattle.bib_documents.proofs.MovedFacts.{char_within}

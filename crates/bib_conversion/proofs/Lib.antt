@@ -1,8 +1,14 @@
+mod ChangeFacts
 mod ConvertedFacts
+mod DateFacts
+mod DateReadFacts
+mod DividedFacts
+mod EntryEditFacts
 mod FieldNameFacts
 mod KindFacts
 mod MadeFacts
 mod NewNameFacts
+mod NoteFacts
 mod PlaceFacts
 mod PutFacts
 mod StandFacts

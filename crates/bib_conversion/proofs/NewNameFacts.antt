@@ -1,5 +1,5 @@
 -- The names that a format has: each can be a name of a type, or of a field.
-use Rattle.std.proofs.Common.{◌≡◌, ℕ, Bool, true, false, cond, List, [], ◌∷◌, refl, sym, ap, ◌∙◌, subst, Option, Some, None}
+use Rattle.std.proofs.Common.{◌≡◌, ℕ, Bool, true, false, cond, List, [], ◌∷◌, refl, subst, Option, Some, None}
 use Rattle.std.specs.Prelude.{bytes_eq, filter, not, ◌||◌}
 use Rattle.std.specs.List.{AllByRecursion}
 use Rattle.bib_syntax.specs.Reading.{EntryReading, FieldReading}
@@ -14,7 +14,7 @@ use Rattle.bib_entry.specs.declared.write.Format.{Format}
 use Rattle.bib_entry.specs.declared.write.Format.TheVariants.{Biblatex, Bibtex}
 use Rattle.bib_strings.specs.Collecting.{is_plain_name}
 use Rattle.bib_strings.proofs.NameFacts.{plain_can}
-use Rattle.bib_conversion.specs.Conversions.{exchanged_names, has_field, is_unknown, new_name, new_type, other_name, other_names}
+use Rattle.bib_conversion.specs.Conversions.{exchanged_names, is_field_there, is_unnamed_type, new_field_name, new_type, other_name, other_names}
 
 -- ---- types
 
@@ -65,7 +65,7 @@ type_case false kind name same =
 pub type_known : (format : Format) (e : EntryReading) (name : List ℕ) → new_type format e ≡ Some name → CanBeName name × (block_kind name ≡ BlockKind.entry)
 type_known format e name is =
     let kind = entry_type_of e.kind.text in
-    type_case (is_unknown kind || bytes_eq (entry_type_name (kind_in format kind)) (entry_type_name kind)) (kind_in format kind) name is
+    type_case (is_unnamed_type kind || bytes_eq (entry_type_name (kind_in format kind)) (entry_type_name kind)) (kind_in format kind) name is
 
 -- ---- names of fields
 
@@ -133,8 +133,8 @@ found_plain : (rows : List (List ℕ × List ℕ)) (text name : List ℕ) → Al
 found_plain [] text name all is = absurd (cc)
 found_plain (row ∷ rows) text name all is = found_case (is_word text row.0) row.1 name (other_name rows text) all.0 (found_plain rows text name all.1) is
 
-pub name_known : (format : Format) (e : EntryReading) (f : FieldReading) (name : List ℕ) → new_name format e f ≡ Some name → CanBeName name
+pub name_known : (format : Format) (e : EntryReading) (f : FieldReading) (name : List ℕ) → new_field_name format e f ≡ Some name → CanBeName name
 name_known format e f name is =
     let kind = entry_type_of e.kind.text in
-    let all = kept_plain (λ row. not (has_field e.fields row.1)) (other_names format kind) (names_plain format kind) in
+    let all = kept_plain (λ row. not (is_field_there e.fields row.1)) (other_names format kind) (names_plain format kind) in
     (plain_can name (found_plain (exchanged_names format e) f.name.text name all is)).0

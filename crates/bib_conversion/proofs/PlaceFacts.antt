@@ -1,10 +1,11 @@
--- Where the names of a file's types and fields stand: one after another, and where each may be cut out.
-use Rattle.std.proofs.Common.{inl, inr, ◌≡◌, ℕ, ◌<◌, ◌≤◌, List, [], ◌∷◌, ◌++◌, sym, ap, ◌∙◌, subst, arith, append_assoc, Option, Some, None}
-use Rattle.std.specs.Str.{IsCharBoundary}
-use Rattle.std.specs.List.{flat_map}
+-- Where the names of types and the fields of a file stand: one after another, and where each may be cut out.
+use Rattle.std.proofs.Common.{inl, inr, ◌≡◌, ℕ, ◌+◌, Bool, length, ◌<◌, ◌≤◌, List, [], ◌∷◌, ◌++◌, sym, ap, ◌∙◌, subst, arith, append_assoc, Option, Some, None}
+use Rattle.std.specs.Str.{IsCharBoundary, trim_end}
+use Rattle.std.specs.List.{AllByRecursion, flat_map}
 use Rattle.std.proofs.lemmas.Str.{len_utf8_bounds}
 use Rattle.std.specs.Char.{is_whitespace}
-use Rattle.bib_text.specs.Places.{Place, CharAt, Run}
+use Rattle.bib_text.specs.Places.{Place, place, CharAt, Run}
+use Rattle.bib_text.specs.Places.Run.{stop, step}
 use Rattle.bib_text.proofs.PlaceFacts.{ahead_char, ahead_run, ahead_then}
 use Rattle.bib_syntax.specs.Reading.{FieldReading, EntryReading, FileReading, Part}
 use Rattle.bib_syntax.specs.Grammar.{Field, Fields, File, Identifier, longest}
@@ -12,12 +13,14 @@ use Rattle.bib_syntax.specs.Grammar.{Fields as fields}
 use Rattle.bib_syntax.specs.Grammar.{File as file}
 use Rattle.bib_syntax.proofs.FieldFacts.{ahead_elements, ahead_field, ahead_gap, ahead_identifier}
 use Rattle.bib_syntax.proofs.FileFacts.{ahead_block, ahead_head, ahead_line_comment}
+use Rattle.bib_documents.specs.Documents.{value_stretch}
 use Rattle.bib_documents.specs.Edits.{Edit}
 use Rattle.bib_documents.specs.Stretches.{AreEditsInOrder}
 use Rattle.bib_documents.proofs.BoundaryFacts.{char_boundary}
 use Rattle.bib_documents.proofs.SplitFacts.{EntryBlock, entry_block, one_entry}
 use Rattle.bib_documents.proofs.ValueFacts.{run_stands}
-use Rattle.bib_conversion.specs.Conversions.{entry_edits, file_edits, new_name, new_type, part_edits}
+use Rattle.bib_strings.proofs.TrimmedFacts.{IsFieldPlaced}
+use Rattle.bib_conversion.specs.Conversions.{FieldChange, field_change, edits_of_field, edits_of_file, new_type, part_edits}
 use Rattle.bib_entry.specs.declared.write.Format.{Format}
 
 -- a part that isn't empty, and where it may be cut out
@@ -26,25 +29,31 @@ pub record IsCut (text : List ℕ) (p : Part) : Type 0 where
   pub start : IsCharBoundary text p.start
   pub end : IsCharBoundary text p.end
 
--- the names of fields, from a place up to another
-abbrev pub AreNamesIn : List ℕ → ℕ → List FieldReading → ℕ → Type 0
-AreNamesIn text at [] end = at ≤ end
-AreNamesIn text at (f ∷ fs) end = (at ≤ f.name.start) × IsCut text f.name × (f.name.end ≤ f.value.end) × AreNamesIn text f.value.end fs end
+-- a field, its name before its value
+pub record IsIn (text : List ℕ) (f : FieldReading) : Type 0 where
+  pub name : IsCut text f.name
+  pub ordered : f.name.end ≤ f.value.start
+  pub value : f.value.start ≤ f.value.end
 
--- the names of entries' types and fields, from a place on
+-- fields, from a place up to another
+abbrev pub AreFieldsIn : List ℕ → ℕ → List FieldReading → ℕ → Type 0
+AreFieldsIn text at [] end = at ≤ end
+AreFieldsIn text at (f ∷ fs) end = (at ≤ f.name.start) × IsIn text f × AreFieldsIn text f.value.end fs end
+
+-- the names of entries' types, and their fields, from a place on
 abbrev pub AreEntriesIn : List ℕ → ℕ → List EntryReading → Type 0
 AreEntriesIn text at [] = Unit {0}
-AreEntriesIn text at (e ∷ es) = (mid : ℕ) × (at ≤ e.kind.start) × IsCut text e.kind × AreNamesIn text e.kind.end e.fields mid × AreEntriesIn text mid es
+AreEntriesIn text at (e ∷ es) = (mid : ℕ) × (at ≤ e.kind.start) × IsCut text e.kind × AreFieldsIn text e.kind.end e.fields mid × AreEntriesIn text mid es
 
 -- ---- in a file
 
-earlier : (text : List ℕ) (at less end : ℕ) (fs : List FieldReading) → less ≤ at → AreNamesIn text at fs end → AreNamesIn text less fs end
+earlier : (text : List ℕ) (at less end : ℕ) (fs : List FieldReading) → less ≤ at → AreFieldsIn text at fs end → AreFieldsIn text less fs end
 earlier text at less end [] small order = omega arith
-earlier text at less end (f ∷ fs) small order = (omega (arith, order.0), order.1, order.2, order.3)
+earlier text at less end (f ∷ fs) small order = (omega (arith, order.0), order.1, order.2)
 
-later : (text : List ℕ) (at mid end : ℕ) (fs : List FieldReading) → mid ≤ end → AreNamesIn text at fs mid → AreNamesIn text at fs end
+later : (text : List ℕ) (at mid end : ℕ) (fs : List FieldReading) → mid ≤ end → AreFieldsIn text at fs mid → AreFieldsIn text at fs end
 later text at mid end [] small order = omega arith
-later text at mid end (f ∷ fs) small order = (order.0, order.1, order.2, later text f.value.end mid end fs small order.3)
+later text at mid end (f ∷ fs) small order = (order.0, order.1, later text f.value.end mid end fs small order.2)
 
 entries_earlier : (text : List ℕ) (at less : ℕ) (es : List EntryReading) → less ≤ at → AreEntriesIn text at es → AreEntriesIn text less es
 entries_earlier text at less [] small order = tt
@@ -60,32 +69,38 @@ name_cut text {u} {v} {w} {x} {p} same i white char =
       end = subst (λ n. IsCharBoundary text n) (sym end_is) (subst (λ t. IsCharBoundary t v.at) ((ahead_identifier i).text ∙ same) (char_boundary (run_stands white char).here));
     }
 
-field_in : (text : List ℕ) {u v : Place} {f : FieldReading} → u.text ≡ text → Field longest u f v → (u.at ≤ f.name.start) × IsCut text f.name × (f.name.end ≤ f.value.end) × (f.value.end ≤ v.at)
+field_in : (text : List ℕ) {u v : Place} {f : FieldReading} → u.text ≡ text → Field longest u f v → (u.at ≤ f.name.start) × IsIn text f × (f.value.end ≤ v.at)
 field_in text same field =
-    let to_end = ahead_then (ahead_run field.white.run) (ahead_then (ahead_char field.sign) (ahead_then (ahead_run field.white'.run) (ahead_elements field.elements))) in
-    (omega (arith, ap (λ p. p.start) field.name.reading), name_cut text same field.name field.white.run field.sign, omega (arith, ap (λ p. p.end) field.name.reading, to_end.at, field.ends), omega (arith, field.ends))
+    let to_value = ahead_then (ahead_run field.white.run) (ahead_then (ahead_char field.sign) (ahead_run field.white'.run)) in (
+      omega (arith, ap (λ p. p.start) field.name.reading),
+      record {
+        name = name_cut text same field.name field.white.run field.sign;
+        ordered = omega (arith, ap (λ p. p.end) field.name.reading, to_value.at, field.starts);
+        value = omega (arith, field.starts, (ahead_elements field.elements).at, field.ends);
+      },
+      omega (arith, field.ends),
+    )
 
-names_in : (text : List ℕ) {u v : Place} {fs : List FieldReading} → u.text ≡ text → Fields longest u fs v → AreNamesIn text u.at fs v.at
-names_in text same (fields.none white) = (ahead_run white.run).at
-names_in text {u} {v} same (fields.last field gap) =
+fields_in : (text : List ℕ) {u v : Place} {fs : List FieldReading} → u.text ≡ text → Fields longest u fs v → AreFieldsIn text u.at fs v.at
+fields_in text same (fields.none white) = (ahead_run white.run).at
+fields_in text {u} {v} same (fields.last field gap) =
     let here = field_in text same field in
-    (here.0, here.1, here.2, omega (arith, here.3, (ahead_gap gap).at))
-names_in text {u} {v} same (fields.more {y = start} {f = f} {fs = fs} field gap comma gap' rest) =
+    (here.0, here.1, omega (arith, here.2, (ahead_gap gap).at))
+fields_in text {u} {v} same (fields.more {y = start} {f = f} {fs = fs} field gap comma gap' rest) =
     let here = field_in text same field in
     let between = ahead_then (ahead_gap gap) (ahead_then (ahead_char comma) (ahead_gap gap')) in
-    (here.0, here.1, here.2, earlier text start.at f.value.end v.at fs (omega (arith, here.3, between.at)) (names_in text (between.text ∙ (ahead_field field).text ∙ same) rest))
+    (here.0, here.1, earlier text start.at f.value.end v.at fs (omega (arith, here.2, between.at)) (fields_in text (between.text ∙ (ahead_field field).text ∙ same) rest))
 
-entry_in : (text : List ℕ) {u v : Place} {e : EntryReading} → u.text ≡ text → EntryBlock u e v → (u.at ≤ e.kind.start) × IsCut text e.kind × AreNamesIn text e.kind.end e.fields v.at
+entry_in : (text : List ℕ) {u v : Place} {e : EntryReading} → u.text ≡ text → EntryBlock u e v → (u.at ≤ e.kind.start) × IsCut text e.kind × AreFieldsIn text e.kind.end e.fields v.at
 entry_in text {u} {v} {e} same b =
     let h = b.head in
     let from_white = ahead_then (ahead_run h.white.run) (ahead_then (ahead_char h.opens) (ahead_run h.white'.run)) in
     let to_fields = ahead_then (ahead_run b.key.run) (ahead_then (ahead_run b.white.run) (ahead_then (ahead_char b.comma) (ahead_gap b.gap))) in
     let at_fields = ahead_then (ahead_head h) to_fields in
-    let end_is = ap (λ p. p.end) h.name.reading in
-    (
+    let end_is = ap (λ p. p.end) h.name.reading in (
       omega (arith, ap (λ p. p.start) h.name.reading, (ahead_char h.sign).at),
       name_cut text ((ahead_char h.sign).text ∙ same) h.name h.white.run h.opens,
-      later text e.kind.end b.brace.at v.at e.fields (ahead_char b.closes).at (earlier text b.fields_start.at e.kind.end b.brace.at e.fields (omega (arith, end_is, from_white.at, to_fields.at)) (names_in text (at_fields.text ∙ same) b.fields)),
+      later text e.kind.end b.brace.at v.at e.fields (ahead_char b.closes).at (earlier text b.fields_start.at e.kind.end b.brace.at e.fields (omega (arith, end_is, from_white.at, to_fields.at)) (fields_in text (at_fields.text ∙ same) b.fields)),
     )
 
 pub file_in : (text : List ℕ) {u : Place} {says : FileReading} → u.text ≡ text → File longest u says → AreEntriesIn text u.at says.entries
@@ -105,6 +120,10 @@ file_in text {u} same (file.block {v = v} {first = first} {rest = rest} b x) =
 
 -- ---- the edits stand one after another
 
+run_boundary : {test : ℕ → Bool} {u v : Place} → Run test u v → IsCharBoundary v.text v.at → IsCharBoundary u.text u.at
+run_boundary stop boundary = boundary
+run_boundary (step char passes rest) boundary = char_boundary char
+
 edits_earlier : (text : List ℕ) (at less : ℕ) (edits : List Edit) → less ≤ at → AreEditsInOrder text at edits → AreEditsInOrder text less edits
 edits_earlier text at less [] small order = tt
 edits_earlier text at less (edit ∷ edits) small order = (omega (arith, order.0), order.1, order.2, order.3, order.4)
@@ -113,16 +132,26 @@ part_in_order : (text : List ℕ) (at : ℕ) (p : Part) (new : Option (List ℕ)
 part_in_order text at p None more before cut order = edits_earlier text p.end at more (omega (arith, cut.some)) order
 part_in_order text at p (Some new) more before cut order = (before, omega (arith, cut.some), cut.start, cut.end, order)
 
-names_in_order : (format : Format) (e : EntryReading) (text : List ℕ) (at end : ℕ) (fs : List FieldReading) (more : List Edit) → AreNamesIn text at fs end → AreEditsInOrder text end more → AreEditsInOrder text at (flat_map (λ f. part_edits f.name (new_name format e f)) fs ++ more)
-names_in_order format e text at end [] more order rest = edits_earlier text end at more order rest
-names_in_order format e text at end (f ∷ fs) more order rest =
-    let others : List Edit = flat_map (λ g. part_edits g.name (new_name format e g)) fs in
-    subst (AreEditsInOrder text at) (sym (append_assoc (part_edits f.name (new_name format e f)) others more))
-    (part_in_order text at f.name (new_name format e f) (others ++ more) order.0 order.1 (edits_earlier text f.value.end f.name.end (others ++ more) order.2 (names_in_order format e text f.value.end end fs more order.3 rest)))
+field_in_order : (text : List ℕ) (at : ℕ) (f : FieldReading) (change : Option FieldChange) (more : List Edit) → at ≤ f.name.start → IsIn text f → IsFieldPlaced text f → AreEditsInOrder text f.value.end more → AreEditsInOrder text at (edits_of_field text f change ++ more)
+field_in_order text at f None more before is placed order = edits_earlier text f.value.end at more (omega (arith, is.name.some, is.ordered, is.value)) order
+field_in_order text at f (Some (FieldChange.renamed name)) more before is placed order =
+    (before, omega (arith, is.name.some), is.name.start, is.name.end, edits_earlier text f.value.end f.name.end more (omega (arith, is.ordered, is.value)) order)
+field_in_order text at f (Some (FieldChange.divided sides)) more before is placed order =
+    let end : ℕ = f.value.start + length (trim_end (value_stretch text f)) in
+    (before, omega (arith, is.name.some, is.ordered), is.name.start, run_boundary {u = place text end} {v = place text f.value.end} placed.trimmed placed.placed.end, edits_earlier text f.value.end end more (ahead_run placed.trimmed).at order)
 
-pub edits_in_order : (format : Format) (text : List ℕ) (at : ℕ) (es : List EntryReading) → AreEntriesIn text at es → AreEditsInOrder text at (file_edits format es)
-edits_in_order format text at [] order = tt
-edits_in_order format text at (e ∷ es) order =
-    let names : List Edit = flat_map (λ f. part_edits f.name (new_name format e f)) e.fields in
-    subst (AreEditsInOrder text at) (sym (append_assoc (part_edits e.kind (new_type format e)) names (file_edits format es)))
-    (part_in_order text at e.kind (new_type format e) (names ++ file_edits format es) order.1 order.2 (names_in_order format e text e.kind.end order.0 e.fields (file_edits format es) order.3 (edits_in_order format text order.0 es order.4)))
+fields_in_order : (format : Format) (e : EntryReading) (text : List ℕ) (at end : ℕ) (fs : List FieldReading) (more : List Edit) → AreFieldsIn text at fs end → AllByRecursion (IsFieldPlaced text) fs → AreEditsInOrder text end more
+    → AreEditsInOrder text at (flat_map (λ f. edits_of_field text f (field_change format e f)) fs ++ more)
+fields_in_order format e text at end [] more order all rest = edits_earlier text end at more order rest
+fields_in_order format e text at end (f ∷ fs) more order all rest =
+    let others : List Edit = flat_map (λ g. edits_of_field text g (field_change format e g)) fs in
+    subst (AreEditsInOrder text at) (sym (append_assoc (edits_of_field text f (field_change format e f)) others more))
+    (field_in_order text at f (field_change format e f) (others ++ more) order.0 order.1 all.0 (fields_in_order format e text f.value.end end fs more order.2 all.1 rest))
+
+pub edits_in_order : (format : Format) (text : List ℕ) (at : ℕ) (es : List EntryReading) → AreEntriesIn text at es → AllByRecursion (λ e. AllByRecursion (IsFieldPlaced text) e.fields) es → AreEditsInOrder text at (edits_of_file format text es)
+edits_in_order format text at [] order all = tt
+edits_in_order format text at (e ∷ es) order all =
+    let fields : List Edit = flat_map (λ f. edits_of_field text f (field_change format e f)) e.fields in
+    let more : List Edit = edits_of_file format text es in
+    subst (AreEditsInOrder text at) (sym (append_assoc (part_edits e.kind (new_type format e)) fields more))
+    (part_in_order text at e.kind (new_type format e) (fields ++ more) order.1 order.2 (fields_in_order format e text e.kind.end order.0 e.fields more order.3 all.0 (edits_in_order format text order.0 es order.4 all.1)))

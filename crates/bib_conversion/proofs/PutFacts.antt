@@ -2,7 +2,6 @@
 use Rattle.std.proofs.Common.{◌≡◌, inr, ℕ, zero, suc, ◌+◌, ◌<◌, ◌≤◌, true, false, List, [], ◌∷◌, ◌++◌, length, map, refl, sym, ap, ◌∙◌, subst, arith, append_assoc}
 use Rattle.std.specs.Prelude.{◌==◌}
 use Rattle.std.specs.Char.{is_whitespace}
-use Rattle.std.proofs.lemmas.List.{map-append}
 use Rattle.std.proofs.lemmas.Bool.{ne_eqb}
 use Rattle.std.proofs.lemmas.Str.{len_utf8_bounds}
 use Rattle.bib_text.specs.Places.{Place, place, CharAt, Stops}
@@ -10,7 +9,7 @@ use Rattle.bib_text.proofs.PlaceFacts.{ahead_char, ahead_run, ahead_then, stops_
 use Rattle.bib_syntax.specs.Characters.{is_id_start}
 use Rattle.bib_syntax.specs.Reading.{EntryReading, FieldReading}
 use Rattle.bib_syntax.specs.Grammar.{Field, Fields, Gap, longest}
-use Rattle.bib_syntax.proofs.FieldFacts.{ahead_elements, ahead_field, ahead_gap}
+use Rattle.bib_syntax.proofs.FieldFacts.{ahead_field, ahead_gap}
 use Rattle.bib_syntax.proofs.FileFacts.{ahead_head}
 use Rattle.bib_syntax.proofs.LawFacts.{start_not_white}
 use Rattle.bib_documents.specs.Edits.{Edit, edited, moved_place, moved_entry, moved_field, moved_part}
@@ -63,7 +62,7 @@ before_append : {u v w : Place} {fs gs : List FieldReading} → FieldsBefore u f
 before_append FieldsBefore.none others = others
 before_append (FieldsBefore.more field gap comma gap' first) others = FieldsBefore.more field gap comma gap' (before_append first others)
 
-start_plain : (c : ℕ) → is_id_start c ≡ true → (c == 37) ≡ false
+pub start_plain : (c : ℕ) → is_id_start c ≡ true → (c == 37) ≡ false
 start_plain c starts = ne_eqb c 37 (λ same. test_clash (is_id_start 37) (subst (λ x. is_id_start x ≡ true) same starts) refl)
 
 -- ---- the fields before them, in the new text

@@ -1,2 +1,5 @@
 pub mod Conversions
+pub mod Dates
+pub mod Notes
+pub mod Rules
 pub mod Tables

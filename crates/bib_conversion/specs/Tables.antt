@@ -1,15 +1,42 @@
 -- Machinery: words of private contracts.
--- Names and edits, as the code has them.
-use Rattle.std.specs.Prelude.{ℕ, List, map}
+-- Names, dates and edits, as the code has them.
+use Rattle.std.specs.Prelude.{ℕ, Bool, List, map, Option}
 use Rattle.std.specs.Borrow.{Bor}
+use Rattle.std.specs.List.{flat_map}
+use Rattle.std.specs.Option.{option_map}
 use Rattle.std.specs.String.{string_bytes}
+use Rattle.bib_syntax.specs.Reading.{FieldReading}
 use Rattle.bib_documents.specs.Edits as edits
+use Rattle.bib_conversion.specs.Conversions.{change_of, date_among, edits_of_field, other_name}
+use Rattle.bib_conversion.specs.Dates as dates
+use Rattle.bib_conversion.specs.declared.dates.Side.{Side}
+use Rattle.bib_conversion.specs.declared.dates.Sides.{Sides}
 use Rattle.bib_conversion.specs.declared.editing.Edit.{Edit}
 
 -- an edit, by the bytes of its text
-abbrev pub edit_as_written : Edit → edits.Edit
-edit_as_written e = record { start = e.start; end = e.end; bytes = string_bytes e.text }
+abbrev pub edit_in_bytes : Edit → edits.Edit
+edit_in_bytes e = record { start = e.start; end = e.end; bytes = string_bytes e.text }
 
 -- names beside others, by their bytes
 abbrev pub lent_names : List (Bor (List ℕ) × Bor (List ℕ)) → List (List ℕ × List ℕ)
 lent_names rows = map (λ row. (row.0.now, row.1.now)) rows
+
+-- a text, by its bytes, if there is one
+abbrev pub lent_text : Option (Bor (List ℕ)) → Option (List ℕ)
+lent_text text = option_map (λ t. t.now) text
+
+-- a side of a date, by the bytes of its parts
+abbrev pub side_as_written : Side → dates.Side
+side_as_written side = record { year = side.year.now; month = lent_text side.month; day = lent_text side.day }
+
+-- both sides, by the bytes of their parts
+abbrev pub sides_as_written : Sides → dates.Sides
+sides_as_written sides = record { from = side_as_written sides.from; to = option_map side_as_written sides.to }
+
+-- the edits of a field, by the names of its entry's fields that give way, and whether the entry's date does
+abbrev pub change_edits : List (List ℕ × List ℕ) → Bool → List ℕ → FieldReading → List edits.Edit
+change_edits names divides text f = edits_of_field text f (change_of (other_name names f.name.text) (date_among divides f))
+
+-- those of some fields
+abbrev pub all_change_edits : List (List ℕ × List ℕ) → Bool → List ℕ → List FieldReading → List edits.Edit
+all_change_edits names divides text fields = flat_map (change_edits names divides text) fields

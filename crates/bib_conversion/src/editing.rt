@@ -4,7 +4,7 @@ ghost use Rattle.std.specs.Prelude.{◌≡◌, IfOk, map};
 ghost use Rattle.std.specs.String.{string_bytes};
 ghost use Rattle.bib_documents.specs.Edits as spec;
 ghost use Rattle.bib_documents.specs.Stretches.{AreEditsInOrder};
-ghost use Rattle.bib_conversion.specs.Tables.{edit_as_written};
+ghost use Rattle.bib_conversion.specs.Tables.{edit_in_bytes};
 
 use std::alloc::{AllocError, Global};
 
@@ -18,8 +18,8 @@ pub(crate) struct Edit {
 
 // The text with each of these edits made.
 pub(crate) fn edited_all(alloc: Global, text: &str, edits: &[Edit]) -> Result<String, AllocError>
-    requires { AreEditsInOrder text.now 0 (map edit_as_written edits.now) }
-    ensures { IfOk result (λ new. string_bytes new ≡ spec.edited_all (map edit_as_written edits.now) text.now) }
+    requires { AreEditsInOrder text.now 0 (map edit_in_bytes edits.now) }
+    ensures { IfOk result (λ new. string_bytes new ≡ spec.edited_all (map edit_in_bytes edits.now) text.now) }
 {
     let mut new = String::new(alloc);
     let mut at = 0usize;

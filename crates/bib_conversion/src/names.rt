@@ -1,11 +1,10 @@
 //! The names of types and fields for which a format has others.
 
 ghost use Rattle.std.specs.Prelude.{◌≡◌, IfOk, map};
-ghost use Rattle.std.specs.Option.{option_map};
 ghost use Rattle.bib_syntax.specs.Views.{field_of};
 ghost use Rattle.bib_entry.specs.Format.{kind_in};
 ghost use Rattle.bib_conversion.specs.Conversions as spec;
-ghost use Rattle.bib_conversion.specs.Tables.{lent_names};
+ghost use Rattle.bib_conversion.specs.Tables.{lent_names, lent_text};
 
 use bib_entry::write::Format;
 use bib_entry_types::mechanics::EntryType;
@@ -24,14 +23,14 @@ fn kind_in(format: Format, kind: &EntryType) -> EntryType
 
 // Whether a type is none of those that BibTeX and BibLaTeX have.
 fn is_unknown(kind: &EntryType) -> bool
-    ensures { result ≡ spec.is_unknown kind.now }
+    ensures { result ≡ spec.is_unnamed_type kind.now }
 {
     matches!(kind, EntryType::Unknown(_))
 }
 
 // The name of the type that a format has for a type, if that is another one; a type that neither has stays.
 pub(crate) fn other_type(format: Format, kind: &EntryType) -> Option<&'static str>
-    ensures { option_map (λ t. t.now) result ≡ spec.other_type format kind.now }
+    ensures { lent_text result ≡ spec.other_type format kind.now }
 {
     let other = kind_in(format, kind);
     if is_unknown(kind) || other.name() == kind.name() {
@@ -55,7 +54,10 @@ fn bibtex_names(kind: &EntryType) -> &'static [(&'static str, &'static str)]
 }
 
 // The names for which a format has others in entries of a type, each with the other.
-fn other_names(format: Format, kind: &EntryType) -> &'static [(&'static str, &'static str)]
+pub(crate) fn other_names(
+    format: Format,
+    kind: &EntryType,
+) -> &'static [(&'static str, &'static str)]
     ensures { lent_names result.now ≡ spec.other_names format kind.now }
 {
     match format {
@@ -69,8 +71,8 @@ fn other_names(format: Format, kind: &EntryType) -> &'static [(&'static str, &'s
 }
 
 // Whether one of some fields has a name, in any ASCII case.
-fn has_field(fields: &[Pair<'_>], name: &str) -> bool
-    ensures { result ≡ spec.has_field (map field_of fields.now) name.now }
+pub(crate) fn has_field(fields: &[Pair<'_>], name: &str) -> bool
+    ensures { result ≡ spec.is_field_there (map field_of fields.now) name.now }
 {
     'fields: for field in fields {
         if is_word(field.key.v, name) {
@@ -100,11 +102,8 @@ pub(crate) fn exchanged_names(
 }
 
 // The other name beside a name, in any ASCII case.
-pub(crate) fn other_name(
-    names: &[(&'static str, &'static str)],
-    name: &str,
-) -> Option<&'static str>
-    ensures { option_map (λ t. t.now) result ≡ spec.other_name (lent_names names.now) name.now }
+pub(crate) fn other_name(names: &[(&'static str, &'static str)], name: &str) -> Option<&'static str>
+    ensures { lent_text result ≡ spec.other_name (lent_names names.now) name.now }
 {
     'rows: for row in names {
         if is_word(name, row.0) {

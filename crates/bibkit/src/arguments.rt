@@ -2,6 +2,7 @@
 
 use crate::commands::{command, is_editing};
 use crate::edits::{Editing, Edits, Mode};
+use bib_entry::write;
 use bib_excerpts::request::{Request as Excerpts, Search};
 use bib_findings::codes::Code;
 use bibkit_convert::target::Target;
@@ -36,8 +37,8 @@ pub enum Asked<'a> {
     },
     /// The entries of files in another format.
     Convert(Target),
-    /// The files with this edit made of each.
-    Rewrite(Edit<'a>),
+    /// The files with the types and fields of a format.
+    Rewrite(write::Format),
     /// Something else.
     Other(Request<'a>),
 }
@@ -263,8 +264,8 @@ fn format_asked<'a>(alloc: Global, matches: &ArgMatches<'a>) -> Result<Asked<'a>
 // What `convert` was asked for.
 fn convert_asked<'a>(matches: &ArgMatches<'a>) -> Asked<'a> {
     match matches.get_str("to") {
-        Some("biblatex") => Asked::Rewrite(Edit::ToBiblatex),
-        Some("bibtex") => Asked::Rewrite(Edit::ToBibtex),
+        Some("biblatex") => Asked::Rewrite(write::Format::Biblatex),
+        Some("bibtex") => Asked::Rewrite(write::Format::Bibtex),
         Some("json") => Asked::Convert(Target::Json),
         Some("ris") => Asked::Convert(Target::Ris),
         _ => Asked::Convert(Target::Csl),

@@ -1,15 +1,21 @@
 //! The command that converts files.
 
-use crate::edits::{Editing, Edits, Mode, run_edits};
+use crate::edits::{after_mark, print};
 use crate::stops::{Stop, bytes_of, error_line, say};
 use crate::streams::Output;
+use bib_conversion::notes::{NoteKind, notes};
+use bib_documents::document::RawDocument;
 use bib_encoding::decoding::decode;
+use bib_entry::write::Format;
+use bib_lines::positions::Positions;
+use bib_syntax::raw::Pair;
 use bibkit_convert::converting::{ConvertError, print_converted};
 use bibkit_convert::target::Target;
 use bibkit_edits::edit::Edit;
 use biblatex::{ParseError, Sink};
 use std::alloc::{AllocError, Global};
 use std::io;
+use std::str::from_utf8;
 
 // The output can't be written.
 fn not_taken(alloc: Global) -> Result<Stop, AllocError> {
@@ -129,26 +135,76 @@ pub fn run_convert(rt: &HostRuntime, target: Target, names: &[&str]) -> u8 {
     }
 }
 
-// Prints a file with an edit made of it, and answers the status.
-fn rewrite_file(rt: &HostRuntime, edit: Edit<'_>, name: &str) -> u8 {
-    match vec![in rt.alloc(); edit] {
-        Ok(edits) => run_edits(
-            rt,
-            &Editing {
-                edits: Edits::These(edits),
-                name,
-                mode: Mode::Print,
-            },
-        ),
-        Err(error) => say(rt, &Stop::from(error)),
+// The edit that gives a file the types and fields of a format.
+fn edit_of<'a>(format: Format) -> Edit<'a> {
+    match format {
+        Format::Biblatex => Edit::ToBiblatex,
+        Format::Bibtex => Edit::ToBibtex,
     }
 }
 
-/// Prints files with an edit made of each, one after another, and answers the greatest status.
-pub fn run_rewrite(rt: &HostRuntime, edit: Edit<'_>, names: &[&str]) -> u8 {
+// What is to know of a field that stays.
+fn note_text(kind: NoteKind) -> &'static str {
+    match kind {
+        NoteKind::NameIsThere => "stays, since the entry has the field that takes its place",
+        NoteKind::DateStays => "stays, since it isn't one date, or a field for its parts is there",
+        NoteKind::NotRead => "stays, though no standard style of BibTeX reads it",
+    }
+}
+
+// The line of a note on a field.
+fn note_line(
+    alloc: Global,
+    name: &str,
+    positions: &Positions<'_>,
+    field: &Pair<'_>,
+    kind: NoteKind,
+) -> Result<String, AllocError> {
+    let position = positions.position(field.key.span.start);
+    format!(in alloc;
+        "{name}:{}:{}: note: {} {}\n",
+        position.line, position.column, field.key.v, note_text(kind)
+    )
+}
+
+// Says what is to know of the fields of a document that stay.
+fn say_notes(
+    rt: &HostRuntime,
+    format: Format,
+    name: &str,
+    document: &RawDocument<'_>,
+) -> Result<(), AllocError> {
+    let positions = Positions::of(document.text());
+    'notes: for note in notes(rt.alloc(), document, format)? {
+        if let Some(entry) = document.raw().entries.get(note.entry) {
+            if let Some(field) = entry.v.fields.get(note.field) {
+                let line = note_line(rt.alloc(), name, &positions, field, note.kind)?;
+                let _ = eprint!(rt; "{line}");
+            }
+        }
+    }
+    Ok(())
+}
+
+// Prints a file with the types and fields of a format, and says what is to know of fields that stay.
+fn rewrite_file(rt: &HostRuntime, format: Format, name: &str) -> Result<(), Stop> {
+    let bytes = bytes_of(rt, name)?;
+    print(rt, name, &bytes, &[edit_of(format)])?;
+    if let Ok(text) = from_utf8(after_mark(&bytes)) {
+        if let Ok(document) = RawDocument::parse(rt.alloc(), text) {
+            say_notes(rt, format, name, &document)?;
+        }
+    }
+    Ok(())
+}
+
+/// Prints files with the types and fields of a format, one after another, and answers the greatest status.
+pub fn run_rewrite(rt: &HostRuntime, format: Format, names: &[&str]) -> u8 {
     let mut status = 0;
     'names: for name in names {
-        status = rewrite_file(rt, edit, name).max(status);
+        if let Err(stop) = rewrite_file(rt, format, name) {
+            status = say(rt, &stop).max(status);
+        }
     }
     status
 }

@@ -75,8 +75,8 @@ fn check(alloc: Global, editing: &Editing<'_>) -> Result<(), Stop> {
     }
 }
 
-// The bytes of a file after its byte order mark.
-fn after_mark(bytes: &[u8]) -> &[u8] {
+/// The bytes of a file after its byte order mark.
+pub fn after_mark(bytes: &[u8]) -> &[u8] {
     match bytes.strip_prefix(b"\xEF\xBB\xBF") {
         Some(rest) => rest,
         None => bytes,
@@ -237,8 +237,8 @@ fn write(rt: &HostRuntime, name: &str, text: &str) -> Result<(), Stop> {
     }
 }
 
-// Prints what edits make of a file's bytes.
-fn print(rt: &HostRuntime, name: &str, bytes: &[u8], edits: &[Edit<'_>]) -> Result<(), Stop> {
+/// Prints what edits make of a file's bytes.
+pub fn print(rt: &HostRuntime, name: &str, bytes: &[u8], edits: &[Edit<'_>]) -> Result<(), Stop> {
     let mut output = Output::new(io::writer(rt));
     match print_edited(rt.alloc(), bytes, edits, &mut output) {
         Ok(()) => Ok(()),

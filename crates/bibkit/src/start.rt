@@ -161,7 +161,7 @@ fn answer(rt: &HostRuntime, words: Words<'_>) -> u8 {
             mode,
         } => run_style(rt, settings, order, mode, &names),
         Asked::Convert(target) => run_convert(rt, target, &names),
-        Asked::Rewrite(edit) => run_rewrite(rt, edit, &names),
+        Asked::Rewrite(format) => run_rewrite(rt, format, &names),
         Asked::Other(request) => run_request(rt, request, names),
     }
 }

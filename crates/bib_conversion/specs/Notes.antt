@@ -1,0 +1,64 @@
+-- Meaning: words of public contracts.
+-- What is to know of a file's fields that don't give way to those of a format.
+use Rattle.std.specs.Prelude.{ℕ, suc, Bool, if◌then◌else◌, List, [], ◌∷◌, ◌++◌, codes, Option, Some, None}
+use Rattle.std.specs.List.{list_any}
+use Rattle.bib_syntax.specs.Grammar.{is_word}
+use Rattle.bib_syntax.specs.Reading.{EntryReading, FieldReading, FileReading}
+use Rattle.bib_entry_types.specs.EntryType.{entry_type_of}
+use Rattle.bib_entry.specs.declared.write.Format.{Format}
+use Rattle.bib_entry.specs.declared.write.Format.TheVariants.{Biblatex, Bibtex}
+use Rattle.bib_documents.specs.Documents.{has_name}
+use Rattle.bib_conversion.specs.Conversions.{FieldChange, field_change, other_name, other_names}
+use Rattle.bib_conversion.specs.declared.notes.Note.{Note}
+use Rattle.bib_conversion.specs.declared.notes.NoteKind.{NoteKind}
+use Rattle.bib_conversion.specs.declared.notes.NoteKind.TheVariants.{DateStays, NameIsThere, NotRead}
+
+-- the fields that the standard styles of BibTeX read
+abbrev pub bibtex_fields : List (List ℕ)
+bibtex_fields =
+    codes "address" ∷ codes "author" ∷ codes "booktitle" ∷ codes "chapter" ∷ codes "crossref" ∷ codes "edition" ∷ codes "editor" ∷ codes "howpublished" ∷ codes "institution" ∷ codes "journal" ∷ codes "key" ∷ codes "month"
+    ∷ codes "note" ∷ codes "number" ∷ codes "organization" ∷ codes "pages" ∷ codes "publisher" ∷ codes "school" ∷ codes "series" ∷ codes "title" ∷ codes "type" ∷ codes "volume" ∷ codes "year" ∷ []
+
+-- whether a name is that of one of them, in any ASCII case
+abbrev pub is_bibtex_field : List ℕ → Bool
+is_bibtex_field name = list_any (is_word name) bibtex_fields
+
+-- what is to know of a field whose name stays, for BibTeX: it is a date, or no standard style reads it
+abbrev pub bibtex_note : FieldReading → Option NoteKind
+bibtex_note f = if has_name (codes "date") f then Some DateStays else if is_bibtex_field f.name.text then None else Some NotRead
+
+abbrev pub format_note : Format → FieldReading → Option NoteKind
+format_note Biblatex f = None
+format_note Bibtex f = bibtex_note f
+
+-- what is to know of a field that stays, given the name that the format has in the place of its own, if it has one
+abbrev pub stays_note : Format → Option (List ℕ) → FieldReading → Option NoteKind
+stays_note format (Some other) f = Some NameIsThere
+stays_note format None f = format_note format f
+
+-- what is to know of a field, given what it gives way to
+abbrev pub change_note : Format → Option FieldChange → Option (List ℕ) → FieldReading → Option NoteKind
+change_note format (Some change) other f = None
+change_note format None other f = stays_note format other f
+
+-- what is to know of an entry's field
+abbrev pub field_note : Format → EntryReading → FieldReading → Option NoteKind
+field_note format e f = change_note format (field_change format e f) (other_name (other_names format (entry_type_of e.kind.text)) f.name.text) f
+
+-- what comes of each element and its index, one after another, of a list whose first element has an index
+abbrev pub indexed : {A B : Type 0} → (ℕ → A → List B) → ℕ → List A → List B
+indexed each index [] = []
+indexed each index (x ∷ xs) = each index x ++ indexed each (suc index) xs
+
+-- the note of the field with an index in the entry with one, if there is something to know of it
+abbrev pub note_at : ℕ → ℕ → Option NoteKind → List Note
+note_at entry field None = []
+note_at entry field (Some kind) = record { entry = entry; field = field; kind = kind } ∷ []
+
+-- the notes of the fields of the entry with an index
+abbrev pub entry_notes : Format → ℕ → EntryReading → List Note
+entry_notes format entry e = indexed (λ field f. note_at entry field (field_note format e f)) 0 e.fields
+
+-- the notes of a file's entries
+abbrev pub file_notes : Format → FileReading → List Note
+file_notes format says = indexed (entry_notes format) 0 says.entries

@@ -1,0 +1,241 @@
+//! What is to know of fields that don't give way to those of a format.
+
+ghost use Rattle.std.specs.Prelude.{◌≡◌, ◌++◌, IfOk, OnOk, is_some, map};
+ghost use Rattle.std.specs.List.{list_any};
+ghost use Rattle.bib_entry_types.specs.EntryType.{entry_type_of};
+ghost use Rattle.bib_syntax.specs.Grammar.{is_word};
+ghost use Rattle.bib_syntax.specs.Views.{entry_reading_of, field_of};
+ghost use Rattle.bib_conversion.specs.Conversions as conversions;
+ghost use Rattle.bib_conversion.specs.Notes as spec;
+ghost use Rattle.bib_conversion.specs.Notes.{file_notes, indexed, note_at};
+ghost use Rattle.bib_conversion.specs.Rules.{rules_change, rules_note};
+ghost use Rattle.bib_strings.specs.Collecting.{lent_texts};
+ghost use Rattle.bib_conversion.specs.Tables.{lent_names, lent_text};
+
+use crate::fields::{divides_date, exchanged_date};
+use crate::names::{exchanged_names, other_name, other_names};
+use bib_documents::document::RawDocument;
+use bib_entry::write::Format;
+use bib_entry_types::mechanics::EntryType;
+use bib_syntax::raw::{Pair, RawEntry, is_word};
+use bib_text::spanned::Spanned;
+use std::alloc::{AllocError, Global};
+
+/// What is to know of a field.
+#[derive(Debug, Clone, Copy, PartialEq, Eq)]
+pub enum NoteKind {
+    /// It keeps its name, since its entry has a field with the one that the format has for it.
+    NameIsThere,
+    /// It is a date that BibTeX has no fields for, or whose fields are there already.
+    DateStays,
+    /// No standard style of BibTeX reads a field with its name.
+    NotRead,
+}
+
+/// A note on a field.
+#[derive(Debug, Clone, Copy, PartialEq, Eq)]
+pub struct Note {
+    /// The index of its entry, from 0.
+    pub entry: usize,
+    /// Its index among the fields of its entry, from 0.
+    pub field: usize,
+    /// What is to know.
+    pub kind: NoteKind,
+}
+
+// Whether a name is one of these, in any ASCII case.
+fn is_one_of(names: &[&str], name: &str) -> bool
+    ensures { result ≡ list_any (is_word name.now) (lent_texts names.now) }
+{
+    'names: for word in names {
+        if is_word(name, *word) {
+            return true;
+        }
+    }
+    false
+}
+
+// Whether a name is that of a field that the standard styles of BibTeX read, in any ASCII case.
+fn is_bibtex_field(name: &str) -> bool
+    ensures { result ≡ spec.is_bibtex_field name.now }
+{
+    is_one_of(
+        &[
+            "address",
+            "author",
+            "booktitle",
+            "chapter",
+            "crossref",
+            "edition",
+            "editor",
+            "howpublished",
+            "institution",
+            "journal",
+            "key",
+            "month",
+            "note",
+            "number",
+            "organization",
+            "pages",
+            "publisher",
+            "school",
+            "series",
+            "title",
+            "type",
+            "volume",
+            "year",
+        ],
+        name,
+    )
+}
+
+// What is to know of a field whose name stays, for BibTeX.
+fn bibtex_note(field: &Pair<'_>) -> Option<NoteKind>
+    ensures { result ≡ spec.bibtex_note (field_of field.now) }
+{
+    if is_word(field.key.v, "date") {
+        return Some(NoteKind::DateStays);
+    }
+    if is_bibtex_field(field.key.v) {
+        return None;
+    }
+    Some(NoteKind::NotRead)
+}
+
+// What is to know of a field that stays, given the name that the format has in the place of its own, if it has one.
+fn stays_note(format: Format, other: Option<&str>, field: &Pair<'_>) -> Option<NoteKind>
+    ensures { result ≡ spec.stays_note format (lent_text other.entry) (field_of field.now) }
+{
+    if other.is_some() {
+        return Some(NoteKind::NameIsThere);
+    }
+    match format {
+        Format::Biblatex => None,
+        Format::Bibtex => bibtex_note(field),
+    }
+}
+
+// What is to know of the fields of an entry: the names for which the format has others, those of them that give way, and
+// whether the entry's date does.
+#[derive(Drop)]
+struct Rules {
+    format: Format,
+    names: &'static [(&'static str, &'static str)],
+    free: Vec<(&'static str, &'static str)>,
+    divides: bool,
+}
+
+// The rules of an entry.
+fn rules_of(alloc: Global, format: Format, entry: &RawEntry<'_>) -> Result<Rules, AllocError>
+    ensures format { IfOk result (λ rules. rules.format ≡ format) }
+    ensures names { IfOk result (λ rules. lent_names rules.names.now ≡ conversions.other_names format (entry_type_of entry.now.kind.v.now)) }
+    ensures free { IfOk result (λ rules. lent_names rules.free.items ≡ conversions.free_names (map field_of entry.now.fields.items) (conversions.other_names format (entry_type_of entry.now.kind.v.now))) }
+    ensures divides { IfOk result (λ rules. rules.divides ≡ conversions.divides_date format (map field_of entry.now.fields.items)) }
+{
+    let kind = EntryType::new(alloc, entry.kind.v)?;
+    let free = exchanged_names(alloc, format, &kind, &entry.fields)?;
+    Ok(Rules {
+        format,
+        names: other_names(format, &kind),
+        free,
+        divides: divides_date(format, &entry.fields),
+    })
+}
+
+// Whether a field gives way.
+fn gives_way(alloc: Global, rules: &Rules, field: &Pair<'_>) -> Result<bool, AllocError>
+    ensures { IfOk result (λ gives. gives ≡ is_some (rules_change rules.now (field_of field.now))) }
+{
+    if other_name(&rules.free, field.key.v).is_some() {
+        return Ok(true);
+    }
+    Ok(exchanged_date(alloc, rules.divides, field)?.is_some())
+}
+
+// What is to know of a field.
+fn field_note(
+    alloc: Global,
+    rules: &Rules,
+    field: &Pair<'_>,
+) -> Result<Option<NoteKind>, AllocError>
+    ensures { IfOk result (λ note. note ≡ rules_note rules.now (field_of field.now)) }
+{
+    if gives_way(alloc, rules, field)? {
+        return Ok(None);
+    }
+    Ok(stays_note(rules.format, other_name(rules.names, field.key.v), field))
+}
+
+// Adds the note of the field with an index, if there is something to know of it.
+fn push_note(
+    notes: &mut Vec<Note>,
+    entry: usize,
+    field: usize,
+    kind: Option<NoteKind>,
+) -> Result<(), AllocError>
+    ensures { OnOk result (notes.new.items ≡ notes.old.items ++ note_at entry field kind) }
+{
+    let Some(kind) = kind else {
+        return Ok(());
+    };
+    notes.push(Note { entry, field, kind })?;
+    Ok(())
+}
+
+// Adds the notes of fields of the entry with an index.
+fn push_field_notes(
+    notes: &mut Vec<Note>,
+    alloc: Global,
+    rules: &Rules,
+    index: usize,
+    fields: &[Pair<'_>],
+) -> Result<(), AllocError>
+    ensures { OnOk result (notes.new.items ≡ notes.old.items ++ indexed (λ j f. note_at index j (rules_note rules.now f)) 0 (map field_of fields.now)) }
+{
+    'fields: for (at, field) in fields.iter().enumerate() {
+        push_note(notes, index, at, field_note(alloc, rules, field)?)?;
+    }
+    Ok(())
+}
+
+// Adds the notes of the fields of the entry with an index.
+fn push_entry_notes(
+    notes: &mut Vec<Note>,
+    alloc: Global,
+    format: Format,
+    index: usize,
+    entry: &Spanned<RawEntry<'_>>,
+) -> Result<(), AllocError>
+    ensures { OnOk result (notes.new.items ≡ notes.old.items ++ spec.entry_notes format index (entry_reading_of entry.now)) }
+{
+    let rules = rules_of(alloc, format, &entry.v)?;
+    push_field_notes(notes, alloc, &rules, index, &entry.v.fields)
+}
+
+// The notes of entries.
+fn entry_notes(
+    alloc: Global,
+    format: Format,
+    entries: &[Spanned<RawEntry<'_>>],
+) -> Result<Vec<Note>, AllocError>
+    ensures { IfOk result (λ notes. notes.items ≡ indexed (spec.entry_notes format) 0 (map entry_reading_of entries.now)) }
+{
+    let mut notes = Vec::new(alloc);
+    'entries: for (index, entry) in entries.iter().enumerate() {
+        push_entry_notes(&mut notes, alloc, format, index, entry)?;
+    }
+    Ok(notes)
+}
+
+/// What is to know of the fields that don't give way where a document is converted for a format, in the order of the file. A field
+/// that the format has another name for keeps its own where its entry has a field with the other. For BibTeX a date stays where it
+/// isn't divided, and a field that no standard style reads is named. Fails only where there is no memory.
+pub fn notes(
+    alloc: Global,
+    document: &RawDocument<'_>,
+    format: Format,
+) -> Result<Vec<Note>, AllocError>
+    ensures { IfOk result (λ notes. notes.items ≡ file_notes format document.now.says) }
+{
+    entry_notes(alloc, format, &document.raw().entries)
+}
