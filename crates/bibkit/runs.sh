@@ -859,6 +859,82 @@ holds 'no memory for a file' [ $? = 3 ]
 holds 'no memory is reported' messages_have 'bibkit: out of memory'
 rm zeros.bib
 
+# convert
+cat >convert.bib <<'BIB'
+@string{aw = {Addison-Wesley}}
+@book{tex, author = {Knuth, Donald E.}, title = {The {TeX}book}, publisher = aw, date = {1984-05}, pages = {1--3}} % kept
+@xdata{x, location = {Paris}}
+@misc{m, xdata = {x}, title = {A \emph{b} & <c>}}
+BIB
+printf '@misc{a, title={A}}\n' >a.bib
+items='{"author":[{"family":"Knuth","given":"Donald E."}],"id":"tex","issued":{"date-parts":[[1984,5]]},"page":"1–3","publisher":"Addison-Wesley","title":"The <span class=\"nocase\">TeX</span>book","type":"book"},
+{"id":"m","publisher-place":"Paris","title":"A <i>b</i> &amp; &lt;c&gt;","type":"document"}'
+records='TY  - BOOK
+AU  - Knuth, Donald E.
+TI  - The TeXbook
+PY  - 1984
+DA  - 1984/05//
+SP  - 1
+EP  - 3
+PB  - Addison-Wesley
+ID  - tex
+ER  - 
+
+TY  - GEN
+TI  - A \emph{b} & <c>
+CY  - Paris
+ID  - m
+ER  - 
+
+'
+run 'items of CSL-JSON' 0 "[
+$items
+]
+" convert --to csl convert.bib
+run 'items of two files' 0 "[
+$items,
+{\"id\":\"a\",\"title\":\"A\",\"type\":\"document\"}
+]
+" convert --to csl convert.bib a.bib
+run 'entries as JSON' 0 '[
+{"fields":{"title":{"chunks":[{"end":17,"kind":"normal","start":16,"text":"A"}]}},"key":"a","type":"misc"}
+]
+' convert --to json a.bib
+run 'records of RIS' 0 "$records" convert --to ris convert.bib
+run 'records of two files' 0 "$records"$'TY  - GEN\nTI  - A\nID  - a\nER  - \n\n' convert --to ris convert.bib a.bib
+run 'BibTeX' 0 '@string{aw = {Addison-Wesley}}
+@book{tex, author = {Knuth, Donald E.}, title = {The {TeX}book}, publisher = aw, year = {1984}, month = may, pages = {1--3}} % kept
+@misc{x, address = {Paris}}
+@misc{m, xdata = {x}, title = {A \emph{b} & <c>}}
+' convert --to bibtex convert.bib
+run_messages 'fields that stay are named' 0 $'convert.bib:4:10: note: xdata stays, though no standard style of BibTeX reads it\n' convert --to bibtex convert.bib
+run 'BibLaTeX' 0 "$(cat convert.bib)"$'\n' convert --to biblatex convert.bib
+printf '@phdthesis{p, school={S}, Journal="J", journaltitle={K}}\n' >thesis.bib
+run 'a thesis of BibLaTeX' 0 $'@thesis{p, institution={S}, Journal="J", journaltitle={K}}\n' convert --to biblatex thesis.bib
+run_messages 'a name that is there' 0 $'thesis.bib:1:27: note: Journal stays, since the entry has the field that takes its place\n' convert --to biblatex thesis.bib
+for format in csl json; do
+    : >input
+    run "$format of nothing" 0 $'[]\n' convert --to $format
+    run "$format of a file with an error" 1 $'[]\n' convert --to $format broken.bib
+done
+run 'RIS of nothing' 0 '' convert --to ris
+run 'a file with an error, and another' 1 $'[\n{"id":"a","title":"A","type":"document"}\n]\n' convert --to csl broken.bib a.bib
+run_messages 'the error of a file is said' 1 $'broken.bib:3:1: error: expected comma\n' convert --to csl broken.bib a.bib
+run 'a file that is not there, and another' 2 $'[\n{"id":"a","title":"A","type":"document"}\n]\n' convert --to csl nothing.bib a.bib
+run 'BibTeX of a file with an error' 1 '' convert --to bibtex broken.bib
+printf '@misc{a, title=b}\n@misc{a, title={A}}\n' >abbreviated.bib
+run_messages 'an abbreviation that is not defined' 1 $'abbreviated.bib:1:16: error: unknown abbreviation "b"\n' convert --to csl abbreviated.bib
+printf '@misc{a, title={\xe9}}\n' >latin.bib
+run 'items of a file in Windows-1252' 0 $'[\n{"id":"a","title":"é","type":"document"}\n]\n' convert --to csl latin.bib
+run 'BibTeX of a file in Windows-1252' 2 '' convert --to bibtex latin.bib
+run 'no format' 2 '' convert a.bib
+run 'a wrong format' 2 '' convert --to xml a.bib
+if [ -e /dev/full ]; then
+    "$program" convert --to csl a.bib >/dev/full 2>messages
+    holds 'items that can not be written' [ $? = 2 ]
+    holds 'items that can not be written: what is said' messages_have "bibkit: the output can't be written"
+fi
+
 # completions, in the shells that are there: each row is a line, and what its last word can be
 completed() {
     if printf %s "$3" | cmp -s - output; then

@@ -156,7 +156,7 @@ fn note_text(kind: NoteKind) -> &'static str {
 fn note_line(
     alloc: Global,
     name: &str,
-    positions: &Positions<'_>,
+    positions: &mut Positions<'_>,
     field: &Pair<'_>,
     kind: NoteKind,
 ) -> Result<String, AllocError> {
@@ -174,11 +174,11 @@ fn say_notes(
     name: &str,
     document: &RawDocument<'_>,
 ) -> Result<(), AllocError> {
-    let positions = Positions::of(document.text());
+    let mut positions = Positions::new(document.text());
     'notes: for note in notes(rt.alloc(), document, format)? {
         if let Some(entry) = document.raw().entries.get(note.entry) {
             if let Some(field) = entry.v.fields.get(note.field) {
-                let line = note_line(rt.alloc(), name, &positions, field, note.kind)?;
+                let line = note_line(rt.alloc(), name, &mut positions, field, note.kind)?;
                 let _ = eprint!(rt; "{line}");
             }
         }
