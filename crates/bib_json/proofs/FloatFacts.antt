@@ -1,5 +1,5 @@
 -- No part of an entry is a float, so the text of its object is known.
-use Rattle.std.proofs.Common.{◌≡◌, ℕ, List, [], ◌∷◌, map, ℤ, pos, negsuc, Bool, true, false, ◌||◌, true≢false, if◌then◌else◌, Option, Some, None, option_map, option_and_then, unwrap_or, Ordering, Less, Equal, Greater, nat_cmp, refl, ap, ◌∙◌}
+use Rattle.std.proofs.Common.{◌≡◌, ℕ, List, [], ◌∷◌, map, ℤ, pos, negsuc, Bool, true, false, ◌||◌, true≢false, if◌then◌else◌, Option, Some, None, option_map, option_and_then, unwrap_or, Ordering, Less, Equal, Greater, nat_cmp, refl}
 use Rattle.std.specs.Cmp.Lexicographic.{slice_cmp}
 use Rattle.std.specs.Ordering.{match_ordering}
 use Rattle.std.specs.FinMap.{entries}
@@ -21,16 +21,15 @@ use Rattle.bib_values.specs.Lists.{strings_read}
 use Rattle.bib_values.specs.Numbers.{number_read}
 use Rattle.bib_values.specs.Ranges.{ranges_read}
 use Rattle.serde_json.specs.Data.{Data, Members, no_members, member, put, string, number, boolean}
-use Rattle.serde_json.specs.Find.{of_integer, is_float}
-use Rattle.serde_json.specs.View.{items_of}
-use Rattle.serde_json.specs.Written.{has_float, items_have_float, members_have_float}
-use Rattle.bib_json.specs.Chunks.{byte_unless_nowhere, chunk_members, chunk_json, chunks_json}
+use Rattle.serde_json.specs.Find.{of_integer}
+use Rattle.serde_json.specs.Written.{has_float, members_have_float}
+use Rattle.bib_json.specs.Chunks.{chunk_members, chunk_json, chunks_json}
 use Rattle.bib_json.specs.Dates.{offset_minutes, offset_json, time_members, time_json, counted_json, datetime_members, datetime_json, date_members, date_json, date_start, date_end}
 use Rattle.bib_json.specs.Entries.{entry_members, json_of}
 use Rattle.bib_json.specs.Fields.{field_members, field_json, field_member}
 use Rattle.bib_json.specs.Objects.{Member, given, with_members, object_of, array_of}
 use Rattle.bib_json.specs.ValueTypes.{value_type}
-use Rattle.bib_json.specs.Values.{person_members, person_json, range_json, part_json, language_json, language_or_text, typed_json, value_json}
+use Rattle.bib_json.specs.Values.{person_members, person_json, range_json, part_json, language_json, language_or_text, typed_json}
 use Rattle.bib_json.specs.declared.types.ValueType.{ValueType}
 use Rattle.bib_json.specs.declared.types.ValueType.TheVariants as type
 
