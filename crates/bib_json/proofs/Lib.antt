@@ -1,2 +1,3 @@
 mod ArrayFacts
-mod FloatFacts
+mod LawFacts
+mod PlainFacts

@@ -6,6 +6,7 @@ mod chunks;
 mod dates;
 pub mod entries;
 mod fields;
+pub mod laws;
 mod lists;
 mod members;
 mod people;
