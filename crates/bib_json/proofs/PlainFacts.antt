@@ -1,5 +1,5 @@
 -- No part of an entry is a float, so the text of its object is known; and none lies deep, so that text is read again.
-use Rattle.std.proofs.Common.{◌≡◌, ℕ, suc, ◌+◌, ◌≤◌, arith, List, [], ◌∷◌, map, ℤ, pos, negsuc, Bool, true, false, ◌||◌, true≢false, if◌then◌else◌, Option, Some, None, option_map, option_and_then, unwrap_or, Ordering, Less, Equal, Greater, nat_cmp, refl, ap, ◌∙◌}
+use Rattle.std.proofs.Common.{◌≡◌, ℕ, suc, ◌≤◌, arith, List, [], ◌∷◌, map, ℤ, pos, negsuc, Bool, true, false, ◌||◌, true≢false, if◌then◌else◌, Option, Some, None, option_map, option_and_then, unwrap_or, Ordering, Less, Equal, Greater, nat_cmp, refl}
 use Rattle.std.proofs.Math.Nat.{le-max_left, le-max_right, max-le}
 use Rattle.std.specs.Cmp.Lexicographic.{slice_cmp}
 use Rattle.std.specs.Ordering.{match_ordering}
@@ -12,7 +12,6 @@ use Rattle.bib_dates.specs.Chunks.{date_read}
 use Rattle.bib_dates.specs.declared.date.Date.{Date}
 use Rattle.bib_dates.specs.declared.date.Datetime.{Datetime}
 use Rattle.bib_dates.specs.declared.date.Time.{Time}
-use Rattle.bib_dates.specs.declared.date.TimeOffset.{TimeOffset}
 use Rattle.bib_entry.specs.declared.entry.Entry.{Entry}
 use Rattle.bib_enums.specs.declared.types.lang.Language.{Language as ALanguage}
 use Rattle.bib_people.specs.People.{people_of}
@@ -178,9 +177,25 @@ string_plain text = leaf (string text) refl refl
 
 person_plain : (p : Person) → IsPlain 1 (person_json p)
 person_plain p =
-    object_plain (person_members p)
-    (leaf _ refl refl, (leaf _ refl refl, (leaf _ refl refl, (leaf _ refl refl, (mapped_plain string p.id string_plain, (mapped_plain string p.prefix_initials string_plain
-    , (mapped_plain string p.given_initials string_plain, (mapped_plain boolean p.use_prefix (λ b. leaf _ refl refl), tt))))))))
+    object_plain (person_members p) (
+      leaf _ refl refl,
+      (
+        leaf _ refl refl,
+        (
+          leaf _ refl refl,
+          (
+            leaf _ refl refl,
+            (
+              mapped_plain string p.id string_plain,
+              (
+                mapped_plain string p.prefix_initials string_plain,
+                (mapped_plain string p.given_initials string_plain, (mapped_plain boolean p.use_prefix (λ b. leaf _ refl refl), tt)),
+              ),
+            ),
+          ),
+        ),
+      ),
+    )
 
 range_plain : (range : Range ℕ) → IsPlain 1 (range_json range)
 range_plain range = record { no_float = refl; shallow = omega arith }
