@@ -1,3 +1,4 @@
 mod ArrayFacts
 mod LawFacts
 mod PlainFacts
+mod ReadingFacts

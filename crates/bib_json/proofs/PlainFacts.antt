@@ -74,6 +74,9 @@ at_most_one_more a b n p q = omega arith
 one_deeper : (a n : ℕ) → a ≤ n → suc a ≤ suc n
 one_deeper a n p = omega arith
 
+one_less : (a : ℕ) → a ≤ 6 → suc a ≤ max_depth
+one_less a p = omega arith
+
 -- a member before others, and what these two are
 before_plain : {n : ℕ} (k : List ℕ) (d : Data) (ms : Members) → IsPlain n d → ArePlain n ms → ArePlain n (member k d ms)
 before_plain k d ms p q = record { no_float = neither _ _ p.no_float q.no_float; shallow = max-le p.shallow q.shallow }
@@ -243,6 +246,6 @@ whole_plain entry = object_plain (entry_members entry) (leaf _ refl refl, (leaf 
 pub entry_has_no_float : (entry : Entry) → has_float (json_of entry) ≡ false
 entry_has_no_float entry = (whole_plain entry).no_float
 
--- it nests as deep as is read
-pub entry_is_shallow : (entry : Entry) → depth (json_of entry) ≤ max_depth
-entry_is_shallow entry = at_most_one_more (depth (json_of entry)) 6 max_depth (whole_plain entry).shallow (omega arith)
+-- it nests less deep than is read
+pub entry_is_shallow : (entry : Entry) → suc (depth (json_of entry)) ≤ max_depth
+entry_is_shallow entry = one_less (depth (json_of entry)) (whole_plain entry).shallow

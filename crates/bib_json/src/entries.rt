@@ -1,10 +1,10 @@
 //! Entries as JSON.
 
-ghost use Rattle.std.specs.Prelude.{◌≡◌, IfOk, Some};
+ghost use Rattle.std.specs.Prelude.{◌≡◌, IfOk};
 ghost use Rattle.std.specs.String.{string_bytes};
-ghost use Rattle.serde_json.specs.Read.{read};
 ghost use Rattle.serde_json.specs.View.{view};
 ghost use Rattle.bib_json.specs.Entries as spec;
+ghost use Rattle.bib_json.specs.Entries.{IsReadBack};
 
 use crate::fields::fields_object;
 use crate::members::put_text;
@@ -39,7 +39,7 @@ pub fn entry_json(alloc: Global, entry: &Entry) -> Result<Value, AllocError>
 /// The text of that object, on one line; it is read as that object.
 pub fn entry_text(alloc: Global, entry: &Entry) -> Result<String, AllocError>
     ensures text { IfOk result (λ text. string_bytes text ≡ spec.json_text_of entry.now) }
-    ensures reads_back { IfOk result (λ text. read (string_bytes text) ≡ Some (spec.json_of entry.now)) }
+    ensures reads_back { IfOk result (λ _. IsReadBack entry.now) }
 {
     let value = entry_json(alloc, entry)?;
     value.to_string(alloc)
