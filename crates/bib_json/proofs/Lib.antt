@@ -1,4 +1,5 @@
 mod ArrayFacts
+mod GapFacts
 mod LawFacts
 mod PlainFacts
 mod ReadingFacts

@@ -20,6 +20,7 @@ use Rattle.serde_json.specs.Written.{compact_text, comma_if, has_float, IsInOrde
 use Rattle.serde_json.proofs.Texts.{print-outline, tokens_from_order}
 use Rattle.std.specs.List.{AllByRecursion}
 use Rattle.bib_entry.specs.declared.entry.Entry.{Entry}
+use Rattle.bib_json.proofs.GapFacts.{with_line_feed}
 use Rattle.bib_json.proofs.PlainFacts.{entry_has_no_float, entry_is_shallow}
 use Rattle.bib_json.specs.Arrays.{array_text, further_elements}
 use Rattle.bib_json.specs.Entries.{json_of, json_text_of, IsReadBack}
@@ -217,14 +218,16 @@ not_deep n h = omega arith
 one_deeper : (n : ℕ) → n ≤ 126 → suc n ≤ max_depth
 one_deeper n h = omega arith
 
--- the array is read, but for the line feed at its end
-pub array_read : (ds : List Data) → AreRead ds → (text : List ℕ) × (array_text (map compact_text ds) ≡ text ++ codes "\n") × (read text ≡ Some (array (items_of ds)))
+-- the array is read
+pub array_read : (ds : List Data) → AreRead ds → read (array_text (map compact_text ds)) ≡ Some (array (items_of ds))
 array_read ds r =
     let d = array (items_of ds) in
+    let gaps = gaps_of_whole ds in
     let printable : ArePrintable (map (λ p. p.1) (whole ds)) = subst ArePrintable (sym (tokens_of_whole ds)) (ArePrintable-json_tokens (outline d) (items_numbers ds r)) in
-    let same = tokens-print_spaced (whole ds) (gaps_of_whole ds) printable ∙ tokens_of_whole ds in
+    let same = with_line_feed (whole ds) gaps printable ∙ tokens-print_spaced (whole ds) gaps printable ∙ tokens_of_whole ds in
     let shallow : depth d ≤ max_depth = one_deeper (items_depth (items_of ds)) (items_shallow ds r) in
-    (print_spaced false (whole ds), whole_text ds, ap (option_and_then of_json) (ap parsed same ∙ parsed_value d shallow) ∙ ap (option_map array) (items_converted ds r))
+    ap read (whole_text ds) ∙ ap (λ ts. option_and_then of_json (parsed ts)) same ∙ ap (option_and_then of_json) (parsed_value d shallow)
+    ∙ ap (option_map array) (items_converted ds r)
 
 -- ---- entries
 
@@ -249,9 +252,6 @@ texts_are : (entries : List Entry) → map compact_text (map json_of entries) �
 texts_are [] = refl
 texts_are (entry ∷ rest) = ap (λ l. json_text_of entry ∷ l) (texts_are rest)
 
--- an array of entries is read, but for the line feed at its end
-pub entries_read : (entries : List Entry) → AllByRecursion IsReadBack entries
-    → (text : List ℕ) × (array_text (map json_text_of entries) ≡ text ++ codes "\n") × (read text ≡ Some (array_of json_of entries))
-entries_read entries h =
-    let r = array_read (map json_of entries) (are_read entries h) in
-    (r.0, ap array_text (sym (texts_are entries)) ∙ r.1, r.2)
+-- an array of entries is read
+pub entries_read : (entries : List Entry) → AllByRecursion IsReadBack entries → read (array_text (map json_text_of entries)) ≡ Some (array_of json_of entries)
+entries_read entries h = ap (λ texts. read (array_text texts)) (sym (texts_are entries)) ∙ array_read (map json_of entries) (are_read entries h)

@@ -1,6 +1,6 @@
 //! Laws of what is written. These functions do nothing: what they ensure is proved of the definitions alone.
 
-ghost use Rattle.std.specs.Prelude.{◌≡◌, ℕ, List, ◌++◌, map, codes, true, Some, option_and_then};
+ghost use Rattle.std.specs.Prelude.{◌≡◌, ℕ, List, map, codes, true, Some, option_and_then};
 ghost use Rattle.std.specs.FinMap as by_name;
 ghost use Rattle.std.specs.List.{AllByRecursion};
 ghost use Rattle.std.specs.Option.{option_map};
@@ -23,8 +23,8 @@ pub fn pieces_make_the_array()
     ensures { (elements : List (List ℕ)) → in_pieces true elements ≡ array_text elements }
 {}
 
-/// An array of entries, each of which is read back, is read as the array of their objects, but for the line feed at its end.
+/// An array of entries, each of which is read back, is read as the array of their objects.
 pub fn array_is_read()
     ensures { (entries : List Entry) → AllByRecursion IsReadBack entries →
-        (text : List ℕ) × (array_text (map json_text_of entries) ≡ text ++ codes "\n") × (read text ≡ Some (array_of json_of entries)) }
+        read (array_text (map json_text_of entries)) ≡ Some (array_of json_of entries) }
 {}
