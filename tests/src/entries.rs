@@ -5,7 +5,7 @@ mod bibtex;
 mod chunk_fields;
 mod errors;
 mod fielded;
-mod fields;
+pub mod fields;
 mod supplements;
 mod titles;
 mod typed_fields;

@@ -1,5 +1,5 @@
 //! Reads rows, a file in each line, and prints each with its entries for other programs: `json` as an array of JSON, `ris` as
-//! records of RIS; `type` prints what a field of this name is read as.
+//! records of RIS. `object` and `record` do so with the entry of these fields; `type` prints what a field of this name is read as.
 
 use bib_json::arrays::{array_end, before_element};
 use bib_json::entries::entry_text;
@@ -7,6 +7,7 @@ use bib_json::types::value_type;
 use bib_ris::records::record_text;
 use biblatex::{Bibliography, ParseError};
 use std::alloc::{AllocError, Global};
+use crate::entries::fields::entry_of;
 use crate::support::rows::Calls;
 
 pub struct Exports;
@@ -55,12 +56,14 @@ fn of_file(alloc: Global, call: &str, file: &str) -> Result<Option<String>, Pars
 
 impl Calls for Exports {
     fn answer(alloc: Global, call: &str, text: &str) -> Result<Option<String>, AllocError> {
-        if call == "type" {
-            return Ok(Some(named_type(alloc, text)?));
-        }
-        match of_file(alloc, call, text) {
-            Ok(answer) => Ok(answer),
-            Err(_) => Ok(Some(String::from_str(alloc, "no bibliography")?)),
+        match call {
+            "type" => Ok(Some(named_type(alloc, text)?)),
+            "object" => Ok(Some(entry_text(alloc, &entry_of(alloc, text)?)?)),
+            "record" => Ok(Some(record_text(alloc, &entry_of(alloc, text)?)?)),
+            _ => match of_file(alloc, call, text) {
+                Ok(answer) => Ok(answer),
+                Err(_) => Ok(Some(String::from_str(alloc, "no bibliography")?)),
+            },
         }
     }
 }

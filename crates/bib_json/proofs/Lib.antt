@@ -1,2 +1,5 @@
 mod ArrayFacts
-mod FloatFacts
+mod GapFacts
+mod LawFacts
+mod PlainFacts
+mod ReadingFacts

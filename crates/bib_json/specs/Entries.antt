@@ -1,12 +1,15 @@
 -- Meaning: words of public contracts.
 -- Entries of a bibliography in JSON.
-use Rattle.std.specs.Prelude.{ℕ, List, [], ◌∷◌, codes, Some}
+use Rattle.std.specs.Prelude.{◌≡◌, ℕ, List, [], ◌∷◌, codes, Some}
 use Rattle.bib_entry.specs.declared.entry.Entry.{Entry}
 use Rattle.bib_entry_types.specs.EntryType.{entry_type_name}
 use Rattle.bib_entry_types.specs.declared.mechanics.EntryType.{EntryType}
 use Rattle.bib_entry_types.specs.declared.mechanics.EntryType.TheVariants.{Unknown}
 use Rattle.serde_json.specs.Data.{Data, string}
-use Rattle.serde_json.specs.Written.{compact_text}
+use Rattle.json.specs.Lex.{tokens}
+use Rattle.json.specs.Tree.{json_tokens}
+use Rattle.serde_json.specs.Read.{read}
+use Rattle.serde_json.specs.Written.{compact_text, outline}
 use Rattle.bib_json.specs.Fields.{fields_json}
 use Rattle.bib_json.specs.Objects.{Member, object_of}
 
@@ -30,3 +33,8 @@ json_of entry = object_of (entry_members entry)
 -- the text of an entry in JSON, on one line
 abbrev pub json_text_of : Entry → List ℕ
 json_text_of entry = compact_text (json_of entry)
+
+-- the text of an entry has the tokens of its object, and is read as it
+pub record IsReadBack (entry : Entry) : Type 0 where
+  pub same_tokens : tokens (json_text_of entry) ≡ json_tokens (outline (json_of entry))
+  pub value : read (json_text_of entry) ≡ Some (json_of entry)

@@ -1,6 +1,6 @@
 //! The pieces of an array of JSON, so that a program can write it element by element.
 
-ghost use Rattle.std.specs.Prelude.{◌≡◌, ℕ, List, true};
+ghost use Rattle.std.specs.Prelude.{◌≡◌};
 ghost use Rattle.bib_json.specs.Arrays as spec;
 
 /// What stands before an element of the array: its start before the first, and a comma before the others.
@@ -16,9 +16,3 @@ pub fn array_end(is_empty: bool) -> &'static str
 {
     if is_empty { "[]\n" } else { "\n]\n" }
 }
-
-/// A law: elements written one after another, each after what stands before it, with the end after them, make the array.
-/// The function does nothing: what it ensures is proved of the definitions alone.
-pub fn pieces_make_the_array()
-    ensures { (elements : List (List ℕ)) → spec.in_pieces true elements ≡ spec.array_text elements }
-{}

@@ -39,8 +39,18 @@ fn chunk_value(alloc: Global, chunk: &Spanned<Chunk>) -> Result<Value, AllocErro
     let mut members = Map::new(alloc);
     put_text(&mut members, alloc, "kind", kind_name(&chunk.v))?;
     put_text(&mut members, alloc, "text", chunk.v.get())?;
-    put_given(&mut members, alloc, "start", byte_unless_nowhere(start, start))?;
-    put_given(&mut members, alloc, "end", byte_unless_nowhere(start, chunk.span.end))?;
+    put_given(
+        &mut members,
+        alloc,
+        "start",
+        byte_unless_nowhere(start, start),
+    )?;
+    put_given(
+        &mut members,
+        alloc,
+        "end",
+        byte_unless_nowhere(start, chunk.span.end),
+    )?;
     Ok(Value::from(members))
 }
 

@@ -66,7 +66,12 @@ fn datetime_value(alloc: Global, datetime: Datetime) -> Result<Value, AllocError
     let time = time_if_given(alloc, datetime.time)?;
     let mut members = Map::new(alloc);
     serde_json::put(&mut members, alloc, "year", Value::from(datetime.year))?;
-    put_given(&mut members, alloc, "month", datetime.month.map(counted_value))?;
+    put_given(
+        &mut members,
+        alloc,
+        "month",
+        datetime.month.map(counted_value),
+    )?;
     put_given(&mut members, alloc, "day", datetime.day.map(counted_value))?;
     put_given(&mut members, alloc, "time", time)?;
     Ok(Value::from(members))
@@ -124,7 +129,12 @@ pub(crate) fn date_value(alloc: Global, date: Date) -> Result<Value, AllocError>
     put_text(&mut members, alloc, "kind", kind_name(date.value))?;
     put_given(&mut members, alloc, "start", start)?;
     put_given(&mut members, alloc, "end", end)?;
-    serde_json::put(&mut members, alloc, "uncertain", Value::from(date.uncertain))?;
+    serde_json::put(
+        &mut members,
+        alloc,
+        "uncertain",
+        Value::from(date.uncertain),
+    )?;
     serde_json::put(
         &mut members,
         alloc,

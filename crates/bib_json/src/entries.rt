@@ -4,6 +4,7 @@ ghost use Rattle.std.specs.Prelude.{◌≡◌, IfOk};
 ghost use Rattle.std.specs.String.{string_bytes};
 ghost use Rattle.serde_json.specs.View.{view};
 ghost use Rattle.bib_json.specs.Entries as spec;
+ghost use Rattle.bib_json.specs.Entries.{IsReadBack};
 
 use crate::fields::fields_object;
 use crate::members::put_text;
@@ -35,9 +36,10 @@ pub fn entry_json(alloc: Global, entry: &Entry) -> Result<Value, AllocError>
     Ok(Value::from(members))
 }
 
-/// The text of that object, on one line.
+/// The text of that object, on one line; it is read as that object.
 pub fn entry_text(alloc: Global, entry: &Entry) -> Result<String, AllocError>
-    ensures { IfOk result (λ text. string_bytes text ≡ spec.json_text_of entry.now) }
+    ensures text { IfOk result (λ text. string_bytes text ≡ spec.json_text_of entry.now) }
+    ensures reads_back { IfOk result (λ _. IsReadBack entry.now) }
 {
     let value = entry_json(alloc, entry)?;
     value.to_string(alloc)

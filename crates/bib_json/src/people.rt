@@ -40,9 +40,24 @@ fn person_value(alloc: Global, person: &Person) -> Result<Value, AllocError>
     put_text(&mut members, alloc, "prefix", person.prefix.as_str())?;
     put_text(&mut members, alloc, "suffix", person.suffix.as_str())?;
     put_text_if_given(&mut members, alloc, "id", &person.id)?;
-    put_text_if_given(&mut members, alloc, "prefix-initials", &person.prefix_initials)?;
-    put_text_if_given(&mut members, alloc, "given-initials", &person.given_initials)?;
-    put_given(&mut members, alloc, "useprefix", person.use_prefix.map(Value::from))?;
+    put_text_if_given(
+        &mut members,
+        alloc,
+        "prefix-initials",
+        &person.prefix_initials,
+    )?;
+    put_text_if_given(
+        &mut members,
+        alloc,
+        "given-initials",
+        &person.given_initials,
+    )?;
+    put_given(
+        &mut members,
+        alloc,
+        "useprefix",
+        person.use_prefix.map(Value::from),
+    )?;
     Ok(Value::from(members))
 }
 

@@ -1,6 +1,6 @@
 -- Meaning: words of public contracts.
 -- Entries as records of RIS.
-use Rattle.std.specs.Prelude.{ℕ, ◌+◌, nat_lt, ◌==◌, ◌&&◌, Bool, true, false, if◌then◌else◌, ℤ, List, [], ◌∷◌, ◌++◌, length, map, codes, Option, Some, None, option_map, option_and_then}
+use Rattle.std.specs.Prelude.{ℕ, ◌+◌, nat_lt, ◌==◌, ◌&&◌, if◌then◌else◌, ℤ, List, [], ◌∷◌, ◌++◌, length, map, codes, Option, Some, None, option_map}
 use Rattle.std.specs.FinMap as by_name
 use Rattle.std.specs.Fmt.{decimal, signed_decimal}
 use Rattle.std.specs.Option.{option_or}
@@ -107,11 +107,12 @@ abbrev pub two_digits : Option ℕ → List ℕ
 two_digits None = []
 two_digits (Some index) = if nat_lt index 9 then codes "0" ++ decimal (index + 1) else decimal (index + 1)
 
--- the lines of a date: its year, and year, month and day with a slash after each, if the month is known
+-- a line of a year, a month and a day with a slash after each, if the month is known
 abbrev pub day_line : ℤ → Option ℕ → Option ℕ → List ℕ
 day_line year None day = []
 day_line year (Some month) day = ris_line (codes "DA") (signed_decimal year ++ (codes "/" ++ (two_digits (Some month) ++ (codes "/" ++ (two_digits day ++ codes "/")))))
 
+-- the lines of a date: its year, and its day
 abbrev pub datetime_lines : Datetime → List ℕ
 datetime_lines d = ris_line (codes "PY") (signed_decimal d.year) ++ day_line d.year d.month d.day
 

@@ -53,7 +53,12 @@ fn date_of(alloc: Global, entry: &Entry) -> Result<Option<Date>, AllocError>
 {
     match entry.get("date") {
         Some(chunks) => read_date(alloc, chunks),
-        None => read_three_fields(alloc, entry.get("year"), entry.get("month"), entry.get("day")),
+        None => read_three_fields(
+            alloc,
+            entry.get("year"),
+            entry.get("month"),
+            entry.get("day"),
+        ),
     }
 }
 

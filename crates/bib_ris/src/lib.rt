@@ -6,6 +6,7 @@
 
 mod dates;
 mod fields;
+pub mod laws;
 mod lines;
 mod pages;
 mod people;

@@ -56,7 +56,12 @@ fn person_text(alloc: Global, person: &Person) -> Result<String, AllocError>
 }
 
 // Writes a line for each person.
-fn push_people(out: &mut String, alloc: Global, tag: &str, people: &[Person]) -> Result<(), AllocError>
+fn push_people(
+    out: &mut String,
+    alloc: Global,
+    tag: &str,
+    people: &[Person],
+) -> Result<(), AllocError>
     ensures { OnOk result (string_bytes out.new ≡ string_bytes out.old ++ ris_lines tag.now (map spec.person_text people.now)) }
 {
     'people: for person in people {

@@ -36,7 +36,13 @@ fn push_titles(out: &mut String, alloc: Global, entry: &Entry) -> Result<(), All
     ensures { OnOk result (string_bytes out.new ≡ string_bytes out.old ++ spec.titles_part entry.now) }
 {
     push_title(out, alloc, entry)?;
-    push_field(out, alloc, entry, "T2", &["journaltitle", "journal", "booktitle"])?;
+    push_field(
+        out,
+        alloc,
+        entry,
+        "T2",
+        &["journaltitle", "journal", "booktitle"],
+    )?;
     push_field(out, alloc, entry, "T3", &["series"])
 }
 
@@ -54,7 +60,13 @@ fn push_numbers(out: &mut String, alloc: Global, entry: &Entry) -> Result<(), Al
 fn push_publisher(out: &mut String, alloc: Global, entry: &Entry) -> Result<(), AllocError>
     ensures { OnOk result (string_bytes out.new ≡ string_bytes out.old ++ spec.publisher_part entry.now) }
 {
-    push_field(out, alloc, entry, "PB", &["publisher", "institution", "school", "organization"])?;
+    push_field(
+        out,
+        alloc,
+        entry,
+        "PB",
+        &["publisher", "institution", "school", "organization"],
+    )?;
     push_field(out, alloc, entry, "CY", &["location", "address"])
 }
 

@@ -22,10 +22,7 @@ fn periodical_type(subtype: &str) -> &'static str
 }
 
 // The type of an article, where that field may be missing.
-fn article_type(
-    alloc: Global,
-    subtype: Option<ChunksRef<'_>>,
-) -> Result<&'static str, AllocError>
+fn article_type(alloc: Global, subtype: Option<ChunksRef<'_>>) -> Result<&'static str, AllocError>
     ensures { IfOk result (λ name. name.now ≡ spec.article_type (option_copied subtype.entry)) }
 {
     match subtype {

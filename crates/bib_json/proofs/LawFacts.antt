@@ -1,0 +1,68 @@
+-- Each field of an entry is found in its object.
+use Rattle.std.proofs.Common.{◌≡◌, ℕ, List, [], ◌∷◌, map, Bool, true, false, true≢false, cond, Option, Some, None, option_map, Ordering, Less, Equal, Greater, refl, sym, ap, ◌∙◌}
+use Rattle.std.proofs.lemmas.Map.Text.{is_eq-slice_cmp}
+use Rattle.std.proofs.lemmas.Slice.Eq.{bytes_eq-Decides}
+use Rattle.std.specs.FinMap.{entries, entries_sorted, find, get-entries, is_sorted}
+use Rattle.std.specs.FinMap as by_name
+use Rattle.std.specs.FinMap.Entries.{below_all}
+use Rattle.std.specs.Option.{option_or}
+use Rattle.std.specs.Ordering.{is_eq, is_lt}
+use Rattle.std.specs.Prelude.{◌&&◌, bytes_eq, T}
+use Rattle.bib_chunks.specs.Values.{Value}
+use Rattle.bib_maps.specs.Sorted.{ByText, by_bytes}
+use Rattle.serde_json.proofs.Views.{get_member-put, get_member-put_other}
+use Rattle.serde_json.specs.Data.{Members, no_members, put}
+use Rattle.serde_json.specs.Find.{get, get_member}
+use Rattle.bib_json.specs.Fields.{field_json, field_member, fields_json}
+use Rattle.bib_json.specs.Objects.{with_members}
+
+abbrev Field : Type 0
+Field = List ℕ × Value
+
+first : (a b : Bool) → T (a && b) → T a
+first true b p = tt
+first false b p = p
+
+second : (a b : Bool) → T (a && b) → T b
+second true b p = p
+second false b p = absurd p
+
+passed : (o : Ordering) (v : Value) (rest : Option Value) → T (is_lt o) → cond (is_eq o) (Some v) rest ≡ rest
+passed Less v rest p = refl
+passed Equal v rest p = absurd p
+passed Greater v rest p = absurd p
+
+-- a name stands not among greater ones
+none_after : (name : List ℕ) (fields : List Field) → T (below_all by_bytes name fields) → find by_bytes name fields ≡ None
+none_after name [] p = refl
+none_after name (field ∷ rest) p = passed (by_bytes name field.0) field.1 _ (first _ _ p) ∙ none_after name rest (second _ _ p)
+
+-- what is found under a name once a field was put, and then those after it
+next : (b : Bool) (name : List ℕ) (field : Field) (rest : List Field) (ms : Members) → bytes_eq name field.0 ≡ b → T (below_all by_bytes field.0 rest)
+    → option_or (option_map (field_json name) (find by_bytes name rest)) (get_member name (put field.0 (field_json field.0 field.1) ms))
+    ≡ option_or (option_map (field_json name) (cond b (Some field.1) (find by_bytes name rest))) (get_member name ms)
+next true name field rest ms is below =
+    let same : name ≡ field.0 = (bytes_eq-Decides name field.0).0 is in
+    let d = field_json field.0 field.1 in
+    let none : find by_bytes name rest ≡ None = ap (λ n. find by_bytes n rest) same ∙ none_after field.0 rest below in
+    ap (λ o. option_or (option_map (field_json name) o) (get_member name (put field.0 d ms))) none
+    ∙ ap (λ n. get_member n (put field.0 d ms)) same ∙ get_member-put field.0 d ms ∙ ap (λ n. Some (field_json n field.1)) (sym same)
+next false name field rest ms is below =
+    let other = λ (same : name ≡ field.0). true≢false (sym ((bytes_eq-Decides name field.0).1 same) ∙ is) in
+    ap (λ o. option_or (option_map (field_json name) (find by_bytes name rest)) o) (get_member-put_other name field.0 (field_json field.0 field.1) ms other)
+
+found_among : (fields : List Field) (ms : Members) (name : List ℕ) → T (is_sorted by_bytes fields)
+    → get_member name (with_members ms (map field_member fields)) ≡ option_or (option_map (field_json name) (find by_bytes name fields)) (get_member name ms)
+found_among [] ms name p = refl
+found_among (field ∷ rest) ms name p =
+    found_among rest (put field.0 (field_json field.0 field.1) ms) name (second _ _ p) ∙ next (bytes_eq name field.0) name field rest ms refl (first _ _ p)
+    ∙ ap (λ b. option_or (option_map (field_json name) (cond b (Some field.1) (find by_bytes name rest))) (get_member name ms)) (sym (is_eq-slice_cmp name field.0))
+
+without_else : {A : Type 0} (o : Option A) → option_or o None ≡ o
+without_else None = refl
+without_else (Some x) = refl
+
+-- a field is found in the object of all fields
+pub found_field : (fields : ByText Value) (name : List ℕ) → get name (fields_json fields) ≡ option_map (field_json name) (by_name.get fields name)
+found_field fields name =
+    found_among (entries fields) no_members name (entries_sorted fields) ∙ without_else _ ∙ ap (λ o. option_map (field_json name) o) (sym (get-entries fields name))

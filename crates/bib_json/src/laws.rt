@@ -1,0 +1,30 @@
+//! Laws of what is written. These functions do nothing: what they ensure is proved of the definitions alone.
+
+ghost use Rattle.std.specs.Prelude.{◌≡◌, ℕ, List, map, codes, true, Some, option_and_then};
+ghost use Rattle.std.specs.FinMap as by_name;
+ghost use Rattle.std.specs.List.{AllByRecursion};
+ghost use Rattle.std.specs.Option.{option_map};
+ghost use Rattle.bib_entry.specs.declared.entry.Entry.{Entry};
+ghost use Rattle.serde_json.specs.Find.{get};
+ghost use Rattle.serde_json.specs.Read.{read};
+ghost use Rattle.bib_json.specs.Arrays.{array_text, in_pieces};
+ghost use Rattle.bib_json.specs.Entries.{json_of, json_text_of, IsReadBack};
+ghost use Rattle.bib_json.specs.Fields.{field_json};
+ghost use Rattle.bib_json.specs.Objects.{array_of};
+
+/// Each field of an entry has its object under its name, and no other name has one.
+pub fn fields_are_found()
+    ensures { (entry : Entry) (name : List ℕ) → option_and_then (get name) (get (codes "fields") (json_of entry)) ≡
+        option_map (field_json name) (by_name.get entry.fields name) }
+{}
+
+/// Elements that are written one after another, each after what stands before it, with the end after them, make the array.
+pub fn pieces_make_the_array()
+    ensures { (elements : List (List ℕ)) → in_pieces true elements ≡ array_text elements }
+{}
+
+/// An array of entries, each of which is read back, is read as the array of their objects.
+pub fn array_is_read()
+    ensures { (entries : List Entry) → AllByRecursion IsReadBack entries →
+        read (array_text (map json_text_of entries)) ≡ Some (array_of json_of entries) }
+{}
