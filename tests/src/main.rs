@@ -14,6 +14,7 @@ mod documents;
 mod entries;
 mod excerpts;
 mod formats;
+mod items;
 mod sortings;
 mod strings;
 mod support;
@@ -35,6 +36,7 @@ fn rows(alloc: Global, layer: &str, input: &str) -> Result<String, AllocError> {
         "documents" => answered::<documents::Documents>(alloc, input),
         "excerpts" => answered::<excerpts::Excerpts>(alloc, input),
         "formats" => answered::<formats::Formats>(alloc, input),
+        "items" => answered::<items::CslItems>(alloc, input),
         "sortings" => answered::<sortings::Sortings>(alloc, input),
         "strings" => answered::<strings::Strings>(alloc, input),
         "entries" => answered::<entries::Entries>(alloc, input),

@@ -1,3 +1,3 @@
 pub mod AppendFacts
 pub mod FloatFacts
-pub mod MarkupFacts
+pub mod TagFacts

@@ -17,6 +17,7 @@ mod notes;
 mod numbers;
 mod people;
 mod publishing;
+mod tags;
 mod texts;
 mod titles;
 mod types;
