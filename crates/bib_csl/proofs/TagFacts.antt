@@ -25,13 +25,13 @@ escaped_end out total u end before = ap (λ cs. out ++ escaped cs) (sym (chars_a
 pub marked_step : (out more total : List ℕ) (tags next : List (List ℕ)) (name after : Option (List ℕ)) {u x : Place} {c : ℕ} → CharAt u c x → IsUtf8 (ahead u)
     → more ≡ out ++ said tags name c → next ≡ open_after tags name c → after ≡ name_after name c
     → out ++ marked_from tags name (chars (ahead u)) ≡ total → (x.text ≡ u.text) × IsUtf8 (ahead x) × (more ++ marked_from next after (chars (ahead x)) ≡ total)
-marked_step out more total tags next name after {u} {x} {c} char utf8 wrote opened named before =
+marked_step out more total tags next name after {u} {x} {c} char utf8 wrote opened given_names before =
     let passed : Passed u (c ∷ []) x = passed_char char utf8 in
     let rest = marked_from (open_after tags name c) (name_after name c) (chars (ahead x)) in (
       passed.same,
       passed.utf8,
-      ap₂ (λ t n. more ++ marked_from t n (chars (ahead x))) opened named ∙ ap (λ o. o ++ rest) wrote ∙ append_assoc out (said tags name c) rest
-      ∙ ap (λ cs. out ++ marked_from tags name cs) (sym passed.spelt) ∙ before,
+      ap₂ (λ t n. more ++ marked_from t n (chars (ahead x))) opened given_names ∙ ap (λ o. o ++ rest) wrote ∙ append_assoc out (said tags name c) rest
+          ∙ ap (λ cs. out ++ marked_from tags name cs) (sym passed.spelt) ∙ before,
     )
 
 -- its end

@@ -14,8 +14,8 @@ escape c =
     else encode_utf8 c
 
 -- what stands before the text of a command with this name, or nothing for a command that has no tag
-unfoldable pub opening : List ℕ → List ℕ
-opening name =
+unfoldable pub opening_tag : List ℕ → List ℕ
+opening_tag name =
     if bytes_eq name (codes "emph") then codes "<i>"
     else if bytes_eq name (codes "textit") then codes "<i>"
     else if bytes_eq name (codes "mkbibemph") then codes "<i>"
@@ -28,8 +28,8 @@ opening name =
     else []
 
 -- what stands after it
-unfoldable pub closing : List ℕ → List ℕ
-closing name =
+unfoldable pub closing_tag : List ℕ → List ℕ
+closing_tag name =
     if bytes_eq name (codes "emph") then codes "</i>"
     else if bytes_eq name (codes "textit") then codes "</i>"
     else if bytes_eq name (codes "mkbibemph") then codes "</i>"
@@ -47,7 +47,7 @@ as_command name = codes "\\" ++ name
 
 -- a command and the brace after it
 unfoldable pub begun : List ℕ → List ℕ
-begun name = if length (opening name) == 0 then as_command name ++ codes "{" else opening name
+begun name = if length (opening_tag name) == 0 then as_command name ++ codes "{" else opening_tag name
 
 -- What is open where a character stands: of each open brace the tag that ends it, the innermost first, where nothing stands for a brace
 -- that stays; and of a command that is being read the name so far.
@@ -87,7 +87,7 @@ unfoldable pub open_after : List (List ℕ) → Option (List ℕ) → ℕ → Li
 open_after tags None c = open_plainly tags c
 open_after tags (Some name) c =
     if is_ascii_alphabetic c then tags
-    else if c == char.open_brace then closing name ∷ tags
+    else if c == char.open_brace then closing_tag name ∷ tags
     else open_plainly tags c
 
 -- the name that is being read after it

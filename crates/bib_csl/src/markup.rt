@@ -2,7 +2,7 @@
 
 ghost use Rattle.std.specs.Prelude.{◌≡◌, ◌++◌, OnOk, IfOk};
 ghost use Rattle.std.specs.Option.{option_copied};
-ghost use Rattle.bib_csl.specs.Texts.{tagged, cased, keeping_case, marked, marked_chunk, marked_chunks};
+ghost use Rattle.bib_csl.specs.Texts.{tagged, keeping_its_case, keeping_case, marked_field, marked_chunk, marked_chunks};
 
 use crate::tags::{escaped, marked_text};
 use bib_chunks::chunk::{Chunk, ChunksRef, Spanned, format_verbatim};
@@ -23,14 +23,9 @@ fn push_keeping_case(out: &mut Text, text: &str) -> Result<(), AllocError>
 }
 
 // Appends the text of a chunk, which keeps its case in a title where it is verbatim.
-#[tactic(auto, unfolding(crate::specs::Texts::cased))]
-fn push_cased(
-    out: &mut Text,
-    is_title: bool,
-    chunk: &Chunk,
-    text: &str,
-) -> Result<(), AllocError>
-    ensures { OnOk result (out.new ≡ out.old ++ cased is_title chunk.now text.now) }
+#[tactic(auto, unfolding(crate::specs::Texts::keeping_its_case))]
+fn push_cased(out: &mut Text, is_title: bool, chunk: &Chunk, text: &str) -> Result<(), AllocError>
+    ensures { OnOk result (out.new ≡ out.old ++ keeping_its_case is_title chunk.now text.now) }
 {
     match chunk {
         Chunk::Verbatim(_) if is_title => push_keeping_case(out, text),
@@ -77,13 +72,13 @@ fn marked_chunks(alloc: Global, is_title: bool, chunks: ChunksRef<'_>) -> Result
 }
 
 // The text of a field with HTML's tags and escapes, or nothing where the field isn't there.
-#[tactic(auto, unfolding(crate::specs::Texts::marked))]
-pub(crate) fn marked(
+#[tactic(auto, unfolding(crate::specs::Texts::marked_field))]
+pub(crate) fn marked_field(
     alloc: Global,
     is_title: bool,
     field: Option<ChunksRef<'_>>,
 ) -> Result<Text, AllocError>
-    ensures { IfOk result (λ text. text ≡ marked is_title (option_copied field.entry)) }
+    ensures { IfOk result (λ text. text ≡ marked_field is_title (option_copied field.entry)) }
 {
     match field {
         Some(chunks) => marked_chunks(alloc, is_title, chunks),

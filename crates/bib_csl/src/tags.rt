@@ -38,9 +38,9 @@ pub(crate) fn escaped(alloc: Global, text: &str) -> Result<Text, AllocError>
 }
 
 // What stands before the text of a command with this name.
-#[tactic(auto, unfolding(crate::specs::Markup::opening))]
-fn opening(name: &str) -> &'static str
-    ensures { result.now ≡ spec.opening name.now }
+#[tactic(auto, unfolding(crate::specs::Markup::opening_tag))]
+fn opening_tag(name: &str) -> &'static str
+    ensures { result.now ≡ spec.opening_tag name.now }
 {
     match name {
         "emph" => "<i>",
@@ -57,9 +57,9 @@ fn opening(name: &str) -> &'static str
 }
 
 // What stands after it.
-#[tactic(auto, unfolding(crate::specs::Markup::closing))]
-fn closing(name: &str) -> &'static str
-    ensures { result.now ≡ spec.closing name.now }
+#[tactic(auto, unfolding(crate::specs::Markup::closing_tag))]
+fn closing_tag(name: &str) -> &'static str
+    ensures { result.now ≡ spec.closing_tag name.now }
 {
     match name {
         "emph" => "</i>",
@@ -89,7 +89,7 @@ fn push_command(out: &mut Text, name: &str) -> Result<(), AllocError>
 fn push_begun(out: &mut Text, name: &str) -> Result<(), AllocError>
     ensures { OnOk result (out.new ≡ out.old ++ spec.begun name.now) }
 {
-    let tag = opening(name);
+    let tag = opening_tag(name);
     if tag.is_empty() {
         push_command(out, name)?;
         return out.push_str("{");
@@ -137,12 +137,7 @@ fn open_plainly(alloc: Global, tags: &mut Items<Text>, c: char) -> Result<(), Al
 
 // Appends what is written of a character.
 #[tactic(auto, unfolding(crate::specs::Markup::said))]
-fn push_said(
-    out: &mut Text,
-    tags: &[Text],
-    name: &Option<Text>,
-    c: char,
-) -> Result<(), AllocError>
+fn push_said(out: &mut Text, tags: &[Text], name: &Option<Text>, c: char) -> Result<(), AllocError>
     ensures { OnOk result (out.new ≡ out.old ++ spec.said (reverse tags.now) name.now c) }
 {
     let Some(name) = name else {
@@ -175,7 +170,7 @@ fn open_after(
         return Ok(());
     }
     if c == '{' {
-        let tag = Text::from_str(alloc, closing(name.as_str()))?;
+        let tag = Text::from_str(alloc, closing_tag(name.as_str()))?;
         return Ok(tags.push(tag)?);
     }
     open_plainly(alloc, tags, c)
