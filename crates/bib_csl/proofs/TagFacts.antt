@@ -1,6 +1,5 @@
 -- Texts with tags, character by character.
-use Rattle.std.proofs.Common.{◌≡◌, ◌++◌, ℕ, List, [], ◌∷◌, Option, Some, None, length, reverse, refl, sym, ap, ap₂, ◌∙◌, append_assoc}
-use Rattle.std.specs.Prelude.{option_to_list}
+use Rattle.std.proofs.Common.{◌≡◌, ◌++◌, ℕ, List, [], ◌∷◌, Option, reverse, sym, ap, ap₂, ◌∙◌, append_assoc}
 use Rattle.std.specs.Str.{chars, IsUtf8}
 use Rattle.std.proofs.lemmas.List.{reverse-append}
 use Rattle.bib_text.specs.Places.{Place, CharAt, AtEnd}

@@ -1,6 +1,6 @@
 -- Meaning: words of public contracts.
 -- The item that an entry becomes.
-use Rattle.std.specs.Prelude.{ℕ, List, ◌++◌, codes}
+use Rattle.std.specs.Prelude.{List, ◌++◌, codes}
 use Rattle.bib_entry.specs.declared.entry.Entry.{Entry}
 use Rattle.bib_csl.specs.declared.item.Field.{Field}
 use Rattle.bib_csl.specs.declared.item.Item.{Item}

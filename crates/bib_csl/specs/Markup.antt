@@ -1,7 +1,7 @@
 -- Meaning: words of public contracts.
 -- Texts as HTML writes them, with tags for the commands of LaTeX that the reader leaves in them. A text is given by its characters, and
 -- what is written of it by bytes.
-use Rattle.std.specs.Prelude.{ℕ, Bool, ◌||◌, ◌==◌, if◌then◌else◌, List, [], ◌∷◌, ◌++◌, length, codes, encode_utf8, encode_utf8_all, Option, Some, None, bytes_eq}
+use Rattle.std.specs.Prelude.{ℕ, ◌==◌, if◌then◌else◌, List, [], ◌∷◌, ◌++◌, length, codes, encode_utf8, encode_utf8_all, Option, Some, None, bytes_eq}
 use Rattle.std.specs.Char.{is_ascii_alphabetic}
 use Rattle.bib_text.specs.Characters as char
 
