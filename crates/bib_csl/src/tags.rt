@@ -25,7 +25,7 @@ fn push_escaped(out: &mut Text, c: char) -> Result<(), AllocError>
     }
 }
 
-/// A text with HTML's escapes alone.
+// A text with HTML's escapes alone.
 pub(crate) fn escaped(alloc: Global, text: &str) -> Result<Text, AllocError>
     ensures { IfOk result (λ out. out ≡ spec.escaped (chars text.now)) }
 {
@@ -228,7 +228,7 @@ fn push_last(out: &mut Text, tags: Items<Text>, name: &Option<Text>) -> Result<(
     push_all_ended(out, tags)
 }
 
-/// A text with HTML's tags and escapes.
+// A text with HTML's tags and escapes.
 #[tactic(auto, unfolding(crate::specs::Markup::marked_text))]
 pub(crate) fn marked_text(alloc: Global, text: &str) -> Result<Text, AllocError>
     ensures { IfOk result (λ out. out ≡ spec.marked_text (chars text.now)) }
