@@ -11,6 +11,7 @@ mod fields;
 mod identifiers;
 pub mod item;
 pub mod json;
+pub mod laws;
 pub mod making;
 mod markup;
 mod notes;
