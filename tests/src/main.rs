@@ -16,6 +16,7 @@ mod entries;
 mod excerpts;
 mod exports;
 mod formats;
+mod items;
 mod sortings;
 mod strings;
 mod support;
@@ -39,6 +40,7 @@ fn rows(alloc: Global, layer: &str, input: &str) -> Result<String, AllocError> {
         "excerpts" => answered::<excerpts::Excerpts>(alloc, input),
         "exports" => answered::<exports::Exports>(alloc, input),
         "formats" => answered::<formats::Formats>(alloc, input),
+        "items" => answered::<items::CslItems>(alloc, input),
         "sortings" => answered::<sortings::Sortings>(alloc, input),
         "strings" => answered::<strings::Strings>(alloc, input),
         "entries" => answered::<entries::Entries>(alloc, input),

@@ -1,8 +1,8 @@
 -- The JSON of an item has no floats.
-use Rattle.std.proofs.Common.{◌≡◌, ◌||◌, ℕ, ℤ, pos, negsuc, zero, suc, List, [], ◌∷◌, Bool, true, false, Option, Some, None, Ordering, Less, Equal, Greater, if◌then◌else◌, length, ◌==◌, map, Result, Ok, Err, IfOk, codes, refl, ap, ap₂, ◌∙◌, true≢false}
+use Rattle.std.proofs.Common.{◌≡◌, ◌||◌, ℕ, ℤ, pos, negsuc, List, [], ◌∷◌, Bool, true, false, Option, Some, None, Ordering, Less, Equal, Greater, if◌then◌else◌, length, ◌==◌, map, Result, Ok, Err, IfOk, codes, refl, ap, ap₂, ◌∙◌, true≢false}
 use Rattle.std.specs.Ordering.{match_ordering, nat_cmp}
 use Rattle.std.specs.Cmp.Lexicographic.{slice_cmp}
-use Rattle.serde_json.specs.Data.{Data, string, array, object, number, boolean, Items, no_items, item, Members, no_members, member, put}
+use Rattle.serde_json.specs.Data.{Data, string, Members, no_members, member, put}
 use Rattle.serde_json.specs.Find.{is_float, of_integer}
 use Rattle.serde_json.specs.View.{items_of}
 use Rattle.serde_json.specs.Written.{has_float, items_have_float, members_have_float, compact_text}
@@ -11,13 +11,11 @@ use Rattle.bib_csl.specs.declared.item.Content.TheVariants as content
 use Rattle.bib_csl.specs.declared.item.DateParts.{DateParts}
 use Rattle.bib_csl.specs.declared.item.Field.{Field}
 use Rattle.bib_csl.specs.declared.item.Item.{Item}
-use Rattle.bib_csl.specs.declared.item.ItemDate.{ItemDate}
 use Rattle.bib_csl.specs.declared.item.Name.{Name}
 use Rattle.bib_csl.specs.declared.item.Name.TheVariants.{Literal, Parts}
-use Rattle.bib_csl.specs.declared.item.NameParts.{NameParts}
 use Rattle.bib_csl.specs.declared.item.Season.{Season}
-use Rattle.bib_csl.specs.Names.{type_name}
-use Rattle.bib_csl.specs.Json.{with_text, parts_members, name_members, name_json, day_items, month_items, date_parts_json, with_parts, with_season, with_circa, with_literal, date_members, content_json, with_field, with_fields, head_members, json_of}
+use Rattle.bib_csl.specs.Names.{item_type_name}
+use Rattle.bib_csl.specs.Json.{with_string, parts_members, name_members, name_json, month_items, date_parts_json, with_parts, with_season, with_circa, with_literal, date_members, content_json, with_variable, with_variables, head_members, json_of}
 
 placed : (o : Ordering) (a b c : Members) → members_have_float a ≡ false → members_have_float b ≡ false → members_have_float c ≡ false → members_have_float (match_ordering o a b c) ≡ false
 placed Less a b c p q r = p
@@ -44,8 +42,8 @@ chosen : (b : Bool) (a c : Members) → members_have_float a ≡ false → membe
 chosen true a c p q = p
 chosen false a c p q = q
 
-text_none : (name text : List ℕ) (ms : Members) → members_have_float ms ≡ false → members_have_float (with_text name text ms) ≡ false
-unfolding with_text
+text_none : (name text : List ℕ) (ms : Members) → members_have_float ms ≡ false → members_have_float (with_string name text ms) ≡ false
+unfolding with_string
 text_none name text ms h = chosen (length text == 0) ms _ h (put_none name (string text) ms refl h)
 
 name_none : (n : Name) → has_float (name_json n) ≡ false
@@ -100,15 +98,15 @@ content_none (content.Text t) = refl
 content_none (content.Names ns) = names_none ns
 content_none (content.Date d) = literal_none d.literal _ (circa_none d.circa _ (season_none d.season _ (dates_none d.parts no_members refl)))
 
-fields_none : (fs : List Field) (ms : Members) → members_have_float ms ≡ false → members_have_float (with_fields fs ms) ≡ false
-unfolding with_field
+fields_none : (fs : List Field) (ms : Members) → members_have_float ms ≡ false → members_have_float (with_variables fs ms) ≡ false
+unfolding with_variable
 fields_none [] ms h = h
 fields_none (f ∷ fs) ms h = fields_none fs _ (put_none _ _ ms (content_none f.content) h)
 
 head_none : (work : Item) → members_have_float (head_members work) ≡ false
 unfolding head_members
 head_none work =
-    put_none (codes "type") (string (type_name work.kind)) (put (codes "id") (string work.id) no_members) refl
+    put_none (codes "type") (string (item_type_name work.kind)) (put (codes "id") (string work.id) no_members) refl
     (put_none (codes "id") (string work.id) no_members refl refl)
 
 -- an item has none

@@ -1,3 +1,4 @@
 pub mod AppendFacts
 pub mod FloatFacts
-pub mod MarkupFacts
+pub mod OrderFacts
+pub mod TagFacts

@@ -21,27 +21,27 @@ use Rattle.bib_csl.specs.declared.item.ItemDate.{ItemDate}
 use Rattle.bib_csl.specs.declared.item.Season.{Season}
 use Rattle.bib_csl.specs.declared.item.Season.TheVariants.{Spring, Summer, Autumn, Winter}
 use Rattle.bib_csl.specs.declared.variables.Variable.TheVariants.{Issued, Accessed, EventDate, OriginalDate}
-use Rattle.bib_csl.specs.Fields.{dated}
-use Rattle.bib_csl.specs.Texts.{field, plain, joined}
+use Rattle.bib_csl.specs.Fields.{given_date}
+use Rattle.bib_csl.specs.Texts.{field, shown_field, joined}
 
 -- a year as CSL counts it: the one before 1 is -1
-unfoldable pub year_of : ℤ → ℤ
-year_of year = if is_lt (int_cmp year (pos 1)) then year -ℤ pos 1 else year
+unfoldable pub csl_year : ℤ → ℤ
+csl_year year = if is_lt (int_cmp year (pos 1)) then year -ℤ pos 1 else year
 
 -- a number that counts from 0, from 1
 abbrev pub from_one : ℕ → ℕ
 from_one n = n + 1
 
 -- year, month and day of a date; its time is dropped
-unfoldable pub date_parts : Datetime → DateParts
-date_parts d = record { year = year_of d.year; month = option_map from_one d.month; day = option_map from_one d.day }
+unfoldable pub parts_of_date : Datetime → DateParts
+parts_of_date d = record { year = csl_year d.year; month = option_map from_one d.month; day = option_map from_one d.day }
 
 -- the dates of a date or a range, those that there are
-unfoldable pub parts_of : DateValue → List DateParts
-parts_of (At d) = date_parts d ∷ []
-parts_of (After d) = date_parts d ∷ []
-parts_of (Before d) = date_parts d ∷ []
-parts_of (Between a b) = date_parts a ∷ date_parts b ∷ []
+unfoldable pub parts_of_value : DateValue → List DateParts
+parts_of_value (At d) = parts_of_date d ∷ []
+parts_of_value (After d) = parts_of_date d ∷ []
+parts_of_value (Before d) = parts_of_date d ∷ []
+parts_of_value (Between a b) = parts_of_date a ∷ parts_of_date b ∷ []
 
 -- the text of a range with one open side, after the Extended Date/Time Format
 unfoldable pub open_text : DateValue → Option (List ℕ)
@@ -52,7 +52,7 @@ open_text (Between a b) = None
 
 -- a date that is read
 unfoldable pub date_item : Date → ItemDate
-date_item d = record { parts = parts_of d.value; season = None; circa = d.uncertain || d.approximate; literal = open_text d.value }
+date_item d = record { parts = parts_of_value d.value; season = None; circa = d.uncertain || d.approximate; literal = open_text d.value }
 
 -- a date that isn't read, by its text
 unfoldable pub literal_item : List ℕ → ItemDate
@@ -79,7 +79,7 @@ season_numbered n =
 -- a season of a year
 unfoldable pub season_item : ℕ → Season → ItemDate
 season_item year season =
-    record { parts = record { year = year_of (pos year); month = None; day = None } ∷ []; season = Some season; circa = false; literal = None }
+    record { parts = record { year = csl_year (pos year); month = None; day = None } ∷ []; season = Some season; circa = false; literal = None }
 
 -- the season of a year that a text names
 unfoldable pub season_of : List ℕ → Option ItemDate
@@ -96,7 +96,7 @@ read_or_unread None text = unread text
 
 -- the text of a month and a year that aren't read
 abbrev pub month_and_year : Option Value → Value → List ℕ
-month_and_year month year = joined (codes " ") (plain month) (text year)
+month_and_year month year = joined (codes " ") (shown_field month) (text year)
 
 -- the date of a year and of the month and day beside it, if there is one
 unfoldable pub three_fields_item : Option Value → Option Value → Option Value → Option ItemDate
@@ -115,7 +115,7 @@ date_in entry date year month day = date_or_fields (field entry date) (field ent
 -- the dates of an item
 unfoldable pub date_fields : Entry → List Field
 date_fields entry =
-    dated Issued (date_in entry (codes "date") (codes "year") (codes "month") (codes "day")) ++
-    (dated Accessed (date_in entry (codes "urldate") (codes "urlyear") (codes "urlmonth") (codes "urlday")) ++
-    (dated EventDate (date_in entry (codes "eventdate") (codes "eventyear") (codes "eventmonth") (codes "eventday")) ++
-    dated OriginalDate (date_in entry (codes "origdate") (codes "origyear") (codes "origmonth") (codes "origday"))))
+    given_date Issued (date_in entry (codes "date") (codes "year") (codes "month") (codes "day")) ++
+    (given_date Accessed (date_in entry (codes "urldate") (codes "urlyear") (codes "urlmonth") (codes "urlday")) ++
+    (given_date EventDate (date_in entry (codes "eventdate") (codes "eventyear") (codes "eventmonth") (codes "eventday")) ++
+    given_date OriginalDate (date_in entry (codes "origdate") (codes "origyear") (codes "origmonth") (codes "origday"))))

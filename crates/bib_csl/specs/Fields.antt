@@ -12,10 +12,10 @@ unfoldable pub given : Variable → List ℕ → List Field
 given variable text = if length text == 0 then [] else record { variable = variable; content = content.Text text } ∷ []
 
 -- a variable with names, unless there are none
-unfoldable pub named : Variable → List Name → List Field
-named variable names = if length names == 0 then [] else record { variable = variable; content = content.Names names } ∷ []
+unfoldable pub given_people : Variable → List Name → List Field
+given_people variable names = if length names == 0 then [] else record { variable = variable; content = content.Names names } ∷ []
 
 -- a variable with a date, if there is one
-unfoldable pub dated : Variable → Option ItemDate → List Field
-dated variable None = []
-dated variable (Some date) = record { variable = variable; content = content.Date date } ∷ []
+unfoldable pub given_date : Variable → Option ItemDate → List Field
+given_date variable None = []
+given_date variable (Some date) = record { variable = variable; content = content.Date date } ∷ []

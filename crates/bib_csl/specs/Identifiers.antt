@@ -7,7 +7,7 @@ use Rattle.bib_entry.specs.Fields.{field_or}
 use Rattle.bib_csl.specs.declared.item.Field.{Field}
 use Rattle.bib_csl.specs.declared.variables.Variable.TheVariants.{Doi, Url, Pmid, Isbn, Issn, Archive, ArchiveLocation, CallNumber}
 use Rattle.bib_csl.specs.Fields.{given}
-use Rattle.bib_csl.specs.Texts.{field, plain, either}
+use Rattle.bib_csl.specs.Texts.{field, shown_field, either}
 
 -- the archive of the electronic version, in lowercase letters
 unfoldable pub archive_name : Option Value → List ℕ
@@ -24,7 +24,7 @@ archive_of entry = archive_name (archive_field entry)
 
 -- the name of the electronic version there
 unfoldable pub eprint_of : Entry → List ℕ
-eprint_of entry = plain (field entry (codes "eprint"))
+eprint_of entry = shown_field (field entry (codes "eprint"))
 
 -- what an address in one of the archives begins with, or nothing for any other archive
 unfoldable pub archive_address : List ℕ → List ℕ
@@ -48,7 +48,7 @@ unaddressed archive text = if length (archive_address archive) == 0 then text el
 
 -- the address: by the field `url`, else in the archive
 unfoldable pub url_of : Entry → List ℕ
-url_of entry = either (plain (field entry (codes "url"))) (address_in (archive_of entry) (eprint_of entry))
+url_of entry = either (shown_field (field entry (codes "url"))) (address_in (archive_of entry) (eprint_of entry))
 
 -- the number in PubMed
 unfoldable pub pubmed_number : Entry → List ℕ
@@ -56,7 +56,7 @@ pubmed_number entry = if bytes_eq (archive_of entry) (codes "pubmed") then eprin
 
 -- the name of an archive without such addresses
 unfoldable pub archive_text : Entry → List ℕ
-archive_text entry = unaddressed (archive_of entry) (plain (archive_field entry))
+archive_text entry = unaddressed (archive_of entry) (shown_field (archive_field entry))
 
 -- the place in such an archive
 unfoldable pub archive_location : Entry → List ℕ
@@ -65,15 +65,15 @@ archive_location entry = unaddressed (archive_of entry) (eprint_of entry)
 -- what identifies an item
 unfoldable pub identifier_fields : Entry → List Field
 identifier_fields entry =
-    given Doi (plain (field entry (codes "doi"))) ++
+    given Doi (shown_field (field entry (codes "doi"))) ++
     (given Url (url_of entry) ++
     (given Pmid (pubmed_number entry) ++
-    (given Isbn (plain (field entry (codes "isbn"))) ++
-    given Issn (plain (field entry (codes "issn"))))))
+    (given Isbn (shown_field (field entry (codes "isbn"))) ++
+    given Issn (shown_field (field entry (codes "issn"))))))
 
 -- where an item is kept
 unfoldable pub archive_fields : Entry → List Field
 archive_fields entry =
     given Archive (archive_text entry) ++
     (given ArchiveLocation (archive_location entry) ++
-    given CallNumber (plain (field entry (codes "library"))))
+    given CallNumber (shown_field (field entry (codes "library"))))

@@ -1,6 +1,6 @@
 -- Meaning: words of public contracts.
 -- The item that an entry becomes.
-use Rattle.std.specs.Prelude.{ℕ, List, ◌++◌, codes}
+use Rattle.std.specs.Prelude.{List, ◌++◌, codes}
 use Rattle.bib_entry.specs.declared.entry.Entry.{Entry}
 use Rattle.bib_csl.specs.declared.item.Field.{Field}
 use Rattle.bib_csl.specs.declared.item.Item.{Item}
@@ -11,13 +11,13 @@ use Rattle.bib_csl.specs.Notes.{note_fields}
 use Rattle.bib_csl.specs.Numbers.{volume_fields, page_fields}
 use Rattle.bib_csl.specs.People.{people_fields}
 use Rattle.bib_csl.specs.Publishing.{publishing_fields}
-use Rattle.bib_csl.specs.Texts.{field, plain}
+use Rattle.bib_csl.specs.Texts.{field, shown_field}
 use Rattle.bib_csl.specs.Titles.{title_fields, container_fields, event_fields}
 use Rattle.bib_csl.specs.Types.{item_type_of}
 
 -- the type of the item that an entry becomes
 unfoldable pub type_of_entry : Entry → ItemType
-type_of_entry entry = item_type_of entry.entry_type (plain (field entry (codes "entrysubtype")))
+type_of_entry entry = item_type_of entry.entry_type (shown_field (field entry (codes "entrysubtype")))
 
 -- what an item is called, what it is a part of, and who published it
 unfoldable pub work_fields : ItemType → Entry → List Field
@@ -30,9 +30,9 @@ detail_fields kind entry =
     volume_fields kind entry ++ (page_fields entry ++ (identifier_fields entry ++ (archive_fields entry ++ note_fields entry)))
 
 -- the variables of an item of this type that an entry becomes
-unfoldable pub fields_of : ItemType → Entry → List Field
-fields_of kind entry = work_fields kind entry ++ (detail_fields kind entry ++ (people_fields kind entry ++ date_fields entry))
+unfoldable pub item_fields : ItemType → Entry → List Field
+item_fields kind entry = work_fields kind entry ++ (detail_fields kind entry ++ (people_fields kind entry ++ date_fields entry))
 
 -- the item that an entry becomes
-unfoldable pub item_of : Entry → Item
-item_of entry = record { id = entry.key; kind = type_of_entry entry; fields = fields_of (type_of_entry entry) entry }
+unfoldable pub item_of_entry : Entry → Item
+item_of_entry entry = record { id = entry.key; kind = type_of_entry entry; fields = item_fields (type_of_entry entry) entry }

@@ -15,17 +15,17 @@ use Rattle.bib_csl.specs.declared.item.Name.TheVariants.{Literal, Parts}
 use Rattle.bib_csl.specs.declared.item.NameParts.{NameParts}
 use Rattle.bib_csl.specs.declared.item.Season.{Season}
 use Rattle.bib_csl.specs.declared.item.Season.TheVariants.{Spring, Summer, Autumn, Winter}
-use Rattle.bib_csl.specs.Names.{type_name, variable_name}
+use Rattle.bib_csl.specs.Names.{item_type_name, variable_name}
 
 -- members, with a text of this name unless it is empty
-unfoldable pub with_text : List ℕ → List ℕ → Members → Members
-with_text name text members = if length text == 0 then members else put name (string text) members
+unfoldable pub with_string : List ℕ → List ℕ → Members → Members
+with_string name text members = if length text == 0 then members else put name (string text) members
 
 -- the members of a person's name
 unfoldable pub parts_members : NameParts → Members
 parts_members p =
-    with_text (codes "non-dropping-particle") p.non_dropping_particle (with_text (codes "dropping-particle") p.dropping_particle
-    (with_text (codes "suffix") p.suffix (with_text (codes "given") p.given (with_text (codes "family") p.family no_members))))
+    with_string (codes "non-dropping-particle") p.non_dropping_particle (with_string (codes "dropping-particle") p.dropping_particle
+    (with_string (codes "suffix") p.suffix (with_string (codes "given") p.given (with_string (codes "family") p.family no_members))))
 
 -- the members of a name
 unfoldable pub name_members : Name → Members
@@ -88,18 +88,18 @@ content_json (content.Names names) = array (items_of (map name_json names))
 content_json (content.Date date) = object (date_members date)
 
 -- members, with a variable
-unfoldable pub with_field : Field → Members → Members
-with_field field members = put (variable_name field.variable) (content_json field.content) members
+unfoldable pub with_variable : Field → Members → Members
+with_variable field members = put (variable_name field.variable) (content_json field.content) members
 
 -- members, with variables one after another
-abbrev pub with_fields : List Field → Members → Members
-with_fields [] members = members
-with_fields (field ∷ fields) members = with_fields fields (with_field field members)
+abbrev pub with_variables : List Field → Members → Members
+with_variables [] members = members
+with_variables (field ∷ fields) members = with_variables fields (with_variable field members)
 
 -- what an item is called and its type
 unfoldable pub head_members : Item → Members
-head_members work = put (codes "type") (string (type_name work.kind)) (put (codes "id") (string work.id) no_members)
+head_members work = put (codes "type") (string (item_type_name work.kind)) (put (codes "id") (string work.id) no_members)
 
 -- an item
 unfoldable pub json_of : Item → Data
-json_of work = object (with_fields work.fields (head_members work))
+json_of work = object (with_variables work.fields (head_members work))

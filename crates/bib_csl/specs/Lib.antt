@@ -3,6 +3,7 @@ pub mod Fields
 pub mod Identifiers
 pub mod Items
 pub mod Json
+pub mod Markup
 pub mod Names
 pub mod Notes
 pub mod Numbers

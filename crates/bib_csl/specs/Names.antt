@@ -7,24 +7,24 @@ use Rattle.bib_csl.specs.declared.variables.Variable.{Variable}
 use Rattle.bib_csl.specs.declared.variables.Variable.TheVariants as variable
 
 -- the name of a type
-abbrev pub type_name : ItemType → List ℕ
-type_name item_type.ArticleJournal = codes "article-journal"
-type_name item_type.ArticleMagazine = codes "article-magazine"
-type_name item_type.ArticleNewspaper = codes "article-newspaper"
-type_name item_type.Book = codes "book"
-type_name item_type.Chapter = codes "chapter"
-type_name item_type.Dataset = codes "dataset"
-type_name item_type.Document = codes "document"
-type_name item_type.EntryEncyclopedia = codes "entry-encyclopedia"
-type_name item_type.Manuscript = codes "manuscript"
-type_name item_type.Pamphlet = codes "pamphlet"
-type_name item_type.PaperConference = codes "paper-conference"
-type_name item_type.Patent = codes "patent"
-type_name item_type.Periodical = codes "periodical"
-type_name item_type.Report = codes "report"
-type_name item_type.Software = codes "software"
-type_name item_type.Thesis = codes "thesis"
-type_name item_type.Webpage = codes "webpage"
+abbrev pub item_type_name : ItemType → List ℕ
+item_type_name item_type.ArticleJournal = codes "article-journal"
+item_type_name item_type.ArticleMagazine = codes "article-magazine"
+item_type_name item_type.ArticleNewspaper = codes "article-newspaper"
+item_type_name item_type.Book = codes "book"
+item_type_name item_type.Chapter = codes "chapter"
+item_type_name item_type.Dataset = codes "dataset"
+item_type_name item_type.Document = codes "document"
+item_type_name item_type.EntryEncyclopedia = codes "entry-encyclopedia"
+item_type_name item_type.Manuscript = codes "manuscript"
+item_type_name item_type.Pamphlet = codes "pamphlet"
+item_type_name item_type.PaperConference = codes "paper-conference"
+item_type_name item_type.Patent = codes "patent"
+item_type_name item_type.Periodical = codes "periodical"
+item_type_name item_type.Report = codes "report"
+item_type_name item_type.Software = codes "software"
+item_type_name item_type.Thesis = codes "thesis"
+item_type_name item_type.Webpage = codes "webpage"
 
 -- the name of a variable
 abbrev pub variable_name : Variable → List ℕ

@@ -11,7 +11,7 @@ use Rattle.bib_values.specs.Enumerations.{language_read}
 use Rattle.bib_csl.specs.declared.item.Field.{Field}
 use Rattle.bib_csl.specs.declared.variables.Variable.TheVariants as variable
 use Rattle.bib_csl.specs.Fields.{given}
-use Rattle.bib_csl.specs.Texts.{field, plain, rich_text, rich_text_or, joined}
+use Rattle.bib_csl.specs.Texts.{field, shown_field, rich_text, rich_text_or, joined}
 
 -- the tag of a language, after BCP 47
 unfoldable pub tag_of : Language → List ℕ
@@ -40,6 +40,6 @@ note_fields entry =
     given variable.Abstract (rich_text entry (codes "abstract")) ++
     (given variable.Annote (rich_text_or entry (codes "annotation") (codes "annote")) ++
     (given variable.Note (note_of entry) ++
-    (given variable.Status (plain (field entry (codes "pubstate"))) ++
-    (given variable.Keyword (plain (field entry (codes "keywords"))) ++
+    (given variable.Status (shown_field (field entry (codes "pubstate"))) ++
+    (given variable.Keyword (shown_field (field entry (codes "keywords"))) ++
     given variable.Language (language_of (field_or entry (codes "langid") (codes "language")))))))

@@ -1,6 +1,6 @@
 -- Meaning: words of public contracts.
 -- The numbers of an item.
-use Rattle.std.specs.Prelude.{ℕ, ◌==◌, if◌then◌else◌, List, [], ◌∷◌, ◌++◌, length, codes, encode_utf8, Option, Some, None}
+use Rattle.std.specs.Prelude.{ℕ, ◌==◌, if◌then◌else◌, List, [], ◌∷◌, ◌++◌, codes, encode_utf8, Option, Some, None}
 use Rattle.std.specs.Fmt.{decimal}
 use Rattle.std.specs.declared.ops.Range.{Range}
 use Rattle.bib_text.specs.Characters as char
@@ -11,7 +11,7 @@ use Rattle.bib_csl.specs.declared.item.Field.{Field}
 use Rattle.bib_csl.specs.declared.variables.ItemType.{ItemType}
 use Rattle.bib_csl.specs.declared.variables.Variable.TheVariants.{Volume, NumberOfVolumes, PartNumber, Issue, Number, CollectionNumber, Edition, ChapterNumber, Page, NumberOfPages, Version}
 use Rattle.bib_csl.specs.Fields.{given}
-use Rattle.bib_csl.specs.Texts.{field, plain, joined}
+use Rattle.bib_csl.specs.Texts.{field, shown_field, joined}
 use Rattle.bib_csl.specs.Types.{counts_issues, counts_series}
 
 -- the issue: where the field `number` counts issues, it and `issue`
@@ -19,8 +19,8 @@ unfoldable pub issue_of : ItemType → List ℕ → List ℕ → List ℕ
 issue_of kind number issue = if counts_issues kind then joined (codes ", ") number issue else issue
 
 -- the number of the item itself, where `number` counts nothing else
-unfoldable pub number_of : ItemType → List ℕ → List ℕ
-number_of kind number = if counts_issues kind then [] else if counts_series kind then [] else number
+unfoldable pub own_number : ItemType → List ℕ → List ℕ
+own_number kind number = if counts_issues kind then [] else if counts_series kind then [] else number
 
 -- the number in the series
 unfoldable pub collection_number : ItemType → List ℕ → List ℕ
@@ -50,19 +50,19 @@ pages (Some chunks) = pages_text (ranges_read chunks) (text chunks)
 -- the volume, the issue, and where the item stands in a series
 unfoldable pub volume_fields : ItemType → Entry → List Field
 volume_fields kind entry =
-    let number = plain (field entry (codes "number")) in
-    given Volume (plain (field entry (codes "volume"))) ++
-    (given NumberOfVolumes (plain (field entry (codes "volumes"))) ++
-    (given PartNumber (plain (field entry (codes "part"))) ++
-    (given Issue (issue_of kind number (plain (field entry (codes "issue")))) ++
-    (given Number (number_of kind number) ++
+    let number = shown_field (field entry (codes "number")) in
+    given Volume (shown_field (field entry (codes "volume"))) ++
+    (given NumberOfVolumes (shown_field (field entry (codes "volumes"))) ++
+    (given PartNumber (shown_field (field entry (codes "part"))) ++
+    (given Issue (issue_of kind number (shown_field (field entry (codes "issue")))) ++
+    (given Number (own_number kind number) ++
     given CollectionNumber (collection_number kind number)))))
 
 -- the edition and the pages
 unfoldable pub page_fields : Entry → List Field
 page_fields entry =
-    given Edition (plain (field entry (codes "edition"))) ++
-    (given ChapterNumber (plain (field entry (codes "chapter"))) ++
+    given Edition (shown_field (field entry (codes "edition"))) ++
+    (given ChapterNumber (shown_field (field entry (codes "chapter"))) ++
     (given Page (pages (field entry (codes "pages"))) ++
-    (given NumberOfPages (plain (field entry (codes "pagetotal"))) ++
-    given Version (plain (field entry (codes "version"))))))
+    (given NumberOfPages (shown_field (field entry (codes "pagetotal"))) ++
+    given Version (shown_field (field entry (codes "version"))))))

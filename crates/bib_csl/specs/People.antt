@@ -1,9 +1,8 @@
 -- Meaning: words of public contracts.
 -- The people of an item.
-use Rattle.std.specs.Prelude.{ℕ, Bool, true, false, ◌&&◌, ◌||◌, ◌==◌, not, if◌then◌else◌, List, [], ◌∷◌, ◌++◌, length, codes, bytes_eq, Option, Some, None}
+use Rattle.std.specs.Prelude.{ℕ, Bool, true, false, ◌&&◌, ◌||◌, ◌==◌, if◌then◌else◌, List, [], ◌∷◌, ◌++◌, length, codes, bytes_eq, Option, Some, None}
 use Rattle.std.specs.List.{flat_map, list_all, list_any}
 use Rattle.std.specs.Option.{unwrap_or}
-use Rattle.bib_text.specs.declared.spanned.Spanned.{Spanned}
 use Rattle.bib_chunks.specs.declared.chunk.Chunk.{Chunk}
 use Rattle.bib_chunks.specs.declared.chunk.Chunk.TheVariants.{Normal, Verbatim, Math}
 use Rattle.bib_chunks.specs.Cuts.{and_list, comma_list}
@@ -22,7 +21,7 @@ use Rattle.bib_csl.specs.declared.variables.ItemType.{ItemType}
 use Rattle.bib_csl.specs.declared.variables.ItemType.TheVariants as item_type
 use Rattle.bib_csl.specs.declared.variables.Variable.{Variable}
 use Rattle.bib_csl.specs.declared.variables.Variable.TheVariants.{Author, Editor, Compiler, Director, Organizer, Translator, ContainerAuthor}
-use Rattle.bib_csl.specs.Fields.{named}
+use Rattle.bib_csl.specs.Fields.{given_people}
 use Rattle.bib_csl.specs.Names.{variable_name}
 use Rattle.bib_csl.specs.Texts.{field}
 
@@ -42,30 +41,30 @@ parts_with true p = record { family = p.name; given = p.given_name; suffix = p.s
 parts_with false p = record { family = p.name; given = p.given_name; suffix = p.suffix; dropping_particle = p.prefix; non_dropping_particle = [] }
 
 -- the name that chunks spell; the person's own word on the prefix goes before that of the entry
-unfoldable pub name_of : Bool → Value → Name
-name_of uses_prefix chunks =
+unfoldable pub name_said : Bool → Value → Name
+name_said uses_prefix chunks =
     if is_literal chunks then Literal (text chunks)
     else Parts (parts_with (unwrap_or (person_of chunks).use_prefix uses_prefix) (person_of chunks))
 
 -- whether a name says nothing
-unfoldable pub is_empty : Name → Bool
-is_empty (Literal text) = length text == 0
-is_empty (Parts p) =
+unfoldable pub says_nothing : Name → Bool
+says_nothing (Literal text) = length text == 0
+says_nothing (Parts p) =
     (length p.family == 0) && ((length p.given == 0) && ((length p.suffix == 0)
     && ((length p.dropping_particle == 0) && (length p.non_dropping_particle == 0))))
 
 -- a name, unless it says nothing
 unfoldable pub unless_empty : Name → List Name
-unless_empty name = if is_empty name then [] else name ∷ []
+unless_empty name = if says_nothing name then [] else name ∷ []
 
 -- the names of a list of people
-unfoldable pub names_in : Bool → Value → List Name
-names_in uses_prefix chunks = flat_map (λ part. unless_empty (name_of uses_prefix part)) (and_list chunks)
+unfoldable pub names_listed : Bool → Value → List Name
+names_listed uses_prefix chunks = flat_map (λ part. unless_empty (name_said uses_prefix part)) (and_list chunks)
 
 -- the names of a field
-unfoldable pub names_of : Bool → Option Value → List Name
-names_of uses_prefix None = []
-names_of uses_prefix (Some chunks) = names_in uses_prefix chunks
+unfoldable pub names_said : Bool → Option Value → List Name
+names_said uses_prefix None = []
+names_said uses_prefix (Some chunks) = names_listed uses_prefix chunks
 
 -- whether an option of an entry says that prefixes count as parts of family names
 unfoldable pub is_prefix_option : List ℕ → Bool
@@ -92,21 +91,21 @@ unfoldable pub is_under : Variable → EditorType → Bool
 is_under variable role = bytes_eq (variable_name (variable_of_role role)) (variable_name variable)
 
 -- the people that the field of the first name holds, where their role, which the field of the second names, stands under the variable
-unfoldable pub editors_in : Variable → Entry → List ℕ → List ℕ → List Name
-editors_in variable entry people role =
-    if is_under variable (role_of (field entry role)) then names_of (uses_prefix entry) (field entry people) else []
+unfoldable pub editors_listed : Variable → Entry → List ℕ → List ℕ → List Name
+editors_listed variable entry people role =
+    if is_under variable (role_of (field entry role)) then names_said (uses_prefix entry) (field entry people) else []
 
 -- the editors of an entry that stand under the variable
 unfoldable pub editors_under : Variable → Entry → List Name
 editors_under variable entry =
-    editors_in variable entry (codes "editor") (codes "editortype") ++
-    (editors_in variable entry (codes "editora") (codes "editoratype") ++
-    (editors_in variable entry (codes "editorb") (codes "editorbtype") ++
-    editors_in variable entry (codes "editorc") (codes "editorctype")))
+    editors_listed variable entry (codes "editor") (codes "editortype") ++
+    (editors_listed variable entry (codes "editora") (codes "editoratype") ++
+    (editors_listed variable entry (codes "editorb") (codes "editorbtype") ++
+    editors_listed variable entry (codes "editorc") (codes "editorctype")))
 
 -- the people of the field of this name
 unfoldable pub people : Entry → List ℕ → List Name
-people entry name = names_of (uses_prefix entry) (field entry name)
+people entry name = names_said (uses_prefix entry) (field entry name)
 
 -- whether the item is a patent
 abbrev pub is_patent : ItemType → Bool
@@ -122,10 +121,10 @@ authors_of kind entry =
 -- the people of an item
 unfoldable pub people_fields : ItemType → Entry → List Field
 people_fields kind entry =
-    named Author (authors_of kind entry) ++
-    (named Editor (editors_under Editor entry) ++
-    (named Compiler (editors_under Compiler entry) ++
-    (named Director (editors_under Director entry) ++
-    (named Organizer (editors_under Organizer entry) ++
-    (named Translator (people entry (codes "translator")) ++
-    named ContainerAuthor (people entry (codes "bookauthor")))))))
+    given_people Author (authors_of kind entry) ++
+    (given_people Editor (editors_under Editor entry) ++
+    (given_people Compiler (editors_under Compiler entry) ++
+    (given_people Director (editors_under Director entry) ++
+    (given_people Organizer (editors_under Organizer entry) ++
+    (given_people Translator (people entry (codes "translator")) ++
+    given_people ContainerAuthor (people entry (codes "bookauthor")))))))

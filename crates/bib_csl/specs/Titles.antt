@@ -7,7 +7,7 @@ use Rattle.bib_csl.specs.declared.item.Field.{Field}
 use Rattle.bib_csl.specs.declared.variables.ItemType.{ItemType}
 use Rattle.bib_csl.specs.declared.variables.Variable.TheVariants.{Title, TitleShort, VolumeTitle, ContainerTitle, ContainerTitleShort, CollectionTitle, OriginalTitle, EventTitle, EventPlace}
 use Rattle.bib_csl.specs.Fields.{given}
-use Rattle.bib_csl.specs.Texts.{marked, title_text, rich_text, either, joined}
+use Rattle.bib_csl.specs.Texts.{marked_field, title_text, rich_text, either, joined}
 use Rattle.bib_csl.specs.Types.{is_article, is_in_book, is_volume}
 
 -- a title with its subtitle and what is added to it, in fields of these names
@@ -20,36 +20,36 @@ unfoldable pub own_title : Entry → List ℕ
 own_title entry = with_subtitle entry (title_text entry (codes "title")) (codes "subtitle") (codes "titleaddon")
 
 -- the title of a work of several volumes
-unfoldable pub main_title : Entry → List ℕ
-main_title entry = with_subtitle entry (title_text entry (codes "maintitle")) (codes "mainsubtitle") (codes "maintitleaddon")
+unfoldable pub title_of_work : Entry → List ℕ
+title_of_work entry = with_subtitle entry (title_text entry (codes "maintitle")) (codes "mainsubtitle") (codes "maintitleaddon")
 
 -- the title of the book that the work is a part of
-unfoldable pub book_title : Entry → List ℕ
-book_title entry = with_subtitle entry (title_text entry (codes "booktitle")) (codes "booksubtitle") (codes "booktitleaddon")
+unfoldable pub title_of_book : Entry → List ℕ
+title_of_book entry = with_subtitle entry (title_text entry (codes "booktitle")) (codes "booksubtitle") (codes "booktitleaddon")
 
 -- the title of the journal
 unfoldable pub journal_title : Entry → List ℕ
 journal_title entry =
-    with_subtitle entry (marked true (field_or entry (codes "journaltitle") (codes "journal"))) (codes "journalsubtitle") (codes "journaltitleaddon")
+    with_subtitle entry (marked_field true (field_or entry (codes "journaltitle") (codes "journal"))) (codes "journalsubtitle") (codes "journaltitleaddon")
 
 -- the title of the item: of a volume of a work, that of the work
-unfoldable pub title_of : ItemType → Entry → List ℕ
-title_of kind entry = if is_volume kind then either (main_title entry) (own_title entry) else own_title entry
+unfoldable pub item_title : ItemType → Entry → List ℕ
+item_title kind entry = if is_volume kind then either (title_of_work entry) (own_title entry) else own_title entry
 
 -- the title of the one volume, in a work of several with a title of its own
 unfoldable pub volume_title : ItemType → Entry → List ℕ
 volume_title kind entry =
-    if length (main_title entry) == 0 then []
+    if length (title_of_work entry) == 0 then []
     else if is_volume kind then own_title entry
-    else if is_in_book kind then book_title entry
+    else if is_in_book kind then title_of_book entry
     else []
 
 -- the title of what the item is a part of
 unfoldable pub container_title : ItemType → Entry → List ℕ
 container_title kind entry =
-    if is_in_book kind then either (main_title entry) (book_title entry)
+    if is_in_book kind then either (title_of_work entry) (title_of_book entry)
     else if is_article kind then journal_title entry
-    else either (journal_title entry) (book_title entry)
+    else either (journal_title entry) (title_of_book entry)
 
 -- the name of the conference
 unfoldable pub event_title : Entry → List ℕ
@@ -58,7 +58,7 @@ event_title entry = joined (codes ". ") (title_text entry (codes "eventtitle")) 
 -- the titles of an item
 unfoldable pub title_fields : ItemType → Entry → List Field
 title_fields kind entry =
-    given Title (title_of kind entry) ++
+    given Title (item_title kind entry) ++
     (given TitleShort (title_text entry (codes "shorttitle")) ++
     (given VolumeTitle (volume_title kind entry) ++
     given OriginalTitle (title_text entry (codes "origtitle"))))

@@ -2,7 +2,7 @@
 
 ghost use Rattle.std.specs.Prelude.{◌≡◌, ◌++◌, OnOk};
 ghost use Rattle.bib_csl.specs.Fields.{given};
-ghost use Rattle.bib_csl.specs.Texts.{field, plain, title_text, rich_text, rich_text_or};
+ghost use Rattle.bib_csl.specs.Texts.{field, shown_field, title_text, rich_text, rich_text_or};
 
 use crate::fields::add_text;
 use crate::item::Field;
@@ -20,7 +20,7 @@ pub(crate) fn add_plain(
     name: &str,
     fields: &mut Items<Field>,
 ) -> Result<(), AllocError>
-    ensures { OnOk result (fields.new ≡ fields.old ++ given variable (plain (field entry.now name.now))) }
+    ensures { OnOk result (fields.new ≡ fields.old ++ given variable (shown_field (field entry.now name.now))) }
 {
     add_text(fields, variable, texts::plain_text(alloc, entry, name)?)
 }
@@ -62,5 +62,9 @@ pub(crate) fn add_rich_or(
 ) -> Result<(), AllocError>
     ensures { OnOk result (fields.new ≡ fields.old ++ given variable (rich_text_or entry.now name.now other.now)) }
 {
-    add_text(fields, variable, texts::rich_text_or(alloc, entry, name, other)?)
+    add_text(
+        fields,
+        variable,
+        texts::rich_text_or(alloc, entry, name, other)?,
+    )
 }

@@ -10,7 +10,7 @@ ghost use Rattle.bib_csl.specs.Dates as spec;
 
 use crate::fields::add_date;
 use crate::item::{DateParts, Field, ItemDate, Season};
-use crate::texts::{joined, plain};
+use crate::texts::{joined, shown_field};
 use crate::variables::Variable;
 use bib_chunks::chunk::{ChunksRef, format_verbatim};
 use bib_dates::date::{Date, DateValue, Datetime};
@@ -20,9 +20,9 @@ use bib_text::text::Text;
 use std::alloc::{AllocError, Global};
 
 // A year as CSL counts it.
-#[tactic(auto, unfolding(crate::specs::Dates::year_of))]
-fn year_of(year: i32) -> i64
-    ensures { result ≡ spec.year_of year }
+#[tactic(auto, unfolding(crate::specs::Dates::csl_year))]
+fn csl_year(year: i32) -> i64
+    ensures { result ≡ spec.csl_year year }
 {
     if year < 1 {
         return year as i64 - 1;
@@ -41,30 +41,30 @@ fn from_one(number: Option<u8>) -> Option<u16>
 }
 
 // Year, month and day of a date.
-#[tactic(auto, unfolding(crate::specs::Dates::date_parts))]
-fn date_parts(date: &Datetime) -> DateParts
-    ensures { result ≡ spec.date_parts date.now }
+#[tactic(auto, unfolding(crate::specs::Dates::parts_of_date))]
+fn parts_of_date(date: &Datetime) -> DateParts
+    ensures { result ≡ spec.parts_of_date date.now }
 {
     DateParts {
-        year: year_of(date.year),
+        year: csl_year(date.year),
         month: from_one(date.month),
         day: from_one(date.day),
     }
 }
 
 // The dates of a date or a range, those that there are.
-#[tactic(auto, unfolding(crate::specs::Dates::parts_of))]
-fn parts_of(alloc: Global, value: &DateValue) -> Result<Items<DateParts>, AllocError>
-    ensures { IfOk result (λ parts. parts ≡ spec.parts_of value.now) }
+#[tactic(auto, unfolding(crate::specs::Dates::parts_of_value))]
+fn parts_of_value(alloc: Global, value: &DateValue) -> Result<Items<DateParts>, AllocError>
+    ensures { IfOk result (λ parts. parts ≡ spec.parts_of_value value.now) }
 {
     let mut parts = Items::new(alloc);
     match value {
-        DateValue::At(date) => parts.push(date_parts(date))?,
-        DateValue::After(start) => parts.push(date_parts(start))?,
-        DateValue::Before(end) => parts.push(date_parts(end))?,
+        DateValue::At(date) => parts.push(parts_of_date(date))?,
+        DateValue::After(start) => parts.push(parts_of_date(start))?,
+        DateValue::Before(end) => parts.push(parts_of_date(end))?,
         DateValue::Between(start, end) => {
-            parts.push(date_parts(start))?;
-            parts.push(date_parts(end))?;
+            parts.push(parts_of_date(start))?;
+            parts.push(parts_of_date(end))?;
         }
     }
     Ok(parts)
@@ -91,7 +91,7 @@ fn date_item(alloc: Global, date: &Date) -> Result<ItemDate, AllocError>
     ensures { IfOk result (λ item. item ≡ spec.date_item date.now) }
 {
     Ok(ItemDate {
-        parts: parts_of(alloc, &date.value)?,
+        parts: parts_of_value(alloc, &date.value)?,
         season: None,
         circa: date.uncertain || date.approximate,
         literal: open_text(alloc, &date.value)?,
@@ -168,7 +168,7 @@ fn season_item(alloc: Global, text: &[u8], season: Season) -> Result<ItemDate, A
 {
     let mut parts = Items::new(alloc);
     parts.push(DateParts {
-        year: year_of(first_year(text)),
+        year: csl_year(first_year(text)),
         month: None,
         day: None,
     })?;
@@ -271,7 +271,7 @@ fn three_fields_item(
     };
     let date = read_fields(alloc, year, month, day)?;
     let text = Text::from_string(format_verbatim(alloc, year)?);
-    let text = joined(" ", plain(alloc, month)?, text)?;
+    let text = joined(" ", shown_field(alloc, month)?, text)?;
     read_or_unread(alloc, date, text)
 }
 
@@ -307,7 +307,14 @@ pub(crate) fn add_dates(
     add_date(fields, Variable::Issued, issued)?;
     let accessed = date_in(alloc, entry, "urldate", "urlyear", "urlmonth", "urlday")?;
     add_date(fields, Variable::Accessed, accessed)?;
-    let event = date_in(alloc, entry, "eventdate", "eventyear", "eventmonth", "eventday")?;
+    let event = date_in(
+        alloc,
+        entry,
+        "eventdate",
+        "eventyear",
+        "eventmonth",
+        "eventday",
+    )?;
     add_date(fields, Variable::EventDate, event)?;
     let original = date_in(alloc, entry, "origdate", "origyear", "origmonth", "origday")?;
     add_date(fields, Variable::OriginalDate, original)

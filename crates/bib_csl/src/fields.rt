@@ -1,7 +1,7 @@
 //! Variables that an item has where they hold something.
 
 ghost use Rattle.std.specs.Prelude.{◌≡◌, ◌++◌, OnOk};
-ghost use Rattle.bib_csl.specs.Fields.{given, named, dated};
+ghost use Rattle.bib_csl.specs.Fields.{given, given_people, given_date};
 
 use crate::item::{Content, Field, ItemDate, Name};
 use crate::variables::Variable;
@@ -29,13 +29,13 @@ pub(crate) fn add_text(
 }
 
 // Appends a variable with names, unless there are none.
-#[tactic(auto, unfolding(crate::specs::Fields::named))]
+#[tactic(auto, unfolding(crate::specs::Fields::given_people))]
 pub(crate) fn add_names(
     fields: &mut Items<Field>,
     variable: Variable,
     names: Items<Name>,
 ) -> Result<(), AllocError>
-    ensures { OnOk result (fields.new ≡ fields.old ++ named variable names) }
+    ensures { OnOk result (fields.new ≡ fields.old ++ given_people variable names) }
 {
     if names.is_empty() {
         return Ok(());
@@ -48,13 +48,13 @@ pub(crate) fn add_names(
 }
 
 // Appends a variable with a date, if there is one.
-#[tactic(auto, unfolding(crate::specs::Fields::dated))]
+#[tactic(auto, unfolding(crate::specs::Fields::given_date))]
 pub(crate) fn add_date(
     fields: &mut Items<Field>,
     variable: Variable,
     date: Option<ItemDate>,
 ) -> Result<(), AllocError>
-    ensures { OnOk result (fields.new ≡ fields.old ++ dated variable date) }
+    ensures { OnOk result (fields.new ≡ fields.old ++ given_date variable date) }
 {
     let Some(date) = date else {
         return Ok(());

@@ -7,7 +7,7 @@ ghost use Rattle.bib_csl.specs.Identifiers as spec;
 use crate::adding::add_plain;
 use crate::fields::add_text;
 use crate::item::Field;
-use crate::texts::{either, field_or, plain, plain_text};
+use crate::texts::{either, field_or, plain_text, shown_field};
 use crate::variables::Variable;
 use bib_chunks::chunk::{ChunksRef, format_verbatim};
 use bib_entry::entry::Entry;
@@ -115,7 +115,7 @@ fn archive_text(alloc: Global, entry: &Entry) -> Result<Text, AllocError>
     ensures { IfOk result (λ text. text ≡ spec.archive_text entry.now) }
 {
     let archive = archive_of(alloc, entry)?;
-    let name = plain(alloc, field_or(entry, "eprinttype", "archiveprefix"))?;
+    let name = shown_field(alloc, field_or(entry, "eprinttype", "archiveprefix"))?;
     Ok(unaddressed(alloc, archive.as_str(), name))
 }
 
@@ -155,6 +155,10 @@ pub(crate) fn add_archive(
     ensures { OnOk result (fields.new ≡ fields.old ++ spec.archive_fields entry.now) }
 {
     add_text(fields, Variable::Archive, archive_text(alloc, entry)?)?;
-    add_text(fields, Variable::ArchiveLocation, archive_location(alloc, entry)?)?;
+    add_text(
+        fields,
+        Variable::ArchiveLocation,
+        archive_location(alloc, entry)?,
+    )?;
     add_plain(alloc, Variable::CallNumber, entry, "library", fields)
 }

@@ -11,7 +11,7 @@ pub struct Item {
     pub id: Text,
     /// The type of the item.
     pub kind: ItemType,
-    /// The variables that it has. Each variable stands here at most once.
+    /// The variables that it has, and what each holds.
     pub fields: Items<Field>,
 }
 

@@ -22,7 +22,7 @@ fn text_json(alloc: Global, text: &Text) -> Result<Value, AllocError>
 }
 
 // Adds a text of this name, unless it is empty.
-#[tactic(auto, unfolding(crate::specs::Json::with_text))]
+#[tactic(auto, unfolding(crate::specs::Json::with_string))]
 fn put_text(
     alloc: Global,
     members: &mut Map<String, Value>,
@@ -30,7 +30,7 @@ fn put_text(
     text: &Text,
 ) -> Result<(), AllocError>
     ensures { OnOk result (members_view members.new.entries ≡
-        spec.with_text name.now text.now (members_view members.old.entries)) }
+        spec.with_string name.now text.now (members_view members.old.entries)) }
 {
     if text.is_empty() {
         return Ok(());
@@ -47,8 +47,18 @@ fn parts_members(alloc: Global, parts: &NameParts) -> Result<Map<String, Value>,
     put_text(alloc, &mut members, "family", &parts.family)?;
     put_text(alloc, &mut members, "given", &parts.given)?;
     put_text(alloc, &mut members, "suffix", &parts.suffix)?;
-    put_text(alloc, &mut members, "dropping-particle", &parts.dropping_particle)?;
-    put_text(alloc, &mut members, "non-dropping-particle", &parts.non_dropping_particle)?;
+    put_text(
+        alloc,
+        &mut members,
+        "dropping-particle",
+        &parts.dropping_particle,
+    )?;
+    put_text(
+        alloc,
+        &mut members,
+        "non-dropping-particle",
+        &parts.non_dropping_particle,
+    )?;
     Ok(members)
 }
 
@@ -161,11 +171,7 @@ fn put_season(
 
 // Adds the word that a date isn't exact, where it isn't.
 #[tactic(auto, unfolding(crate::specs::Json::with_circa))]
-fn put_circa(
-    alloc: Global,
-    members: &mut Map<String, Value>,
-    circa: bool,
-) -> Result<(), AllocError>
+fn put_circa(alloc: Global, members: &mut Map<String, Value>, circa: bool) -> Result<(), AllocError>
     ensures { OnOk result (members_view members.new.entries ≡
         spec.with_circa circa (members_view members.old.entries)) }
 {
@@ -217,16 +223,21 @@ fn content_json(alloc: Global, content: &Content) -> Result<Value, AllocError>
 }
 
 // Adds a variable.
-#[tactic(auto, unfolding(crate::specs::Json::with_field))]
+#[tactic(auto, unfolding(crate::specs::Json::with_variable))]
 fn put_field(
     alloc: Global,
     members: &mut Map<String, Value>,
     field: &Field,
 ) -> Result<(), AllocError>
     ensures { OnOk result (members_view members.new.entries ≡
-        spec.with_field field.now (members_view members.old.entries)) }
+        spec.with_variable field.now (members_view members.old.entries)) }
 {
-    put(members, alloc, field.variable.name(), content_json(alloc, &field.content)?)
+    put(
+        members,
+        alloc,
+        field.variable.name(),
+        content_json(alloc, &field.content)?,
+    )
 }
 
 // What an item is called and its type.
@@ -256,7 +267,7 @@ pub fn item_json(alloc: Global, item: &Item) -> Result<Value, AllocError>
 /// The item that an entry becomes, as the text of an object of CSL-JSON without white space between its parts. The only
 /// error is out of memory.
 pub fn item_text(alloc: Global, entry: &Entry) -> Result<String, AllocError>
-    ensures { IfOk result (λ text. string_bytes text ≡ compact_text (spec.json_of (Items.item_of entry.now))) }
+    ensures { IfOk result (λ text. string_bytes text ≡ compact_text (spec.json_of (Items.item_of_entry entry.now))) }
 {
     let item = item_of(alloc, entry)?;
     let json = item_json(alloc, &item)?;

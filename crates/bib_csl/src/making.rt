@@ -1,7 +1,7 @@
 //! Items made of entries.
 
 ghost use Rattle.std.specs.Prelude.{◌≡◌, ◌++◌, OnOk, IfOk};
-ghost use Rattle.bib_csl.specs.Items.{type_of_entry, work_fields, detail_fields, fields_of, item_of};
+ghost use Rattle.bib_csl.specs.Items.{type_of_entry, work_fields, detail_fields, item_fields, item_of_entry};
 
 use crate::dates::add_dates;
 use crate::identifiers::{add_archive, add_identifiers};
@@ -61,9 +61,9 @@ fn add_details(
 }
 
 // The variables of an item of this type that an entry becomes.
-#[tactic(auto, unfolding(crate::specs::Items::fields_of))]
-fn fields_of(alloc: Global, kind: ItemType, entry: &Entry) -> Result<Items<Field>, AllocError>
-    ensures { IfOk result (λ fields. fields ≡ fields_of kind entry.now) }
+#[tactic(auto, unfolding(crate::specs::Items::item_fields))]
+fn item_fields(alloc: Global, kind: ItemType, entry: &Entry) -> Result<Items<Field>, AllocError>
+    ensures { IfOk result (λ fields. fields ≡ item_fields kind entry.now) }
 {
     let mut fields = Items::new(alloc);
     add_work(alloc, kind, entry, &mut fields)?;
@@ -74,14 +74,14 @@ fn fields_of(alloc: Global, kind: ItemType, entry: &Entry) -> Result<Items<Field
 }
 
 /// The item that an entry becomes. The only error is out of memory.
-#[tactic(auto, unfolding(crate::specs::Items::item_of))]
+#[tactic(auto, unfolding(crate::specs::Items::item_of_entry))]
 pub fn item_of(alloc: Global, entry: &Entry) -> Result<Item, AllocError>
-    ensures { IfOk result (λ item. item ≡ item_of entry.now) }
+    ensures { IfOk result (λ item. item ≡ item_of_entry entry.now) }
 {
     let kind = type_of_entry(alloc, entry)?;
     Ok(Item {
         id: entry.key.clone()?,
         kind,
-        fields: fields_of(alloc, kind, entry)?,
+        fields: item_fields(alloc, kind, entry)?,
     })
 }

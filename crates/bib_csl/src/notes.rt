@@ -62,7 +62,14 @@ pub(crate) fn add_notes(
     ensures { OnOk result (fields.new ≡ fields.old ++ spec.note_fields entry.now) }
 {
     add_rich(alloc, Variable::Abstract, entry, "abstract", fields)?;
-    add_rich_or(alloc, Variable::Annote, entry, "annotation", "annote", fields)?;
+    add_rich_or(
+        alloc,
+        Variable::Annote,
+        entry,
+        "annotation",
+        "annote",
+        fields,
+    )?;
     add_text(fields, Variable::Note, note_of(alloc, entry)?)?;
     add_plain(alloc, Variable::Status, entry, "pubstate", fields)?;
     add_plain(alloc, Variable::Keyword, entry, "keywords", fields)?;

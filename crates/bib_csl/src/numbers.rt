@@ -30,9 +30,9 @@ fn issue_of(kind: ItemType, number: &Text, issue: Text) -> Result<Text, AllocErr
 }
 
 // The number of the item itself, where `number` counts nothing else.
-#[tactic(auto, unfolding(crate::specs::Numbers::number_of))]
-fn number_of(alloc: Global, kind: ItemType, number: &Text) -> Result<Text, AllocError>
-    ensures { IfOk result (λ text. text ≡ spec.number_of kind number.now) }
+#[tactic(auto, unfolding(crate::specs::Numbers::own_number))]
+fn own_number(alloc: Global, kind: ItemType, number: &Text) -> Result<Text, AllocError>
+    ensures { IfOk result (λ text. text ≡ spec.own_number kind number.now) }
 {
     if counts_issues(kind) || counts_series(kind) {
         return Ok(Text::new(alloc));
@@ -108,7 +108,7 @@ pub(crate) fn add_volume(
     let number = plain_text(alloc, entry, "number")?;
     let issue = plain_text(alloc, entry, "issue")?;
     add_text(fields, Variable::Issue, issue_of(kind, &number, issue)?)?;
-    add_text(fields, Variable::Number, number_of(alloc, kind, &number)?)?;
+    add_text(fields, Variable::Number, own_number(alloc, kind, &number)?)?;
     let in_series = collection_number(alloc, kind, &number)?;
     add_text(fields, Variable::CollectionNumber, in_series)
 }

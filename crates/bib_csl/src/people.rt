@@ -5,7 +5,7 @@ ghost use Rattle.std.specs.List.{list_all};
 ghost use Rattle.std.specs.Option.{option_copied};
 ghost use Rattle.bib_chunks.specs.Values.{text};
 ghost use Rattle.bib_entry.specs.Editors.{role_of};
-ghost use Rattle.bib_csl.specs.Fields.{named};
+ghost use Rattle.bib_csl.specs.Fields.{given_people};
 ghost use Rattle.bib_csl.specs.People as spec;
 
 use crate::fields::add_names;
@@ -63,9 +63,9 @@ fn parts_with(alloc: Global, uses_prefix: bool, person: Person) -> NameParts
 }
 
 // The name that chunks spell; the person's own word on the prefix goes before that of the entry.
-#[tactic(auto, unfolding(crate::specs::People::name_of, crate::specs::People::is_literal))]
-fn name_of(alloc: Global, uses_prefix: bool, chunks: ChunksRef<'_>) -> Result<Name, AllocError>
-    ensures { IfOk result (λ name. name ≡ spec.name_of uses_prefix chunks.now) }
+#[tactic(auto, unfolding(crate::specs::People::name_said, crate::specs::People::is_literal))]
+fn name_said(alloc: Global, uses_prefix: bool, chunks: ChunksRef<'_>) -> Result<Name, AllocError>
+    ensures { IfOk result (λ name. name ≡ spec.name_said uses_prefix chunks.now) }
 {
     let text = format_verbatim(alloc, chunks)?;
     if is_all_braced(chunks) || text.as_str() == "others" {
@@ -77,9 +77,9 @@ fn name_of(alloc: Global, uses_prefix: bool, chunks: ChunksRef<'_>) -> Result<Na
 }
 
 // Whether a name says nothing.
-#[tactic(auto, unfolding(crate::specs::People::is_empty))]
-fn is_empty(name: &Name) -> bool
-    ensures { result ≡ spec.is_empty name.now }
+#[tactic(auto, unfolding(crate::specs::People::says_nothing))]
+fn says_nothing(name: &Name) -> bool
+    ensures { result ≡ spec.says_nothing name.now }
 {
     match name {
         Name::Literal(text) => text.is_empty(),
@@ -98,38 +98,38 @@ fn is_empty(name: &Name) -> bool
 fn add_unless_empty(names: &mut Items<Name>, name: Name) -> Result<(), AllocError>
     ensures { OnOk result (names.new ≡ names.old ++ spec.unless_empty name) }
 {
-    if !is_empty(&name) {
+    if !says_nothing(&name) {
         names.push(name)?;
     }
     Ok(())
 }
 
 // Appends the names of a list of people.
-#[tactic(auto, unfolding(crate::specs::People::names_in))]
+#[tactic(auto, unfolding(crate::specs::People::names_listed))]
 fn add_names_in(
     alloc: Global,
     uses_prefix: bool,
     chunks: ChunksRef<'_>,
     names: &mut Items<Name>,
 ) -> Result<(), AllocError>
-    ensures { OnOk result (names.new ≡ names.old ++ spec.names_in uses_prefix chunks.now) }
+    ensures { OnOk result (names.new ≡ names.old ++ spec.names_listed uses_prefix chunks.now) }
 {
     let list = and_list(alloc, chunks)?;
     'people: for part in list.as_slice() {
-        add_unless_empty(names, name_of(alloc, uses_prefix, part.as_slice())?)?;
+        add_unless_empty(names, name_said(alloc, uses_prefix, part.as_slice())?)?;
     }
     Ok(())
 }
 
 // Appends the names of a field.
-#[tactic(auto, unfolding(crate::specs::People::names_of))]
+#[tactic(auto, unfolding(crate::specs::People::names_said))]
 fn add_names_of(
     alloc: Global,
     uses_prefix: bool,
     field: Option<ChunksRef<'_>>,
     names: &mut Items<Name>,
 ) -> Result<(), AllocError>
-    ensures { OnOk result (names.new ≡ names.old ++ spec.names_of uses_prefix (option_copied field.entry)) }
+    ensures { OnOk result (names.new ≡ names.old ++ spec.names_said uses_prefix (option_copied field.entry)) }
 {
     match field {
         Some(chunks) => add_names_in(alloc, uses_prefix, chunks, names),
@@ -202,7 +202,7 @@ fn role_of(alloc: Global, field: Option<ChunksRef<'_>>) -> Result<EditorType, Al
 
 // Appends the people that the field of the first name holds, where their role, which the field of the second names, stands under the
 // variable.
-#[tactic(auto, unfolding(crate::specs::People::editors_in))]
+#[tactic(auto, unfolding(crate::specs::People::editors_listed))]
 fn add_editors_in(
     alloc: Global,
     variable: Variable,
@@ -211,7 +211,7 @@ fn add_editors_in(
     role: &str,
     names: &mut Items<Name>,
 ) -> Result<(), AllocError>
-    ensures { OnOk result (names.new ≡ names.old ++ spec.editors_in variable entry.now people.now role.now) }
+    ensures { OnOk result (names.new ≡ names.old ++ spec.editors_listed variable entry.now people.now role.now) }
 {
     let role = role_of(alloc, entry.get(role))?;
     if is_under(variable, &role) {
@@ -245,7 +245,7 @@ fn add_editors(
     entry: &Entry,
     fields: &mut Items<Field>,
 ) -> Result<(), AllocError>
-    ensures { OnOk result (fields.new ≡ fields.old ++ named variable (spec.editors_under variable entry.now)) }
+    ensures { OnOk result (fields.new ≡ fields.old ++ given_people variable (spec.editors_under variable entry.now)) }
 {
     add_names(fields, variable, editors_under(alloc, variable, entry)?)
 }
@@ -269,7 +269,7 @@ fn add_people_of(
     name: &str,
     fields: &mut Items<Field>,
 ) -> Result<(), AllocError>
-    ensures { OnOk result (fields.new ≡ fields.old ++ named variable (spec.people entry.now name.now)) }
+    ensures { OnOk result (fields.new ≡ fields.old ++ given_people variable (spec.people entry.now name.now)) }
 {
     add_names(fields, variable, people(alloc, entry, name)?)
 }
@@ -309,5 +309,11 @@ pub(crate) fn add_people(
     add_editors(alloc, Variable::Director, entry, fields)?;
     add_editors(alloc, Variable::Organizer, entry, fields)?;
     add_people_of(alloc, Variable::Translator, entry, "translator", fields)?;
-    add_people_of(alloc, Variable::ContainerAuthor, entry, "bookauthor", fields)
+    add_people_of(
+        alloc,
+        Variable::ContainerAuthor,
+        entry,
+        "bookauthor",
+        fields,
+    )
 }

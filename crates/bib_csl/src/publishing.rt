@@ -65,15 +65,18 @@ fn genre_of(alloc: Global, entry: &Entry) -> Result<Text, AllocError>
 
 // Appends who published an item and where.
 #[tactic(auto, unfolding(crate::specs::Publishing::publisher_fields))]
-fn add_publisher(
-    alloc: Global,
-    entry: &Entry,
-    fields: &mut Items<Field>,
-) -> Result<(), AllocError>
+fn add_publisher(alloc: Global, entry: &Entry, fields: &mut Items<Field>) -> Result<(), AllocError>
     ensures { OnOk result (fields.new ≡ fields.old ++ spec.publisher_fields entry.now) }
 {
     add_text(fields, Variable::Publisher, publisher_of(alloc, entry)?)?;
-    add_rich_or(alloc, Variable::PublisherPlace, entry, "location", "address", fields)
+    add_rich_or(
+        alloc,
+        Variable::PublisherPlace,
+        entry,
+        "location",
+        "address",
+        fields,
+    )
 }
 
 // Appends who published the original and where.
@@ -81,8 +84,20 @@ fn add_publisher(
 fn add_original(alloc: Global, entry: &Entry, fields: &mut Items<Field>) -> Result<(), AllocError>
     ensures { OnOk result (fields.new ≡ fields.old ++ spec.original_fields entry.now) }
 {
-    add_rich(alloc, Variable::OriginalPublisher, entry, "origpublisher", fields)?;
-    add_rich(alloc, Variable::OriginalPublisherPlace, entry, "origlocation", fields)
+    add_rich(
+        alloc,
+        Variable::OriginalPublisher,
+        entry,
+        "origpublisher",
+        fields,
+    )?;
+    add_rich(
+        alloc,
+        Variable::OriginalPublisherPlace,
+        entry,
+        "origlocation",
+        fields,
+    )
 }
 
 // Appends who published an item and the original, and what kind of work it is.

@@ -4,9 +4,9 @@ ghost use Rattle.std.specs.Prelude.{◌≡◌, IfOk};
 ghost use Rattle.std.specs.Option.{option_copied};
 ghost use Rattle.bib_chunks.specs.Values.{text};
 ghost use Rattle.bib_entry.specs.Fields.{field_or};
-ghost use Rattle.bib_csl.specs.Texts.{field, plain, title_text, rich_text, rich_text_or, either, joined};
+ghost use Rattle.bib_csl.specs.Texts.{field, shown_field, title_text, rich_text, rich_text_or, either, joined};
 
-use crate::markup::marked;
+use crate::markup::marked_field;
 use bib_chunks::chunk::{ChunksRef, format_verbatim};
 use bib_entry::entry::Entry;
 use bib_text::text::Text;
@@ -30,9 +30,9 @@ pub(crate) fn shown(alloc: Global, chunks: ChunksRef<'_>) -> Result<Text, AllocE
 }
 
 // The plain text of a field, or nothing where it isn't there.
-#[tactic(auto, unfolding(crate::specs::Texts::plain))]
-pub(crate) fn plain(alloc: Global, field: Option<ChunksRef<'_>>) -> Result<Text, AllocError>
-    ensures { IfOk result (λ shown. shown ≡ plain (option_copied field.entry)) }
+#[tactic(auto, unfolding(crate::specs::Texts::shown_field))]
+pub(crate) fn shown_field(alloc: Global, field: Option<ChunksRef<'_>>) -> Result<Text, AllocError>
+    ensures { IfOk result (λ shown. shown ≡ shown_field (option_copied field.entry)) }
 {
     match field {
         Some(chunks) => shown(alloc, chunks),
@@ -42,9 +42,9 @@ pub(crate) fn plain(alloc: Global, field: Option<ChunksRef<'_>>) -> Result<Text,
 
 // The plain text of the field of this name.
 pub(crate) fn plain_text(alloc: Global, entry: &Entry, name: &str) -> Result<Text, AllocError>
-    ensures { IfOk result (λ shown. shown ≡ plain (field entry.now name.now)) }
+    ensures { IfOk result (λ shown. shown ≡ shown_field (field entry.now name.now)) }
 {
-    plain(alloc, entry.get(name))
+    shown_field(alloc, entry.get(name))
 }
 
 // The text of a title.
@@ -52,7 +52,7 @@ pub(crate) fn plain_text(alloc: Global, entry: &Entry, name: &str) -> Result<Tex
 pub(crate) fn title_text(alloc: Global, entry: &Entry, name: &str) -> Result<Text, AllocError>
     ensures { IfOk result (λ shown. shown ≡ title_text entry.now name.now) }
 {
-    marked(alloc, true, entry.get(name))
+    marked_field(alloc, true, entry.get(name))
 }
 
 // The text of another field with HTML's tags and escapes.
@@ -60,7 +60,7 @@ pub(crate) fn title_text(alloc: Global, entry: &Entry, name: &str) -> Result<Tex
 pub(crate) fn rich_text(alloc: Global, entry: &Entry, name: &str) -> Result<Text, AllocError>
     ensures { IfOk result (λ shown. shown ≡ rich_text entry.now name.now) }
 {
-    marked(alloc, false, entry.get(name))
+    marked_field(alloc, false, entry.get(name))
 }
 
 // The same of the field of this name, or else of the other.
@@ -73,7 +73,7 @@ pub(crate) fn rich_text_or(
 ) -> Result<Text, AllocError>
     ensures { IfOk result (λ shown. shown ≡ rich_text_or entry.now name.now other.now) }
 {
-    marked(alloc, false, field_or(entry, name, other))
+    marked_field(alloc, false, field_or(entry, name, other))
 }
 
 // The first text that isn't empty.

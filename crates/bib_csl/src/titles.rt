@@ -6,7 +6,7 @@ ghost use Rattle.bib_csl.specs.Titles as spec;
 use crate::adding::{add_rich, add_title};
 use crate::fields::add_text;
 use crate::item::Field;
-use crate::markup::marked;
+use crate::markup::marked_field;
 use crate::texts::{either, field_or, joined, title_text};
 use crate::types::{is_article, is_in_book, is_volume};
 use crate::variables::{ItemType, Variable};
@@ -40,18 +40,18 @@ fn own_title(alloc: Global, entry: &Entry) -> Result<Text, AllocError>
 }
 
 // The title of a work of several volumes.
-#[tactic(auto, unfolding(crate::specs::Titles::main_title))]
-fn main_title(alloc: Global, entry: &Entry) -> Result<Text, AllocError>
-    ensures { IfOk result (λ text. text ≡ spec.main_title entry.now) }
+#[tactic(auto, unfolding(crate::specs::Titles::title_of_work))]
+fn title_of_work(alloc: Global, entry: &Entry) -> Result<Text, AllocError>
+    ensures { IfOk result (λ text. text ≡ spec.title_of_work entry.now) }
 {
     let title = title_text(alloc, entry, "maintitle")?;
     with_subtitle(alloc, entry, title, "mainsubtitle", "maintitleaddon")
 }
 
 // The title of the book that the work is a part of.
-#[tactic(auto, unfolding(crate::specs::Titles::book_title))]
-fn book_title(alloc: Global, entry: &Entry) -> Result<Text, AllocError>
-    ensures { IfOk result (λ text. text ≡ spec.book_title entry.now) }
+#[tactic(auto, unfolding(crate::specs::Titles::title_of_book))]
+fn title_of_book(alloc: Global, entry: &Entry) -> Result<Text, AllocError>
+    ensures { IfOk result (λ text. text ≡ spec.title_of_book entry.now) }
 {
     let title = title_text(alloc, entry, "booktitle")?;
     with_subtitle(alloc, entry, title, "booksubtitle", "booktitleaddon")
@@ -62,20 +62,20 @@ fn book_title(alloc: Global, entry: &Entry) -> Result<Text, AllocError>
 fn journal_title(alloc: Global, entry: &Entry) -> Result<Text, AllocError>
     ensures { IfOk result (λ text. text ≡ spec.journal_title entry.now) }
 {
-    let title = marked(alloc, true, field_or(entry, "journaltitle", "journal"))?;
+    let title = marked_field(alloc, true, field_or(entry, "journaltitle", "journal"))?;
     with_subtitle(alloc, entry, title, "journalsubtitle", "journaltitleaddon")
 }
 
 // The title of the item: of a volume of a work, that of the work.
-#[tactic(auto, unfolding(crate::specs::Titles::title_of))]
-fn title_of(alloc: Global, kind: ItemType, entry: &Entry) -> Result<Text, AllocError>
-    ensures { IfOk result (λ text. text ≡ spec.title_of kind entry.now) }
+#[tactic(auto, unfolding(crate::specs::Titles::item_title))]
+fn item_title(alloc: Global, kind: ItemType, entry: &Entry) -> Result<Text, AllocError>
+    ensures { IfOk result (λ text. text ≡ spec.item_title kind entry.now) }
 {
     let own = own_title(alloc, entry)?;
     if !is_volume(kind) {
         return Ok(own);
     }
-    Ok(either(main_title(alloc, entry)?, own))
+    Ok(either(title_of_work(alloc, entry)?, own))
 }
 
 // The title of the one volume, in a work of several with a title of its own.
@@ -83,7 +83,7 @@ fn title_of(alloc: Global, kind: ItemType, entry: &Entry) -> Result<Text, AllocE
 fn volume_title(alloc: Global, kind: ItemType, entry: &Entry) -> Result<Text, AllocError>
     ensures { IfOk result (λ text. text ≡ spec.volume_title kind entry.now) }
 {
-    let main = main_title(alloc, entry)?;
+    let main = title_of_work(alloc, entry)?;
     if main.is_empty() {
         return Ok(main);
     }
@@ -91,7 +91,7 @@ fn volume_title(alloc: Global, kind: ItemType, entry: &Entry) -> Result<Text, Al
         return own_title(alloc, entry);
     }
     if is_in_book(kind) {
-        return book_title(alloc, entry);
+        return title_of_book(alloc, entry);
     }
     Ok(Text::new(alloc))
 }
@@ -102,13 +102,13 @@ fn container_title(alloc: Global, kind: ItemType, entry: &Entry) -> Result<Text,
     ensures { IfOk result (λ text. text ≡ spec.container_title kind entry.now) }
 {
     if is_in_book(kind) {
-        return Ok(either(main_title(alloc, entry)?, book_title(alloc, entry)?));
+        return Ok(either(title_of_work(alloc, entry)?, title_of_book(alloc, entry)?));
     }
     let journal = journal_title(alloc, entry)?;
     if is_article(kind) {
         return Ok(journal);
     }
-    Ok(either(journal, book_title(alloc, entry)?))
+    Ok(either(journal, title_of_book(alloc, entry)?))
 }
 
 // The name of the conference.
@@ -130,9 +130,13 @@ pub(crate) fn add_titles(
 ) -> Result<(), AllocError>
     ensures { OnOk result (fields.new ≡ fields.old ++ spec.title_fields kind entry.now) }
 {
-    add_text(fields, Variable::Title, title_of(alloc, kind, entry)?)?;
+    add_text(fields, Variable::Title, item_title(alloc, kind, entry)?)?;
     add_title(alloc, Variable::TitleShort, entry, "shorttitle", fields)?;
-    add_text(fields, Variable::VolumeTitle, volume_title(alloc, kind, entry)?)?;
+    add_text(
+        fields,
+        Variable::VolumeTitle,
+        volume_title(alloc, kind, entry)?,
+    )?;
     add_title(alloc, Variable::OriginalTitle, entry, "origtitle", fields)
 }
 
@@ -146,8 +150,18 @@ pub(crate) fn add_container(
 ) -> Result<(), AllocError>
     ensures { OnOk result (fields.new ≡ fields.old ++ spec.container_fields kind entry.now) }
 {
-    add_text(fields, Variable::ContainerTitle, container_title(alloc, kind, entry)?)?;
-    add_title(alloc, Variable::ContainerTitleShort, entry, "shortjournal", fields)?;
+    add_text(
+        fields,
+        Variable::ContainerTitle,
+        container_title(alloc, kind, entry)?,
+    )?;
+    add_title(
+        alloc,
+        Variable::ContainerTitleShort,
+        entry,
+        "shortjournal",
+        fields,
+    )?;
     add_title(alloc, Variable::CollectionTitle, entry, "series", fields)
 }
 

@@ -1,7 +1,7 @@
 //! The types of items and their variables, by CSL's names.
 
 ghost use Rattle.std.specs.Prelude.{◌≡◌};
-ghost use Rattle.bib_csl.specs.Names.{type_name, variable_name};
+ghost use Rattle.bib_csl.specs.Names.{item_type_name, variable_name};
 
 /// The types of items that entries become (CSL 1.0.2, appendix III).
 #[derive(Debug, Clone, Copy, PartialEq, Eq)]
@@ -45,7 +45,7 @@ pub enum ItemType {
 impl ItemType {
     /// The name by which CSL knows the type.
     pub fn name(self) -> &'static str
-        ensures { result.now ≡ type_name self }
+        ensures { result.now ≡ item_type_name self }
     {
         match self {
             Self::ArticleJournal => "article-journal",

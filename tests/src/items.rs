@@ -1,0 +1,35 @@
+//! Reads rows, the text of a bibliography in each line, and prints each with its first entry as an item of CSL-JSON.
+
+use bib_csl::json::item_text;
+use bib_csl::making::item_of;
+use biblatex::{Bibliography, ParseError};
+use std::alloc::{AllocError, Global};
+use crate::support::rows::Calls;
+
+pub struct CslItems;
+
+// The bibliography of a file. (It has no contract, so that who calls it proves nothing of the reading again.)
+fn parsed(alloc: Global, file: &str) -> Result<Bibliography, ParseError> {
+    Bibliography::parse(alloc, file)
+}
+
+// Of the first entry its item as text, or how many variables the item has.
+fn first(alloc: Global, call: &str, text: &str) -> Result<Option<String>, AllocError> {
+    let Ok(library) = parsed(alloc, text) else {
+        return Ok(Some(String::from_str(alloc, "no bibliography")?));
+    };
+    let Some(entry) = library.iter().next() else {
+        return Ok(Some(String::from_str(alloc, "no entry")?));
+    };
+    match call {
+        "item" => Ok(Some(item_text(alloc, entry)?)),
+        "variables" => Ok(Some(item_of(alloc, entry)?.fields.len().to_string(alloc)?)),
+        _ => Ok(None),
+    }
+}
+
+impl Calls for CslItems {
+    fn answer(alloc: Global, call: &str, text: &str) -> Result<Option<String>, AllocError> {
+        first(alloc, call, text)
+    }
+}
