@@ -4,21 +4,21 @@ use Rattle.std.specs.Str.{chars, IsUtf8}
 use Rattle.std.proofs.lemmas.List.{reverse-append}
 use Rattle.bib_text.specs.Places.{Place, CharAt, AtEnd}
 use Rattle.bib_text.proofs.TextFacts.{ahead, Passed, passed_char, chars_at_end}
-use Rattle.bib_csl.specs.Markup.{escape, escaped, said, open_after, name_after, said_last, all_ended, marked_from}
+use Rattle.bib_csl.specs.Markup.{untie, untied, said, open_after, name_after, said_last, all_ended, marked_from}
 
--- a character of a text with escapes
-pub escaped_step : (out more total : List ℕ) {u x : Place} {c : ℕ} → CharAt u c x → IsUtf8 (ahead u) → more ≡ out ++ escape c
-    → out ++ escaped (chars (ahead u)) ≡ total → (x.text ≡ u.text) × IsUtf8 (ahead x) × (more ++ escaped (chars (ahead x)) ≡ total)
-escaped_step out more total {u} {x} {c} char utf8 wrote before =
+-- a character of a text whose words are tied by spaces
+pub untied_step : (out more total : List ℕ) {u x : Place} {c : ℕ} → CharAt u c x → IsUtf8 (ahead u) → more ≡ out ++ untie c
+    → out ++ untied (chars (ahead u)) ≡ total → (x.text ≡ u.text) × IsUtf8 (ahead x) × (more ++ untied (chars (ahead x)) ≡ total)
+untied_step out more total {u} {x} {c} char utf8 wrote before =
     let passed : Passed u (c ∷ []) x = passed_char char utf8 in (
       passed.same,
       passed.utf8,
-      ap (λ o. o ++ escaped (chars (ahead x))) wrote ∙ append_assoc out (escape c) (escaped (chars (ahead x))) ∙ ap (λ cs. out ++ escaped cs) (sym passed.spelt) ∙ before,
+      ap (λ o. o ++ untied (chars (ahead x))) wrote ∙ append_assoc out (untie c) (untied (chars (ahead x))) ∙ ap (λ cs. out ++ untied cs) (sym passed.spelt) ∙ before,
     )
 
 -- its end
-pub escaped_end : (out total : List ℕ) (u : Place) → AtEnd u → out ++ escaped (chars (ahead u)) ≡ total → out ++ [] ≡ total
-escaped_end out total u end before = ap (λ cs. out ++ escaped cs) (sym (chars_at_end u end)) ∙ before
+pub untied_end : (out total : List ℕ) (u : Place) → AtEnd u → out ++ untied (chars (ahead u)) ≡ total → out ++ [] ≡ total
+untied_end out total u end before = ap (λ cs. out ++ untied cs) (sym (chars_at_end u end)) ∙ before
 
 -- a character of a text with tags
 pub marked_step : (out more total : List ℕ) (tags next : List (List ℕ)) (name after : Option (List ℕ)) {u x : Place} {c : ℕ} → CharAt u c x → IsUtf8 (ahead u)

@@ -5,13 +5,13 @@ use Rattle.std.specs.Prelude.{ℕ, ◌==◌, if◌then◌else◌, List, [], ◌�
 use Rattle.std.specs.Char.{is_ascii_alphabetic}
 use Rattle.bib_text.specs.Characters as char
 
--- a character as HTML writes it
-unfoldable pub escape : ℕ → List ℕ
-escape c =
-    if c == char.less then codes "&lt;"
-    else if c == char.greater then codes "&gt;"
-    else if c == char.ampersand then codes "&amp;"
-    else encode_utf8 c
+-- the space at which no line breaks
+abbrev pub no_break_space : ℕ
+no_break_space = 160
+
+-- a character as it is shown: a tilde ties words in TeX, as that space does
+unfoldable pub untie : ℕ → List ℕ
+untie c = if c == char.tilde then encode_utf8 no_break_space else encode_utf8 c
 
 -- what stands before the text of a command with this name, or nothing for a command that has no tag
 unfoldable pub opening_tag : List ℕ → List ℕ
@@ -64,7 +64,7 @@ around (tag ∷ tags) = tags
 
 -- what is written of a character outside names
 unfoldable pub said_plainly : List (List ℕ) → ℕ → List ℕ
-said_plainly tags c = if c == char.backslash then [] else if c == char.close_brace then ended tags else escape c
+said_plainly tags c = if c == char.backslash then [] else if c == char.close_brace then ended tags else untie c
 
 -- the braces that are open after it
 unfoldable pub open_plainly : List (List ℕ) → ℕ → List (List ℕ)
@@ -113,11 +113,11 @@ abbrev pub marked_from : List (List ℕ) → Option (List ℕ) → List ℕ → 
 marked_from tags name [] = said_last tags name
 marked_from tags name (c ∷ cs) = said tags name c ++ marked_from (open_after tags name c) (name_after name c) cs
 
--- a text with HTML's tags and escapes
+-- a text with HTML's tags
 unfoldable pub marked_text : List ℕ → List ℕ
 marked_text text = marked_from [] None text
 
--- a text with HTML's escapes alone
-abbrev pub escaped : List ℕ → List ℕ
-escaped [] = []
-escaped (c ∷ cs) = escape c ++ escaped cs
+-- a text whose words are tied by spaces
+abbrev pub untied : List ℕ → List ℕ
+untied [] = []
+untied (c ∷ cs) = untie c ++ untied cs

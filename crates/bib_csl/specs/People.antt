@@ -3,6 +3,7 @@
 use Rattle.std.specs.Prelude.{ℕ, Bool, true, false, ◌&&◌, ◌||◌, ◌==◌, if◌then◌else◌, List, [], ◌∷◌, ◌++◌, length, codes, bytes_eq, Option, Some, None}
 use Rattle.std.specs.List.{flat_map, list_all, list_any}
 use Rattle.std.specs.Option.{unwrap_or}
+use Rattle.std.specs.Str.{chars}
 use Rattle.bib_chunks.specs.declared.chunk.Chunk.{Chunk}
 use Rattle.bib_chunks.specs.declared.chunk.Chunk.TheVariants.{Normal, Verbatim, Math}
 use Rattle.bib_chunks.specs.Cuts.{and_list, comma_list}
@@ -22,6 +23,7 @@ use Rattle.bib_csl.specs.declared.variables.ItemType.TheVariants as item_type
 use Rattle.bib_csl.specs.declared.variables.Variable.{Variable}
 use Rattle.bib_csl.specs.declared.variables.Variable.TheVariants.{Author, Editor, Compiler, Director, Organizer, Translator, ContainerAuthor}
 use Rattle.bib_csl.specs.Fields.{given_people}
+use Rattle.bib_csl.specs.Markup.{untied}
 use Rattle.bib_csl.specs.Names.{variable_name}
 use Rattle.bib_csl.specs.Texts.{field}
 
@@ -35,15 +37,19 @@ is_braced (Math chars) = false
 unfoldable pub is_literal : Value → Bool
 is_literal chunks = list_all (λ c. is_braced c.v) chunks || bytes_eq (text chunks) (codes "others")
 
+-- a text of a name, whose words are tied by spaces
+abbrev pub untied_name : List ℕ → List ℕ
+untied_name text = untied (chars text)
+
 -- the parts of a person's name, whose prefix counts as part of the family name or not
 unfoldable pub parts_with : Bool → Person → NameParts
-parts_with true p = record { family = p.name; given = p.given_name; suffix = p.suffix; dropping_particle = []; non_dropping_particle = p.prefix }
-parts_with false p = record { family = p.name; given = p.given_name; suffix = p.suffix; dropping_particle = p.prefix; non_dropping_particle = [] }
+parts_with true p = record { family = untied_name p.name; given = untied_name p.given_name; suffix = untied_name p.suffix; dropping_particle = []; non_dropping_particle = untied_name p.prefix }
+parts_with false p = record { family = untied_name p.name; given = untied_name p.given_name; suffix = untied_name p.suffix; dropping_particle = untied_name p.prefix; non_dropping_particle = [] }
 
 -- the name that chunks spell; the person's own word on the prefix goes before that of the entry
 unfoldable pub name_said : Bool → Value → Name
 name_said uses_prefix chunks =
-    if is_literal chunks then Literal (text chunks)
+    if is_literal chunks then Literal (untied_name (text chunks))
     else Parts (parts_with (unwrap_or (person_of chunks).use_prefix uses_prefix) (person_of chunks))
 
 -- whether a name says nothing

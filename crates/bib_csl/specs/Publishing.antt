@@ -1,19 +1,20 @@
 -- Meaning: words of public contracts.
 -- Who published an item and where, and what kind of work it is.
 use Rattle.std.specs.Prelude.{ℕ, if◌then◌else◌, List, [], ◌++◌, codes, bytes_eq}
+use Rattle.bib_entry.specs.Fields.{field_or}
 use Rattle.bib_entry.specs.declared.entry.Entry.{Entry}
 use Rattle.bib_entry_types.specs.declared.mechanics.EntryType.{EntryType}
 use Rattle.bib_entry_types.specs.declared.mechanics.EntryType.TheVariants.{MastersThesis, PhdThesis, TechReport}
 use Rattle.bib_csl.specs.declared.item.Field.{Field}
 use Rattle.bib_csl.specs.declared.variables.Variable.TheVariants.{Publisher, PublisherPlace, OriginalPublisher, OriginalPublisherPlace, Genre}
 use Rattle.bib_csl.specs.Fields.{given}
-use Rattle.bib_csl.specs.Texts.{rich_text, rich_text_or, either}
+use Rattle.bib_csl.specs.Texts.{either, field, listed_field, rich_text}
 
 -- the publisher, else the institution or school, else the organization
 unfoldable pub publisher_of : Entry → List ℕ
 publisher_of entry =
-    either (rich_text entry (codes "publisher"))
-    (either (rich_text_or entry (codes "institution") (codes "school")) (rich_text entry (codes "organization")))
+    either (listed_field (field entry (codes "publisher")))
+    (either (listed_field (field_or entry (codes "institution") (codes "school"))) (listed_field (field entry (codes "organization"))))
 
 -- what the keys of BibLaTeX's field `type` stand for; any other text stays
 unfoldable pub genre_named : List ℕ → List ℕ
@@ -40,13 +41,13 @@ genre_of entry = either (genre_named (rich_text entry (codes "type"))) (genre_of
 unfoldable pub publisher_fields : Entry → List Field
 publisher_fields entry =
     given Publisher (publisher_of entry) ++
-    given PublisherPlace (rich_text_or entry (codes "location") (codes "address"))
+    given PublisherPlace (listed_field (field_or entry (codes "location") (codes "address")))
 
 -- who published the original and where
 unfoldable pub original_fields : Entry → List Field
 original_fields entry =
-    given OriginalPublisher (rich_text entry (codes "origpublisher")) ++
-    given OriginalPublisherPlace (rich_text entry (codes "origlocation"))
+    given OriginalPublisher (listed_field (field entry (codes "origpublisher"))) ++
+    given OriginalPublisherPlace (listed_field (field entry (codes "origlocation")))
 
 -- who published an item and the original, and what kind of work it is
 unfoldable pub publishing_fields : Entry → List Field

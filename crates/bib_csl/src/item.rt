@@ -27,7 +27,7 @@ pub struct Field {
 /// What a variable holds.
 #[derive(Debug, PartialEq, Eq, Drop)]
 pub enum Content {
-    /// A text, with HTML's tags and escapes where CSL has them.
+    /// A text, with HTML's tags where CSL has them.
     Text(Text),
     /// People.
     Names(Items<Name>),

@@ -1,10 +1,10 @@
-//! Texts of fields with HTML's tags and escapes.
+//! Texts of fields with HTML's tags.
 
 ghost use Rattle.std.specs.Prelude.{◌≡◌, ◌++◌, OnOk, IfOk};
 ghost use Rattle.std.specs.Option.{option_copied};
 ghost use Rattle.bib_csl.specs.Texts.{tagged, keeping_its_case, keeping_case, marked_field, marked_chunk, marked_chunks};
 
-use crate::tags::{escaped, marked_text};
+use crate::tags::marked_text;
 use bib_chunks::chunk::{Chunk, ChunksRef, Spanned, format_verbatim};
 use bib_text::text::Text;
 use std::alloc::{AllocError, Global};
@@ -39,12 +39,12 @@ fn tagged(alloc: Global, chunk: &Chunk, text: &str) -> Result<Text, AllocError>
     ensures { IfOk result (λ tagged_text. tagged_text ≡ tagged chunk.now text.now) }
 {
     match chunk {
-        Chunk::Math(_) => escaped(alloc, text),
+        Chunk::Math(_) => Text::from_str(alloc, text),
         _ => marked_text(alloc, text),
     }
 }
 
-// Appends a chunk with HTML's tags and escapes.
+// Appends a chunk with HTML's tags.
 #[tactic(auto, unfolding(crate::specs::Texts::marked_chunk))]
 fn push_marked(
     alloc: Global,
@@ -59,9 +59,9 @@ fn push_marked(
     push_cased(out, is_title, &chunk.v, text.as_str())
 }
 
-// Chunks with HTML's tags and escapes.
+// Chunks with HTML's tags.
 #[tactic(auto, unfolding(crate::specs::Texts::marked_chunks))]
-fn marked_chunks(alloc: Global, is_title: bool, chunks: ChunksRef<'_>) -> Result<Text, AllocError>
+pub(crate) fn marked_chunks(alloc: Global, is_title: bool, chunks: ChunksRef<'_>) -> Result<Text, AllocError>
     ensures { IfOk result (λ text. text ≡ marked_chunks is_title chunks.now) }
 {
     let mut out = Text::new(alloc);
@@ -71,7 +71,7 @@ fn marked_chunks(alloc: Global, is_title: bool, chunks: ChunksRef<'_>) -> Result
     Ok(out)
 }
 
-// The text of a field with HTML's tags and escapes, or nothing where the field isn't there.
+// The text of a field with HTML's tags, or nothing where the field isn't there.
 #[tactic(auto, unfolding(crate::specs::Texts::marked_field))]
 pub(crate) fn marked_field(
     alloc: Global,

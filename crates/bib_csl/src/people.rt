@@ -10,6 +10,7 @@ ghost use Rattle.bib_csl.specs.People as spec;
 
 use crate::fields::add_names;
 use crate::item::{Field, Name, NameParts};
+use crate::tags::untied;
 use crate::variables::{ItemType, Variable};
 use bib_chunks::chunk::cuts::{and_list, comma_list};
 use bib_chunks::chunk::{Chunk, ChunksRef, format_verbatim};
@@ -41,25 +42,33 @@ fn is_all_braced(chunks: ChunksRef<'_>) -> bool
 
 // The parts of a person's name, whose prefix counts as part of the family name or not.
 #[tactic(auto, unfolding(crate::specs::People::parts_with))]
-fn parts_with(alloc: Global, uses_prefix: bool, person: Person) -> NameParts
-    ensures { result ≡ spec.parts_with uses_prefix person }
+fn parts_with(
+    alloc: Global,
+    uses_prefix: bool,
+    person: &Person,
+) -> Result<NameParts, AllocError>
+    ensures { IfOk result (λ parts. parts ≡ spec.parts_with uses_prefix person.now) }
 {
+    let family = untied(alloc, person.name.as_str())?;
+    let given = untied(alloc, person.given_name.as_str())?;
+    let suffix = untied(alloc, person.suffix.as_str())?;
+    let particle = untied(alloc, person.prefix.as_str())?;
     if uses_prefix {
-        return NameParts {
-            family: person.name,
-            given: person.given_name,
-            suffix: person.suffix,
+        return Ok(NameParts {
+            family,
+            given,
+            suffix,
             dropping_particle: Text::new(alloc),
-            non_dropping_particle: person.prefix,
-        };
+            non_dropping_particle: particle,
+        });
     }
-    NameParts {
-        family: person.name,
-        given: person.given_name,
-        suffix: person.suffix,
-        dropping_particle: person.prefix,
+    Ok(NameParts {
+        family,
+        given,
+        suffix,
+        dropping_particle: particle,
         non_dropping_particle: Text::new(alloc),
-    }
+    })
 }
 
 // The name that chunks spell; the person's own word on the prefix goes before that of the entry.
@@ -69,11 +78,11 @@ fn name_said(alloc: Global, uses_prefix: bool, chunks: ChunksRef<'_>) -> Result<
 {
     let text = format_verbatim(alloc, chunks)?;
     if is_all_braced(chunks) || text.as_str() == "others" {
-        return Ok(Name::Literal(Text::from_string(text)));
+        return Ok(Name::Literal(untied(alloc, text.as_str())?));
     }
     let person = Person::parse(alloc, chunks)?;
     let uses_prefix = person.use_prefix.unwrap_or(uses_prefix);
-    Ok(Name::Parts(parts_with(alloc, uses_prefix, person)))
+    Ok(Name::Parts(parts_with(alloc, uses_prefix, &person)?))
 }
 
 // Whether a name says nothing.

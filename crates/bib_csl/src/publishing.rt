@@ -3,10 +3,9 @@
 ghost use Rattle.std.specs.Prelude.{◌≡◌, ◌++◌, OnOk, IfOk};
 ghost use Rattle.bib_csl.specs.Publishing as spec;
 
-use crate::adding::{add_rich, add_rich_or};
 use crate::fields::add_text;
 use crate::item::Field;
-use crate::texts::{either, rich_text, rich_text_or};
+use crate::texts::{either, list_text, list_text_or, rich_text};
 use crate::variables::Variable;
 use bib_entry::entry::Entry;
 use bib_entry_types::mechanics::EntryType;
@@ -19,9 +18,9 @@ use std::alloc::{AllocError, Global};
 fn publisher_of(alloc: Global, entry: &Entry) -> Result<Text, AllocError>
     ensures { IfOk result (λ text. text ≡ spec.publisher_of entry.now) }
 {
-    let institution = rich_text_or(alloc, entry, "institution", "school")?;
-    let other = either(institution, rich_text(alloc, entry, "organization")?);
-    Ok(either(rich_text(alloc, entry, "publisher")?, other))
+    let institution = list_text_or(alloc, entry, "institution", "school")?;
+    let other = either(institution, list_text(alloc, entry, "organization")?);
+    Ok(either(list_text(alloc, entry, "publisher")?, other))
 }
 
 // What the keys of the field `type` stand for; any other text stays.
@@ -69,14 +68,8 @@ fn add_publisher(alloc: Global, entry: &Entry, fields: &mut Items<Field>) -> Res
     ensures { OnOk result (fields.new ≡ fields.old ++ spec.publisher_fields entry.now) }
 {
     add_text(fields, Variable::Publisher, publisher_of(alloc, entry)?)?;
-    add_rich_or(
-        alloc,
-        Variable::PublisherPlace,
-        entry,
-        "location",
-        "address",
-        fields,
-    )
+    let place = list_text_or(alloc, entry, "location", "address")?;
+    add_text(fields, Variable::PublisherPlace, place)
 }
 
 // Appends who published the original and where.
@@ -84,20 +77,13 @@ fn add_publisher(alloc: Global, entry: &Entry, fields: &mut Items<Field>) -> Res
 fn add_original(alloc: Global, entry: &Entry, fields: &mut Items<Field>) -> Result<(), AllocError>
     ensures { OnOk result (fields.new ≡ fields.old ++ spec.original_fields entry.now) }
 {
-    add_rich(
-        alloc,
+    add_text(
+        fields,
         Variable::OriginalPublisher,
-        entry,
-        "origpublisher",
-        fields,
+        list_text(alloc, entry, "origpublisher")?,
     )?;
-    add_rich(
-        alloc,
-        Variable::OriginalPublisherPlace,
-        entry,
-        "origlocation",
-        fields,
-    )
+    let place = list_text(alloc, entry, "origlocation")?;
+    add_text(fields, Variable::OriginalPublisherPlace, place)
 }
 
 // Appends who published an item and the original, and what kind of work it is.

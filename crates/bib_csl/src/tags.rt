@@ -12,27 +12,25 @@ use bib_text::scanner::Scanner;
 use bib_text::text::Text;
 use std::alloc::{AllocError, Global};
 
-// Appends a character as HTML writes it.
-#[tactic(auto, unfolding(crate::specs::Markup::escape))]
-fn push_escaped(out: &mut Text, c: char) -> Result<(), AllocError>
-    ensures { OnOk result (out.new ≡ out.old ++ spec.escape c) }
+// Appends a character, and for a tie a space at which no line breaks.
+#[tactic(auto, unfolding(crate::specs::Markup::untie))]
+fn push_untied(out: &mut Text, c: char) -> Result<(), AllocError>
+    ensures { OnOk result (out.new ≡ out.old ++ spec.untie c) }
 {
     match c {
-        '<' => out.push_str("&lt;"),
-        '>' => out.push_str("&gt;"),
-        '&' => out.push_str("&amp;"),
+        '~' => out.push('\u{a0}'),
         _ => out.push(c),
     }
 }
 
-// A text with HTML's escapes alone.
-pub(crate) fn escaped(alloc: Global, text: &str) -> Result<Text, AllocError>
-    ensures { IfOk result (λ out. out ≡ spec.escaped (chars text.now)) }
+// A text whose words are tied by spaces.
+pub(crate) fn untied(alloc: Global, text: &str) -> Result<Text, AllocError>
+    ensures { IfOk result (λ out. out ≡ spec.untied (chars text.now)) }
 {
     let mut out = Text::new(alloc);
     let mut scanner = Scanner::new(text);
     'text: while let Some(c) = scanner.eat() {
-        push_escaped(&mut out, c)?;
+        push_untied(&mut out, c)?;
     }
     Ok(out)
 }
@@ -116,7 +114,7 @@ fn push_plainly(out: &mut Text, tags: &[Text], c: char) -> Result<(), AllocError
     match c {
         '\\' => Ok(()),
         '}' => push_ended(out, tags),
-        _ => push_escaped(out, c),
+        _ => push_untied(out, c),
     }
 }
 
@@ -228,7 +226,7 @@ fn push_last(out: &mut Text, tags: Items<Text>, name: &Option<Text>) -> Result<(
     push_all_ended(out, tags)
 }
 
-// A text with HTML's tags and escapes.
+// A text with HTML's tags.
 #[tactic(auto, unfolding(crate::specs::Markup::marked_text))]
 pub(crate) fn marked_text(alloc: Global, text: &str) -> Result<Text, AllocError>
     ensures { IfOk result (λ out. out ≡ spec.marked_text (chars text.now)) }

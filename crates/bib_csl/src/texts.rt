@@ -1,13 +1,14 @@
-//! The texts of fields, plain or with HTML's tags and escapes.
+//! The texts of fields, plain or with HTML's tags.
 
-ghost use Rattle.std.specs.Prelude.{◌≡◌, IfOk};
+ghost use Rattle.std.specs.Prelude.{◌≡◌, [], IfOk};
 ghost use Rattle.std.specs.Option.{option_copied};
 ghost use Rattle.bib_chunks.specs.Values.{text};
 ghost use Rattle.bib_entry.specs.Fields.{field_or};
-ghost use Rattle.bib_csl.specs.Texts.{field, shown_field, title_text, rich_text, rich_text_or, either, joined};
+ghost use Rattle.bib_csl.specs.Texts.{field, shown_field, title_text, rich_text, rich_text_or, either, joined, listed_after, listed_field};
 
-use crate::markup::marked_field;
-use bib_chunks::chunk::{ChunksRef, format_verbatim};
+use crate::markup::{marked_chunks, marked_field};
+use bib_chunks::chunk::cuts::and_list;
+use bib_chunks::chunk::{Chunks, ChunksRef, format_verbatim};
 use bib_entry::entry::Entry;
 use bib_text::text::Text;
 use std::alloc::{AllocError, Global};
@@ -55,7 +56,7 @@ pub(crate) fn title_text(alloc: Global, entry: &Entry, name: &str) -> Result<Tex
     marked_field(alloc, true, entry.get(name))
 }
 
-// The text of another field with HTML's tags and escapes.
+// The text of another field with HTML's tags.
 #[tactic(auto, unfolding(crate::specs::Texts::rich_text))]
 pub(crate) fn rich_text(alloc: Global, entry: &Entry, name: &str) -> Result<Text, AllocError>
     ensures { IfOk result (λ shown. shown ≡ rich_text entry.now name.now) }
@@ -99,4 +100,46 @@ pub(crate) fn joined(separator: &str, first: Text, next: Text) -> Result<Text, A
     text.push_str(separator)?;
     text.push_str(next.as_str())?;
     Ok(text)
+}
+
+// The texts of a list with semicolons between them.
+fn listed(alloc: Global, parts: &[Chunks]) -> Result<Text, AllocError>
+    ensures { IfOk result (λ shown. shown ≡ listed_after [] parts.now) }
+{
+    let mut text = Text::new(alloc);
+    'parts: for part in parts {
+        text = joined("; ", text, marked_chunks(alloc, false, part.as_slice())?)?;
+    }
+    Ok(text)
+}
+
+// The texts of a field that is a list, or nothing where the field isn't there.
+#[tactic(auto, unfolding(crate::specs::Texts::listed_field))]
+fn listed_field(alloc: Global, field: Option<ChunksRef<'_>>) -> Result<Text, AllocError>
+    ensures { IfOk result (λ shown. shown ≡ listed_field (option_copied field.entry)) }
+{
+    let Some(chunks) = field else {
+        return Ok(Text::new(alloc));
+    };
+    let list = and_list(alloc, chunks)?;
+    listed(alloc, list.as_slice())
+}
+
+// The texts of the list that the field of this name is.
+pub(crate) fn list_text(alloc: Global, entry: &Entry, name: &str) -> Result<Text, AllocError>
+    ensures { IfOk result (λ shown. shown ≡ listed_field (field entry.now name.now)) }
+{
+    listed_field(alloc, entry.get(name))
+}
+
+// The same of the field of this name, or else of the other.
+pub(crate) fn list_text_or(
+    alloc: Global,
+    entry: &Entry,
+    name: &str,
+    other: &str,
+) -> Result<Text, AllocError>
+    ensures { IfOk result (λ shown. shown ≡ listed_field (field_or entry.now name.now other.now)) }
+{
+    listed_field(alloc, field_or(entry, name, other))
 }
