@@ -1,3 +1,4 @@
+mod ApartFacts
 mod ChangeFacts
 mod ConvertedFacts
 mod DateFacts

@@ -85,6 +85,7 @@ pub data FieldChange : Type 0 where
   renamed : List ℕ → FieldChange
   divided : Sides → FieldChange
 
+-- the change to another name, or else to the parts of a date, if there is either
 abbrev pub change_of : Option (List ℕ) → Option Sides → Option FieldChange
 change_of (Some name) sides = Some (FieldChange.renamed name)
 change_of None (Some sides) = Some (FieldChange.divided sides)

@@ -38,7 +38,7 @@ more_field_texts fields = flat_map (λ n. codes ", " ++ new_field_text n) fields
 abbrev pub field_reading : NewField → FieldReading
 field_reading n = record { name = text_at 0 n.name; value = record { pieces = n.value.pieces; start = 0; end = 0 } }
 
--- the numbers of the month_abbreviations, each with the abbreviation that stands for it
+-- the numbers of the months, each with the abbreviation that stands for it
 abbrev pub month_abbreviations : List (List ℕ × List ℕ)
 month_abbreviations =
     (codes "01", codes "jan") ∷ (codes "02", codes "feb") ∷ (codes "03", codes "mar") ∷ (codes "04", codes "apr") ∷ (codes "05", codes "may") ∷ (codes "06", codes "jun")
@@ -76,10 +76,12 @@ pub record Sides : Type 0 where
   pub from : Side
   pub to : Option Side
 
+-- the one side of a date, if it is one
 abbrev pub one_side : Option Side → Option Sides
 one_side None = None
 one_side (Some side) = Some (record { from = side; to = None })
 
+-- the two sides of a range, if each is one
 abbrev pub two_sides : Option Side → Option Side → Option Sides
 two_sides None to = None
 two_sides (Some from) None = None
@@ -103,12 +105,15 @@ pub record SideNames : Type 0 where
   pub month : List ℕ
   pub day : List ℕ
 
+-- these names after a prefix
 abbrev pub names_after : List ℕ → SideNames
 names_after prefix = record { year = prefix ++ codes "year"; month = prefix ++ codes "month"; day = prefix ++ codes "day" }
 
+-- those of a date, and of the first side of a range
 abbrev pub from_names : SideNames
 from_names = names_after []
 
+-- those of the second side of a range
 abbrev pub to_names : SideNames
 to_names = names_after (codes "end")
 
@@ -116,10 +121,12 @@ to_names = names_after (codes "end")
 abbrev pub part_names : List (List ℕ)
 part_names = codes "year" ∷ codes "month" ∷ codes "day" ∷ codes "endyear" ∷ codes "endmonth" ∷ codes "endday" ∷ []
 
+-- the field of a month, if there is one
 abbrev pub month_fields : List ℕ → Option (List ℕ) → List NewField
 month_fields name None = []
 month_fields name (Some month) = bare_field name month ∷ []
 
+-- the field of a day, if there is one
 abbrev pub day_fields : List ℕ → Option (List ℕ) → List NewField
 day_fields name None = []
 day_fields name (Some day) = braced_field name day ∷ []

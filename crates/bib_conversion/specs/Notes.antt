@@ -27,6 +27,7 @@ is_bibtex_field name = list_any (is_word name) bibtex_fields
 abbrev pub bibtex_note : FieldReading → Option NoteKind
 bibtex_note f = if has_name (codes "date") f then Some DateStays else if is_bibtex_field f.name.text then None else Some NotRead
 
+-- that for a format: for BibLaTeX there is none
 abbrev pub format_note : Format → FieldReading → Option NoteKind
 format_note Biblatex f = None
 format_note Bibtex f = bibtex_note f

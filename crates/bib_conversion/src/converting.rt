@@ -135,7 +135,8 @@ fn edits(
     Ok(edits)
 }
 
-/// The text with the types of entries and the fields that a format has; values, comments, and all between stay byte for byte.
+/// The text with the types of entries and the fields that a format has. Every other byte stays: values but for dates, comments, and what
+/// stands between entries.
 ///
 /// The name of a type for which the format has another, in any ASCII case, gives way to that one's; a type that neither BibTeX nor
 /// BibLaTeX has stays. For BibLaTeX the fields `journal`, `address` and `school` become `journaltitle`, `location` and `institution`.

@@ -10,5 +10,6 @@ pub mod converting;
 mod dates;
 mod editing;
 mod fields;
+pub mod laws;
 mod names;
 pub mod notes;

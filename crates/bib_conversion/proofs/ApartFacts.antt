@@ -1,0 +1,47 @@
+-- What gives way gives way to nothing that is there.
+use Rattle.std.proofs.Common.{◌≡◌, ℕ, Bool, true, false, cond, List, [], ◌∷◌, refl, subst, Option, Some, None}
+use Rattle.std.specs.Prelude.{◌&&◌, ◌==◌, codes, filter, length, not}
+use Rattle.std.specs.List.{list_any}
+use Rattle.std.proofs.lemmas.Bool.{and_parts, not-true}
+use Rattle.bib_syntax.specs.Grammar.{is_word}
+use Rattle.bib_syntax.specs.Reading.{EntryReading, FieldReading}
+use Rattle.bib_documents.specs.Documents.{has_name}
+use Rattle.bib_entry_types.specs.EntryType.{entry_type_of}
+use Rattle.bib_entry.specs.declared.write.Format.{Format}
+use Rattle.bib_entry.specs.declared.write.Format.TheVariants.{Biblatex, Bibtex}
+use Rattle.bib_strings.specs.Collected.{single_text}
+use Rattle.bib_conversion.specs.Conversions.{divides_date, exchanged_date, free_names, is_field_there, new_field_name, other_name, other_names, value_sides}
+use Rattle.bib_conversion.specs.Dates.{Sides, part_names}
+
+word_case : (fields : List FieldReading) (w : Bool) (other name : List ℕ) (rest : Option (List ℕ)) → is_field_there fields other ≡ false → (rest ≡ Some name → is_field_there fields name ≡ false) → cond w (Some other) rest ≡ Some name → is_field_there fields name ≡ false
+word_case fields true other name rest free later is = let same : other ≡ name = cc in subst (λ n. is_field_there fields n ≡ false) same free
+word_case fields false other name rest free later is = later is
+
+-- of some rows with one before them, which is free or isn't
+row_case : (fields : List FieldReading) (b : Bool) (row : List ℕ × List ℕ) (rows : List (List ℕ × List ℕ)) (text name : List ℕ) → is_field_there fields row.1 ≡ b → (other_name rows text ≡ Some name → is_field_there fields name ≡ false)
+    → other_name (cond (not b) (row ∷ rows) rows) text ≡ Some name → is_field_there fields name ≡ false
+row_case fields true row rows text name there later is = later is
+row_case fields false row rows text name there later is = word_case fields (is_word text row.0) row.1 name (other_name rows text) there later is
+
+found_free : (fields : List FieldReading) (rows : List (List ℕ × List ℕ)) (text name : List ℕ) → other_name (free_names fields rows) text ≡ Some name → is_field_there fields name ≡ false
+found_free fields [] text name is = absurd (cc)
+found_free fields (row ∷ rows) text name is = row_case fields (is_field_there fields row.1) row (free_names fields rows) text name refl (found_free fields rows text name) is
+
+pub names_apart : (format : Format) (e : EntryReading) (f : FieldReading) (name : List ℕ) → new_field_name format e f ≡ Some name → is_field_there e.fields name ≡ false
+names_apart format e f name is = found_free e.fields (other_names format (entry_type_of e.kind.text)) f.name.text name is
+
+divides_apart : (format : Format) (fields : List FieldReading) → divides_date format fields ≡ true → list_any (is_field_there fields) part_names ≡ false
+divides_apart Biblatex fields is = absurd (cc)
+divides_apart Bibtex fields is =
+    let there : Bool = list_any (is_field_there fields) part_names in
+    not-true there (and_parts (length (filter (has_name (codes "date")) fields) == 1) (not there) is).1
+
+sides_case : (b : Bool) (found : Option Sides) (sides : Sides) → cond b found None ≡ Some sides → b ≡ true
+sides_case true found sides is = refl
+sides_case false found sides is = absurd (cc)
+
+pub parts_apart : (format : Format) (e : EntryReading) (f : FieldReading) (sides : Sides) → exchanged_date format e f ≡ Some sides → list_any (is_field_there e.fields) part_names ≡ false
+parts_apart format e f sides is =
+    let divides : Bool = divides_date format e.fields in
+    let both = sides_case (has_name (codes "date") f && divides) (value_sides (single_text f.value.pieces)) sides is in
+    divides_apart format e.fields (and_parts (has_name (codes "date") f) divides both).1
