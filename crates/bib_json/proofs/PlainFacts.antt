@@ -27,12 +27,12 @@ use Rattle.serde_json.specs.Read.{max_depth}
 use Rattle.serde_json.specs.View.{items_of}
 use Rattle.serde_json.specs.Written.{has_float, items_have_float, members_have_float}
 use Rattle.bib_json.specs.Chunks.{chunk_members, chunk_json, chunks_json}
-use Rattle.bib_json.specs.Dates.{offset_minutes, offset_json, time_members, time_json, counted_json, datetime_members, datetime_json, date_members, date_json, date_start, date_end}
-use Rattle.bib_json.specs.Entries.{entry_members, json_of}
+use Rattle.bib_json.specs.Dates.{offset_minutes, offset_json, time_members, time_json, counted_json, datetime_members, datetime_json, members_of_date, date_json, date_start, date_end}
+use Rattle.bib_json.specs.Entries.{entry_members, entry_object}
 use Rattle.bib_json.specs.Fields.{field_members, field_json, field_member}
-use Rattle.bib_json.specs.Objects.{Member, given, with_members, object_of, array_of}
+use Rattle.bib_json.specs.Objects.{Member, with_given, with_members, object_of, array_of}
 use Rattle.bib_json.specs.ValueTypes.{value_type}
-use Rattle.bib_json.specs.Values.{person_members, person_json, range_json, part_json, language_json, language_or_text, typed_json}
+use Rattle.bib_json.specs.Values.{person_members, person_json, range_json, part_json, language_json, language_or_part, typed_json}
 use Rattle.bib_json.specs.declared.types.ValueType.{ValueType}
 use Rattle.bib_json.specs.declared.types.ValueType.TheVariants as type
 
@@ -101,13 +101,13 @@ put_plain k d (member l e ms) p q =
     let rest = rest_plain l e ms q in
     placed (slice_cmp nat_cmp k l) k l d e ms p (first_plain l e ms q) rest (put_plain k d ms p rest)
 
-given_plain : {n : ℕ} (k : List ℕ) (o : Option Data) (ms : Members) → IsPlainIfGiven n o → ArePlain n ms → ArePlain n (given k o ms)
+given_plain : {n : ℕ} (k : List ℕ) (o : Option Data) (ms : Members) → IsPlainIfGiven n o → ArePlain n ms → ArePlain n (with_given k o ms)
 given_plain k None ms p q = q
 given_plain k (Some d) ms p q = put_plain k d ms p q
 
 with_members_plain : {n : ℕ} (ms : Members) (members : List Member) → ArePlain n ms → AreGivenPlain n members → ArePlain n (with_members ms members)
 with_members_plain ms [] p q = p
-with_members_plain ms (m ∷ rest) p q = with_members_plain (given m.0 m.1 ms) rest (given_plain m.0 m.1 ms q.0 p) q.1
+with_members_plain ms (m ∷ rest) p q = with_members_plain (with_given m.0 m.1 ms) rest (given_plain m.0 m.1 ms q.0 p) q.1
 
 none_plain : (n : ℕ) → ArePlain n no_members
 none_plain n = record { no_float = refl; shallow = omega arith }
@@ -170,7 +170,7 @@ datetime_plain d =
 
 date_plain : (d : Date) → IsPlain 3 (date_json d)
 date_plain d =
-    object_plain (date_members d)
+    object_plain (members_of_date d)
     (leaf _ refl refl, (mapped_plain datetime_json (date_start d.value) datetime_plain, (mapped_plain datetime_json (date_end d.value) datetime_plain, (leaf _ refl refl, (leaf _ refl refl, tt)))))
 
 -- ---- values
@@ -220,7 +220,7 @@ typed_plain type.Number chunks = mapped_plain (λ n. number (of_integer n)) (num
 typed_plain type.Pages chunks = mapped_plain (array_of range_json) (ranges_read chunks) (λ ranges. list_plain range_json ranges range_plain)
 typed_plain type.Keys chunks = list_plain string (strings_read chunks) string_plain
 typed_plain type.Parts chunks = list_plain part_json (and_list chunks) (λ part. leaf _ refl refl)
-typed_plain type.Languages chunks = list_plain language_or_text (and_list chunks) (λ part. named_plain (language_read part) part)
+typed_plain type.Languages chunks = list_plain language_or_part (and_list chunks) (λ part. named_plain (language_read part) part)
 typed_plain type.Language chunks = mapped_plain language_json (language_read chunks) (λ language. leaf _ refl refl)
 typed_plain type.Pagination chunks = mapped_plain _ (pagination_read chunks) (λ scheme. leaf _ refl refl)
 typed_plain type.Role chunks = leaf _ refl refl
@@ -239,13 +239,13 @@ fields_plain : (fields : List (List ℕ × Value)) → AreGivenPlain 4 (map fiel
 fields_plain [] = tt
 fields_plain (field ∷ rest) = (field_plain field.0 field.1, fields_plain rest)
 
-whole_plain : (entry : Entry) → IsPlain 6 (json_of entry)
+whole_plain : (entry : Entry) → IsPlain 6 (entry_object entry)
 whole_plain entry = object_plain (entry_members entry) (leaf _ refl refl, (leaf _ refl refl, (object_plain (map field_member (entries entry.fields)) (fields_plain (entries entry.fields)), tt)))
 
 -- no part of an entry's object is a float
-pub entry_has_no_float : (entry : Entry) → has_float (json_of entry) ≡ false
+pub entry_has_no_float : (entry : Entry) → has_float (entry_object entry) ≡ false
 entry_has_no_float entry = (whole_plain entry).no_float
 
 -- it nests less deep than is read
-pub entry_is_shallow : (entry : Entry) → suc (depth (json_of entry)) ≤ max_depth
-entry_is_shallow entry = one_less (depth (json_of entry)) (whole_plain entry).shallow
+pub entry_is_shallow : (entry : Entry) → suc (depth (entry_object entry)) ≤ max_depth
+entry_is_shallow entry = one_less (depth (entry_object entry)) (whole_plain entry).shallow

@@ -23,7 +23,7 @@ use Rattle.bib_entry.specs.declared.entry.Entry.{Entry}
 use Rattle.bib_json.proofs.GapFacts.{with_line_feed}
 use Rattle.bib_json.proofs.PlainFacts.{entry_has_no_float, entry_is_shallow}
 use Rattle.bib_json.specs.Arrays.{array_text, further_elements}
-use Rattle.bib_json.specs.Entries.{json_of, json_text_of, IsReadBack}
+use Rattle.bib_json.specs.Entries.{entry_object, json_text_of, IsReadBack}
 use Rattle.bib_json.specs.Objects.{array_of}
 
 -- the state of the writer after tokens: whether a value has just ended
@@ -232,7 +232,7 @@ array_read ds r =
 -- ---- entries
 
 -- the text of an entry that was written is read back
-pub read_back : {E : Type 0} (result : Result (String Global) E) (v : Data) (entry : Entry) → v ≡ json_of entry → IfOk result (λ s. has_float v ≡ false → string_bytes s ≡ compact_text v)
+pub read_back : {E : Type 0} (result : Result (String Global) E) (v : Data) (entry : Entry) → v ≡ entry_object entry → IfOk result (λ s. has_float v ≡ false → string_bytes s ≡ compact_text v)
     → IfOk result (λ s. IsInOrder (string_bytes s) v) → IfOk result (λ s. depth v ≤ max_depth → read (string_bytes s) ≡ Some v) → IfOk result (λ _. IsReadBack entry)
 read_back (Ok s) v entry is written order reads =
     let no_float : has_float v ≡ false = ap has_float is ∙ entry_has_no_float entry in
@@ -244,14 +244,14 @@ read_back (Ok s) v entry is written order reads =
     }
 read_back (Err e) v entry is written order reads = tt
 
-are_read : (entries : List Entry) → AllByRecursion IsReadBack entries → AreRead (map json_of entries)
+are_read : (entries : List Entry) → AllByRecursion IsReadBack entries → AreRead (map entry_object entries)
 are_read [] h = tt
 are_read (entry ∷ rest) h = (record { same = h.0.same_tokens; value = h.0.value; shallow = entry_is_shallow entry }, are_read rest h.1)
 
-texts_are : (entries : List Entry) → map compact_text (map json_of entries) ≡ map json_text_of entries
+texts_are : (entries : List Entry) → map compact_text (map entry_object entries) ≡ map json_text_of entries
 texts_are [] = refl
 texts_are (entry ∷ rest) = ap (λ l. json_text_of entry ∷ l) (texts_are rest)
 
 -- an array of entries is read
-pub entries_read : (entries : List Entry) → AllByRecursion IsReadBack entries → read (array_text (map json_text_of entries)) ≡ Some (array_of json_of entries)
-entries_read entries h = ap (λ texts. read (array_text texts)) (sym (texts_are entries)) ∙ array_read (map json_of entries) (are_read entries h)
+pub entries_read : (entries : List Entry) → AllByRecursion IsReadBack entries → read (array_text (map json_text_of entries)) ≡ Some (array_of entry_object entries)
+entries_read entries h = ap (λ texts. read (array_text texts)) (sym (texts_are entries)) ∙ array_read (map entry_object entries) (are_read entries h)

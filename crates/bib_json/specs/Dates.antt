@@ -74,8 +74,8 @@ date_end (Before d) = Some d
 date_end (Between d e) = Some e
 
 -- a date or a range of dates
-abbrev pub date_members : Date → List Member
-date_members d =
+abbrev pub members_of_date : Date → List Member
+members_of_date d =
     (codes "kind", Some (string (date_kind d.value)))
     ∷ (codes "start", option_map datetime_json (date_start d.value))
     ∷ (codes "end", option_map datetime_json (date_end d.value))
@@ -85,4 +85,4 @@ date_members d =
 
 -- the object of a date or a range of dates
 abbrev pub date_json : Date → Data
-date_json d = object_of (date_members d)
+date_json d = object_of (members_of_date d)

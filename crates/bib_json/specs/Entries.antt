@@ -27,14 +27,14 @@ entry_members entry =
     ∷ []
 
 -- the object of an entry
-abbrev pub json_of : Entry → Data
-json_of entry = object_of (entry_members entry)
+abbrev pub entry_object : Entry → Data
+entry_object entry = object_of (entry_members entry)
 
 -- the text of an entry in JSON, on one line
 abbrev pub json_text_of : Entry → List ℕ
-json_text_of entry = compact_text (json_of entry)
+json_text_of entry = compact_text (entry_object entry)
 
 -- the text of an entry has the tokens of its object, and is read as it
 pub record IsReadBack (entry : Entry) : Type 0 where
-  pub same_tokens : tokens (json_text_of entry) ≡ json_tokens (outline (json_of entry))
-  pub value : read (json_text_of entry) ≡ Some (json_of entry)
+  pub same_tokens : tokens (json_text_of entry) ≡ json_tokens (outline (entry_object entry))
+  pub value : read (json_text_of entry) ≡ Some (entry_object entry)

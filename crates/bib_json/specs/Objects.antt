@@ -9,14 +9,14 @@ abbrev pub Member : Type 0
 Member = List ℕ × Option Data
 
 -- members with a value at this name, if there is one
-abbrev pub given : List ℕ → Option Data → Members → Members
-given name None members = members
-given name (Some value) members = put name value members
+abbrev pub with_given : List ℕ → Option Data → Members → Members
+with_given name None members = members
+with_given name (Some value) members = put name value members
 
 -- members and more of them, those that have a value
 abbrev pub with_members : Members → List Member → Members
 with_members members [] = members
-with_members members (m ∷ rest) = with_members (given m.0 m.1 members) rest
+with_members members (m ∷ rest) = with_members (with_given m.0 m.1 members) rest
 
 -- the object of these members, those that have a value
 abbrev pub object_of : List Member → Data

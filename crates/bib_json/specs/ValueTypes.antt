@@ -6,14 +6,14 @@ use Rattle.bib_json.specs.declared.types.ValueType.{ValueType}
 use Rattle.bib_json.specs.declared.types.ValueType.TheVariants.{People, Date, Number, Pages, Keys, Parts, Languages, Language, Pagination, Role, Gender}
 
 -- the fields of people
-abbrev pub people_fields : List (List ℕ)
-people_fields =
+abbrev pub fields_of_people : List (List ℕ)
+fields_of_people =
     codes "author" ∷ codes "editor" ∷ codes "editora" ∷ codes "editorb" ∷ codes "editorc" ∷ codes "translator" ∷ codes "annotator" ∷ codes "commentator"
     ∷ codes "introduction" ∷ codes "foreword" ∷ codes "afterword" ∷ codes "bookauthor" ∷ codes "holder" ∷ codes "shortauthor" ∷ codes "shorteditor" ∷ []
 
 -- the fields of dates
-abbrev pub date_fields : List (List ℕ)
-date_fields = codes "date" ∷ codes "eventdate" ∷ codes "origdate" ∷ codes "urldate" ∷ []
+abbrev pub dated_fields : List (List ℕ)
+dated_fields = codes "date" ∷ codes "eventdate" ∷ codes "origdate" ∷ codes "urldate" ∷ []
 
 -- the fields of whole numbers
 abbrev pub number_fields : List (List ℕ)
@@ -53,8 +53,8 @@ single_type name =
 -- what a field of this name is read as, if it has a type
 abbrev pub value_type : List ℕ → Option ValueType
 value_type name =
-    if is_listed_in people_fields name then Some People
-    else if is_listed_in date_fields name then Some Date
+    if is_listed_in fields_of_people name then Some People
+    else if is_listed_in dated_fields name then Some Date
     else if is_listed_in number_fields name then Some Number
     else if is_listed_in comma_fields name then Some Keys
     else if is_listed_in and_fields name then Some Parts

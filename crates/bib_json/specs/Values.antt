@@ -57,8 +57,8 @@ abbrev pub language_json : ALanguage → Data
 language_json language = string (language_row language).name
 
 -- the name of the language that a part of a list names, or else its text
-abbrev pub language_or_text : Value → Data
-language_or_text part = unwrap_or (option_map language_json (language_read part)) (part_json part)
+abbrev pub language_or_part : Value → Data
+language_or_part part = unwrap_or (option_map language_json (language_read part)) (part_json part)
 
 -- what chunks are read as by this type, if they are read as one
 abbrev pub typed_json : ValueType → Value → Option Data
@@ -68,7 +68,7 @@ typed_json Number chunks = option_map (λ n. number (of_integer n)) (number_read
 typed_json Pages chunks = option_map (array_of range_json) (ranges_read chunks)
 typed_json Keys chunks = Some (array_of string (strings_read chunks))
 typed_json Parts chunks = Some (array_of part_json (and_list chunks))
-typed_json Languages chunks = Some (array_of language_or_text (and_list chunks))
+typed_json Languages chunks = Some (array_of language_or_part (and_list chunks))
 typed_json Language chunks = option_map language_json (language_read chunks)
 typed_json Pagination chunks = option_map (λ scheme. string (pagination_name scheme)) (pagination_read chunks)
 typed_json Role chunks = Some (string (editor_type_name (editor_type_read chunks)))

@@ -26,7 +26,7 @@ fn type_name(entry_type: &EntryType) -> &str
 /// An entry as an object of JSON: its type, its key, and its fields by their names, each with its chunks and what they are
 /// read as.
 pub fn entry_json(alloc: Global, entry: &Entry) -> Result<Value, AllocError>
-    ensures { IfOk result (λ value. view value ≡ spec.json_of entry.now) }
+    ensures { IfOk result (λ value. view value ≡ spec.entry_object entry.now) }
 {
     let fields = fields_object(alloc, &entry.fields)?;
     let mut members = Map::new(alloc);

@@ -8,13 +8,13 @@ ghost use Rattle.bib_entry.specs.declared.entry.Entry.{Entry};
 ghost use Rattle.serde_json.specs.Find.{get};
 ghost use Rattle.serde_json.specs.Read.{read};
 ghost use Rattle.bib_json.specs.Arrays.{array_text, in_pieces};
-ghost use Rattle.bib_json.specs.Entries.{json_of, json_text_of, IsReadBack};
+ghost use Rattle.bib_json.specs.Entries.{entry_object, json_text_of, IsReadBack};
 ghost use Rattle.bib_json.specs.Fields.{field_json};
 ghost use Rattle.bib_json.specs.Objects.{array_of};
 
 /// Each field of an entry has its object under its name, and no other name has one.
 pub fn fields_are_found()
-    ensures { (entry : Entry) (name : List ℕ) → option_and_then (get name) (get (codes "fields") (json_of entry)) ≡
+    ensures { (entry : Entry) (name : List ℕ) → option_and_then (get name) (get (codes "fields") (entry_object entry)) ≡
         option_map (field_json name) (by_name.get entry.fields name) }
 {}
 
@@ -26,5 +26,5 @@ pub fn pieces_make_the_array()
 /// An array of entries, each of which is read back, is read as the array of their objects.
 pub fn array_is_read()
     ensures { (entries : List Entry) → AllByRecursion IsReadBack entries →
-        read (array_text (map json_text_of entries)) ≡ Some (array_of json_of entries) }
+        read (array_text (map json_text_of entries)) ≡ Some (array_of entry_object entries) }
 {}

@@ -4,7 +4,7 @@ ghost use Rattle.std.specs.Prelude.{◌≡◌, IfOk, map, string_bytes};
 ghost use Rattle.serde_json.specs.Data.{string};
 ghost use Rattle.serde_json.specs.View.{view};
 ghost use Rattle.bib_json.specs.Objects.{array_of};
-ghost use Rattle.bib_json.specs.Values.{range_json, part_json, language_json, language_or_text};
+ghost use Rattle.bib_json.specs.Values.{range_json, part_json, language_json, language_or_part};
 
 use bib_chunks::chunk::{Chunks, ChunksRef, format_verbatim};
 use bib_enums::types::lang::Language;
@@ -75,8 +75,8 @@ pub(crate) fn language_value(alloc: Global, language: Language) -> Result<Value,
 }
 
 // The name of the language that a part of a list names, or else its text.
-fn language_or_text(alloc: Global, part: ChunksRef<'_>) -> Result<Value, AllocError>
-    ensures { IfOk result (λ value. view value ≡ language_or_text part.now) }
+fn language_or_part(alloc: Global, part: ChunksRef<'_>) -> Result<Value, AllocError>
+    ensures { IfOk result (λ value. view value ≡ language_or_part part.now) }
 {
     match read_language(alloc, part)? {
         Some(language) => language_value(alloc, language),
@@ -86,11 +86,11 @@ fn language_or_text(alloc: Global, part: ChunksRef<'_>) -> Result<Value, AllocEr
 
 /// The languages that the parts of a list name, and the texts that stand in the place of one.
 pub(crate) fn languages_value(alloc: Global, parts: &[Chunks]) -> Result<Value, AllocError>
-    ensures { IfOk result (λ value. view value ≡ array_of language_or_text parts.now) }
+    ensures { IfOk result (λ value. view value ≡ array_of language_or_part parts.now) }
 {
     let mut elements = Vec::new(alloc);
     'parts: for part in parts {
-        let element = language_or_text(alloc, part.as_slice())?;
+        let element = language_or_part(alloc, part.as_slice())?;
         elements.push(element)?;
     }
     Ok(Value::from(elements))

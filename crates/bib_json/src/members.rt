@@ -4,7 +4,7 @@ ghost use Rattle.std.specs.Prelude.{◌≡◌, OnOk, Some};
 ghost use Rattle.std.specs.Option.{option_map};
 ghost use Rattle.serde_json.specs.Data.{put as with_member, string};
 ghost use Rattle.serde_json.specs.View.{view, members_view};
-ghost use Rattle.bib_json.specs.Objects.{given};
+ghost use Rattle.bib_json.specs.Objects.{with_given};
 
 use serde_json::{Map, Value};
 use std::alloc::{AllocError, Global};
@@ -17,7 +17,7 @@ pub(crate) fn put_given(
     value: Option<Value>,
 ) -> Result<(), AllocError>
     ensures { OnOk result (members_view members.new.entries ≡
-        given name.now (option_map view value) (members_view members.old.entries)) }
+        with_given name.now (option_map view value) (members_view members.old.entries)) }
 {
     if let Some(value) = value {
         serde_json::put(members, alloc, name, value)?;

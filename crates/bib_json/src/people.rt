@@ -4,7 +4,7 @@ ghost use Rattle.std.specs.Prelude.{◌≡◌, IfOk, OnOk};
 ghost use Rattle.std.specs.Option.{option_map};
 ghost use Rattle.serde_json.specs.Data.{string};
 ghost use Rattle.serde_json.specs.View.{view, members_view};
-ghost use Rattle.bib_json.specs.Objects.{given};
+ghost use Rattle.bib_json.specs.Objects.{with_given};
 ghost use Rattle.bib_json.specs.Objects.{array_of};
 ghost use Rattle.bib_json.specs.Values.{person_json};
 
@@ -22,7 +22,7 @@ fn put_text_if_given(
     text: &Option<Text>,
 ) -> Result<(), AllocError>
     ensures { OnOk result (members_view members.new.entries ≡
-        given name.now (option_map string text.now) (members_view members.old.entries)) }
+        with_given name.now (option_map string text.now) (members_view members.old.entries)) }
 {
     if let Some(text) = text {
         put_text(members, alloc, name, text.as_str())?;

@@ -32,7 +32,7 @@ pub enum ValueType {
 
 // Whether this is a field of people.
 fn is_of_people(name: &str) -> bool
-    ensures { result ≡ spec.is_listed_in spec.people_fields name.now }
+    ensures { result ≡ spec.is_listed_in spec.fields_of_people name.now }
 {
     matches!(
         name,
@@ -56,7 +56,7 @@ fn is_of_people(name: &str) -> bool
 
 // Whether this is the field of a date.
 fn is_of_date(name: &str) -> bool
-    ensures { result ≡ spec.is_listed_in spec.date_fields name.now }
+    ensures { result ≡ spec.is_listed_in spec.dated_fields name.now }
 {
     matches!(name, "date" | "eventdate" | "origdate" | "urldate")
 }

@@ -21,13 +21,13 @@ use Rattle.bib_ris.specs.Lines.{ris_line, ris_lines, line_if_given}
 use Rattle.bib_ris.specs.Types.{ris_type}
 
 -- the chunks of a field, if it is there
-abbrev pub field : Entry → List ℕ → Option Value
-field entry name = by_name.get entry.fields name
+abbrev pub entry_field : Entry → List ℕ → Option Value
+entry_field entry name = by_name.get entry.fields name
 
 -- the chunks of the first of these fields that is there
 abbrev pub first_field : Entry → List (List ℕ) → Option Value
 first_field entry [] = None
-first_field entry (name ∷ names) = option_or (field entry name) (first_field entry names)
+first_field entry (name ∷ names) = option_or (entry_field entry name) (first_field entry names)
 
 -- a line with the text of the first of these fields that is there
 abbrev pub ris_field : Entry → List ℕ → List (List ℕ) → List ℕ
@@ -58,7 +58,7 @@ people_lines tag (Some chunks) = ris_lines tag (map person_text (people_of chunk
 
 -- the authors, and then the editors
 abbrev pub names_part : Entry → List ℕ
-names_part entry = people_lines (codes "AU") (field entry (codes "author")) ++ people_lines (codes "ED") (field entry (codes "editor"))
+names_part entry = people_lines (codes "AU") (entry_field entry (codes "author")) ++ people_lines (codes "ED") (entry_field entry (codes "editor"))
 
 -- ---- titles
 
@@ -75,7 +75,7 @@ title_given (Some title) subtitle = Some (whole_title title subtitle)
 -- the title, that of the journal or of the book, and that of the series
 abbrev pub titles_part : Entry → List ℕ
 titles_part entry =
-    line_if_given (codes "TI") (title_given (field entry (codes "title")) (field entry (codes "subtitle")))
+    line_if_given (codes "TI") (title_given (entry_field entry (codes "title")) (entry_field entry (codes "subtitle")))
     ++ (ris_field entry (codes "T2") (codes "journaltitle" ∷ codes "journal" ∷ codes "booktitle" ∷ [])
     ++ ris_field entry (codes "T3") (codes "series" ∷ []))
 
@@ -93,7 +93,7 @@ date_or_three (Some chunks) three = date_read chunks
 
 -- the date of an entry, if it has one that can be read
 abbrev pub entry_date : Entry → Option Date
-entry_date entry = date_or_three (field entry (codes "date")) (three_fields_read (field entry (codes "year")) (field entry (codes "month")) (field entry (codes "day")))
+entry_date entry = date_or_three (entry_field entry (codes "date")) (three_fields_read (entry_field entry (codes "year")) (entry_field entry (codes "month")) (entry_field entry (codes "day")))
 
 -- one date, or the end of a range that is known first
 abbrev pub first_date : DateValue → Datetime
@@ -139,7 +139,7 @@ numbers_part entry =
     ris_field entry (codes "VL") (codes "volume" ∷ [])
     ++ (ris_field entry (codes "IS") (codes "number" ∷ codes "issue" ∷ [])
     ++ (ris_field entry (codes "ET") (codes "edition" ∷ [])
-    ++ pages_lines (field entry (codes "pages"))))
+    ++ pages_lines (entry_field entry (codes "pages"))))
 
 -- ---- publication
 
@@ -167,14 +167,14 @@ abbrev pub contents_part : Entry → List ℕ
 contents_part entry =
     ris_field entry (codes "AB") (codes "abstract" ∷ [])
     ++ (ris_field entry (codes "N1") (codes "note" ∷ [])
-    ++ (keyword_lines (field entry (codes "keywords"))
+    ++ (keyword_lines (entry_field entry (codes "keywords"))
     ++ ris_field entry (codes "LA") (codes "language" ∷ [])))
 
 -- ---- records
 
 -- the type
 abbrev pub type_part : Entry → List ℕ
-type_part entry = ris_line (codes "TY") (ris_type entry.entry_type (field entry (codes "entrysubtype")))
+type_part entry = ris_line (codes "TY") (ris_type entry.entry_type (entry_field entry (codes "entrysubtype")))
 
 -- the key, and the end of the record with an empty line after it
 abbrev pub end_part : Entry → List ℕ

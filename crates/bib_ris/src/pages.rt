@@ -33,7 +33,7 @@ fn push_range(
 /// Writes the lines of the first range of pages.
 pub(crate) fn push_pages(out: &mut String, alloc: Global, entry: &Entry) -> Result<(), AllocError>
     ensures { OnOk result (string_bytes out.new ≡ string_bytes out.old ++
-        spec.pages_lines (spec.field entry.now (codes "pages"))) }
+        spec.pages_lines (spec.entry_field entry.now (codes "pages"))) }
 {
     let Some(chunks) = entry.get("pages") else {
         return Ok(());

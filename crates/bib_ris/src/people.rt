@@ -80,7 +80,7 @@ pub(crate) fn push_people_of(
     name: &str,
 ) -> Result<(), AllocError>
     ensures { OnOk result (string_bytes out.new ≡ string_bytes out.old ++
-        spec.people_lines tag.now (spec.field entry.now name.now)) }
+        spec.people_lines tag.now (spec.entry_field entry.now name.now)) }
 {
     let Some(chunks) = entry.get(name) else {
         return Ok(());

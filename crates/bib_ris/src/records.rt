@@ -82,7 +82,7 @@ fn push_links(out: &mut String, alloc: Global, entry: &Entry) -> Result<(), Allo
 // Writes a line for each keyword.
 fn push_keywords(out: &mut String, alloc: Global, entry: &Entry) -> Result<(), AllocError>
     ensures { OnOk result (string_bytes out.new ≡ string_bytes out.old ++
-        spec.keyword_lines (spec.field entry.now (codes "keywords"))) }
+        spec.keyword_lines (spec.entry_field entry.now (codes "keywords"))) }
 {
     let Some(chunks) = entry.get("keywords") else {
         return Ok(());

@@ -31,7 +31,7 @@ fn whole_title(
 /// Writes the line of the title with the subtitle, if there is a title.
 pub(crate) fn push_title(out: &mut String, alloc: Global, entry: &Entry) -> Result<(), AllocError>
     ensures { OnOk result (string_bytes out.new ≡ string_bytes out.old ++ line_if_given (codes "TI")
-        (spec.title_given (spec.field entry.now (codes "title")) (spec.field entry.now (codes "subtitle")))) }
+        (spec.title_given (spec.entry_field entry.now (codes "title")) (spec.entry_field entry.now (codes "subtitle")))) }
 {
     let Some(title) = entry.get("title") else {
         return Ok(());
