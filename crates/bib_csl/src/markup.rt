@@ -61,7 +61,11 @@ fn push_marked(
 
 // Chunks with HTML's tags.
 #[tactic(auto, unfolding(crate::specs::Texts::marked_chunks))]
-pub(crate) fn marked_chunks(alloc: Global, is_title: bool, chunks: ChunksRef<'_>) -> Result<Text, AllocError>
+pub(crate) fn marked_chunks(
+    alloc: Global,
+    is_title: bool,
+    chunks: ChunksRef<'_>,
+) -> Result<Text, AllocError>
     ensures { IfOk result (λ text. text ≡ marked_chunks is_title chunks.now) }
 {
     let mut out = Text::new(alloc);

@@ -42,11 +42,7 @@ fn is_all_braced(chunks: ChunksRef<'_>) -> bool
 
 // The parts of a person's name, whose prefix counts as part of the family name or not.
 #[tactic(auto, unfolding(crate::specs::People::parts_with))]
-fn parts_with(
-    alloc: Global,
-    uses_prefix: bool,
-    person: &Person,
-) -> Result<NameParts, AllocError>
+fn parts_with(alloc: Global, uses_prefix: bool, person: &Person) -> Result<NameParts, AllocError>
     ensures { IfOk result (λ parts. parts ≡ spec.parts_with uses_prefix person.now) }
 {
     let family = untied(alloc, person.name.as_str())?;

@@ -615,9 +615,11 @@ fn argument_of<'a>(alloc: Global, row: &'static Argument) -> Result<Arg<'a>, All
         Takes::Times => value(alloc, row, "TIMES")
             .value_parser(ValueParser::unsigned(2, 1_000_000))
             .requires_arg("collect"),
-        Takes::Target => Ok(value(alloc, row, "FORMAT")
-            .value_parser(TARGETS.as_slice())
-            .required(true)),
+        Takes::Target => Ok(
+            value(alloc, row, "FORMAT")
+                .value_parser(TARGETS.as_slice())
+                .required(true),
+        ),
         Takes::Nothing => Ok(option(alloc, row).action(ArgAction::SetTrue)),
         Takes::NothingBeside(other) => option(alloc, row)
             .action(ArgAction::SetTrue)

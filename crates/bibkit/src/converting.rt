@@ -24,12 +24,7 @@ fn not_taken(alloc: Global) -> Result<Stop, AllocError> {
 }
 
 // What is said of a text that is no bibliography.
-fn refused(
-    alloc: Global,
-    name: &str,
-    text: &str,
-    error: &ParseError,
-) -> Result<Stop, AllocError> {
+fn refused(alloc: Global, name: &str, text: &str, error: &ParseError) -> Result<Stop, AllocError> {
     let said = format!(in alloc; "{}", error.kind)?;
     let line = error_line(alloc, name, text.as_bytes(), error.span.start, &said)?;
     Ok(Stop::Said(line, 1))
@@ -163,7 +158,10 @@ fn note_line(
     let position = positions.position(field.key.span.start);
     format!(in alloc;
         "{name}:{}:{}: note: {} {}\n",
-        position.line, position.column, field.key.v, note_text(kind)
+        position.line,
+        position.column,
+        field.key.v,
+        note_text(kind)
     )
 }
 

@@ -1,13 +1,13 @@
 -- Meaning: words of public contracts.
 -- Bibliographies in other formats, as they are printed: arrays of JSON, or records one after another.
-use Rattle.std.specs.Prelude.{◌≡◌, ◌<◌, ◌-◌, ◌^◌, ℕ, Bool, ◌&&◌, true, false, not, if◌then◌else◌, List, [], ◌∷◌, ◌++◌, codes, Option, IfOk}
+use Rattle.std.specs.Prelude.{◌≡◌, ◌<◌, ◌-◌, ◌^◌, ℕ, Bool, ◌&&◌, true, false, not, if◌then◌else◌, List, [], ◌∷◌, ◌++◌, Option}
 use Rattle.std.specs.Io.KnownBytes.{Appends}
 use Rattle.biblatex.specs.Headline.{IsAcceptedText, IsBibliographyOf, IsErrorOf}
 use Rattle.biblatex.specs.Syntax.{Bibliography, Entry}
 use Rattle.bib_entry_types.specs.declared.mechanics.EntryType.{EntryType}
 use Rattle.bib_entry_types.specs.declared.mechanics.EntryType.TheVariants.{XData}
 use Rattle.serde_json.specs.Written.{compact_text}
-use Rattle.bib_csl.specs.Items.{item_of}
+use Rattle.bib_csl.specs.Items.{item_of_entry}
 use Rattle.bib_csl.specs.Json.{json_of as item_json}
 use Rattle.bib_json.specs.Arrays.{array_end, before_element}
 use Rattle.bib_json.specs.Entries.{json_text_of}
@@ -29,7 +29,7 @@ is_written Ris e = not (is_xdata e.entry_type)
 
 -- what an entry is in a format
 abbrev pub exported : Target → Entry → List ℕ
-exported Csl e = compact_text (item_json (item_of e))
+exported Csl e = compact_text (item_json (item_of_entry e))
 exported Json e = json_text_of e
 exported Ris e = ris_of e
 

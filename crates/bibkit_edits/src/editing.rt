@@ -94,11 +94,7 @@ fn collected(
 }
 
 // The text of a document with the types and fields of a format.
-fn converted(
-    alloc: Global,
-    document: &RawDocument<'_>,
-    format: Format,
-) -> Result<String, EditError>
+fn converted(alloc: Global, document: &RawDocument<'_>, format: Format) -> Result<String, EditError>
     ensures made { IfOk result (λ new. IsEdited (IsDocumentConverted format document.now) (string_bytes new)) }
     ensures refused { IfErr result (λ why. why ≡ OutOfMemory) }
 {
