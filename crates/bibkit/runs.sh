@@ -5,6 +5,7 @@ set -u
 export LC_ALL=C
 program=$(realpath "$1")
 completions=$(realpath "$(dirname "$0")/../../completions")
+schema=$(realpath "$(dirname "$0")/../../docs/entries.schema.json")
 shift
 guides=()
 for guide in "$@"; do guides+=("$(realpath "$guide")"); done
@@ -927,6 +928,25 @@ run_messages 'an abbreviation that is not defined' 1 $'abbreviated.bib:1:16: err
 printf '@misc{a, title={\xe9}}\n' >latin.bib
 run 'items of a file in Windows-1252' 0 $'[\n{"id":"a","title":"é","type":"document"}\n]\n' convert --to csl latin.bib
 run 'BibTeX of a file in Windows-1252' 2 '' convert --to bibtex latin.bib
+# all kinds of values of JSON, by the schema, where its validator is installed
+cat >values.bib <<'BIB'
+@book{b, author = {family=Cruz, given=Maria, prefix=de la, useprefix=true}, date = {-0044-03-15T10:00:00Z/2001?}, pages = {1--3, 7},
+  volume = 2, edition = {Second}, keywords = {x, y}, langid = {english}, pagination = {page}, title = {$x$ {Y} z}, editor = {{A B}}, editortype = {compiler},
+  eventdate = {2001/..}, urldate = {../2002}, origdate = {199X}}
+@misc{c, crossref = {b}, author = {A and B}, date = {nothing}}
+BIB
+is_by_schema() {
+    python3 -W ignore -c 'import json, sys, jsonschema; jsonschema.validate(json.load(open("output")), json.load(open(sys.argv[1])))' "$schema" 2>/dev/null
+}
+if python3 -W ignore -c 'import jsonschema' 2>/dev/null; then
+    "$program" convert --to json values.bib convert.bib a.bib >output
+    holds 'JSON is as the schema says' is_by_schema
+    printf '[{"key": "a", "type": "misc", "fields": {"title": {"chunks": [{"kind": "bold", "text": "A"}]}}}]' >output
+    is_by_schema
+    holds 'the schema refuses another kind of chunk' [ $? != 0 ]
+else
+    left_out=$((left_out + 2))
+fi
 run 'no format' 2 '' convert a.bib
 run 'a wrong format' 2 '' convert --to xml a.bib
 if [ -e /dev/full ]; then
