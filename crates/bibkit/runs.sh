@@ -865,11 +865,11 @@ cat >convert.bib <<'BIB'
 @string{aw = {Addison-Wesley}}
 @book{tex, author = {Knuth, Donald E.}, title = {The {TeX}book}, publisher = aw, date = {1984-05}, pages = {1--3}} % kept
 @xdata{x, location = {Paris}}
-@misc{m, xdata = {x}, title = {A \emph{b} & <c>}}
+@book{m, xdata = {x}, title = {A \emph{b} & <c>}}
 BIB
 printf '@misc{a, title={A}}\n' >a.bib
 items='{"author":[{"family":"Knuth","given":"Donald E."}],"id":"tex","issued":{"date-parts":[[1984,5]]},"page":"1–3","publisher":"Addison-Wesley","title":"The <span class=\"nocase\">TeX</span>book","type":"book"},
-{"id":"m","publisher-place":"Paris","title":"A <i>b</i> &amp; &lt;c&gt;","type":"document"}'
+{"id":"m","publisher-place":"Paris","title":"A <i>b</i> & <c>","type":"book"}'
 records='TY  - BOOK
 AU  - Knuth, Donald E.
 TI  - The TeXbook
@@ -881,7 +881,7 @@ PB  - Addison-Wesley
 ID  - tex
 ER  - 
 
-TY  - GEN
+TY  - BOOK
 TI  - A \emph{b} & <c>
 CY  - Paris
 ID  - m
@@ -906,7 +906,7 @@ run 'records of two files' 0 "$records"$'TY  - GEN\nTI  - A\nID  - a\nER  - \n\n
 run 'BibTeX' 0 '@string{aw = {Addison-Wesley}}
 @book{tex, author = {Knuth, Donald E.}, title = {The {TeX}book}, publisher = aw, year = {1984}, month = may, pages = {1--3}} % kept
 @misc{x, address = {Paris}}
-@misc{m, xdata = {x}, title = {A \emph{b} & <c>}}
+@book{m, xdata = {x}, title = {A \emph{b} & <c>}}
 ' convert --to bibtex convert.bib
 run_messages 'fields that stay are named' 0 $'convert.bib:4:10: note: xdata stays, though no standard style of BibTeX reads it\n' convert --to bibtex convert.bib
 run 'BibLaTeX' 0 "$(cat convert.bib)"$'\n' convert --to biblatex convert.bib

@@ -611,10 +611,10 @@ fn argument_of<'a>(alloc: Global, row: &'static Argument) -> Result<Arg<'a>, All
             0, 1_000_000,
         ))),
         Takes::Order => Ok(value(alloc, row, "ORDER").value_parser(ORDERS.as_slice())),
-        Takes::CollectedFields => field_names(alloc, row).requires_arg("collect"),
+        Takes::CollectedFields => field_names(alloc, row).conflicts_with("expand"),
         Takes::Times => value(alloc, row, "TIMES")
             .value_parser(ValueParser::unsigned(2, 1_000_000))
-            .requires_arg("collect"),
+            .conflicts_with("expand"),
         Takes::Target => Ok(
             value(alloc, row, "FORMAT")
                 .value_parser(TARGETS.as_slice())
