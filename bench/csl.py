@@ -1,6 +1,6 @@
 #!/usr/bin/env python3
-"""Compares the items of `bibkit convert --to csl` with those of `pandoc -f biblatex -t csljson`, and checks them by the rules of the schema
-of CSL-JSON: csl.py BIBKIT FILE.. It prints how many items differ in which variable, with some examples, and each item that breaks a rule."""
+"""Compares the items of `bibkit convert --to csl` with those of `pandoc -f biblatex -t csljson`, and checks them by rules that stand
+here, after the schema of CSL-JSON: csl.py BIBKIT FILE.. It prints how many items differ in which variable, with some examples, and each item that breaks a rule."""
 import collections
 import json
 import re
