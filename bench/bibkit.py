@@ -4,7 +4,7 @@
     bench/bibkit.py [--bib PATH] [--bibkit PATH] [--rounds N] [--entries N]
 
 Both run in turn on the same files, on one core. Printed are ratios: of `bibkit lint` to `bib check`, of `bibkit keys`, `get`, `set` and `fmt` to `bib keys`,
-each in processor time (user and system, the least of the rounds) and peak memory; how the time of `lint` for an entry grows from a
+of `bibkit convert` to CSL-JSON, JSON and RIS to `bib biblatex`, each in processor time (user and system, the least of the rounds) and peak memory; how the time of `lint` for an entry grows from a
 hundredth of the entries to all; and the peak memory of `lint` over many files, one of which is much larger than the others, to that of the
 largest alone.
 """
@@ -60,7 +60,8 @@ def main():
         pathlib.Path(large).write_text(entries(words.entries), encoding="utf-8")
         pathlib.Path(small).write_text(entries(words.entries // 100), encoding="utf-8")
         edit = ["set", "key7", "note=new", "--file"]
-        for mine, theirs in ((["lint"], "check"), (["keys"], "keys"), (["get", "key7"], "keys"), (edit, "keys"), (["fmt"], "keys")):
+        conversions = [(["convert", "--to", target], "biblatex") for target in ("csl", "json", "ris")]
+        for mine, theirs in (["lint"], "check"), (["keys"], "keys"), (["get", "key7"], "keys"), (edit, "keys"), (["fmt"], "keys"), *conversions:
             (time, memory), (other, less) = least([([words.bibkit, *mine, large], None), ([words.bib, theirs], large)], words.rounds)
             print(f"bibkit {' '.join(mine)} / bib {theirs}, {words.entries} entries: time {time / other:.2f}, memory {memory / less:.2f}")
         (time, memory), (first, _) = least([([words.bibkit, "lint", large], None), ([words.bibkit, "lint", small], None)], words.rounds)

@@ -7,7 +7,7 @@ _bibkit() {
     local fields='author editor title subtitle booktitle journaltitle journal series edition volume number pages publisher location address
         institution school organization date year month doi isbn issn url urldate note keywords abstract crossref'
     if [ "$COMP_CWORD" = 1 ]; then
-        mapfile -t COMPREPLY < <(compgen -W 'lint keys get grep cited stats fmt convert set unset rename remove add strings help --help --version' -- "$current")
+        mapfile -t COMPREPLY < <(compgen -W 'lint keys get grep cited stats fmt convert resolve set unset rename remove add strings help --help --version' -- "$current")
         return
     fi
     case $previous in
@@ -27,6 +27,10 @@ _bibkit() {
             ;;
         --to)
             mapfile -t COMPREPLY < <(compgen -W 'csl json ris biblatex bibtex' -- "$current")
+            return
+            ;;
+        --from)
+            mapfile -t COMPREPLY < <(compgen -W 'bib csl' -- "$current")
             return
             ;;
         --indent)
@@ -70,7 +74,8 @@ _bibkit() {
         [ "$command" = strings ] && options='--expand --collect --fields --at-least --file --write --diff --help'
         [ "$command" = fmt ] && options='--indent --align --no-align --trailing-comma --no-trailing-comma --blank-lines --delimiters --order
             --width --sort --check --write --diff --help'
-        [ "$command" = convert ] && options='--to --help'
+        [ "$command" = convert ] && options='--to --from --help'
+        [ "$command" = resolve ] && options='--write --diff --help'
         [ "$command" = lint ] && options='--only --ignore --explain --format --cited --unused --color --help'
         mapfile -t COMPREPLY < <(compgen -W "$options" -- "$current")
         return

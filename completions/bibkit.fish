@@ -1,5 +1,5 @@
 # Completions of bibkit for fish: put this file into ~/.config/fish/completions.
-set -l commands lint keys get grep cited stats fmt convert set unset rename remove add strings help
+set -l commands lint keys get grep cited stats fmt convert resolve set unset rename remove add strings help
 set -l edits set unset rename remove add strings
 set -l codes unread-bytes syntax unread-field unknown-abbreviation circular-abbreviation duplicate-key circular-reference \
     unread-date missing-field superfluous-field malformed-field unknown-field unknown-reference likely-duplicate missing-entry \
@@ -16,6 +16,7 @@ complete -c bibkit -n "not __fish_seen_subcommand_from $commands" -a cited -d 'P
 complete -c bibkit -n "not __fish_seen_subcommand_from $commands" -a stats -d 'Count entries, fields and findings'
 complete -c bibkit -n "not __fish_seen_subcommand_from $commands" -a fmt -d 'Put files in one style'
 complete -c bibkit -n "not __fish_seen_subcommand_from $commands" -a convert -d 'Print entries in another format'
+complete -c bibkit -n "not __fish_seen_subcommand_from $commands" -a resolve -d 'Give entries what they inherit in fields of their own'
 complete -c bibkit -n "not __fish_seen_subcommand_from $commands" -a set -d 'Set fields of an entry'
 complete -c bibkit -n "not __fish_seen_subcommand_from $commands" -a unset -d 'Take fields out of an entry'
 complete -c bibkit -n "not __fish_seen_subcommand_from $commands" -a rename -d 'Give an entry another key'
@@ -45,7 +46,10 @@ complete -c bibkit -n '__fish_seen_subcommand_from fmt' -x -l sort -a 'keep key 
 complete -c bibkit -n '__fish_seen_subcommand_from fmt' -l check -d 'Say which files are not in this style'
 complete -c bibkit -n '__fish_seen_subcommand_from fmt' -l write -d 'Write the new texts into the files'
 complete -c bibkit -n '__fish_seen_subcommand_from fmt' -l diff -d 'Print how the new texts differ'
+complete -c bibkit -n '__fish_seen_subcommand_from resolve' -l write -d 'Write the new texts into the files'
+complete -c bibkit -n '__fish_seen_subcommand_from resolve' -l diff -d 'Print how the new texts differ'
 complete -c bibkit -n '__fish_seen_subcommand_from convert' -x -l to -a 'csl json ris biblatex bibtex' -d 'The format'
+complete -c bibkit -n '__fish_seen_subcommand_from convert' -x -l from -a 'bib csl' -d 'The format of the files'
 complete -c bibkit -n '__fish_seen_subcommand_from strings' -l expand -d 'Write abbreviations out'
 complete -c bibkit -n '__fish_seen_subcommand_from strings' -l collect -d 'Make abbreviations of texts that repeat'
 complete -c bibkit -n '__fish_seen_subcommand_from strings' -x -l fields -a "$fields" -d 'Collect the texts of these fields'

@@ -82,7 +82,7 @@ run 'the version' 0 $'bibkit 0.1.0\n' --version
 run 'the version, in short' 0 $'bibkit 0.1.0\n' -V
 for word in help --help -h; do
     run_start "$word" 0 $'Check, search and edit bibliography files\n\nUsage: bibkit <COMMAND>\n' "$word"
-    for command in lint keys get grep cited stats fmt convert set unset rename remove add strings; do
+    for command in lint keys get grep cited stats fmt convert resolve set unset rename remove add strings; do
         holds "$word names $command" grep -qE "^  $command +[A-Z]" results
     done
 done
@@ -95,7 +95,7 @@ run_start 'help of get' 0 $'Print the entries with these keys, as they stand in 
 run_start 'help of grep' 0 $'Print the entries in whose field a text stands, as they stand in the files\n\nUsage: bibkit grep <FIELD> <TEXT> [FILE]...\n' grep --help
 run_start 'help of cited' 0 $'Print the entries that a document cites, as they stand in the files\n\nUsage: bibkit cited <DOCUMENT> [FILE]...\n' cited --help
 run_start 'help of stats' 0 $'Count entries by type and year, fields by name, and findings by code\n\nUsage: bibkit stats [FILE]...\n' stats --help
-for command in lint keys get grep cited stats fmt convert set unset rename remove add strings; do
+for command in lint keys get grep cited stats fmt convert resolve set unset rename remove add strings; do
     "$program" $command --help >output
     holds "help of $command has an example" prints "  bibkit $command"
 done
@@ -913,6 +913,10 @@ run 'BibLaTeX' 0 "$(cat convert.bib)"$'\n' convert --to biblatex convert.bib
 printf '@phdthesis{p, school={S}, Journal="J", journaltitle={K}}\n' >thesis.bib
 run 'a thesis of BibLaTeX' 0 $'@thesis{p, institution={S}, Journal="J", journaltitle={K}}\n' convert --to biblatex thesis.bib
 run_messages 'a name that is there' 0 $'thesis.bib:1:27: note: Journal stays, since the entry has the field that takes its place\n' convert --to biblatex thesis.bib
+printf '@misc{a,\n  year = {2020},\n  month = may,\n  title = {A},\n}\n@misc{b, year = 1999, month = {Fall}}\n' >months.bib
+run 'a year and a month' 0 $'@misc{a,\n  date = {2020-05},\n  title = {A},\n}\n@misc{b, year = 1999, month = {Fall}}\n' convert --to biblatex months.bib
+run_messages 'a month that stays' 0 $'months.bib:6:23: note: month stays, since it can\'t be joined with a year to a date\n' convert --to biblatex months.bib
+rm months.bib
 for format in csl json; do
     : >input
     run "$format of nothing" 0 $'[]\n' convert --to $format
@@ -947,6 +951,29 @@ if python3 -W ignore -c 'import jsonschema' 2>/dev/null; then
 else
     left_out=$((left_out + 2))
 fi
+
+# items of CSL-JSON
+cat >items.json <<'JSON'
+[
+  {"id": "a b", "type": "book", "title": "A <i>b</i>", "author": [{"family": "Doe", "given": "J."}, {"literal": "Foo, Inc."}],
+   "issued": {"date-parts": [[2020, 5], [2021]]}, "page": "1-9", "medium": "CD"},
+  {"id": "c", "type": "thesis", "publisher": "U", "genre": "PhD thesis"}
+]
+JSON
+run 'entries of items' 0 $'@book{a_b,\n  title = {A \\emph{b}},\n  author = {Doe, J. and {Foo, Inc.}},\n  date = {2020-05/2021},\n  pages = {1--9},\n}\n\n@thesis{c,\n  institution = {U},\n  type = {PhD thesis},\n}\n' convert --from csl --to biblatex items.json
+printf '[{"id":"c","type":"thesis","publisher":"U"}]' >thesis.json
+run 'entries of BibTeX' 0 $'@phdthesis{c,\n  school = {U},\n}\n' convert --from csl --to bibtex thesis.json
+run_messages 'what no field has' 0 $'items.json: note: a b: id is changed, since the field that has it is read as something else\nitems.json: note: a b: medium is left out, since no field has it\n' convert --from csl --to biblatex items.json
+printf '[\n  {"id": "a", "type": "book"},\n  {"type": "book"}\n]\n' >noid.json
+run_messages 'an item without an id' 1 $'noid.json:3:3: error: the item has no id that is a text or a number\n' convert --from csl --to biblatex noid.json
+printf '[\n  {"id": "a",}\n]\n' >nojson.json
+run_messages 'a file that is no JSON' 1 $'nojson.json:2:14: error: no JSON from here on\n' convert --from csl --to biblatex nojson.json
+run_messages 'items that go nowhere' 2 $'bibkit: --from csl goes with --to biblatex or --to bibtex\n' convert --from csl --to ris items.json
+printf '[{"id":"a","type":"document"}]' >one.json
+run 'a file that is not there, and items' 2 $'@misc{a,\n}\n' convert --from csl --to biblatex nothing.json one.json
+printf '[]' >noitems.json
+run 'no items' 0 '' convert --from csl --to biblatex noitems.json
+
 run 'no format' 2 '' convert a.bib
 run 'a wrong format' 2 '' convert --to xml a.bib
 if [ -e /dev/full ]; then
@@ -954,6 +981,80 @@ if [ -e /dev/full ]; then
     holds 'items that can not be written' [ $? = 2 ]
     holds 'items that can not be written: what is said' messages_have "bibkit: the output can't be written"
 fi
+
+# resolve
+cat >resolve.bib <<'BIB'
+% parents stand anywhere
+@proceedings{p, title = {T \foo{U}}, year = 1999, publisher = acm # " x", editor = {E}}
+@string{acm = {ACM}}
+@inproceedings{c,
+  author = {A},
+  crossref = {p},
+  title = {C}
+}
+@misc{m, xdata={x}} text
+@xdata{x, organization={O}}
+BIB
+resolved=$'% parents stand anywhere
+@proceedings{p, title = {T \\foo{U}}, year = 1999, publisher = acm # " x", editor = {E}}
+@string{acm = {ACM}}
+@inproceedings{c,
+  author = {A},
+  booktitle = {T \\foo{U}},
+  date = {1999},
+  editor = {E},
+  publisher = acm # " x",
+  title = {C}
+}
+@misc{m, organization={O}} text
+@xdata{x, organization={O}}
+'
+run 'inherited fields' 0 "$resolved" resolve resolve.bib
+cp resolve.bib input
+run 'inherited fields of standard input' 0 "$resolved" resolve
+run 'inherited fields of two files' 0 "$resolved"$'@misc{a, title={A}}\n' resolve resolve.bib a.bib
+: >input
+run 'inherited fields of nothing' 0 '' resolve
+run 'no inherited field' 0 "$(cat two.bib)"$'\n' resolve two.bib
+run 'the difference of inherited fields' 0 $'--- resolve.bib
++++ resolve.bib
+@@ -3,8 +3,11 @@
+ @string{acm = {ACM}}
+ @inproceedings{c,
+   author = {A},
+-  crossref = {p},
++  booktitle = {T \\foo{U}},
++  date = {1999},
++  editor = {E},
++  publisher = acm # " x",
+   title = {C}
+ }
+-@misc{m, xdata={x}} text
++@misc{m, organization={O}} text
+ @xdata{x, organization={O}}
+' resolve --diff resolve.bib
+run 'no difference of inherited fields' 0 '' resolve --diff two.bib
+cp resolve.bib resolving.bib
+run 'inherited fields are written' 0 '' resolve --write resolving.bib
+holds 'the file has the inherited fields' eval 'printf %s "$resolved" | cmp -s - resolving.bib'
+run 'inherited fields are written again' 0 '' resolve --write resolving.bib two.bib
+holds 'the file has the inherited fields still' eval 'printf %s "$resolved" | cmp -s - resolving.bib'
+run_messages 'inherited fields are not written into standard input' 2 $'bibkit: --write needs the name of a file\n' resolve --write
+printf '\xef\xbb\xbf@misc{a, xdata={b}}\r\n@xdata{b, type={T}}\r\n' >resolve-mark.bib
+run 'inherited fields after a byte order mark' 0 $'\xef\xbb\xbf@misc{a, type={T}}\r\n@xdata{b, type={T}}\r\n' resolve resolve-mark.bib
+printf '@misc{a, title={A}}\n@misc{b, crossref={c}}\n@misc{c, crossref={b}}\n' >circle.bib
+run 'entries that refer to themselves are not resolved' 1 '' resolve circle.bib
+run_messages 'the first entry that refers to itself' 1 $'circle.bib:2:1: error: circular reference "b"\n' resolve circle.bib
+printf '@misc{a, title={A}}\n@misc{a, title={B}}\n' >twice.bib
+run_messages 'a key that stands twice is not resolved' 1 $'twice.bib:2:1: error: duplicate key "a"\n' resolve twice.bib
+printf '@book{a, crossref={b}}\n@mvbook{b, year={soon}}\n' >undated.bib
+run_messages 'a date that is not read' 1 $'undated.bib:2:18: error: type error occurred during crossref resolution: wrong number of digits\n' resolve undated.bib
+refuses 'inherited fields of a file with an error' 1 $'broken.bib:3:1: error: expected comma [syntax]\n' resolve broken.bib
+run 'a file with an error, and one that is resolved' 1 "$resolved" resolve broken.bib resolve.bib
+run 'a file that is not there, and one that is resolved' 2 "$resolved" resolve nothing.bib resolve.bib
+cp circle.bib circular.bib
+run 'a circle is not written' 1 '' resolve --write circular.bib
+holds 'a file that is refused stays' cmp -s circle.bib circular.bib
 
 # completions, in the shells that are there: each row is a line, and what its last word can be
 completed() {
@@ -997,6 +1098,8 @@ in_bash 'bibkit lint --color ne' $'never\n'
 in_bash 'bibkit keys refe' $'references.bib\n'
 in_bash 'bibkit rem' $'remove\n'
 in_bash 'bibkit conv' $'convert\n'
+in_bash 'bibkit res' $'resolve\n'
+in_bash 'bibkit resolve --' $'--write\n--diff\n--help\n'
 in_bash 'bibkit convert --to ' $'csl\njson\nris\nbiblatex\nbibtex\n'
 in_bash 'bibkit set --wr' $'--write\n'
 in_bash 'bibkit fmt --no-al' $'--no-align\n'
@@ -1066,7 +1169,7 @@ folder = tempfile.mkdtemp()
 os.symlink(program, os.path.join(folder, "bibkit"))
 failed = ran = 0
 for kind, block in re.findall(r"^```(\S*)\n(.*?)^```$", open(guide, encoding="utf-8").read(), re.S | re.M):
-    name = re.match(r"(?:bib|tex|toml):(\S+)$", kind)
+    name = re.match(r"(?:bib|tex|toml|json):(\S+)$", kind)
     if name:
         open(os.path.join(folder, name.group(1)), "w", encoding="utf-8").write(block)
     if kind != "console":

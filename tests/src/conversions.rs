@@ -24,6 +24,7 @@ fn word(kind: NoteKind) -> &'static str {
     match kind {
         NoteKind::NameIsThere => "name is there",
         NoteKind::DateStays => "date stays",
+        NoteKind::MonthStays => "month stays",
         NoteKind::NotRead => "not read",
     }
 }

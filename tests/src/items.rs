@@ -1,8 +1,8 @@
 //! Reads rows, the text of a bibliography in each line, and prints each with its first entry as an item of CSL-JSON.
 
-use bib_csl::json::item_text;
+use bib_csl::objects::{content_text, item_text};
 use bib_csl::making::item_of;
-use biblatex::{Bibliography, ParseError};
+use biblatex::{Bibliography, Entry, ParseError};
 use std::alloc::{AllocError, Global};
 use crate::support::rows::Calls;
 
@@ -13,7 +13,16 @@ fn parsed(alloc: Global, file: &str) -> Result<Bibliography, ParseError> {
     Bibliography::parse(alloc, file)
 }
 
-// Of the first entry its item as text, or how many variables the item has.
+// What the first variable of an entry's item holds, as text.
+fn first_content(alloc: Global, entry: &Entry) -> Result<String, AllocError> {
+    let item = item_of(alloc, entry)?;
+    match item.fields.iter().next() {
+        Some(field) => content_text(alloc, &field.content),
+        None => String::from_str(alloc, "no variable"),
+    }
+}
+
+// Of the first entry its item as text, what the item's first variable holds, or how many variables the item has.
 fn first(alloc: Global, call: &str, text: &str) -> Result<Option<String>, AllocError> {
     let Ok(library) = parsed(alloc, text) else {
         return Ok(Some(String::from_str(alloc, "no bibliography")?));
@@ -23,6 +32,7 @@ fn first(alloc: Global, call: &str, text: &str) -> Result<Option<String>, AllocE
     };
     match call {
         "item" => Ok(Some(item_text(alloc, entry)?)),
+        "content" => Ok(Some(first_content(alloc, entry)?)),
         "variables" => Ok(Some(item_of(alloc, entry)?.fields.len().to_string(alloc)?)),
         _ => Ok(None),
     }

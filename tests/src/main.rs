@@ -16,7 +16,9 @@ mod entries;
 mod excerpts;
 mod exports;
 mod formats;
+mod imports;
 mod items;
+mod resolutions;
 mod sortings;
 mod strings;
 mod support;
@@ -40,7 +42,9 @@ fn rows(alloc: Global, layer: &str, input: &str) -> Result<String, AllocError> {
         "excerpts" => answered::<excerpts::Excerpts>(alloc, input),
         "exports" => answered::<exports::Exports>(alloc, input),
         "formats" => answered::<formats::Formats>(alloc, input),
+        "imports" => answered::<imports::Imports>(alloc, input),
         "items" => answered::<items::CslItems>(alloc, input),
+        "resolutions" => answered::<resolutions::Resolutions>(alloc, input),
         "sortings" => answered::<sortings::Sortings>(alloc, input),
         "strings" => answered::<strings::Strings>(alloc, input),
         "entries" => answered::<entries::Entries>(alloc, input),

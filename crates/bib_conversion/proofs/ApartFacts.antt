@@ -1,7 +1,7 @@
 -- What gives way gives way to nothing that is there.
 use Rattle.std.proofs.Common.{◌≡◌, ℕ, Bool, true, false, cond, List, [], ◌∷◌, refl, subst, Option, Some, None}
-use Rattle.std.specs.Prelude.{◌&&◌, ◌==◌, codes, filter, length, not}
-use Rattle.std.specs.List.{list_any}
+use Rattle.std.specs.Prelude.{◌&&◌, ◌||◌, ◌==◌, codes, filter, length, nat_lt, not}
+use Rattle.std.specs.List.{find, list_any}
 use Rattle.std.proofs.lemmas.Bool.{and_parts, not-true}
 use Rattle.bib_syntax.specs.Grammar.{is_word}
 use Rattle.bib_syntax.specs.Reading.{EntryReading, FieldReading}
@@ -10,8 +10,11 @@ use Rattle.bib_entry_types.specs.EntryType.{entry_type_of}
 use Rattle.bib_entry.specs.declared.write.Format.{Format}
 use Rattle.bib_entry.specs.declared.write.Format.TheVariants.{Biblatex, Bibtex}
 use Rattle.bib_strings.specs.Collected.{single_text}
-use Rattle.bib_conversion.specs.Conversions.{divides_date, exchanged_date, free_names, is_field_there, new_field_name, other_name, other_names, value_sides}
+use Rattle.bib_conversion.specs.Conversions.{divides_date, exchanged_date, free_names, is_field_there, joined_date, literal_of, new_field_name, other_date_names, other_name, other_names, times_named, value_sides}
 use Rattle.bib_conversion.specs.Dates.{Sides, part_names}
+use Rattle.bib_conversion.specs.Laws.{IsDateOfParts}
+use Rattle.bib_conversion.proofs.JoinedFacts.{joined_read}
+use Rattle.bib_conversion.proofs.JoinedTextFacts.{joined_same}
 
 word_case : (fields : List FieldReading) (w : Bool) (other name : List ℕ) (rest : Option (List ℕ)) → is_field_there fields other ≡ false → (rest ≡ Some name → is_field_there fields name ≡ false) → cond w (Some other) rest ≡ Some name → is_field_there fields name ≡ false
 word_case fields true other name rest free later is = let same : other ≡ name = cc in subst (λ n. is_field_there fields n ≡ false) same free
@@ -45,3 +48,24 @@ parts_apart format e f sides is =
     let divides : Bool = divides_date format e.fields in
     let both = sides_case (has_name (codes "date") f && divides) (value_sides (single_text f.value.pieces)) sides is in
     divides_apart format e.fields (and_parts (has_name (codes "date") f) divides both).1
+
+none_first : (first rest : Bool) → (first || rest) ≡ false → first ≡ false
+none_first true rest is = absurd (cc)
+none_first false rest is = refl
+
+-- the parts of a date are joined where there is no date
+pub joined_apart : (format : Format) (defines : Bool) (text : List ℕ) (e : EntryReading) (date : List ℕ) → joined_date format defines text e.fields ≡ Some date → is_field_there e.fields (codes "date") ≡ false
+joined_apart format defines text e date is =
+    let fields : List FieldReading = e.fields in
+    let there : Bool = list_any (is_field_there fields) other_date_names in
+    let once = (joined_read format defines text fields date is).once in
+    let years = and_parts (times_named fields (codes "year") == 1) ((times_named fields (codes "month") == 1) && (nat_lt (times_named fields (codes "day")) 2 && not there)) once in
+    let months = and_parts (times_named fields (codes "month") == 1) (nat_lt (times_named fields (codes "day")) 2 && not there) years.1 in
+    let days = and_parts (nat_lt (times_named fields (codes "day")) 2) (not there) months.1 in
+    none_first (is_field_there fields (codes "date")) (list_any (is_field_there fields) (codes "endyear" ∷ codes "endmonth" ∷ codes "endday" ∷ [])) (not-true there days.1)
+
+-- and the date is the one that they are
+pub joined_is_the_same : (format : Format) (defines : Bool) (text : List ℕ) (e : EntryReading) (date : List ℕ) → joined_date format defines text e.fields ≡ Some date → IsDateOfParts defines e.fields date
+joined_is_the_same format defines text e date is =
+    let known = (joined_read format defines text e.fields date is).parts in
+    record { year = known.year; month = known.month; year_is = known.year_is; month_is = known.month_is; same = joined_same known.year known.month (literal_of (find (has_name (codes "day")) e.fields)) date known.joined }

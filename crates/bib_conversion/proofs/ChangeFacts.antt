@@ -6,10 +6,11 @@ use Rattle.bib_syntax.specs.Reading.{EntryReading, FieldReading}
 use Rattle.bib_documents.specs.Documents.{CanBeName, has_name}
 use Rattle.bib_entry.specs.declared.write.Format.{Format}
 use Rattle.bib_strings.specs.Collected.{single_text}
-use Rattle.bib_conversion.specs.Conversions.{FieldChange, change_of, divides_date, exchanged_date, field_change, new_field_name, value_sides}
+use Rattle.bib_conversion.specs.Conversions.{FieldChange, change_of, date_field, divides_date, exchanged_date, field_change, is_date_part, joined_among, joined_date, new_field_name, value_sides}
 use Rattle.bib_conversion.specs.Dates.{Sides, from_names, more_fields, to_fields, side_year}
 use Rattle.bib_conversion.proofs.DateFacts.{AreKnown, date_known, sides_put}
 use Rattle.bib_conversion.proofs.DividedFacts.{CanBePut}
+use Rattle.bib_conversion.proofs.JoinedFacts.{joined_put}
 use Rattle.bib_conversion.proofs.NewNameFacts.{name_known}
 
 -- a name can be one, and fields can be put in
@@ -17,6 +18,7 @@ abbrev pub CanBeMade : Option FieldChange → Type 0
 CanBeMade None = Unit {0}
 CanBeMade (Some (FieldChange.renamed name)) = CanBeName name
 CanBeMade (Some (FieldChange.divided sides)) = CanBePut (side_year from_names sides.from) × AllByRecursion CanBePut (more_fields from_names sides.from ++ to_fields sides.to)
+CanBeMade (Some (FieldChange.joined date)) = CanBePut (date_field date)
 
 value_known : (text : Option (List ℕ)) (sides : Sides) → value_sides text ≡ Some sides → AreKnown sides
 value_known None sides is = absurd (cc)
@@ -29,10 +31,17 @@ date_case true text sides is = value_known text sides is
 exchanged_known : (format : Format) (e : EntryReading) (f : FieldReading) (sides : Sides) → exchanged_date format e f ≡ Some sides → AreKnown sides
 exchanged_known format e f sides is = date_case (has_name (codes "date") f && divides_date format e.fields) (single_text f.value.pieces) sides is
 
-made_case : (name : Option (List ℕ)) (sides : Option Sides) → ((n : List ℕ) → name ≡ Some n → CanBeName n) → ((s : Sides) → sides ≡ Some s → AreKnown s) → CanBeMade (change_of name sides)
-made_case (Some name) sides names dates = names name refl
-made_case None (Some sides) names dates = sides_put sides (dates sides refl)
-made_case None None names dates = tt
+among_known : (b : Bool) (joined : Option (List ℕ)) (date : List ℕ) → cond b joined None ≡ Some date → joined ≡ Some date
+among_known false joined date is = absurd (cc)
+among_known true joined date is = is
 
-pub change_known : (format : Format) (e : EntryReading) (f : FieldReading) → CanBeMade (field_change format e f)
-change_known format e f = made_case (new_field_name format e f) (exchanged_date format e f) (name_known format e f) (exchanged_known format e f)
+made_case : (date name : Option (List ℕ)) (sides : Option Sides) → ((t : List ℕ) → date ≡ Some t → CanBePut (date_field t)) → ((n : List ℕ) → name ≡ Some n → CanBeName n) → ((s : Sides) → sides ≡ Some s → AreKnown s) → CanBeMade (change_of date name sides)
+made_case (Some date) name sides joined names dates = joined date refl
+made_case None (Some name) sides joined names dates = names name refl
+made_case None None (Some sides) joined names dates = sides_put sides (dates sides refl)
+made_case None None None joined names dates = tt
+
+pub change_known : (format : Format) (defines : Bool) (text : List ℕ) (e : EntryReading) (f : FieldReading) → CanBeMade (field_change format defines text e f)
+change_known format defines text e f =
+    let joined : Option (List ℕ) = joined_date format defines text e.fields in
+    made_case (joined_among joined f) (new_field_name format e f) (exchanged_date format e f) (λ date is. joined_put format defines text e.fields date (among_known (is_date_part f) joined date is)) (name_known format e f) (exchanged_known format e f)

@@ -3,7 +3,7 @@ use Rattle.std.proofs.Common.{◌≡◌, ℕ, ◌+◌, ◌-◌, ◌<◌, Bool, t
 use Rattle.std.specs.Prelude.{◌&&◌, ◌==◌, bytes_eq, is_some}
 use Rattle.std.specs.Char.{is_ascii_digit}
 use Rattle.std.specs.List.{AllByRecursion, list_all, slice_split}
-use Rattle.std.proofs.lemmas.Bool.{and_parts}
+use Rattle.std.proofs.lemmas.Bool.{and_from, and_parts}
 use Rattle.std.proofs.lemmas.Bool.Decides.{nat_tests}
 use Rattle.std.proofs.lemmas.List.{drop-drop, drop_at, take_all, take_at}
 use Rattle.bib_text.specs.Braces.{Parts}
@@ -22,26 +22,27 @@ use Rattle.bib_strings.proofs.NameFacts.{plain_can}
 use Rattle.bib_strings.proofs.NewValueFacts.{CanBeRead}
 use Rattle.bib_dates.specs.Dates.{date_of}
 use Rattle.bib_dates.specs.Readings.{readable_value}
+use Rattle.bib_dates.proofs.DatesReread.{is_date_byte}
 use Rattle.bib_conversion.specs.Dates.{Side, SideNames, Sides, are_digits, braced_field, date_sides, day_fields, from_names, month_fields, month_side, month_abbreviations, more_fields, side_in, side_of, sides_of, one_side, two_sides, to_fields, to_names, side_year}
 use Rattle.bib_conversion.proofs.DividedFacts.{CanBePut, element_read}
 
--- ---- digits in braces
+-- ---- digits and hyphens in braces
 
-digit_plain : (c : ℕ) → is_ascii_digit c ≡ true → (c < 128) × (is_plain c ≡ true)
-digit_plain c digit = (grind (arith, nat_tests), grind (arith, nat_tests))
+byte_plain : (c : ℕ) → is_date_byte c ≡ true → (c < 128) × (is_plain c ≡ true)
+byte_plain c digit = (grind (arith, nat_tests), grind (arith, nat_tests))
 
-digits_parts : (whole : List ℕ) (at : ℕ) (bs rest : List ℕ) → drop at whole ≡ bs ++ rest → list_all is_ascii_digit bs ≡ true → Parts (place whole at) (place whole (at + length bs))
-digits_parts whole at [] rest here all = let same : at ≡ at + 0 = omega arith in subst (λ n. Parts (place whole at) (place whole n)) same parts.none
-digits_parts whole at (b ∷ bs) rest here all =
-    let both = and_parts (is_ascii_digit b) (list_all is_ascii_digit bs) all in
-    let fits = digit_plain b both.0 in
+bytes_parts : (whole : List ℕ) (at : ℕ) (bs rest : List ℕ) → drop at whole ≡ bs ++ rest → list_all is_date_byte bs ≡ true → Parts (place whole at) (place whole (at + length bs))
+bytes_parts whole at [] rest here all = let same : at ≡ at + 0 = omega arith in subst (λ n. Parts (place whole at) (place whole n)) same parts.none
+bytes_parts whole at (b ∷ bs) rest here all =
+    let both = and_parts (is_date_byte b) (list_all is_date_byte bs) all in
+    let fits = byte_plain b both.0 in
     let next : at + 1 + length bs ≡ at + length (b ∷ bs) = omega arith in
     subst (λ n. Parts (place whole at) (place whole n)) next
-    (parts.plain (ascii_stands whole (bs ++ rest) at b fits.0 here) fits.1 (digits_parts whole (at + 1) bs rest (sym (drop-drop 1 at whole) ∙ ap (drop 1) here) both.1))
+    (parts.plain (ascii_stands whole (bs ++ rest) at b fits.0 here) fits.1 (bytes_parts whole (at + 1) bs rest (sym (drop-drop 1 at whole) ∙ ap (drop 1) here) both.1))
 
--- digits in braces are read as a text
-digits_read : (text : List ℕ) → list_all is_ascii_digit text ≡ true → CanBeRead (record { bytes = in_braces text; pieces = literal (text_at 1 text) ∷ [] })
-digits_read text all =
+-- in braces they are read as a text
+pub date_bytes_read : (text : List ℕ) → list_all is_date_byte text ≡ true → CanBeRead (record { bytes = in_braces text; pieces = literal (text_at 1 text) ∷ [] })
+date_bytes_read text all =
     let whole : List ℕ = in_braces text in
     let last : ℕ = 1 + length text in
     let closing : drop last whole ≡ 125 ∷ [] = sym (drop-drop (length text) 1 whole) ∙ drop_at text (125 ∷ []) (length text) refl in
@@ -49,7 +50,7 @@ digits_read text all =
       inside = place whole 1;
       following = place whole last;
       opens = ascii_stands whole (text ++ 125 ∷ []) 0 123 (omega arith) refl;
-      parts = digits_parts whole 1 text (125 ∷ []) refl all;
+      parts = bytes_parts whole 1 text (125 ∷ []) refl all;
       closes = ascii_stands whole [] last 125 (omega arith) closing;
       reading =
           let size : last - 1 ≡ length text = omega arith in
@@ -58,6 +59,16 @@ digits_read text all =
     let size : length whole ≡ last + 1 = omega (arith, length-append text (125 ∷ [])) in
     let all_bytes : last + 1 - 0 ≡ length whole = omega (arith, size) in
     element_read {a = place whole 0} whole (Element.braced braced) (omega (arith, size)) (ap (λ n. take n whole) all_bytes ∙ take_all (length whole) whole (omega arith))
+
+digit_bytes : (text : List ℕ) → list_all is_ascii_digit text ≡ true → list_all is_date_byte text ≡ true
+digit_bytes [] all = refl
+digit_bytes (b ∷ bs) all =
+    let both = and_parts (is_ascii_digit b) (list_all is_ascii_digit bs) all in
+    and_from (is_date_byte b) (list_all is_date_byte bs) (rw both.0 refl) (digit_bytes bs both.1)
+
+-- and digits alone are
+digits_read : (text : List ℕ) → list_all is_ascii_digit text ≡ true → CanBeRead (record { bytes = in_braces text; pieces = literal (text_at 1 text) ∷ [] })
+digits_read text all = date_bytes_read text (digit_bytes text all)
 
 -- a plain name is read as an abbreviation
 name_read : (name : List ℕ) → is_plain_name name ≡ true → CanBeRead (name_value name)

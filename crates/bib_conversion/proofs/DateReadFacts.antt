@@ -1,13 +1,14 @@
--- Whether a text is a date, by what the call that reads one answers.
-use Rattle.std.proofs.Common.{◌≡◌, ℕ, true, false, List, inl, inr, sym, ap, ◌∙◌, Option, Some, None}
-use Rattle.std.specs.Prelude.{is_some}
+-- Whether a text is a date, and which date three texts are, by what the calls that read them answer.
+use Rattle.std.proofs.Common.{◌≡◌, ℕ, true, false, List, inl, inr, sym, ap, ◌∙◌, Option, Some, None, Result, Ok, Err}
+use Rattle.std.specs.Prelude.{IfOk, is_some, option_map}
 use Rattle.std.specs.Str.{IsUtf8}
 use Rattle.bib_chunks.proofs.ValueFacts.{verbatim_text}
-use Rattle.bib_chunks.specs.Values.{Value, alone}
+use Rattle.bib_chunks.specs.Values.{Value, alone, text}
 use Rattle.bib_chunks.specs.declared.chunk.Chunk.TheVariants.{Verbatim}
-use Rattle.bib_dates.specs.Chunks.{date_reading}
+use Rattle.bib_dates.specs.Chunks.{date_reading, three_fields_reading}
 use Rattle.bib_dates.specs.Dates.{date_of}
 use Rattle.bib_dates.specs.Readings.{readable_value}
+use Rattle.bib_dates.specs.ThreeFields.{three_fields_of}
 use Rattle.bib_dates.specs.declared.date.Date.{Date}
 use Rattle.bib_enums.specs.ReadAs.{IsRefusal}
 use Rattle.bib_enums.specs.declared.type_error.TypeError.{TypeError}
@@ -29,3 +30,24 @@ unread read may e (inr refused) other = refused.1
 pub no_date_is : (chunks : Value) (t : List ℕ) (may : TypeErrorKind → Type 0) (e : TypeError) → IsUtf8 t → chunks ≡ alone (Verbatim t) → IsRefusal (readable_value (date_reading chunks)) may e → (e.kind ≡ OutOfMemory → ⊥) → false ≡ is_some (readable_value (date_of t))
 no_date_is chunks t may e utf8 is refused other =
     sym (ap (λ r. is_some (readable_value r)) (sym (verbatim_reading chunks t utf8 is)) ∙ ap is_some (unread (readable_value (date_reading chunks)) may e refused other))
+
+-- ---- three fields
+
+-- the text of one verbatim chunk
+pub chunk_text : {E : Type 0} (r : Result Value E) (t : List ℕ) → IsUtf8 t → IfOk r (λ chunks. chunks ≡ alone (Verbatim t)) → IfOk r (λ chunks. text chunks ≡ t)
+chunk_text (Err e) t utf8 is = _
+chunk_text (Ok chunks) t utf8 is = ap text is ∙ verbatim_text t utf8
+
+-- the reading of chunks is that of their texts
+three_reading : (year month : Value) (day : Option Value) (y m : List ℕ) (d : Option (List ℕ)) → text year ≡ y → text month ≡ m → option_map text day ≡ d → three_fields_reading year (Some month) day ≡ three_fields_of y (Some m) d
+three_reading year month day y m d year_is month_is day_is =
+    ap (λ t. three_fields_of t (Some (text month)) (option_map text day)) year_is ∙ ap (λ t. three_fields_of y (Some t) (option_map text day)) month_is ∙ ap (three_fields_of y (Some m)) day_is
+
+pub three_read_as : (year month : Value) (day : Option Value) (y m : List ℕ) (d : Option (List ℕ)) (date : Date) → text year ≡ y → text month ≡ m → option_map text day ≡ d → readable_value (three_fields_reading year (Some month) day) ≡ Some date
+    → Some date ≡ readable_value (three_fields_of y (Some m) d)
+three_read_as year month day y m d date year_is month_is day_is read = sym read ∙ ap readable_value (three_reading year month day y m d year_is month_is day_is)
+
+pub three_unread : (year month : Value) (day : Option Value) (y m : List ℕ) (d : Option (List ℕ)) (may : TypeErrorKind → Type 0) (e : TypeError) → text year ≡ y → text month ≡ m → option_map text day ≡ d
+    → IsRefusal (readable_value (three_fields_reading year (Some month) day)) may e → (e.kind ≡ OutOfMemory → ⊥) → None ≡ readable_value (three_fields_of y (Some m) d)
+three_unread year month day y m d may e year_is month_is day_is refused other =
+    sym (unread (readable_value (three_fields_reading year (Some month) day)) may e refused other) ∙ ap readable_value (three_reading year month day y m d year_is month_is day_is)

@@ -2,7 +2,6 @@
 use Rattle.std.proofs.Common.{◌≡◌, ℕ, ◌+◌, ◌-◌, ◌<◌, ◌≤◌, List, [], ◌∷◌, ◌++◌, length, drop, map, codes, refl, sym, ap, ◌∙◌, subst, arith, append-nil, Some}
 use Rattle.std.specs.Prelude.{◌==◌, ◌&&◌, not, slice_get}
 use Rattle.std.specs.Char.{is_control, is_whitespace}
-use Rattle.std.specs.Str.{trim_end}
 use Rattle.std.proofs.lemmas.Bool.{and_right}
 use Rattle.std.proofs.lemmas.Bool.Decides.{nat_tests}
 use Rattle.bib_syntax.specs.Characters.{is_delimiter}
@@ -19,7 +18,7 @@ use Rattle.bib_syntax.proofs.FieldFacts.{ahead_field, ahead_gap}
 use Rattle.bib_syntax.proofs.FileFacts.{ahead_head}
 use Rattle.bib_syntax.proofs.LawFacts.{start_not_white}
 use Rattle.bib_documents.specs.Edits.{Edit, edited, moved_field, moved_piece, moved_place}
-use Rattle.bib_documents.specs.Documents.{CanBeName, Document, IsDocument, text_at, value_stretch}
+use Rattle.bib_documents.specs.Documents.{CanBeName, Document, IsDocument, text_at}
 use Rattle.bib_documents.proofs.AgreementFacts.{Agrees, agrees_before, same_run}
 use Rattle.bib_documents.proofs.EditFacts.{after_frame, moved_after, moved_before, new_bytes, text_stands, zone_after}
 use Rattle.bib_documents.proofs.EntryFacts.{goes}
@@ -32,10 +31,11 @@ use Rattle.bib_format.proofs.StandsFacts.{Stands, ascii, first_part, last_part, 
 use Rattle.bib_strings.specs.Tables.{IsTrimmed}
 use Rattle.bib_strings.proofs.NewValueFacts.{CanBeRead, after_ending}
 use Rattle.bib_strings.proofs.StandingFacts.{element_stands}
+use Rattle.bib_conversion.specs.Conversions.{field_stretch}
 use Rattle.bib_conversion.specs.Dates.{NewField, field_reading, new_field_text, more_field_texts}
 use Rattle.bib_conversion.proofs.KindFacts.{IsWithin}
 use Rattle.bib_conversion.proofs.MadeFacts.{IsPut}
-use Rattle.bib_conversion.proofs.PutFacts.{NewFields, fields_put, fields_put_read, new_opens, start_plain}
+use Rattle.bib_conversion.proofs.PutFacts.{Begins, NewFields, fields_put, fields_put_read, new_opens, start_plain}
 use Rattle.bib_conversion.proofs.StandFacts.{name_stands}
 
 -- ---- one of them
@@ -63,6 +63,7 @@ element_read {a} {b} {e} bytes x within is = λ u v w s ending over no_hash.
 record IsRead (n : NewField) (u w : Place) : Type 0 where
   reading : FieldReading
   field : Field longest u reading w
+  start : reading.name.start ≡ u.at
   alike : moved_field (λ n. 0) reading ≡ moved_field (λ n. 0) (field_reading n)
 
 field_read : {u v w : Place} (n : NewField) → CanBePut n → Stands u (new_field_text n) v → Ending v → Longest is_whitespace v w → Stops (λ c. c == 35) w → IsRead n u w
@@ -94,6 +95,7 @@ field_read {u} {v} {w} n can s ending over no_hash =
         starts = refl;
         ends = refl;
       };
+      start = refl;
       alike = ap build value.alike;
     }
 
@@ -103,6 +105,7 @@ field_read {u} {v} {w} n can s ending over no_hash =
 pub record AreFieldsRead (fields : List NewField) (u w : Place) : Type 0 where
   pub readings : List FieldReading
   pub news : NewFields u readings w
+  pub begins : Begins readings u.at
   pub alike : map (moved_field (λ n. 0)) readings ≡ map (moved_field (λ n. 0)) (map field_reading fields)
 
 pub fields_read : {u v w : Place} (n : NewField) (ns : List NewField) → CanBePut n → AllByRecursion CanBePut ns → Stands u (new_field_text n ++ more_field_texts ns) v → Ending v → Longest is_whitespace v w → Stops (λ c. c == 35) w → AreFieldsRead (n ∷ ns) u w
@@ -111,6 +114,7 @@ fields_read {u} {v} {w} n [] can all s ending over no_hash =
     record {
       readings = x.reading ∷ [];
       news = record { first = []; last = x.reading; middle = u; before = FieldsBefore.none; field = x.field; are = refl };
+      begins = record { first = x.reading; others = []; are = refl; start = x.start };
       alike = ap (λ r. r ∷ []) x.alike;
     }
 fields_read {u} {v} {w} n (m ∷ ms) can all s ending over no_hash =
@@ -138,6 +142,7 @@ fields_read {u} {v} {w} n (m ∷ ms) can all s ending over no_hash =
         field = others.news.field;
         are = ap (λ l. x.reading ∷ l) others.news.are;
       };
+      begins = record { first = x.reading; others = others.readings; are = refl; start = x.start };
       alike = ap (λ r. r ∷ map (moved_field (λ n. 0)) others.readings) x.alike ∙ ap (λ rs. moved_field (λ n. 0) (field_reading n) ∷ rs) others.alike;
     }
 
@@ -159,16 +164,12 @@ elements_stop : {u v : Place} {es : List Piece} → Elements longest u es v → 
 elements_stop (elements.last e white ends) = (white.stops, ends)
 elements_stop (elements.more e white sign white' rest) = elements_stop rest
 
--- the edit of a field that gives way to others
-abbrev pub divided_stretch : List ℕ → FieldReading → List ℕ → Edit
-divided_stretch text f bytes = record { start = f.name.start; end = f.value.start + length (trim_end (value_stretch text f)); bytes = bytes }
-
 module _ (d : Document) (f : FieldReading) (n : NewField) (ns : List NewField) (trimmed : IsTrimmed d.text f) (ordered : f.name.start < f.value.start) (can : CanBePut n) (all : AllByRecursion CanBePut ns) where
   abbrev edit : Edit
-  edit = divided_stretch d.text f (new_field_text n ++ more_field_texts ns)
+  edit = field_stretch d.text f (new_field_text n ++ more_field_texts ns)
 
   divided_read : (at k : ℕ) (after : Document) (entry : EntryReading) (j : ℕ) → f.value.end ≤ at → Agrees at d after → IsDocument after → slice_get after.says.entries k ≡ Some entry → slice_get entry.fields j ≡ Some f
-      → (made : List FieldReading) × (map (moved_field (λ n. 0)) made ≡ map (moved_field (λ n. 0)) (map field_reading (n ∷ ns))) × IsWithin edit after.text × IsDocument (fields_put after edit k entry j made)
+      → (made : List FieldReading) × (map (moved_field (λ n. 0)) made ≡ map (moved_field (λ n. 0)) (map field_reading (n ∷ ns))) × IsWithin edit after.text × IsDocument (fields_put after edit k entry j made) × Begins made f.name.start
   divided_read at k after entry j past agrees read here there' =
       let text = after.text in
       let s = split_file k entry read here in
@@ -207,7 +208,7 @@ module _ (d : Document) (f : FieldReading) (n : NewField) (ns : List NewField) (
       let x = fields_read n ns can all stands ending' over (stops_there (λ c. c == 35) z last below stops.1) in
       let start_goes : moved_place edit g.start.at ≡ edit.start = moved_before edit g.start.at (omega (arith, start_is, some)) ∙ sym start_is in
       let news = subst (λ m. NewFields (place (edited edit text) m) x.readings (goes edit text g.end)) (sym start_goes) x.news in
-      (x.readings, x.alike, record { some = some; within = omega (arith, some, within) }, fields_put_read after edit k entry j f x.readings s g start_is some white.at news)
+      (x.readings, x.alike, record { some = some; within = omega (arith, some, within) }, fields_put_read after edit k entry j f x.readings s g start_is some white.at news, x.begins)
 
   pub divided_put : IsPut d f edit (map field_reading (n ∷ ns))
   divided_put = record { start = refl; read = divided_read }

@@ -6,6 +6,10 @@ mod DateReadFacts
 mod DividedFacts
 mod EntryEditFacts
 mod FieldNameFacts
+mod FollowingFacts
+mod GivingFacts
+mod JoinedFacts
+mod JoinedTextFacts
 mod KindFacts
 mod MadeFacts
 mod NewNameFacts

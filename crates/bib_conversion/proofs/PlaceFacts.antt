@@ -1,7 +1,7 @@
 -- Where the names of types and the fields of a file stand: one after another, and where each may be cut out.
-use Rattle.std.proofs.Common.{inl, inr, ◌≡◌, ℕ, ◌+◌, Bool, length, ◌<◌, ◌≤◌, List, [], ◌∷◌, ◌++◌, sym, ap, ◌∙◌, subst, arith, append_assoc, Option, Some, None}
+use Rattle.std.proofs.Common.{inl, inr, ◌≡◌, ℕ, ◌+◌, Bool, true, false, cond, length, ◌<◌, ◌≤◌, List, [], ◌∷◌, ◌++◌, sym, ap, ◌∙◌, subst, arith, append_assoc, Option, Some, None}
 use Rattle.std.specs.Str.{IsCharBoundary, trim_end}
-use Rattle.std.specs.List.{AllByRecursion, flat_map}
+use Rattle.std.specs.List.{AllByRecursion, list_any}
 use Rattle.std.proofs.lemmas.Str.{len_utf8_bounds}
 use Rattle.std.specs.Char.{is_whitespace}
 use Rattle.bib_text.specs.Places.{Place, place, CharAt, Run}
@@ -20,7 +20,8 @@ use Rattle.bib_documents.proofs.BoundaryFacts.{char_boundary}
 use Rattle.bib_documents.proofs.SplitFacts.{EntryBlock, entry_block, one_entry}
 use Rattle.bib_documents.proofs.ValueFacts.{run_stands}
 use Rattle.bib_strings.proofs.TrimmedFacts.{IsFieldPlaced}
-use Rattle.bib_conversion.specs.Conversions.{FieldChange, field_change, edits_of_field, edits_of_file, new_type, part_edits}
+use Rattle.bib_conversion.specs.Conversions.{FieldChange, date_field, field_change, edits_of_field, edits_of_fields, edits_of_file, field_stretch, going_out, is_date_part, new_type, part_edits, written_sides}
+use Rattle.bib_conversion.specs.Dates.{new_field_text}
 use Rattle.bib_entry.specs.declared.write.Format.{Format}
 
 -- a part that isn't empty, and where it may be cut out
@@ -132,26 +133,49 @@ part_in_order : (text : List ℕ) (at : ℕ) (p : Part) (new : Option (List ℕ)
 part_in_order text at p None more before cut order = edits_earlier text p.end at more (omega (arith, cut.some)) order
 part_in_order text at p (Some new) more before cut order = (before, omega (arith, cut.some), cut.start, cut.end, order)
 
-field_in_order : (text : List ℕ) (at : ℕ) (f : FieldReading) (change : Option FieldChange) (more : List Edit) → at ≤ f.name.start → IsIn text f → IsFieldPlaced text f → AreEditsInOrder text f.value.end more → AreEditsInOrder text at (edits_of_field text f change ++ more)
-field_in_order text at f None more before is placed order = edits_earlier text f.value.end at more (omega (arith, is.name.some, is.ordered, is.value)) order
-field_in_order text at f (Some (FieldChange.renamed name)) more before is placed order =
-    (before, omega (arith, is.name.some), is.name.start, is.name.end, edits_earlier text f.value.end f.name.end more (omega (arith, is.ordered, is.value)) order)
-field_in_order text at f (Some (FieldChange.divided sides)) more before is placed order =
+-- where the first of some fields begins, or else a place
+abbrev first_place : ℕ → List FieldReading → ℕ
+first_place at [] = at
+first_place at (f ∷ fs) = f.name.start
+
+first_in : (text : List ℕ) (at end : ℕ) (fs : List FieldReading) → AreFieldsIn text at fs end → (at ≤ first_place at fs) × AreFieldsIn text (first_place at fs) fs end
+first_in text at end [] order = (omega arith, order)
+first_in text at end (f ∷ fs) order = (order.0, (omega arith, order.1, order.2))
+
+stretch_in_order : (text : List ℕ) (at : ℕ) (f : FieldReading) (bytes : List ℕ) (more : List Edit) → at ≤ f.name.start → IsIn text f → IsFieldPlaced text f → AreEditsInOrder text f.value.end more → AreEditsInOrder text at (field_stretch text f bytes ∷ more)
+stretch_in_order text at f bytes more before is placed order =
     let end : ℕ = f.value.start + length (trim_end (value_stretch text f)) in
     (before, omega (arith, is.name.some, is.ordered), is.name.start, run_boundary {u = place text end} {v = place text f.value.end} placed.trimmed placed.placed.end, edits_earlier text f.value.end end more (ahead_run placed.trimmed).at order)
 
-fields_in_order : (format : Format) (e : EntryReading) (text : List ℕ) (at end : ℕ) (fs : List FieldReading) (more : List Edit) → AreFieldsIn text at fs end → AllByRecursion (IsFieldPlaced text) fs → AreEditsInOrder text end more
-    → AreEditsInOrder text at (flat_map (λ f. edits_of_field text f (field_change format e f)) fs ++ more)
-fields_in_order format e text at end [] more order all rest = edits_earlier text end at more order rest
-fields_in_order format e text at end (f ∷ fs) more order all rest =
-    let others : List Edit = flat_map (λ g. edits_of_field text g (field_change format e g)) fs in
-    subst (AreEditsInOrder text at) (sym (append_assoc (edits_of_field text f (field_change format e f)) others more))
-    (field_in_order text at f (field_change format e f) (others ++ more) order.0 order.1 all.0 (fields_in_order format e text f.value.end end fs more order.2 all.1 rest))
+joined_in_order : (text : List ℕ) (at end : ℕ) (f : FieldReading) (fs : List FieldReading) (bytes : List ℕ) (another : Bool) (more : List Edit) → at ≤ f.name.start → IsIn text f → IsFieldPlaced text f → AreFieldsIn text f.value.end fs end → AreEditsInOrder text (first_place f.value.end fs) more
+    → AreEditsInOrder text at (cond another (going_out f fs) (field_stretch text f bytes ∷ []) ++ more)
+joined_in_order text at end f [] bytes true more before is placed fields order = edits_earlier text f.value.end at more (omega (arith, is.name.some, is.ordered, is.value)) order
+joined_in_order text at end f (g ∷ gs) bytes true more before is placed fields order = (before, omega (arith, is.name.some, is.ordered, is.value, fields.0), is.name.start, fields.1.name.start, order)
+joined_in_order text at end f fs bytes false more before is placed fields order = stretch_in_order text at f bytes more before is placed (edits_earlier text (first_place f.value.end fs) f.value.end more (first_in text f.value.end end fs fields).0 order)
 
-pub edits_in_order : (format : Format) (text : List ℕ) (at : ℕ) (es : List EntryReading) → AreEntriesIn text at es → AllByRecursion (λ e. AllByRecursion (IsFieldPlaced text) e.fields) es → AreEditsInOrder text at (edits_of_file format text es)
-edits_in_order format text at [] order all = tt
-edits_in_order format text at (e ∷ es) order all =
-    let fields : List Edit = flat_map (λ f. edits_of_field text f (field_change format e f)) e.fields in
-    let more : List Edit = edits_of_file format text es in
+field_in_order : (text : List ℕ) (at end : ℕ) (f : FieldReading) (fs : List FieldReading) (change : Option FieldChange) (more : List Edit) → at ≤ f.name.start → IsIn text f → IsFieldPlaced text f → AreFieldsIn text f.value.end fs end → AreEditsInOrder text (first_place f.value.end fs) more
+    → AreEditsInOrder text at (edits_of_field text f fs change ++ more)
+field_in_order text at end f fs None more before is placed fields order =
+    edits_earlier text (first_place f.value.end fs) at more (omega (arith, is.name.some, is.ordered, is.value, (first_in text f.value.end end fs fields).0)) order
+field_in_order text at end f fs (Some (FieldChange.renamed name)) more before is placed fields order =
+    (before, omega (arith, is.name.some), is.name.start, is.name.end, edits_earlier text (first_place f.value.end fs) f.name.end more (omega (arith, is.ordered, is.value, (first_in text f.value.end end fs fields).0)) order)
+field_in_order text at end f fs (Some (FieldChange.divided sides)) more before is placed fields order =
+    stretch_in_order text at f (written_sides sides) more before is placed (edits_earlier text (first_place f.value.end fs) f.value.end more (first_in text f.value.end end fs fields).0 order)
+field_in_order text at end f fs (Some (FieldChange.joined date)) more before is placed fields order =
+    joined_in_order text at end f fs (new_field_text (date_field date)) (list_any is_date_part fs) more before is placed fields order
+
+fields_in_order : (change : FieldReading → Option FieldChange) (text : List ℕ) (at end : ℕ) (fs : List FieldReading) (more : List Edit) → AreFieldsIn text at fs end → AllByRecursion (IsFieldPlaced text) fs → AreEditsInOrder text end more
+    → AreEditsInOrder text at (edits_of_fields change text fs ++ more)
+fields_in_order change text at end [] more order all rest = edits_earlier text end at more order rest
+fields_in_order change text at end (f ∷ fs) more order all rest =
+    let others : List Edit = edits_of_fields change text fs in
+    subst (AreEditsInOrder text at) (sym (append_assoc (edits_of_field text f fs (change f)) others more))
+    (field_in_order text at end f fs (change f) (others ++ more) order.0 order.1 all.0 order.2 (fields_in_order change text (first_place f.value.end fs) end fs more (first_in text f.value.end end fs order.2).1 all.1 rest))
+
+pub edits_in_order : (format : Format) (defines : Bool) (text : List ℕ) (at : ℕ) (es : List EntryReading) → AreEntriesIn text at es → AllByRecursion (λ e. AllByRecursion (IsFieldPlaced text) e.fields) es → AreEditsInOrder text at (edits_of_file format defines text es)
+edits_in_order format defines text at [] order all = tt
+edits_in_order format defines text at (e ∷ es) order all =
+    let fields : List Edit = edits_of_fields (field_change format defines text e) text e.fields in
+    let more : List Edit = edits_of_file format defines text es in
     subst (AreEditsInOrder text at) (sym (append_assoc (part_edits e.kind (new_type format e)) fields more))
-    (part_in_order text at e.kind (new_type format e) (fields ++ more) order.1 order.2 (fields_in_order format e text e.kind.end order.0 e.fields more order.3 all.0 (edits_in_order format text order.0 es order.4 all.1)))
+    (part_in_order text at e.kind (new_type format e) (fields ++ more) order.1 order.2 (fields_in_order (field_change format defines text e) text e.kind.end order.0 e.fields more order.3 all.0 (edits_in_order format defines text order.0 es order.4 all.1)))

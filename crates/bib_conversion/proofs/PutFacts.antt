@@ -38,6 +38,13 @@ put_is view (b ∷ bs) following x news (suc j) index = ap (λ xs. view b ∷ xs
 
 -- ---- the fields that are put in
 
+-- fields the first of which begins at a place
+pub record Begins (fields : List FieldReading) (at : ℕ) : Type 0 where
+  pub first : FieldReading
+  pub others : List FieldReading
+  pub are : fields ≡ first ∷ others
+  pub start : first.name.start ≡ at
+
 -- fields from one place to another, with commas between them
 pub record NewFields (u : Place) (fs : List FieldReading) (v : Place) : Type 0 where
   pub first : List FieldReading

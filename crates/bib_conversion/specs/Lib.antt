@@ -1,5 +1,6 @@
 pub mod Conversions
 pub mod Dates
+pub mod Joined
 pub mod Laws
 pub mod Notes
 pub mod Rules

@@ -3,15 +3,15 @@
 use Rattle.std.specs.Prelude.{ℕ, suc, Bool, if◌then◌else◌, List, [], ◌∷◌, ◌++◌, codes, Option, Some, None}
 use Rattle.std.specs.List.{list_any}
 use Rattle.bib_syntax.specs.Grammar.{is_word}
-use Rattle.bib_syntax.specs.Reading.{EntryReading, FieldReading, FileReading}
+use Rattle.bib_syntax.specs.Reading.{EntryReading, FieldReading}
 use Rattle.bib_entry_types.specs.EntryType.{entry_type_of}
 use Rattle.bib_entry.specs.declared.write.Format.{Format}
 use Rattle.bib_entry.specs.declared.write.Format.TheVariants.{Biblatex, Bibtex}
-use Rattle.bib_documents.specs.Documents.{has_name}
-use Rattle.bib_conversion.specs.Conversions.{FieldChange, field_change, other_name, other_names}
+use Rattle.bib_documents.specs.Documents.{Document, has_name}
+use Rattle.bib_conversion.specs.Conversions.{FieldChange, defines_month, field_change, other_name, other_names}
 use Rattle.bib_conversion.specs.declared.notes.Note.{Note}
 use Rattle.bib_conversion.specs.declared.notes.NoteKind.{NoteKind}
-use Rattle.bib_conversion.specs.declared.notes.NoteKind.TheVariants.{DateStays, NameIsThere, NotRead}
+use Rattle.bib_conversion.specs.declared.notes.NoteKind.TheVariants.{DateStays, MonthStays, NameIsThere, NotRead}
 
 -- the fields that the standard styles of BibTeX read
 abbrev pub bibtex_fields : List (List ℕ)
@@ -27,9 +27,13 @@ is_bibtex_field name = list_any (is_word name) bibtex_fields
 abbrev pub bibtex_note : FieldReading → Option NoteKind
 bibtex_note f = if has_name (codes "date") f then Some DateStays else if is_bibtex_field f.name.text then None else Some NotRead
 
--- that for a format: for BibLaTeX there is none
+-- that for BibLaTeX: it is a month
+abbrev pub biblatex_note : FieldReading → Option NoteKind
+biblatex_note f = if has_name (codes "month") f then Some MonthStays else None
+
+-- that for a format
 abbrev pub format_note : Format → FieldReading → Option NoteKind
-format_note Biblatex f = None
+format_note Biblatex f = biblatex_note f
 format_note Bibtex f = bibtex_note f
 
 -- what is to know of a field that stays, given the name that the format has in the place of its own, if it has one
@@ -42,9 +46,9 @@ abbrev pub change_note : Format → Option FieldChange → Option (List ℕ) →
 change_note format (Some change) other f = None
 change_note format None other f = stays_note format other f
 
--- what is to know of an entry's field
-abbrev pub field_note : Format → EntryReading → FieldReading → Option NoteKind
-field_note format e f = change_note format (field_change format e f) (other_name (other_names format (entry_type_of e.kind.text)) f.name.text) f
+-- what is to know of an entry's field, in a text that defines an abbreviation of a month or doesn't
+abbrev pub field_note : Format → Bool → List ℕ → EntryReading → FieldReading → Option NoteKind
+field_note format defines text e f = change_note format (field_change format defines text e f) (other_name (other_names format (entry_type_of e.kind.text)) f.name.text) f
 
 -- what comes of each element and its index, one after another, of a list whose first element has an index
 abbrev pub indexed : {A B : Type 0} → (ℕ → A → List B) → ℕ → List A → List B
@@ -57,9 +61,9 @@ note_at entry field None = []
 note_at entry field (Some kind) = record { entry = entry; field = field; kind = kind } ∷ []
 
 -- the notes of the fields of the entry with an index
-abbrev pub entry_notes : Format → ℕ → EntryReading → List Note
-entry_notes format entry e = indexed (λ field f. note_at entry field (field_note format e f)) 0 e.fields
+abbrev pub entry_notes : Format → Bool → List ℕ → ℕ → EntryReading → List Note
+entry_notes format defines text entry e = indexed (λ field f. note_at entry field (field_note format defines text e f)) 0 e.fields
 
--- the notes of a file's entries
-abbrev pub file_notes : Format → FileReading → List Note
-file_notes format says = indexed (entry_notes format) 0 says.entries
+-- the notes of a document's entries
+abbrev pub file_notes : Format → Document → List Note
+file_notes format d = indexed (entry_notes format (defines_month d.says.abbreviations) d.text) 0 d.says.entries

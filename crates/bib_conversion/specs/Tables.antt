@@ -1,14 +1,14 @@
 -- Machinery: words of private contracts.
 -- Names, dates and edits, as the code has them.
-use Rattle.std.specs.Prelude.{ℕ, Bool, List, map, Option}
+use Rattle.std.specs.Prelude.{ℕ, List, map, Option}
 use Rattle.std.specs.Borrow.{Bor}
-use Rattle.std.specs.List.{flat_map}
 use Rattle.std.specs.Option.{option_map}
 use Rattle.std.specs.String.{string_bytes}
 use Rattle.bib_syntax.specs.Reading.{FieldReading}
 use Rattle.bib_documents.specs.Edits as edits
-use Rattle.bib_conversion.specs.Conversions.{change_of, date_among, edits_of_field, other_name}
+use Rattle.bib_conversion.specs.Conversions.{FieldChange, change_of, date_among, edits_of_fields, joined_among, other_name}
 use Rattle.bib_conversion.specs.Dates as dates
+use Rattle.bib_conversion.specs.declared.changes.Changes.{Changes}
 use Rattle.bib_conversion.specs.declared.dates.Side.{Side}
 use Rattle.bib_conversion.specs.declared.dates.Sides.{Sides}
 use Rattle.bib_conversion.specs.declared.editing.Edit.{Edit}
@@ -33,10 +33,10 @@ side_as_written side = record { year = side.year.now; month = lent_text side.mon
 abbrev pub sides_as_written : Sides → dates.Sides
 sides_as_written sides = record { from = side_as_written sides.from; to = option_map side_as_written sides.to }
 
--- the edits of a field, by the names of its entry's fields that give way, and whether the entry's date does
-abbrev pub change_edits : List (List ℕ × List ℕ) → Bool → List ℕ → FieldReading → List edits.Edit
-change_edits names divides text f = edits_of_field text f (change_of (other_name names f.name.text) (date_among divides f))
+-- what a field gives way to, by what gives way in its entry
+abbrev pub change_by : Changes → FieldReading → Option FieldChange
+change_by changes f = change_of (joined_among (option_map string_bytes changes.joined) f) (other_name (lent_names changes.names.items) f.name.text) (date_among changes.divides f)
 
--- those of some fields
-abbrev pub all_change_edits : List (List ℕ × List ℕ) → Bool → List ℕ → List FieldReading → List edits.Edit
-all_change_edits names divides text fields = flat_map (change_edits names divides text) fields
+-- the edits of some fields, by what gives way in their entry
+abbrev pub change_edits : Changes → List ℕ → List FieldReading → List edits.Edit
+change_edits changes text fields = edits_of_fields (change_by changes) text fields

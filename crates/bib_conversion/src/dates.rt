@@ -67,7 +67,7 @@ fn all_digits(text: &str) -> bool
 }
 
 // Whether a text is so many digits.
-fn are_digits(count: usize, text: &str) -> bool
+pub(crate) fn are_digits(count: usize, text: &str) -> bool
     ensures { result ≡ spec.are_digits count text.now }
 {
     text.len() == count && all_digits(text)
@@ -175,7 +175,7 @@ fn sides_of<'t>(alloc: Global, texts: &[&'t str]) -> Result<Option<Sides<'t>>, A
 }
 
 // Whether a text is read as a date or a range.
-fn is_date(alloc: Global, text: &str) -> Result<bool, AllocError>
+pub(crate) fn is_date(alloc: Global, text: &str) -> Result<bool, AllocError>
     ensures { IfOk result (λ is. is ≡ is_some (readable_value (date_of text.now))) }
 {
     let chunks = verbatim(alloc, text)?;
@@ -256,5 +256,14 @@ pub(crate) fn written_sides(alloc: Global, sides: &Sides<'_>) -> Result<String, 
     };
     out.push_str(", ")?;
     push_side(&mut out, "end", to)?;
+    Ok(out)
+}
+
+// The field of a date as it is written.
+pub(crate) fn written_date(alloc: Global, date: &str) -> Result<String, AllocError>
+    ensures { IfOk result (λ text. string_bytes text ≡ new_field_text (conversions.date_field date.now)) }
+{
+    let mut out = String::new(alloc);
+    push_braced(&mut out, "", "date", date)?;
     Ok(out)
 }

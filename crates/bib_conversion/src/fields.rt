@@ -1,7 +1,7 @@
-//! Fields of entries: their values, and those that are dates.
+//! Fields of entries: their values, and those that are dates or parts of dates.
 
-ghost use Rattle.std.specs.Prelude.{◌≡◌, ◌+◌, IfOk, codes, filter, length, map};
-ghost use Rattle.std.specs.List.{list_any};
+ghost use Rattle.std.specs.Prelude.{◌≡◌, ◌+◌, IfOk, length, map};
+ghost use Rattle.std.specs.List.{find, list_any};
 ghost use Rattle.std.specs.Option.{option_map};
 ghost use Rattle.std.specs.Str.{trim_end};
 ghost use Rattle.bib_syntax.specs.Views.{field_of, piece_of};
@@ -30,7 +30,7 @@ pub(crate) fn value_end(text: &str, field: &Pair<'_>) -> usize
 }
 
 // The text that elements are, if they are one literal.
-fn single_text<'s>(pieces: &[Spanned<RawChunk<'s>>]) -> Option<&'s str>
+pub(crate) fn single_text<'s>(pieces: &[Spanned<RawChunk<'s>>]) -> Option<&'s str>
     ensures { lent_text result ≡ values.single_text (map piece_of pieces.now) }
 {
     match pieces {
@@ -43,7 +43,7 @@ fn single_text<'s>(pieces: &[Spanned<RawChunk<'s>>]) -> Option<&'s str>
 }
 
 // Whether one of some fields has one of these names.
-fn has_any(fields: &[Pair<'_>], names: &[&str]) -> bool
+pub(crate) fn has_any(fields: &[Pair<'_>], names: &[&str]) -> bool
     ensures { result ≡ list_any (spec.is_field_there (map field_of fields.now)) (lent_texts names.now) }
 {
     'names: for name in names {
@@ -54,24 +54,56 @@ fn has_any(fields: &[Pair<'_>], names: &[&str]) -> bool
     false
 }
 
-// How many dates an entry has.
-fn count_dates(fields: &[Pair<'_>]) -> usize
-    ensures { result ≡ length (filter (has_name (codes "date")) (map field_of fields.now)) }
+// The first of some fields with a name, in any ASCII case.
+pub(crate) fn first_named<'f, 's>(fields: &'f [Pair<'s>], name: &str) -> Option<&'f Pair<'s>>
+    ensures { option_map (λ f. field_of f.now) result ≡ find (has_name name.now) (map field_of fields.now) }
+{
+    'fields: for field in fields {
+        if is_word(field.key.v, name) {
+            return Some(field);
+        }
+    }
+    None
+}
+
+// How many of some fields have a name, in any ASCII case.
+pub(crate) fn count_named(fields: &[Pair<'_>], name: &str) -> usize
+    ensures { result ≡ spec.times_named (map field_of fields.now) name.now }
 {
     let mut count = 0usize;
     'fields: for field in fields {
-        if is_word(field.key.v, "date") {
+        if is_word(field.key.v, name) {
             count += 1;
         }
     }
     count
 }
 
+// Whether a field is a part of a date: its year, its month or its day.
+pub(crate) fn is_date_part(field: &Pair<'_>) -> bool
+    ensures { result ≡ spec.is_date_part (field_of field.now) }
+{
+    let name = field.key.v;
+    is_word(name, "year") || is_word(name, "month") || is_word(name, "day")
+}
+
+// Whether one of some fields is.
+pub(crate) fn has_part(fields: &[Pair<'_>]) -> bool
+    ensures { result ≡ list_any spec.is_date_part (map field_of fields.now) }
+{
+    'fields: for field in fields {
+        if is_date_part(field) {
+            return true;
+        }
+    }
+    false
+}
+
 // Whether a date may give way to fields of its parts: there is one, and none of these fields is there already.
 fn is_date_free(fields: &[Pair<'_>]) -> bool
     ensures { result ≡ spec.is_date_free (map field_of fields.now) }
 {
-    count_dates(fields) == 1
+    count_named(fields, "date") == 1
         && !has_any(
             fields,
             &["year", "month", "day", "endyear", "endmonth", "endday"],

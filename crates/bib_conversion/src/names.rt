@@ -1,10 +1,13 @@
 //! The names of types and fields for which a format has others.
 
 ghost use Rattle.std.specs.Prelude.{◌≡◌, IfOk, map};
+ghost use Rattle.std.specs.List.{list_any};
+ghost use Rattle.bib_syntax.specs.Grammar.{is_word};
 ghost use Rattle.bib_syntax.specs.Views.{field_of};
 ghost use Rattle.bib_entry.specs.Format.{kind_in};
 ghost use Rattle.bib_conversion.specs.Conversions as spec;
 ghost use Rattle.bib_conversion.specs.Tables.{lent_names, lent_text};
+ghost use Rattle.bib_strings.specs.Collecting.{lent_texts};
 
 use bib_entry::write::Format;
 use bib_entry_types::mechanics::EntryType;
@@ -99,6 +102,18 @@ pub(crate) fn exchanged_names(
         }
     }
     Ok(free)
+}
+
+// Whether a name is one of these, in any ASCII case.
+pub(crate) fn is_one_of(names: &[&str], name: &str) -> bool
+    ensures { result ≡ list_any (is_word name.now) (lent_texts names.now) }
+{
+    'names: for word in names {
+        if is_word(name, *word) {
+            return true;
+        }
+    }
+    false
 }
 
 // The other name beside a name, in any ASCII case.

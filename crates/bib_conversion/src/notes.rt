@@ -1,19 +1,20 @@
 //! What is to know of fields that don't give way to those of a format.
 
 ghost use Rattle.std.specs.Prelude.{◌≡◌, ◌++◌, IfOk, OnOk, is_some, map};
-ghost use Rattle.std.specs.List.{list_any};
+ghost use Rattle.std.specs.Option.{option_map};
+ghost use Rattle.std.specs.String.{string_bytes};
 ghost use Rattle.bib_entry_types.specs.EntryType.{entry_type_of};
-ghost use Rattle.bib_syntax.specs.Grammar.{is_word};
 ghost use Rattle.bib_syntax.specs.Views.{entry_reading_of, field_of};
 ghost use Rattle.bib_conversion.specs.Conversions as conversions;
 ghost use Rattle.bib_conversion.specs.Notes as spec;
 ghost use Rattle.bib_conversion.specs.Notes.{file_notes, indexed, note_at};
-ghost use Rattle.bib_conversion.specs.Rules.{rules_change, rules_note};
-ghost use Rattle.bib_strings.specs.Collecting.{lent_texts};
-ghost use Rattle.bib_conversion.specs.Tables.{lent_names, lent_text};
+ghost use Rattle.bib_conversion.specs.Rules.{rules_note};
+ghost use Rattle.bib_conversion.specs.Tables.{change_by, lent_names, lent_text};
 
-use crate::fields::{divides_date, exchanged_date};
-use crate::names::{exchanged_names, other_name, other_names};
+use crate::changes::{Changes, changes_of};
+use crate::fields::{exchanged_date, is_date_part};
+use crate::joining::defines_month;
+use crate::names::{is_one_of, other_name, other_names};
 use bib_documents::document::RawDocument;
 use bib_entry::write::Format;
 use bib_entry_types::mechanics::EntryType;
@@ -28,6 +29,8 @@ pub enum NoteKind {
     NameIsThere,
     /// It is a date that BibTeX has no fields for, or whose fields are there already.
     DateStays,
+    /// It is a month that is joined with no year to a date.
+    MonthStays,
     /// No standard style of BibTeX reads a field with its name.
     NotRead,
 }
@@ -41,18 +44,6 @@ pub struct Note {
     pub field: usize,
     /// What is to know.
     pub kind: NoteKind,
-}
-
-// Whether a name is one of these, in any ASCII case.
-fn is_one_of(names: &[&str], name: &str) -> bool
-    ensures { result ≡ list_any (is_word name.now) (lent_texts names.now) }
-{
-    'names: for word in names {
-        if is_word(name, *word) {
-            return true;
-        }
-    }
-    false
 }
 
 // Whether a name is that of a field that the standard styles of BibTeX read, in any ASCII case.
@@ -102,6 +93,17 @@ fn bibtex_note(field: &Pair<'_>) -> Option<NoteKind>
     Some(NoteKind::NotRead)
 }
 
+// What is to know of a field whose name stays, for BibLaTeX.
+fn biblatex_note(field: &Pair<'_>) -> Option<NoteKind>
+    ensures { result ≡ spec.biblatex_note (field_of field.now) }
+{
+    if is_word(field.key.v, "month") {
+        Some(NoteKind::MonthStays)
+    } else {
+        None
+    }
+}
+
 // What is to know of a field that stays, given the name that the format has in the place of its own, if it has one.
 fn stays_note(format: Format, other: Option<&str>, field: &Pair<'_>) -> Option<NoteKind>
     ensures { result ≡ spec.stays_note format (lent_text other.entry) (field_of field.now) }
@@ -110,46 +112,53 @@ fn stays_note(format: Format, other: Option<&str>, field: &Pair<'_>) -> Option<N
         return Some(NoteKind::NameIsThere);
     }
     match format {
-        Format::Biblatex => None,
+        Format::Biblatex => biblatex_note(field),
         Format::Bibtex => bibtex_note(field),
     }
 }
 
-// What is to know of the fields of an entry: the names for which the format has others, those of them that give way, and
-// whether the entry's date does.
+// What is to know of the fields of an entry: the names for which the format has others, and what gives way.
 #[derive(Drop)]
 struct Rules {
     format: Format,
     names: &'static [(&'static str, &'static str)],
-    free: Vec<(&'static str, &'static str)>,
-    divides: bool,
+    changes: Changes,
 }
 
-// The rules of an entry.
-fn rules_of(alloc: Global, format: Format, entry: &RawEntry<'_>) -> Result<Rules, AllocError>
+// The rules of an entry of a text that defines an abbreviation of a month or doesn't.
+fn rules_of(
+    alloc: Global,
+    format: Format,
+    defines: bool,
+    text: &str,
+    entry: &RawEntry<'_>,
+) -> Result<Rules, AllocError>
     ensures format { IfOk result (λ rules. rules.format ≡ format) }
     ensures names { IfOk result (λ rules. lent_names rules.names.now ≡ conversions.other_names format (entry_type_of entry.now.kind.v.now)) }
-    ensures free { IfOk result (λ rules. lent_names rules.free.items ≡ conversions.free_names (map field_of entry.now.fields.items) (conversions.other_names format (entry_type_of entry.now.kind.v.now))) }
-    ensures divides { IfOk result (λ rules. rules.divides ≡ conversions.divides_date format (map field_of entry.now.fields.items)) }
+    ensures free { IfOk result (λ rules. lent_names rules.changes.names.items ≡ conversions.free_names (map field_of entry.now.fields.items) (conversions.other_names format (entry_type_of entry.now.kind.v.now))) }
+    ensures divides { IfOk result (λ rules. rules.changes.divides ≡ conversions.divides_date format (map field_of entry.now.fields.items)) }
+    ensures joined { IfOk result (λ rules. option_map string_bytes rules.changes.joined ≡ conversions.joined_date format defines text.now (map field_of entry.now.fields.items)) }
 {
     let kind = EntryType::new(alloc, entry.kind.v)?;
-    let free = exchanged_names(alloc, format, &kind, &entry.fields)?;
+    let changes = changes_of(alloc, format, defines, text, &kind, &entry.fields)?;
     Ok(Rules {
         format,
         names: other_names(format, &kind),
-        free,
-        divides: divides_date(format, &entry.fields),
+        changes,
     })
 }
 
 // Whether a field gives way.
-fn gives_way(alloc: Global, rules: &Rules, field: &Pair<'_>) -> Result<bool, AllocError>
-    ensures { IfOk result (λ gives. gives ≡ is_some (rules_change rules.now (field_of field.now))) }
+fn gives_way(alloc: Global, changes: &Changes, field: &Pair<'_>) -> Result<bool, AllocError>
+    ensures { IfOk result (λ gives. gives ≡ is_some (change_by changes.now (field_of field.now))) }
 {
-    if other_name(&rules.free, field.key.v).is_some() {
+    if is_date_part(field) && changes.joined.is_some() {
         return Ok(true);
     }
-    Ok(exchanged_date(alloc, rules.divides, field)?.is_some())
+    if other_name(&changes.names, field.key.v).is_some() {
+        return Ok(true);
+    }
+    Ok(exchanged_date(alloc, changes.divides, field)?.is_some())
 }
 
 // What is to know of a field.
@@ -160,7 +169,7 @@ fn field_note(
 ) -> Result<Option<NoteKind>, AllocError>
     ensures { IfOk result (λ note. note ≡ rules_note rules.now (field_of field.now)) }
 {
-    if gives_way(alloc, rules, field)? {
+    if gives_way(alloc, &rules.changes, field)? {
         return Ok(None);
     }
     Ok(stays_note(rules.format, other_name(rules.names, field.key.v), field))
@@ -203,39 +212,46 @@ fn push_entry_notes(
     notes: &mut Vec<Note>,
     alloc: Global,
     format: Format,
+    defines: bool,
+    text: &str,
     index: usize,
     entry: &Spanned<RawEntry<'_>>,
 ) -> Result<(), AllocError>
-    ensures { OnOk result (notes.new.items ≡ notes.old.items ++ spec.entry_notes format index (entry_reading_of entry.now)) }
+    ensures { OnOk result (notes.new.items ≡ notes.old.items ++ spec.entry_notes format defines text.now index (entry_reading_of entry.now)) }
 {
-    let rules = rules_of(alloc, format, &entry.v)?;
+    let rules = rules_of(alloc, format, defines, text, &entry.v)?;
     push_field_notes(notes, alloc, &rules, index, &entry.v.fields)
 }
 
-// The notes of entries.
+// The notes of entries of a text that defines an abbreviation of a month or doesn't.
 fn entry_notes(
     alloc: Global,
     format: Format,
+    defines: bool,
+    text: &str,
     entries: &[Spanned<RawEntry<'_>>],
 ) -> Result<Vec<Note>, AllocError>
-    ensures { IfOk result (λ notes. notes.items ≡ indexed (spec.entry_notes format) 0 (map entry_reading_of entries.now)) }
+    ensures { IfOk result (λ notes. notes.items ≡ indexed (spec.entry_notes format defines text.now) 0 (map entry_reading_of entries.now)) }
 {
     let mut notes = Vec::new(alloc);
     'entries: for (index, entry) in entries.iter().enumerate() {
-        push_entry_notes(&mut notes, alloc, format, index, entry)?;
+        push_entry_notes(&mut notes, alloc, format, defines, text, index, entry)?;
     }
     Ok(notes)
 }
 
 /// What is to know of the fields that don't give way where a document is converted for a format, in the order of the file. A field
-/// that the format has another name for keeps its own where its entry has a field with the other. For BibTeX a date stays where it
-/// isn't divided, and a field that no standard style reads is named. Fails only where there is no memory.
+/// that the format has another name for keeps its own where its entry has a field with the other. For BibLaTeX a month is named that
+/// isn't joined with a year. For BibTeX a date stays where it isn't divided, and a field that no standard style reads is named. Fails
+/// only where there is no memory.
 pub fn notes(
     alloc: Global,
     document: &RawDocument<'_>,
     format: Format,
 ) -> Result<Vec<Note>, AllocError>
-    ensures { IfOk result (λ notes. notes.items ≡ file_notes format document.now.says) }
+    ensures { IfOk result (λ notes. notes.items ≡ file_notes format document.now) }
 {
-    entry_notes(alloc, format, &document.raw().entries)
+    let raw = document.raw();
+    let defines = defines_month(&raw.abbreviations);
+    entry_notes(alloc, format, defines, document.text(), &raw.entries)
 }

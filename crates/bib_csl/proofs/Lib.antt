@@ -1,4 +1,7 @@
 pub mod AppendFacts
-pub mod FloatFacts
+pub mod ByteFacts
+pub mod EditorFacts
 pub mod OrderFacts
+pub mod StandingFacts
 pub mod TagFacts
+pub mod TokenFacts

@@ -19,7 +19,7 @@ use Rattle.bib_csl.specs.Json.{content_json, with_variable, with_variables, head
 use Rattle.bib_csl.specs.Names.{variable_name, item_type_name}
 use Rattle.bib_csl.specs.Notes.{note_fields}
 use Rattle.bib_csl.specs.Numbers.{volume_fields, page_fields}
-use Rattle.bib_csl.specs.People.{people_fields}
+use Rattle.bib_csl.specs.People.{editor_fields, people_fields}
 use Rattle.bib_csl.specs.Publishing.{publisher_fields, original_fields, publishing_fields}
 use Rattle.bib_csl.specs.Titles.{title_fields, container_fields, event_fields}
 
@@ -130,10 +130,14 @@ unfolding note_fields
 note_fields_in_order entry =
     joins (text Abstract _) (joins (text Annote _) (joins (text Note _) (joins (text Status _) (joins (text Keyword _) (text Language _)))))
 
+editor_fields_in_order : (entry : Entry) → IsBetween 40 44 (editor_fields entry)
+unfolding editor_fields
+editor_fields_in_order entry = joins (people Editor _) (joins (people Compiler _) (joins (people Director _) (people Organizer _)))
+
 people_fields_in_order : (kind : ItemType) (entry : Entry) → IsBetween 39 46 (people_fields kind entry)
 unfolding people_fields
 people_fields_in_order kind entry =
-    joins (people Author _) (joins (people Editor _) (joins (people Compiler _) (joins (people Director _) (joins (people Organizer _) (joins (people Translator _) (people ContainerAuthor _))))))
+    joins (people Author _) (joins (editor_fields_in_order entry) (joins (people Translator _) (people ContainerAuthor _)))
 
 date_fields_in_order : (entry : Entry) → IsBetween 46 50 (date_fields entry)
 unfolding date_fields

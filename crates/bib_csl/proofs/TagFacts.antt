@@ -1,10 +1,16 @@
 -- Texts with tags, character by character.
-use Rattle.std.proofs.Common.{◌≡◌, ◌++◌, ℕ, List, [], ◌∷◌, Option, reverse, sym, ap, ap₂, ◌∙◌, append_assoc}
+use Rattle.std.proofs.Common.{◌≡◌, ◌++◌, ℕ, true, false, List, [], ◌∷◌, Option, None, reverse, refl, sym, ap, ap₂, ◌∙◌, append_assoc}
+use lib.Utf8.{encode, encodes}
+use Rattle.std.specs.List.{list_all}
+use Rattle.std.specs.Option.{unwrap_or}
 use Rattle.std.specs.Str.{chars, IsUtf8}
 use Rattle.std.proofs.lemmas.List.{reverse-append}
+use Rattle.std.proofs.lemmas.Str.{encodes-chars}
 use Rattle.bib_text.specs.Places.{Place, CharAt, AtEnd}
 use Rattle.bib_text.proofs.TextFacts.{ahead, Passed, passed_char, chars_at_end}
-use Rattle.bib_csl.specs.Markup.{untie, untied, said, open_after, name_after, said_last, all_ended, marked_from}
+use Rattle.bib_csl.specs.Markup.{untie, untied, said, said_plainly, shown_in, is_address, open_plainly, begins_name, open_after, name_after, said_last, closing_tag, all_ended, marked_from, marked_text}
+use Rattle.bib_csl.specs.Unmarked.{is_unmarked}
+use Rattle.bib_csl.proofs.ByteFacts.{not_this, both}
 
 -- a character of a text whose words are tied by spaces
 pub untied_step : (out more total : List ℕ) {u x : Place} {c : ℕ} → CharAt u c x → IsUtf8 (ahead u) → more ≡ out ++ untie c
@@ -38,7 +44,62 @@ pub marked_end : (out total : List ℕ) (tags : List (List ℕ)) (name : Option 
 marked_end out total tags name u end before = ap (λ cs. out ++ marked_from tags name cs) (sym (chars_at_end u end)) ∙ before
 
 -- the tag of the innermost brace that is left
-pub ended_step : (out more total tag : List ℕ) (old new : List (List ℕ)) → old ≡ new ++ tag ∷ [] → more ≡ out ++ tag → out ++ all_ended (reverse old) ≡ total → more ++ all_ended (reverse new) ≡ total
+pub ended_step : (out more total : List ℕ) (tag : List ℕ) (old new : List (List ℕ)) → old ≡ new ++ tag ∷ [] → more ≡ out ++ unwrap_or (closing_tag tag) [] → out ++ all_ended (reverse old) ≡ total → more ++ all_ended (reverse new) ≡ total
 ended_step out more total tag old new is wrote before =
-    ap (λ o. o ++ all_ended (reverse new)) wrote ∙ append_assoc out tag (all_ended (reverse new))
+    ap (λ o. o ++ all_ended (reverse new)) wrote ∙ append_assoc out (unwrap_or (closing_tag tag) []) (all_ended (reverse new))
     ∙ ap (λ l. out ++ all_ended l) (sym (ap reverse is ∙ reverse-append new (tag ∷ []))) ∙ before
+
+-- a character whose bytes are no backslash, brace or tilde is none of these
+no_backslash : list_all is_unmarked (encode 92) ≡ false
+unfolding encode
+no_backslash = refl
+
+no_open_brace : list_all is_unmarked (encode 123) ≡ false
+unfolding encode
+no_open_brace = refl
+
+no_close_brace : list_all is_unmarked (encode 125) ≡ false
+unfolding encode
+no_close_brace = refl
+
+no_tilde : list_all is_unmarked (encode 126) ≡ false
+unfolding encode
+no_tilde = refl
+
+-- it is written as it stands
+untie_same : (c : ℕ) → list_all is_unmarked (encode c) ≡ true → untie c ≡ encode c
+unfolding untie
+untie_same c good = rw (not_this is_unmarked 126 c no_tilde good) refl
+
+said_same : (c : ℕ) → list_all is_unmarked (encode c) ≡ true → said [] None c ≡ encode c
+unfolding said said_plainly shown_in is_address
+said_same c good = rw (not_this is_unmarked 92 c no_backslash good) (rw (not_this is_unmarked 125 c no_close_brace good) (untie_same c good))
+
+open_same : (c : ℕ) → list_all is_unmarked (encode c) ≡ true → open_after [] None c ≡ []
+unfolding open_after open_plainly
+open_same c good = rw (not_this is_unmarked 123 c no_open_brace good) (rw (not_this is_unmarked 125 c no_close_brace good) refl)
+
+name_same : (c : ℕ) → list_all is_unmarked (encode c) ≡ true → name_after None c ≡ None
+unfolding name_after begins_name
+name_same c good = rw (not_this is_unmarked 92 c no_backslash good) refl
+
+untied_same : (cs : List ℕ) → list_all is_unmarked (encodes cs) ≡ true → untied cs ≡ encodes cs
+untied_same [] h = refl
+untied_same (c ∷ cs) h = let p = both is_unmarked c cs h in ap₂ (λ a b. a ++ b) (untie_same c p.0) (untied_same cs p.1)
+
+marked_same : (cs : List ℕ) → list_all is_unmarked (encodes cs) ≡ true → marked_from [] None cs ≡ encodes cs
+unfolding said_last
+marked_same [] h = refl
+marked_same (c ∷ cs) h =
+    let p = both is_unmarked c cs h in
+    ap₂ (λ a b. a ++ b) (said_same c p.0) (ap₂ (λ t n. marked_from t n cs) (open_same c p.0) (name_same c p.0) ∙ marked_same cs p.1)
+
+-- a text without such bytes stays
+pub untied_stays : (bs : List ℕ) → IsUtf8 bs → list_all is_unmarked bs ≡ true → bs ≡ untied (chars bs)
+untied_stays bs utf8 h =
+    let spelt = encodes-chars bs utf8 in sym (untied_same (chars bs) (ap (list_all is_unmarked) spelt ∙ h) ∙ spelt)
+
+pub marked_stays : (bs : List ℕ) → IsUtf8 bs → list_all is_unmarked bs ≡ true → bs ≡ marked_text (chars bs)
+unfolding marked_text
+marked_stays bs utf8 h =
+    let spelt = encodes-chars bs utf8 in sym (marked_same (chars bs) (ap (list_all is_unmarked) spelt ∙ h) ∙ spelt)

@@ -11,4 +11,6 @@ pub mod People
 pub mod Publishing
 pub mod Texts
 pub mod Titles
+pub mod Tokens
 pub mod Types
+pub mod Unmarked

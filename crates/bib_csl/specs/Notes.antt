@@ -1,6 +1,6 @@
 -- Meaning: words of public contracts.
 -- What is said of an item in words.
-use Rattle.std.specs.Prelude.{ℕ, List, [], ◌++◌, codes, Option, Some, None}
+use Rattle.std.specs.Prelude.{ℕ, if◌then◌else◌, List, [], ◌++◌, codes, bytes_eq, Option, Some, None}
 use Rattle.bib_chunks.specs.Values.{Value, text}
 use Rattle.bib_entry.specs.declared.entry.Entry.{Entry}
 use Rattle.bib_entry.specs.Fields.{field_or}
@@ -11,16 +11,32 @@ use Rattle.bib_values.specs.Enumerations.{language_read}
 use Rattle.bib_csl.specs.declared.item.Field.{Field}
 use Rattle.bib_csl.specs.declared.variables.Variable.TheVariants as variable
 use Rattle.bib_csl.specs.Fields.{given}
-use Rattle.bib_csl.specs.Texts.{field, shown_field, rich_text, rich_text_or, joined}
+use Rattle.bib_csl.specs.Texts.{field, shown_field, rich_text, rich_text_or, either, joined}
 
 -- the tag of a language, after BCP 47
 unfoldable pub tag_of : Language → List ℕ
 tag_of EnglishUK = codes "en-GB"
 tag_of language = (language_row language).tag
 
--- the tag of the language that a text is read as, or the text
+-- the tag of a language by a name that BibLaTeX has for it beside those of the table of languages, or nothing
+unfoldable pub tag_named : List ℕ → List ℕ
+tag_named name =
+    if bytes_eq name (codes "acadian") then codes "fr-CA"
+    else if bytes_eq name (codes "canadien") then codes "fr-CA"
+    else if bytes_eq name (codes "francais") then codes "fr"
+    else if bytes_eq name (codes "frenchb") then codes "fr"
+    else if bytes_eq name (codes "brazilian") then codes "pt-BR"
+    else if bytes_eq name (codes "mexican") then codes "es-MX"
+    else if bytes_eq name (codes "galician") then codes "gl"
+    else if bytes_eq name (codes "latin") then codes "la"
+    else if bytes_eq name (codes "norwegian") then codes "no"
+    else if bytes_eq name (codes "ukenglish") then codes "en-GB"
+    else if bytes_eq name (codes "usenglish") then codes "en-US"
+    else []
+
+-- the tag of the language that a text is read as or names, or the text
 abbrev pub language_or_text : Option Language → List ℕ → List ℕ
-language_or_text None whole = whole
+language_or_text None whole = either (tag_named whole) whole
 language_or_text (Some language) whole = tag_of language
 
 -- the language of a field

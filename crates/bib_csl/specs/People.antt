@@ -109,6 +109,14 @@ editors_under variable entry =
     (editors_listed variable entry (codes "editorb") (codes "editorbtype") ++
     editors_listed variable entry (codes "editorc") (codes "editorctype")))
 
+-- the editors, each under the variable of the role
+unfoldable pub editor_fields : Entry → List Field
+editor_fields entry =
+    given_people Editor (editors_under Editor entry) ++
+    (given_people Compiler (editors_under Compiler entry) ++
+    (given_people Director (editors_under Director entry) ++
+    given_people Organizer (editors_under Organizer entry)))
+
 -- the people of the field of this name
 unfoldable pub people : Entry → List ℕ → List Name
 people entry name = names_said (uses_prefix entry) (field entry name)
@@ -128,9 +136,6 @@ authors_of kind entry =
 unfoldable pub people_fields : ItemType → Entry → List Field
 people_fields kind entry =
     given_people Author (authors_of kind entry) ++
-    (given_people Editor (editors_under Editor entry) ++
-    (given_people Compiler (editors_under Compiler entry) ++
-    (given_people Director (editors_under Director entry) ++
-    (given_people Organizer (editors_under Organizer entry) ++
+    (editor_fields entry ++
     (given_people Translator (people entry (codes "translator")) ++
-    given_people ContainerAuthor (people entry (codes "bookauthor")))))))
+    given_people ContainerAuthor (people entry (codes "bookauthor"))))

@@ -16,15 +16,45 @@ publisher_of entry =
     either (listed_field (field entry (codes "publisher")))
     (either (listed_field (field_or entry (codes "institution") (codes "school"))) (listed_field (field entry (codes "organization"))))
 
--- what the keys of BibLaTeX's field `type` stand for; any other text stays
-unfoldable pub genre_named : List ℕ → List ℕ
-genre_named text =
-    if bytes_eq text (codes "mathesis") then codes "Master's thesis"
+-- the kind of a thesis, a report or another work by BibLaTeX's key for it, or nothing for any other text
+unfoldable pub work_named : List ℕ → List ℕ
+work_named text =
+    if bytes_eq text (codes "bathesis") then codes "Bachelor's thesis"
+    else if bytes_eq text (codes "mathesis") then codes "Master's thesis"
     else if bytes_eq text (codes "phdthesis") then codes "PhD thesis"
     else if bytes_eq text (codes "candthesis") then codes "Candidate thesis"
     else if bytes_eq text (codes "techreport") then codes "technical report"
     else if bytes_eq text (codes "resreport") then codes "research report"
-    else text
+    else if bytes_eq text (codes "software") then codes "computer software"
+    else if bytes_eq text (codes "datacd") then codes "CD-ROM"
+    else if bytes_eq text (codes "audiocd") then codes "audio CD"
+    else []
+
+-- the kind of a patent by BibLaTeX's key for it
+unfoldable pub patent_named : List ℕ → List ℕ
+patent_named text =
+    if bytes_eq text (codes "patent") then codes "patent"
+    else if bytes_eq text (codes "patentde") then codes "German patent"
+    else if bytes_eq text (codes "patenteu") then codes "European patent"
+    else if bytes_eq text (codes "patentfr") then codes "French patent"
+    else if bytes_eq text (codes "patentuk") then codes "British patent"
+    else if bytes_eq text (codes "patentus") then codes "U.S. patent"
+    else []
+
+-- the kind of a request for a patent by BibLaTeX's key for it
+unfoldable pub request_named : List ℕ → List ℕ
+request_named text =
+    if bytes_eq text (codes "patreq") then codes "patent request"
+    else if bytes_eq text (codes "patreqde") then codes "German patent request"
+    else if bytes_eq text (codes "patreqeu") then codes "European patent request"
+    else if bytes_eq text (codes "patreqfr") then codes "French patent request"
+    else if bytes_eq text (codes "patrequk") then codes "British patent request"
+    else if bytes_eq text (codes "patrequs") then codes "U.S. patent request"
+    else []
+
+-- what the keys of BibLaTeX's field `type` stand for; any other text stays
+unfoldable pub genre_named : List ℕ → List ℕ
+genre_named text = either (work_named text) (either (patent_named text) (either (request_named text) text))
 
 -- what the type of an entry says of the kind of work
 unfoldable pub genre_of_type : EntryType → List ℕ

@@ -1,6 +1,6 @@
 -- Meaning: words of public contracts.
 -- The titles of an item, and of what it is a part of.
-use Rattle.std.specs.Prelude.{ℕ, true, ◌==◌, if◌then◌else◌, List, [], ◌++◌, length, codes}
+use Rattle.std.specs.Prelude.{ℕ, true, ◌==◌, if◌then◌else◌, List, [], ◌++◌, length, codes, bytes_eq}
 use Rattle.bib_entry.specs.declared.entry.Entry.{Entry}
 use Rattle.bib_entry.specs.Fields.{field_or}
 use Rattle.bib_csl.specs.declared.item.Field.{Field}
@@ -63,12 +63,23 @@ title_fields kind entry =
     (given VolumeTitle (volume_title kind entry) ++
     given OriginalTitle (title_text entry (codes "origtitle"))))
 
+-- what BibLaTeX's keys of a series stand for; any other text stays
+unfoldable pub series_named : List ℕ → List ℕ
+series_named text =
+    if bytes_eq text (codes "newseries") then codes "new series"
+    else if bytes_eq text (codes "oldseries") then codes "old series"
+    else text
+
+-- the title of the series
+unfoldable pub series_title : Entry → List ℕ
+series_title entry = series_named (title_text entry (codes "series"))
+
 -- what an item is a part of
 unfoldable pub container_fields : ItemType → Entry → List Field
 container_fields kind entry =
     given ContainerTitle (container_title kind entry) ++
     (given ContainerTitleShort (title_text entry (codes "shortjournal")) ++
-    given CollectionTitle (title_text entry (codes "series")))
+    given CollectionTitle (series_title entry))
 
 -- the conference that an item comes from
 unfoldable pub event_fields : Entry → List Field

@@ -1,18 +1,20 @@
 //! The dates of an item.
 
-ghost use Rattle.std.specs.Prelude.{◌≡◌, ◌<◌, pos, true, length, ◌++◌, OnOk, IfOk};
+ghost use Rattle.std.specs.Prelude.{◌≡◌, ◌<◌, pos, true, length, ◌++◌, Some, OnOk, IfOk};
 ghost use Rattle.std.specs.Char.{is_ascii_digit};
 ghost use Rattle.std.specs.List.{list_all};
 ghost use Rattle.std.specs.Option.{option_map, option_copied};
+ghost use Rattle.bib_chunks.specs.Values.{text};
 ghost use Rattle.bib_dates.specs.Chunks.{date_read, three_fields_reading};
 ghost use Rattle.bib_dates.specs.Readings.{readable_value};
 ghost use Rattle.bib_csl.specs.Dates as spec;
 
 use crate::fields::add_date;
 use crate::item::{DateParts, Field, ItemDate, Season};
+use crate::standing::shown;
 use crate::texts::{joined, shown_field};
 use crate::variables::Variable;
-use bib_chunks::chunk::{ChunksRef, format_verbatim};
+use bib_chunks::chunk::ChunksRef;
 use bib_dates::date::{Date, DateValue, Datetime};
 use bib_entry::entry::Entry;
 use bib_text::items::Items;
@@ -208,9 +210,9 @@ fn unread(alloc: Global, text: Text) -> Result<Option<ItemDate>, AllocError>
     }
 }
 
-// What is read, or else what its text says.
+/// What is read, or else what its text says: a season, or the text itself, unless it is empty. The only error is out of memory.
 #[tactic(auto, unfolding(crate::specs::Dates::read_or_unread))]
-fn read_or_unread(
+pub fn read_or_unread(
     alloc: Global,
     date: Option<Date>,
     text: Text,
@@ -223,8 +225,8 @@ fn read_or_unread(
     unread(alloc, text)
 }
 
-// The date that chunks are read as.
-fn read_date(alloc: Global, chunks: ChunksRef<'_>) -> Result<Option<Date>, AllocError>
+/// The date that chunks are read as, if they are. The only error is out of memory.
+pub fn read_date(alloc: Global, chunks: ChunksRef<'_>) -> Result<Option<Date>, AllocError>
     ensures { IfOk result (λ date. date ≡ date_read chunks.now) }
 {
     match Date::parse(alloc, chunks) {
@@ -255,28 +257,37 @@ fn read_fields(
     }
 }
 
-// The date of a year and of the month and day beside it, if there is one.
-#[tactic(auto, unfolding(crate::specs::Dates::three_fields_item))]
+// The date of a field.
+#[tactic(auto, unfolding(crate::specs::Dates::read_or_unread))]
+fn one_field_item(alloc: Global, chunks: ChunksRef<'_>) -> Result<Option<ItemDate>, AllocError>
+    ensures { IfOk result (λ item. item ≡ spec.read_or_unread (date_read chunks.now) (text chunks.now)) }
+{
+    if let Some(date) = read_date(alloc, chunks)? {
+        return Ok(Some(date_item(alloc, &date)?));
+    }
+    unread(alloc, shown(alloc, chunks)?)
+}
+
+// The date of a year and of the month and day beside it.
+#[tactic(auto, unfolding(crate::specs::Dates::three_fields_item, crate::specs::Dates::read_or_unread))]
 fn three_fields_item(
     alloc: Global,
-    year: Option<ChunksRef<'_>>,
+    year: ChunksRef<'_>,
     month: Option<ChunksRef<'_>>,
     day: Option<ChunksRef<'_>>,
 ) -> Result<Option<ItemDate>, AllocError>
-    ensures { IfOk result (λ item. item ≡ spec.three_fields_item (option_copied year.entry)
+    ensures { IfOk result (λ item. item ≡ spec.three_fields_item (Some year.now)
         (option_copied month.entry) (option_copied day.entry)) }
 {
-    let Some(year) = year else {
-        return Ok(None);
-    };
-    let date = read_fields(alloc, year, month, day)?;
-    let text = Text::from_string(format_verbatim(alloc, year)?);
-    let text = joined(" ", shown_field(alloc, month)?, text)?;
-    read_or_unread(alloc, date, text)
+    if let Some(date) = read_fields(alloc, year, month, day)? {
+        return Ok(Some(date_item(alloc, &date)?));
+    }
+    let month = shown_field(alloc, month)?;
+    unread(alloc, joined(" ", month, shown(alloc, year)?)?)
 }
 
 // The date of the field of the first name, else of those of the other three.
-#[tactic(auto, unfolding(crate::specs::Dates::date_in))]
+#[tactic(auto, unfolding(crate::specs::Dates::date_in, crate::specs::Dates::three_fields_item))]
 fn date_in(
     alloc: Global,
     entry: &Entry,
@@ -287,11 +298,13 @@ fn date_in(
 ) -> Result<Option<ItemDate>, AllocError>
     ensures { IfOk result (λ item. item ≡ spec.date_in entry.now date.now year.now month.now day.now) }
 {
-    let Some(chunks) = entry.get(date) else {
-        return three_fields_item(alloc, entry.get(year), entry.get(month), entry.get(day));
-    };
-    let text = Text::from_string(format_verbatim(alloc, chunks)?);
-    read_or_unread(alloc, read_date(alloc, chunks)?, text)
+    if let Some(chunks) = entry.get(date) {
+        return one_field_item(alloc, chunks);
+    }
+    match entry.get(year) {
+        Some(year) => three_fields_item(alloc, year, entry.get(month), entry.get(day)),
+        None => Ok(None),
+    }
 }
 
 // Appends the dates of an item.

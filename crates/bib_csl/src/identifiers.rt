@@ -7,7 +7,7 @@ ghost use Rattle.bib_csl.specs.Identifiers as spec;
 use crate::adding::add_plain;
 use crate::fields::add_text;
 use crate::item::Field;
-use crate::texts::{either, field_or, plain_text, shown_field};
+use crate::texts::{field_or, plain_text, shown_field};
 use crate::variables::Variable;
 use bib_chunks::chunk::{ChunksRef, format_verbatim};
 use bib_entry::entry::Entry;
@@ -44,9 +44,9 @@ fn eprint_of(alloc: Global, entry: &Entry) -> Result<Text, AllocError>
     plain_text(alloc, entry, "eprint")
 }
 
-// What an address in one of the archives begins with, or nothing for any other archive.
+/// What an address in one of the archives begins with, or nothing for any other archive.
 #[tactic(auto, unfolding(crate::specs::Identifiers::archive_address))]
-fn archive_address(archive: &str) -> &'static str
+pub fn archive_address(archive: &str) -> &'static str
     ensures { result.now ≡ spec.archive_address archive.now }
 {
     match archive {
@@ -87,14 +87,17 @@ fn unaddressed(alloc: Global, archive: &str, text: Text) -> Text
 }
 
 // The address: by the field `url`, else in the archive.
-#[tactic(auto, unfolding(crate::specs::Identifiers::url_of))]
+#[tactic(auto, unfolding(crate::specs::Identifiers::url_of, crate::specs::Texts::either))]
 fn url_of(alloc: Global, entry: &Entry) -> Result<Text, AllocError>
     ensures { IfOk result (λ text. text ≡ spec.url_of entry.now) }
 {
+    let url = plain_text(alloc, entry, "url")?;
+    if !url.is_empty() {
+        return Ok(url);
+    }
     let archive = archive_of(alloc, entry)?;
     let eprint = eprint_of(alloc, entry)?;
-    let address = address_in(alloc, archive.as_str(), eprint.as_str())?;
-    Ok(either(plain_text(alloc, entry, "url")?, address))
+    address_in(alloc, archive.as_str(), eprint.as_str())
 }
 
 // The number in PubMed.

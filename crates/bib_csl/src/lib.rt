@@ -2,24 +2,28 @@
 //!
 //! An item has a type and a list of variables. Each group of variables is a module with one call that appends those of the group that an
 //! entry has, in their order; `item` is these calls, one after another, and its definition the lists of the groups. Texts come from
-//! `texts` and `markup`, names from `people`, dates from `dates`. `json` makes the object of an item.
+//! `texts` and `markup`, names from `people`, dates from `dates`. `objects` makes the JSON of an
+//! item: as a value, and as a text, whose members `members` puts in order and which `writing` writes token by token.
 #![tactic(auto)]
 
 mod adding;
-mod dates;
+pub mod dates;
 mod fields;
-mod identifiers;
+pub mod identifiers;
 pub mod item;
-pub mod json;
 pub mod laws;
 pub mod making;
 mod markup;
+mod members;
 mod notes;
 mod numbers;
-mod people;
+pub mod objects;
+pub mod people;
 mod publishing;
+mod standing;
 mod tags;
 mod texts;
 mod titles;
 mod types;
 pub mod variables;
+mod writing;

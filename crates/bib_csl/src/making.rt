@@ -18,6 +18,9 @@ use bib_entry::entry::Entry;
 use bib_text::items::Items;
 use std::alloc::{AllocError, Global};
 
+// Most items have no more variables.
+const USUAL_FIELDS: usize = 12;
+
 // The type of the item that an entry becomes.
 #[tactic(auto, unfolding(crate::specs::Items::type_of_entry))]
 fn type_of_entry(alloc: Global, entry: &Entry) -> Result<ItemType, AllocError>
@@ -65,7 +68,7 @@ fn add_details(
 fn item_fields(alloc: Global, kind: ItemType, entry: &Entry) -> Result<Items<Field>, AllocError>
     ensures { IfOk result (λ fields. fields ≡ item_fields kind entry.now) }
 {
-    let mut fields = Items::new(alloc);
+    let mut fields = Items::from_vec(Vec::with_capacity(alloc, USUAL_FIELDS)?);
     add_work(alloc, kind, entry, &mut fields)?;
     add_details(alloc, kind, entry, &mut fields)?;
     add_people(alloc, kind, entry, &mut fields)?;

@@ -1,62 +1,76 @@
 //! Texts of fields with HTML's tags.
 
-ghost use Rattle.std.specs.Prelude.{◌≡◌, ◌++◌, OnOk, IfOk};
+ghost use Rattle.std.specs.Prelude.{◌≡◌, ◌++◌, IfOk};
 ghost use Rattle.std.specs.Option.{option_copied};
 ghost use Rattle.bib_csl.specs.Texts.{tagged, keeping_its_case, keeping_case, marked_field, marked_chunk, marked_chunks};
 
+use crate::standing::shown_chunk;
 use crate::tags::marked_text;
-use bib_chunks::chunk::{Chunk, ChunksRef, Spanned, format_verbatim};
+use bib_chunks::chunk::{Chunk, ChunksRef, Spanned};
 use bib_text::text::Text;
 use std::alloc::{AllocError, Global};
 
-// Appends a text whose case no style changes.
+// A text whose case no style changes.
 #[tactic(auto, unfolding(crate::specs::Texts::keeping_case))]
-fn push_keeping_case(out: &mut Text, text: &str) -> Result<(), AllocError>
-    ensures { OnOk result (out.new ≡ out.old ++ keeping_case text.now) }
+fn keeping_case(alloc: Global, text: Text) -> Result<Text, AllocError>
+    ensures { IfOk result (λ kept. kept ≡ keeping_case text) }
 {
     if text.is_empty() {
-        return Ok(());
+        return Ok(text);
     }
-    out.push_str("<span class=\"nocase\">")?;
-    out.push_str(text)?;
-    out.push_str("</span>")
+    let mut kept = Text::from_str(alloc, "<span class=\"nocase\">")?;
+    kept.push_str(text.as_str())?;
+    kept.push_str("</span>")?;
+    Ok(kept)
 }
 
-// Appends the text of a chunk, which keeps its case in a title where it is verbatim.
+// The text of a chunk, which keeps its case in a title where it is verbatim.
 #[tactic(auto, unfolding(crate::specs::Texts::keeping_its_case))]
-fn push_cased(out: &mut Text, is_title: bool, chunk: &Chunk, text: &str) -> Result<(), AllocError>
-    ensures { OnOk result (out.new ≡ out.old ++ keeping_its_case is_title chunk.now text.now) }
+fn keeping_its_case(
+    alloc: Global,
+    is_title: bool,
+    chunk: &Chunk,
+    text: Text,
+) -> Result<Text, AllocError>
+    ensures { IfOk result (λ kept. kept ≡ keeping_its_case is_title chunk.now text) }
 {
     match chunk {
-        Chunk::Verbatim(_) if is_title => push_keeping_case(out, text),
-        _ => out.push_str(text),
+        Chunk::Verbatim(_) if is_title => keeping_case(alloc, text),
+        _ => Ok(text),
     }
 }
 
 // The text of a chunk as HTML writes it: commands have tags, but in math.
 #[tactic(auto, unfolding(crate::specs::Texts::tagged))]
-fn tagged(alloc: Global, chunk: &Chunk, text: &str) -> Result<Text, AllocError>
-    ensures { IfOk result (λ tagged_text. tagged_text ≡ tagged chunk.now text.now) }
+fn tagged(alloc: Global, chunk: &Chunk, text: Text) -> Result<Text, AllocError>
+    ensures { IfOk result (λ tagged_text. tagged_text ≡ tagged chunk.now text) }
 {
     match chunk {
-        Chunk::Math(_) => Text::from_str(alloc, text),
+        Chunk::Math(_) => Ok(text),
         _ => marked_text(alloc, text),
     }
 }
 
-// Appends a chunk with HTML's tags.
+// A chunk with HTML's tags.
 #[tactic(auto, unfolding(crate::specs::Texts::marked_chunk))]
-fn push_marked(
-    alloc: Global,
-    out: &mut Text,
-    is_title: bool,
-    chunk: &Spanned<Chunk>,
-) -> Result<(), AllocError>
-    ensures { OnOk result (out.new ≡ out.old ++ marked_chunk is_title chunk.now) }
+fn marked_chunk(alloc: Global, is_title: bool, chunk: &Spanned<Chunk>) -> Result<Text, AllocError>
+    ensures { IfOk result (λ text. text ≡ marked_chunk is_title chunk.now) }
 {
-    let shown = format_verbatim(alloc, std::slice::from_ref(chunk))?;
-    let text = tagged(alloc, &chunk.v, shown.as_str())?;
-    push_cased(out, is_title, &chunk.v, text.as_str())
+    let shown = shown_chunk(alloc, chunk)?;
+    let text = tagged(alloc, &chunk.v, shown)?;
+    keeping_its_case(alloc, is_title, &chunk.v, text)
+}
+
+// A text and another after it.
+fn followed(first: Text, next: Text) -> Result<Text, AllocError>
+    ensures { IfOk result (λ text. text ≡ first ++ next) }
+{
+    if first.is_empty() {
+        return Ok(next);
+    }
+    let mut text = first;
+    text.push_str(next.as_str())?;
+    Ok(text)
 }
 
 // Chunks with HTML's tags.
@@ -70,7 +84,7 @@ pub(crate) fn marked_chunks(
 {
     let mut out = Text::new(alloc);
     'chunks: for chunk in chunks {
-        push_marked(alloc, &mut out, is_title, chunk)?;
+        out = followed(out, marked_chunk(alloc, is_title, chunk)?)?;
     }
     Ok(out)
 }

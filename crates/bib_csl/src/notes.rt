@@ -3,11 +3,13 @@
 ghost use Rattle.std.specs.Prelude.{◌≡◌, ◌++◌, OnOk, IfOk};
 ghost use Rattle.std.specs.Option.{option_copied};
 ghost use Rattle.bib_csl.specs.Notes as spec;
+ghost use Rattle.bib_csl.specs.Texts.{either};
 
 use crate::adding::{add_plain, add_rich, add_rich_or};
 use crate::fields::add_text;
 use crate::item::Field;
-use crate::texts::{field_or, joined, rich_text, shown};
+use crate::standing::shown;
+use crate::texts::{either, field_or, joined, rich_text};
 use crate::variables::Variable;
 use bib_chunks::chunk::ChunksRef;
 use bib_entry::entry::Entry;
@@ -28,7 +30,36 @@ fn tag_of(language: Language) -> &'static str
     }
 }
 
-// The language of a field: the tag of what its text is read as, or the text.
+// The tag of a language by a name that BibLaTeX has for it beside those of the table of languages, or nothing.
+#[tactic(auto, unfolding(crate::specs::Notes::tag_named))]
+fn tag_named(name: &str) -> &'static str
+    ensures { result.now ≡ spec.tag_named name.now }
+{
+    match name {
+        "acadian" => "fr-CA",
+        "canadien" => "fr-CA",
+        "francais" => "fr",
+        "frenchb" => "fr",
+        "brazilian" => "pt-BR",
+        "mexican" => "es-MX",
+        "galician" => "gl",
+        "latin" => "la",
+        "norwegian" => "no",
+        "ukenglish" => "en-GB",
+        "usenglish" => "en-US",
+        _ => "",
+    }
+}
+
+// The tag of the language that a text names, or the text.
+fn tag_or_text(alloc: Global, whole: Text) -> Result<Text, AllocError>
+    ensures { IfOk result (λ text. text ≡ either (spec.tag_named whole) whole) }
+{
+    let tag = Text::from_str(alloc, tag_named(whole.as_str()))?;
+    Ok(either(tag, whole))
+}
+
+// The language of a field: the tag of what its text is read as or names, or the text.
 #[tactic(auto, unfolding(crate::specs::Notes::language_of))]
 fn language_of(alloc: Global, field: Option<ChunksRef<'_>>) -> Result<Text, AllocError>
     ensures { IfOk result (λ text. text ≡ spec.language_of (option_copied field.entry)) }
@@ -38,7 +69,7 @@ fn language_of(alloc: Global, field: Option<ChunksRef<'_>>) -> Result<Text, Allo
     };
     match read_language(alloc, chunks)? {
         Some(language) => Text::from_str(alloc, tag_of(language)),
-        None => shown(alloc, chunks),
+        None => tag_or_text(alloc, shown(alloc, chunks)?),
     }
 }
 

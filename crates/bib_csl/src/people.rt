@@ -1,15 +1,18 @@
 //! The people of an item.
 
-ghost use Rattle.std.specs.Prelude.{◌≡◌, ◌++◌, OnOk, IfOk};
+ghost use Rattle.std.specs.Prelude.{◌≡◌, [], ◌++◌, false, is_some, OnOk, IfOk};
 ghost use Rattle.std.specs.List.{list_all};
 ghost use Rattle.std.specs.Option.{option_copied};
 ghost use Rattle.bib_chunks.specs.Values.{text};
 ghost use Rattle.bib_entry.specs.Editors.{role_of};
 ghost use Rattle.bib_csl.specs.Fields.{given_people};
 ghost use Rattle.bib_csl.specs.People as spec;
+ghost use Rattle.bib_csl.specs.Texts.{field};
+ghost use Rattle.bib_csl.specs.declared.variables.Variable.{Variable as AnyVariable};
 
 use crate::fields::add_names;
 use crate::item::{Field, Name, NameParts};
+use crate::standing::{says_others, shown};
 use crate::tags::untied;
 use crate::variables::{ItemType, Variable};
 use bib_chunks::chunk::cuts::{and_list, comma_list};
@@ -42,13 +45,20 @@ fn is_all_braced(chunks: ChunksRef<'_>) -> bool
 
 // The parts of a person's name, whose prefix counts as part of the family name or not.
 #[tactic(auto, unfolding(crate::specs::People::parts_with))]
-fn parts_with(alloc: Global, uses_prefix: bool, person: &Person) -> Result<NameParts, AllocError>
-    ensures { IfOk result (λ parts. parts ≡ spec.parts_with uses_prefix person.now) }
+fn parts_with(alloc: Global, uses_prefix: bool, person: Person) -> Result<NameParts, AllocError>
+    ensures { IfOk result (λ parts. parts ≡ spec.parts_with uses_prefix person) }
 {
-    let family = untied(alloc, person.name.as_str())?;
-    let given = untied(alloc, person.given_name.as_str())?;
-    let suffix = untied(alloc, person.suffix.as_str())?;
-    let particle = untied(alloc, person.prefix.as_str())?;
+    let Person {
+        name,
+        given_name,
+        prefix,
+        suffix,
+        ..
+    } = person;
+    let family = untied(alloc, name)?;
+    let given = untied(alloc, given_name)?;
+    let suffix = untied(alloc, suffix)?;
+    let particle = untied(alloc, prefix)?;
     if uses_prefix {
         return Ok(NameParts {
             family,
@@ -67,18 +77,33 @@ fn parts_with(alloc: Global, uses_prefix: bool, person: &Person) -> Result<NameP
     })
 }
 
-// The name that chunks spell; the person's own word on the prefix goes before that of the entry.
-#[tactic(auto, unfolding(crate::specs::People::name_said, crate::specs::People::is_literal))]
-fn name_said(alloc: Global, uses_prefix: bool, chunks: ChunksRef<'_>) -> Result<Name, AllocError>
+// Whether a name isn't taken apart: it stands in braces, or says that there are others.
+#[tactic(auto, unfolding(crate::specs::People::is_literal))]
+fn is_literal(alloc: Global, chunks: ChunksRef<'_>) -> Result<bool, AllocError>
+    ensures { IfOk result (λ literal. literal ≡ spec.is_literal chunks.now) }
+{
+    if is_all_braced(chunks) {
+        return Ok(true);
+    }
+    says_others(alloc, chunks)
+}
+
+/// The name that chunks spell, which counts prefixes as parts of family names or doesn't; the person's own word on the prefix goes
+/// before that. The only error is out of memory.
+#[tactic(auto, unfolding(crate::specs::People::name_said))]
+pub fn name_said(
+    alloc: Global,
+    uses_prefix: bool,
+    chunks: ChunksRef<'_>,
+) -> Result<Name, AllocError>
     ensures { IfOk result (λ name. name ≡ spec.name_said uses_prefix chunks.now) }
 {
-    let text = format_verbatim(alloc, chunks)?;
-    if is_all_braced(chunks) || text.as_str() == "others" {
-        return Ok(Name::Literal(untied(alloc, text.as_str())?));
+    if is_literal(alloc, chunks)? {
+        return Ok(Name::Literal(untied(alloc, shown(alloc, chunks)?)?));
     }
     let person = Person::parse(alloc, chunks)?;
     let uses_prefix = person.use_prefix.unwrap_or(uses_prefix);
-    Ok(Name::Parts(parts_with(alloc, uses_prefix, &person)?))
+    Ok(Name::Parts(parts_with(alloc, uses_prefix, person)?))
 }
 
 // Whether a name says nothing.
@@ -205,6 +230,13 @@ fn role_of(alloc: Global, field: Option<ChunksRef<'_>>) -> Result<EditorType, Al
     }
 }
 
+// Whether an entry has this field.
+fn has(entry: &Entry, name: &str) -> bool
+    ensures { result ≡ is_some (field entry.now name.now) }
+{
+    entry.get(name).is_some()
+}
+
 // Appends the people that the field of the first name holds, where their role, which the field of the second names, stands under the
 // variable.
 #[tactic(auto, unfolding(crate::specs::People::editors_listed))]
@@ -218,6 +250,9 @@ fn add_editors_in(
 ) -> Result<(), AllocError>
     ensures { OnOk result (names.new ≡ names.old ++ spec.editors_listed variable entry.now people.now role.now) }
 {
+    if !has(entry, people) {
+        return Ok(());
+    }
     let role = role_of(alloc, entry.get(role))?;
     if is_under(variable, &role) {
         let uses_prefix = uses_prefix(alloc, entry)?;
@@ -243,6 +278,22 @@ fn editors_under(
     Ok(names)
 }
 
+// Whether an entry has editors; without any none stand under a variable.
+fn has_editors(entry: &Entry) -> bool
+    ensures { result ≡ false → ((v : AnyVariable) → spec.editors_under v entry.now ≡ []) }
+{
+    if has(entry, "editor") {
+        return true;
+    }
+    if has(entry, "editora") {
+        return true;
+    }
+    if has(entry, "editorb") {
+        return true;
+    }
+    has(entry, "editorc")
+}
+
 // Appends the editors of an entry that stand under the variable.
 fn add_editors(
     alloc: Global,
@@ -253,6 +304,24 @@ fn add_editors(
     ensures { OnOk result (fields.new ≡ fields.old ++ given_people variable (spec.editors_under variable entry.now)) }
 {
     add_names(fields, variable, editors_under(alloc, variable, entry)?)
+}
+
+// Appends the editors of an entry, each under the variable of the role.
+#[tactic(auto, unfolding(crate::specs::People::editor_fields))]
+fn add_all_editors(
+    alloc: Global,
+    entry: &Entry,
+    fields: &mut Items<Field>,
+) -> Result<(), AllocError>
+    ensures { OnOk result (fields.new ≡ fields.old ++ spec.editor_fields entry.now) }
+{
+    if !has_editors(entry) {
+        return Ok(());
+    }
+    add_editors(alloc, Variable::Editor, entry, fields)?;
+    add_editors(alloc, Variable::Compiler, entry, fields)?;
+    add_editors(alloc, Variable::Director, entry, fields)?;
+    add_editors(alloc, Variable::Organizer, entry, fields)
 }
 
 // The people of the field of this name.
@@ -309,10 +378,7 @@ pub(crate) fn add_people(
     ensures { OnOk result (fields.new ≡ fields.old ++ spec.people_fields kind entry.now) }
 {
     add_names(fields, Variable::Author, authors_of(alloc, kind, entry)?)?;
-    add_editors(alloc, Variable::Editor, entry, fields)?;
-    add_editors(alloc, Variable::Compiler, entry, fields)?;
-    add_editors(alloc, Variable::Director, entry, fields)?;
-    add_editors(alloc, Variable::Organizer, entry, fields)?;
+    add_all_editors(alloc, entry, fields)?;
     add_people_of(alloc, Variable::Translator, entry, "translator", fields)?;
     add_people_of(
         alloc,

@@ -2,6 +2,7 @@
 
 ghost use Rattle.std.specs.Prelude.{◌≡◌, ◌++◌, OnOk, IfOk};
 ghost use Rattle.bib_csl.specs.Publishing as spec;
+ghost use Rattle.bib_csl.specs.Texts.{either as either_of};
 
 use crate::fields::add_text;
 use crate::item::Field;
@@ -23,19 +24,72 @@ fn publisher_of(alloc: Global, entry: &Entry) -> Result<Text, AllocError>
     Ok(either(list_text(alloc, entry, "publisher")?, other))
 }
 
-// What the keys of the field `type` stand for; any other text stays.
-#[tactic(auto, unfolding(crate::specs::Publishing::genre_named))]
-fn genre_named(text: &str) -> &str
-    ensures { result.now ≡ spec.genre_named text.now }
+// The kind of a thesis, a report or another work by BibLaTeX's key for it, or nothing for any other text.
+#[tactic(auto, unfolding(crate::specs::Publishing::work_named))]
+fn work_named(text: &str) -> &'static str
+    ensures { result.now ≡ spec.work_named text.now }
 {
     match text {
+        "bathesis" => "Bachelor's thesis",
         "mathesis" => "Master's thesis",
         "phdthesis" => "PhD thesis",
         "candthesis" => "Candidate thesis",
         "techreport" => "technical report",
         "resreport" => "research report",
-        _ => text,
+        "software" => "computer software",
+        "datacd" => "CD-ROM",
+        "audiocd" => "audio CD",
+        _ => "",
     }
+}
+
+// The kind of a patent by BibLaTeX's key for it.
+#[tactic(auto, unfolding(crate::specs::Publishing::patent_named))]
+fn patent_named(text: &str) -> &'static str
+    ensures { result.now ≡ spec.patent_named text.now }
+{
+    match text {
+        "patent" => "patent",
+        "patentde" => "German patent",
+        "patenteu" => "European patent",
+        "patentfr" => "French patent",
+        "patentuk" => "British patent",
+        "patentus" => "U.S. patent",
+        _ => "",
+    }
+}
+
+// The kind of a request for a patent by BibLaTeX's key for it.
+#[tactic(auto, unfolding(crate::specs::Publishing::request_named))]
+fn request_named(text: &str) -> &'static str
+    ensures { result.now ≡ spec.request_named text.now }
+{
+    match text {
+        "patreq" => "patent request",
+        "patreqde" => "German patent request",
+        "patreqeu" => "European patent request",
+        "patreqfr" => "French patent request",
+        "patrequk" => "British patent request",
+        "patrequs" => "U.S. patent request",
+        _ => "",
+    }
+}
+
+// The first of these texts that isn't empty.
+#[tactic(auto, unfolding(crate::specs::Texts::either))]
+fn first_of<'t>(first: &'t str, other: &'t str) -> &'t str
+    ensures { result.now ≡ either_of first.now other.now }
+{
+    if first.is_empty() { other } else { first }
+}
+
+// What the keys of the field `type` stand for; any other text stays.
+#[tactic(auto, unfolding(crate::specs::Publishing::genre_named))]
+fn genre_named(text: &str) -> &str
+    ensures { result.now ≡ spec.genre_named text.now }
+{
+    let patent = first_of(patent_named(text), first_of(request_named(text), text));
+    first_of(work_named(text), patent)
 }
 
 // What the type of an entry says of the kind of work.
@@ -57,9 +111,8 @@ fn genre_of(alloc: Global, entry: &Entry) -> Result<Text, AllocError>
     ensures { IfOk result (λ text. text ≡ spec.genre_of entry.now) }
 {
     let kind = rich_text(alloc, entry, "type")?;
-    let named = Text::from_str(alloc, genre_named(kind.as_str()))?;
-    let of_type = Text::from_str(alloc, genre_of_type(&entry.entry_type))?;
-    Ok(either(named, of_type))
+    let named = first_of(genre_named(kind.as_str()), genre_of_type(&entry.entry_type));
+    Text::from_str(alloc, named)
 }
 
 // Appends who published an item and where.

@@ -2,13 +2,13 @@
 
 ghost use Rattle.std.specs.Prelude.{◌≡◌, [], IfOk};
 ghost use Rattle.std.specs.Option.{option_copied};
-ghost use Rattle.bib_chunks.specs.Values.{text};
 ghost use Rattle.bib_entry.specs.Fields.{field_or};
 ghost use Rattle.bib_csl.specs.Texts.{field, shown_field, title_text, rich_text, rich_text_or, either, joined, listed_after, listed_field};
 
 use crate::markup::{marked_chunks, marked_field};
+use crate::standing::shown;
 use bib_chunks::chunk::cuts::and_list;
-use bib_chunks::chunk::{Chunks, ChunksRef, format_verbatim};
+use bib_chunks::chunk::{Chunks, ChunksRef};
 use bib_entry::entry::Entry;
 use bib_text::text::Text;
 use std::alloc::{AllocError, Global};
@@ -21,13 +21,6 @@ pub(crate) fn field_or<'e>(entry: &'e Entry, name: &str, other: &str) -> Option<
         Some(chunks) => Some(chunks),
         None => entry.get(other),
     }
-}
-
-// The formatted text of chunks.
-pub(crate) fn shown(alloc: Global, chunks: ChunksRef<'_>) -> Result<Text, AllocError>
-    ensures { IfOk result (λ shown. shown ≡ text chunks.now) }
-{
-    Ok(Text::from_string(format_verbatim(alloc, chunks)?))
 }
 
 // The plain text of a field, or nothing where it isn't there.

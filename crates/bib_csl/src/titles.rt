@@ -111,6 +111,26 @@ fn container_title(alloc: Global, kind: ItemType, entry: &Entry) -> Result<Text,
     Ok(either(journal, title_of_book(alloc, entry)?))
 }
 
+// What BibLaTeX's keys of a series stand for; any other text stays.
+#[tactic(auto, unfolding(crate::specs::Titles::series_named))]
+fn series_named(alloc: Global, text: Text) -> Result<Text, AllocError>
+    ensures { IfOk result (λ named. named ≡ spec.series_named text) }
+{
+    match text.as_str() {
+        "newseries" => Text::from_str(alloc, "new series"),
+        "oldseries" => Text::from_str(alloc, "old series"),
+        _ => Ok(text),
+    }
+}
+
+// The title of the series.
+#[tactic(auto, unfolding(crate::specs::Titles::series_title))]
+fn series_title(alloc: Global, entry: &Entry) -> Result<Text, AllocError>
+    ensures { IfOk result (λ text. text ≡ spec.series_title entry.now) }
+{
+    series_named(alloc, title_text(alloc, entry, "series")?)
+}
+
 // The name of the conference.
 #[tactic(auto, unfolding(crate::specs::Titles::event_title))]
 fn event_title(alloc: Global, entry: &Entry) -> Result<Text, AllocError>
@@ -162,7 +182,11 @@ pub(crate) fn add_container(
         "shortjournal",
         fields,
     )?;
-    add_title(alloc, Variable::CollectionTitle, entry, "series", fields)
+    add_text(
+        fields,
+        Variable::CollectionTitle,
+        series_title(alloc, entry)?,
+    )
 }
 
 // Appends the conference that an item comes from.

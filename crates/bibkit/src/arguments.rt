@@ -39,6 +39,13 @@ pub enum Asked<'a> {
     Convert(Target),
     /// The files with the types and fields of a format.
     Rewrite(write::Format),
+    /// The entries of the items of files, with the types and fields of a format; nothing where another format is asked for.
+    Import(Option<write::Format>),
+    /// Files whose entries have what they inherit in fields of their own.
+    Resolve {
+        /// What is done with the new text of each file.
+        mode: Mode,
+    },
     /// Something else.
     Other(Request<'a>),
 }
@@ -261,8 +268,20 @@ fn format_asked<'a>(alloc: Global, matches: &ArgMatches<'a>) -> Result<Asked<'a>
     })
 }
 
+// The format of entries that a word names.
+fn format_named(name: Option<&str>) -> Option<write::Format> {
+    match name {
+        Some("biblatex") => Some(write::Format::Biblatex),
+        Some("bibtex") => Some(write::Format::Bibtex),
+        _ => None,
+    }
+}
+
 // What `convert` was asked for.
 fn convert_asked<'a>(matches: &ArgMatches<'a>) -> Asked<'a> {
+    if matches.get_str("from") == Some("csl") {
+        return Asked::Import(format_named(matches.get_str("to")));
+    }
     match matches.get_str("to") {
         Some("biblatex") => Asked::Rewrite(write::Format::Biblatex),
         Some("bibtex") => Asked::Rewrite(write::Format::Bibtex),
@@ -282,6 +301,10 @@ fn request_of<'a>(
         "lint" => return lint_asked(alloc, matches),
         "fmt" => return format_asked(alloc, matches),
         "convert" => return Ok(convert_asked(matches)),
+        "resolve" => {
+            let mode = mode_of(matches, false);
+            return Ok(Asked::Resolve { mode });
+        }
         "get" => Request::Entries(Excerpts::Get(texts(alloc, matches, "KEYS")?)),
         "grep" => Request::Entries(Excerpts::Grep(Search {
             field: matches.get_str("FIELD").unwrap_or(""),

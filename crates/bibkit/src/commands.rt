@@ -48,6 +48,8 @@ enum Takes {
     Times,
     // The format that files are converted to.
     Target,
+    // The format that files are converted from.
+    Source,
     // Nothing: it is an option by itself.
     Nothing,
     // Nothing: it is an option beside the one of this name.
@@ -341,11 +343,13 @@ output that can't be written, 3 out of memory";
 const CONVERT_HELP: &str = "\
 As items of CSL-JSON, as JSON and as records of RIS entries have what they inherit, and those of all files stand in one array, or one after
 another. For BibLaTeX or BibTeX the names of types and fields change, and for BibTeX dates are divided; all else stays as it is.
-Of a file with errors nothing is printed, and its first error is reported.
+Of a file with errors nothing is printed, and its first error is reported. Of items of CSL-JSON (--from csl) each becomes an entry, and
+what no field has, or has otherwise, is reported.
 
 Examples:
   bibkit convert --to csl refs.bib >refs.json
   bibkit convert --to bibtex refs.bib >old.bib
+  bibkit convert --from csl --to biblatex refs.json >refs.bib
 
 Status: 0 done, 1 a file has errors, 2 wrong usage, a file that can't be read or an output that can't be written, 3 out of memory";
 
@@ -429,15 +433,46 @@ const FMT: [Argument; 13] = [
 // The formats that files are converted to.
 static TARGETS: [&str; 5] = ["csl", "json", "ris", "biblatex", "bibtex"];
 
+// The formats that files are converted from.
+static SOURCES: [&str; 2] = ["bib", "csl"];
+
 // What `convert` takes.
-const CONVERT: [Argument; 1] = [Argument {
-    name: "to",
-    takes: Takes::Target,
-    help: "Items of CSL-JSON, entries as JSON, records of RIS, or the types and fields of BibLaTeX or of BibTeX",
-}];
+const CONVERT: [Argument; 2] = [
+    Argument {
+        name: "to",
+        takes: Takes::Target,
+        help: "Items of CSL-JSON, entries as JSON, records of RIS, or the types and fields of BibLaTeX or of BibTeX",
+    },
+    Argument {
+        name: "from",
+        takes: Takes::Source,
+        help: "Bibliography files, or items of CSL-JSON, which become entries of BibLaTeX or of BibTeX; bib where it isn't there",
+    },
+];
+
+// What stands at the end of the help of `resolve`.
+const RESOLVE_HELP: &str = "\
+What an entry has by crossref and xdata stands in fields of its own, with the text that it has in the file, in the place of its references;
+all else stays as it is, and so do the entries that were referred to.
+
+Example:
+  bibkit resolve --write refs.bib
+
+Status: 0 done, 1 a file has errors, 2 wrong usage, a file that can't be read, edited or written, or an output that can't be written,
+3 out of memory";
+
+// What `resolve` takes.
+const RESOLVE: [Argument; 2] = [
+    Argument {
+        name: "write",
+        takes: Takes::Nothing,
+        help: "Write the new texts into the files, in place of printing them",
+    },
+    DIFF,
+];
 
 // The commands that read files, in the order of help.
-static READING: [Row; 8] = [
+static READING: [Row; 9] = [
     Row {
         name: "lint",
         about: "Report what is wrong in files, by place",
@@ -485,6 +520,12 @@ static READING: [Row; 8] = [
         about: "Print files in another format",
         help: CONVERT_HELP,
         arguments: &CONVERT,
+    },
+    Row {
+        name: "resolve",
+        about: "Give entries what they inherit in fields of their own, and print the new texts",
+        help: RESOLVE_HELP,
+        arguments: &RESOLVE,
     },
 ];
 
@@ -620,6 +661,7 @@ fn argument_of<'a>(alloc: Global, row: &'static Argument) -> Result<Arg<'a>, All
                 .value_parser(TARGETS.as_slice())
                 .required(true),
         ),
+        Takes::Source => Ok(value(alloc, row, "FORMAT").value_parser(SOURCES.as_slice())),
         Takes::Nothing => Ok(option(alloc, row).action(ArgAction::SetTrue)),
         Takes::NothingBeside(other) => option(alloc, row)
             .action(ArgAction::SetTrue)

@@ -143,6 +143,7 @@ fn note_text(kind: NoteKind) -> &'static str {
     match kind {
         NoteKind::NameIsThere => "stays, since the entry has the field that takes its place",
         NoteKind::DateStays => "stays, since it isn't one date, or a field for its parts is there",
+        NoteKind::MonthStays => "stays, since it can't be joined with a year to a date",
         NoteKind::NotRead => "stays, though no standard style of BibTeX reads it",
     }
 }

@@ -5,6 +5,7 @@ use crate::stops::{Stop, bytes_of, error_line, say, syntax_line};
 use crate::streams::Output;
 use bib_documents::errors::EditError;
 use bib_encoding::decoding::decode;
+use bib_resolution::errors::ResolveError;
 use bib_syntax::raw::{Pair, RawBibliography};
 use bibkit_edits::edit::{Edit, Refusal};
 use bibkit_edits::editing::edited_file;
@@ -138,6 +139,55 @@ fn cycle_line(
     format!(in alloc; "bibkit: {name}: an abbreviation uses itself\n")
 }
 
+// What is said of an entry, by its index, that would say something else with what it inherits in fields of its own.
+fn differing_line(
+    alloc: Global,
+    name: &str,
+    text: &[u8],
+    entry: usize,
+    field: &str,
+) -> Result<String, AllocError> {
+    if let Ok(src) = from_utf8(text) {
+        if let Ok(raw) = RawBibliography::parse(alloc, src) {
+            if let Some(entry) = raw.entries.get(entry) {
+                let said = format!(in alloc;
+                    "with what it inherits in fields of its own the entry {} would have another {field}",
+                    entry.v.key.v
+                )?;
+                return error_line(alloc, name, text, entry.v.key.span.start, &said);
+            }
+        }
+    }
+    unlike_line(alloc, name)
+}
+
+// What is said of a file whose entries would say something else with what they inherit in fields of their own.
+fn unlike_line(alloc: Global, name: &str) -> Result<String, AllocError> {
+    format!(in alloc;
+        "bibkit: {name}: with what they inherit in fields of their own entries would say something else\n"
+    )
+}
+
+// What is said of a file whose entries aren't given what they inherit.
+fn unresolved_line(
+    alloc: Global,
+    name: &str,
+    text: &[u8],
+    why: &ResolveError,
+) -> Result<String, AllocError> {
+    match why {
+        ResolveError::File(error) => {
+            let said = format!(in alloc; "{}", error.kind)?;
+            error_line(alloc, name, text, error.span.start, &said)
+        }
+        ResolveError::Differs { entry, name: field } => {
+            differing_line(alloc, name, text, *entry, field.as_str())
+        }
+        ResolveError::Unlike => unlike_line(alloc, name),
+        ResolveError::OutOfMemory => String::from_str(alloc, "bibkit: out of memory\n"),
+    }
+}
+
 // The text that an edit adds.
 fn added_text<'a>(edits: &[Edit<'a>]) -> &'a str {
     match edits.first() {
@@ -168,6 +218,7 @@ fn refused(
             after_mark(bytes),
             *definition,
         ),
+        Refusal::Unresolved { why, .. } => unresolved_line(alloc, name, after_mark(bytes), why),
         Refusal::OutOfMemory => String::from_str(alloc, "bibkit: out of memory\n"),
     }
 }

@@ -6,6 +6,8 @@ use crate::converting::{run_convert, run_rewrite};
 use crate::edits::{Mode, run_edits};
 use crate::files::SystemFiles;
 use crate::formatting::run_format;
+use crate::importing::{refuse_target, run_import};
+use crate::resolving::run_resolve;
 use crate::streams::Output;
 use bibkit_core::request::{Call, Cited, Request};
 use bibkit_core::run::run;
@@ -161,7 +163,10 @@ fn answer(rt: &HostRuntime, words: Words<'_>) -> u8 {
             mode,
         } => run_style(rt, settings, order, mode, &names),
         Asked::Convert(target) => run_convert(rt, target, &names),
+        Asked::Resolve { mode } => run_resolve(rt, mode, &names),
         Asked::Rewrite(format) => run_rewrite(rt, format, &names),
+        Asked::Import(Some(format)) => run_import(rt, format, &names),
+        Asked::Import(None) => refuse_target(rt),
         Asked::Other(request) => run_request(rt, request, names),
     }
 }

@@ -4,7 +4,7 @@ ghost use Rattle.std.specs.Prelude.{◌≡◌, IfOk};
 ghost use Rattle.std.specs.String.{string_bytes};
 ghost use Rattle.bibkit_convert.specs.Converted as spec;
 
-use bib_csl::json::item_text;
+use bib_csl::objects::item_text;
 use bib_json::arrays::{array_end, before_element};
 use bib_ris::records::record_text;
 use biblatex::{Entry, EntryType};

@@ -13,14 +13,17 @@ use Rattle.bib_conversion.specs.Conversions.{IsConverted}
 use Rattle.bib_entry.specs.declared.write.Format.{Format}
 use Rattle.bib_format.specs.Formatted.{IsReadAlike, says_in_order, text_in_style}
 use Rattle.bib_format.specs.declared.style.Style.{Style}
+use Rattle.bib_resolution.specs.Resolutions.{IsResolvedText}
+use Rattle.bib_resolution.specs.declared.errors.ResolveError.{ResolveError}
+use Rattle.bib_resolution.specs.declared.errors.ResolveError.TheVariants as resolve_error
 use Rattle.bib_sorting.specs.Sorted.{IsReadSorted, IsSortedText}
 use Rattle.bib_strings.specs.Collected.{AreMadeAbbreviations}
 use Rattle.bib_strings.specs.Expanded.{IsExpanded}
-use Rattle.bibkit_edits.specs.Edited.{AreMade, AreRefused, AreTextsCollected, IsDocumentConverted, IsEditRefused, IsInOrder, IsInStyle, IsMade, IsDocumentOf, IsWrittenOut, TextAdded}
+use Rattle.bibkit_edits.specs.Edited.{AreMade, AreRefused, AreTextsCollected, IsDocumentConverted, IsEditRefused, IsInOrder, IsInStyle, IsMade, IsDocumentOf, IsResolvedDocument, IsUnresolved, IsWrittenOut, TextAdded}
 use Rattle.bibkit_edits.specs.Orders.{order_text}
 use Rattle.bibkit_edits.specs.declared.order.Order.{Order}
 use Rattle.bibkit_edits.specs.Edited.AreMade.{none, next}
-use Rattle.bibkit_edits.specs.Steps.{AddsError, AddsUnread, AreFirstMade, IsTextRefused, StepIsRefused, edit_refusal, refusal_at, unless_no_memory}
+use Rattle.bibkit_edits.specs.Steps.{AddsError, AddsUnread, AreFirstMade, IsTextRefused, StepIsRefused, edit_refusal, refusal_at, unless_no_memory, unresolved_refusal}
 use Rattle.bibkit_edits.specs.declared.edit.Edit.{Edit}
 use Rattle.bibkit_edits.specs.declared.edit.Refusal.{Refusal}
 use Rattle.bibkit_edits.specs.declared.edit.Refusal.TheVariants as refusal
@@ -56,6 +59,15 @@ collection_made d fields at_least new made = record { document = record { text =
 -- a text with the types and fields of a format
 pub conversion_made : (format : Format) (d : Document) (new : List ℕ) → IsConverted format d new → IsEdited (IsDocumentConverted format d) new
 conversion_made format d new made = record { document = record { text = new; says = made.read.tells }; outcome = made; is = refl; read = made.read.read }
+
+-- a text with what entries inherit in fields of their own
+pub resolution_made : (d : Document) (new : List ℕ) → IsResolvedText d new → IsEdited (IsResolvedDocument d) new
+resolution_made d new made = record {
+  document = made.made;
+  outcome = subst (IsResolvedText d) (sym made.is) made;
+  is = sym made.is;
+  read = made.read;
+}
 
 -- one edit more
 pub made_more : {edits : List Edit} {edit : Edit} {text new newer : List ℕ} → AreMade edits text new → IsMade edit new newer → AreMade (edits ++ edit ∷ []) text newer
@@ -102,6 +114,9 @@ first_refused done rest edit {text} {new} (refusal.Edit at why) first refused =
 first_refused done rest edit {text} {new} (refusal.Cycle at definition) first refused =
     subst (λ i. AreRefused (done ++ edit ∷ rest) text (refusal.Cycle i definition)) (sym refused.0)
     (AreRefused.cycle edit done rest new refused.1.document refl first.made refused.1.read refused.1.meets)
+first_refused done rest edit {text} {new} (refusal.Unresolved at why) first refused =
+    subst (λ i. AreRefused (done ++ edit ∷ rest) text (refusal.Unresolved i why)) (sym refused.0)
+    (AreRefused.unresolved edit done rest new refused.1.document refl first.made refused.1.read refused.1.refused)
 first_refused done rest edit refusal.OutOfMemory first refused = AreRefused.no_memory
 
 -- the same of edits by the index of the one that is refused
@@ -148,11 +163,19 @@ edit_refused edit text index d error.NotAKey read refused = (refl, record { docu
 edit_refused edit text index d error.NotAName read refused = (refl, record { document = d; read = read; refused = why_refused edit d (λ out. let clash : error.NotAName ≡ error.OutOfMemory = out in cc) refused })
 edit_refused edit text index d error.NotInBraces read refused = (refl, record { document = d; read = read; refused = why_refused edit d (λ out. let clash : error.NotInBraces ≡ error.OutOfMemory = out in cc) refused })
 
+-- the same of an edit that doesn't give entries what they inherit
+unresolved_at : (edit : Edit) (text : List ℕ) (index : ℕ) (d : Document) (why : ResolveError) → IsDocumentOf text d → IsUnresolved edit d why → IsTextRefused edit text index (unresolved_refusal why index)
+unresolved_at edit text index d (resolve_error.File e) read refused = (refl, record { document = d; read = read; refused = refused })
+unresolved_at edit text index d (resolve_error.Differs entry name) read refused = (refl, record { document = d; read = read; refused = refused })
+unresolved_at edit text index d resolve_error.Unlike read refused = (refl, record { document = d; read = read; refused = refused })
+unresolved_at edit text index d resolve_error.OutOfMemory read refused = tt
+
 -- why an edit of a document is refused is why that of its text is
 pub step_refused : (edit : Edit) (text : List ℕ) (index : ℕ) (d : Document) (s : Step) → IsDocumentOf text d → StepIsRefused edit d s → IsTextRefused edit text index (refusal_at s index)
 step_refused edit text index d (step.Added e) read refused = added_refused edit text index e e.kind refl refused
 step_refused edit text index d (step.Refused why) read refused = edit_refused edit text index d why read refused
 step_refused edit text index d (step.Cycle definition) read refused = (refl, record { document = d; read = read; meets = refused })
+step_refused edit text index d (step.Unresolved why) read refused = unresolved_at edit text index d why read refused
 
 -- adding a text that is read
 pub adds_made : {d : Document} {text new : List ℕ} (more : Document) → IsDocumentOf text more → IsEdited (EntriesAdded d more) new → IsEdited (TextAdded d text) new

@@ -15,6 +15,8 @@ use Rattle.bib_entry.specs.declared.write.Format as names
 use Rattle.bib_entry.specs.declared.write.Format.TheVariants.{Biblatex, Bibtex}
 use Rattle.bib_format.specs.Formatted.{content, says_in_order, text_in_style}
 use Rattle.bib_format.specs.declared.style.Style.{Style}
+use Rattle.bib_resolution.specs.Resolutions.{IsResolveRefused, IsResolvedText}
+use Rattle.bib_resolution.specs.declared.errors.ResolveError.{ResolveError}
 use Rattle.bib_sorting.specs.Sorted.{AreEntriesInOrder, IsSortedText, Item, items, says_sorted, without_places}
 use Rattle.bib_strings.specs.Collected.{AreMadeAbbreviations}
 use Rattle.bib_strings.specs.Expanded.{ExpandIsRefused, IsExpanded}
@@ -22,7 +24,7 @@ use Rattle.bib_strings.specs.declared.errors.ExpandError.TheVariants as expand_e
 use Rattle.bibkit_edits.specs.Orders.{order_text}
 use Rattle.bibkit_edits.specs.declared.edit.Edit.{Edit}
 use Rattle.bibkit_edits.specs.declared.order.Order.{Order}
-use Rattle.bibkit_edits.specs.declared.edit.Edit.TheVariants.{Set, Unset, Rename, Remove, Add, Sort, Expand, Collect, ToBiblatex, ToBibtex, Format}
+use Rattle.bibkit_edits.specs.declared.edit.Edit.TheVariants.{Set, Unset, Rename, Remove, Add, Sort, Expand, Collect, ToBiblatex, ToBibtex, Resolve, Format}
 use Rattle.bibkit_edits.specs.declared.edit.Refusal.{Refusal}
 use Rattle.bibkit_edits.specs.declared.edit.Refusal.TheVariants as refusal
 
@@ -66,6 +68,10 @@ AreTextsCollected fields at_least d after = AreMadeAbbreviations d fields at_lea
 abbrev pub IsDocumentConverted : names.Format → Document → Document → Type 0
 IsDocumentConverted format d after = IsConverted format d after.text
 
+-- what comes of giving the entries of a document what they inherit in fields of their own
+abbrev pub IsResolvedDocument : Document → Document → Type 0
+IsResolvedDocument d after = IsResolvedText d after.text
+
 -- what comes of an edit of a document
 abbrev pub EditOutcome : Edit → Document → Document → Type 0
 EditOutcome (Set key name value) d = FieldSet d key.now name.now value.now
@@ -78,6 +84,7 @@ EditOutcome Expand d = IsWrittenOut d
 EditOutcome (Collect fields at_least) d = AreTextsCollected (map (λ name. name.now) fields.now) at_least d
 EditOutcome ToBiblatex d = IsDocumentConverted Biblatex d
 EditOutcome ToBibtex d = IsDocumentConverted Bibtex d
+EditOutcome Resolve d = IsResolvedDocument d
 EditOutcome (Format style) d = IsInStyle style d
 
 -- what an edit makes of a text
@@ -109,6 +116,7 @@ IsEditRefused Expand d why = ⊥
 IsEditRefused (Collect fields at_least) d why = ⊥
 IsEditRefused ToBiblatex d why = ⊥
 IsEditRefused ToBibtex d why = ⊥
+IsEditRefused Resolve d why = ⊥
 IsEditRefused (Format style) d why = ⊥
 
 -- an edit of a document writes its abbreviations out, and the definition at this index refers to itself
@@ -123,7 +131,23 @@ MeetsCycle Expand d definition = ExpandIsRefused d (expand_error.Cycle definitio
 MeetsCycle (Collect fields at_least) d definition = ⊥
 MeetsCycle ToBiblatex d definition = ⊥
 MeetsCycle ToBibtex d definition = ⊥
+MeetsCycle Resolve d definition = ⊥
 MeetsCycle (Format style) d definition = ⊥
+
+-- why an edit of a document doesn't give entries what they inherit
+abbrev pub IsUnresolved : Edit → Document → ResolveError → Type 0
+IsUnresolved (Set key name value) d why = ⊥
+IsUnresolved (Unset key name) d why = ⊥
+IsUnresolved (Rename old new) d why = ⊥
+IsUnresolved (Remove key) d why = ⊥
+IsUnresolved (Add text) d why = ⊥
+IsUnresolved (Sort order) d why = ⊥
+IsUnresolved Expand d why = ⊥
+IsUnresolved (Collect fields at_least) d why = ⊥
+IsUnresolved ToBiblatex d why = ⊥
+IsUnresolved ToBibtex d why = ⊥
+IsUnresolved Resolve d why = IsResolveRefused d.text why
+IsUnresolved (Format style) d why = ⊥
 
 -- an edit adds the entries of this text
 abbrev pub AddsText : Edit → List ℕ → Type 0
@@ -137,10 +161,11 @@ AddsText Expand added = ⊥
 AddsText (Collect fields at_least) added = ⊥
 AddsText ToBiblatex added = ⊥
 AddsText ToBibtex added = ⊥
+AddsText Resolve added = ⊥
 AddsText (Format style) added = ⊥
 
 -- why edits of a text are refused: the text isn't one of the file grammar; or first edits are made, and the next adds a text
--- that isn't, or is refused, or meets a definition that refers to itself; or there was no memory
+-- that isn't, or is refused, or meets a definition that refers to itself, or doesn't give entries what they inherit; or there was no memory
 pub data AreRefused (edits : List Edit) (text : List ℕ) : Refusal → Type 0 where
   file : {e : ParseError} → IsReported text e → AreRefused edits text (refusal.File e)
   added : {e : ParseError} (edit : Edit) (done rest : List Edit) (between more : List ℕ) → edits ≡ done ++ edit ∷ rest → AreMade done text between → AddsText edit more → IsReported more e
@@ -149,6 +174,8 @@ pub data AreRefused (edits : List Edit) (text : List ℕ) : Refusal → Type 0 w
       → IsEditRefused edit d why → AreRefused edits text (refusal.Edit (length done) why)
   cycle : {definition : ℕ} (edit : Edit) (done rest : List Edit) (between : List ℕ) (d : Document) → edits ≡ done ++ edit ∷ rest → AreMade done text between → IsDocumentOf between d
       → MeetsCycle edit d definition → AreRefused edits text (refusal.Cycle (length done) definition)
+  unresolved : {why : ResolveError} (edit : Edit) (done rest : List Edit) (between : List ℕ) (d : Document) → edits ≡ done ++ edit ∷ rest → AreMade done text between → IsDocumentOf between d
+      → IsUnresolved edit d why → AreRefused edits text (refusal.Unresolved (length done) why)
   no_memory : AreRefused edits text refusal.OutOfMemory
 
 -- the byte order mark that bytes begin with, if they do

@@ -6,6 +6,7 @@ ghost use Rattle.bibkit_edits.specs.declared.edit.Refusal.TheVariants.{OutOfMemo
 use crate::order::Order;
 use bib_documents::errors::EditError;
 use bib_format::style::Style;
+use bib_resolution::errors::ResolveError;
 use bib_syntax::raw::ParseError;
 use std::alloc::AllocError;
 
@@ -63,6 +64,8 @@ pub enum Edit<'a> {
     ToBiblatex,
     /// Gives entries the types and fields of BibTeX.
     ToBibtex,
+    /// Gives entries what they inherit in fields of their own.
+    Resolve,
     /// Puts the text in one style.
     Format {
         /// How entries are laid out.
@@ -95,6 +98,13 @@ pub enum Refusal {
         index: usize,
         /// The index of the definition among those of the text.
         definition: usize,
+    },
+    /// An edit that gives entries what they inherit is refused.
+    Unresolved {
+        /// The index of the edit.
+        index: usize,
+        /// Why it is refused.
+        why: ResolveError,
     },
     /// There was no memory.
     OutOfMemory,

@@ -4,10 +4,11 @@ ghost use Rattle.std.specs.Prelude.{◌≡◌, ◌≢◌, IfErr, IfOk, OnErr, ma
 ghost use Rattle.std.specs.String.{string_bytes};
 ghost use Rattle.bib_documents.specs.Documents.{IsEdited};
 ghost use Rattle.bib_documents.specs.declared.errors.EditError.TheVariants.{OutOfMemory};
-ghost use Rattle.bibkit_edits.specs.Edited.{AreMade, AreRefused, AreTextsCollected, EditOutcome, IsDocumentConverted, IsFileMade, IsFileRefused, IsInOrder, IsInStyle, IsMade, IsWrittenOut};
+ghost use Rattle.bibkit_edits.specs.Edited.{AreMade, AreRefused, AreTextsCollected, EditOutcome, IsDocumentConverted, IsFileMade, IsFileRefused, IsInOrder, IsInStyle, IsMade, IsResolvedDocument, IsWrittenOut};
 ghost use Rattle.bib_strings.specs.Expanded.{ExpandIsRefused};
-ghost use Rattle.bibkit_edits.specs.declared.editing.Step.TheVariants.{Added, Refused};
-ghost use Rattle.bibkit_edits.specs.Steps.{IsTextRefused, StepIsRefused, added_refusal, edit_refusal, file_refusal, latest, refusal_at, step_of};
+ghost use Rattle.bibkit_edits.specs.declared.editing.Step.TheVariants.{Added, Refused, Unresolved};
+ghost use Rattle.bibkit_edits.specs.Steps.{IsTextRefused, StepIsRefused, added_refusal, edit_refusal, file_refusal, latest, refusal_at, step_of, unresolved_refusal};
+ghost use Rattle.bib_resolution.specs.Resolutions.{IsResolveRefused};
 
 use crate::edit::{Edit, Refusal};
 use crate::order::{Order, order_texts};
@@ -18,6 +19,8 @@ use bib_documents::errors::EditError;
 use bib_entry::write::Format;
 use bib_format::formatting::format;
 use bib_format::style::Style;
+use bib_resolution::errors::ResolveError;
+use bib_resolution::resolving::resolve;
 use bib_sorting::sorting::sort_entries;
 use bib_strings::collecting::collect;
 use bib_strings::errors::ExpandError;
@@ -34,6 +37,8 @@ enum Step {
     Refused(EditError),
     // The edit meets a definition that refers to itself, the one at this index.
     Cycle(usize),
+    // Entries aren't given what they inherit.
+    Unresolved(ResolveError),
 }
 
 impl From<ParseError> for Step {
@@ -60,6 +65,14 @@ impl From<ExpandError> for Step {
             Ok(definition) => Step::Cycle(definition),
             Err(no_memory) => Step::from(EditError::from(no_memory)),
         }
+    }
+}
+
+impl From<ResolveError> for Step {
+    ghost from_gives = { λ error step. step ≡ Unresolved error };
+
+    fn from(error: ResolveError) -> Self {
+        Step::Unresolved(error)
     }
 }
 
@@ -101,6 +114,14 @@ fn converted(alloc: Global, document: &RawDocument<'_>, format: Format) -> Resul
     Ok(convert(alloc, document, format)?)
 }
 
+// The text of a document with what entries inherit in fields of their own.
+fn resolved(alloc: Global, document: &RawDocument<'_>) -> Result<String, ResolveError>
+    ensures made { IfOk result (λ new. IsEdited (IsResolvedDocument document.now) (string_bytes new)) }
+    ensures refused { IfErr result (IsResolveRefused document.now.text) }
+{
+    resolve(alloc, document)
+}
+
 // The text of a document in one style.
 fn in_style(
     alloc: Global,
@@ -132,6 +153,7 @@ fn edit_document(alloc: Global, document: &RawDocument<'_>, edit: &Edit<'_>) -> 
         Edit::Collect { fields, at_least } => Ok(collected(alloc, document, fields, at_least)?),
         Edit::ToBiblatex => Ok(converted(alloc, document, Format::Biblatex)?),
         Edit::ToBibtex => Ok(converted(alloc, document, Format::Bibtex)?),
+        Edit::Resolve => Ok(resolved(alloc, document)?),
         Edit::Format { style } => Ok(in_style(alloc, document, &style)?),
     }
 }
@@ -177,6 +199,16 @@ fn edit_refusal(why: EditError, index: usize) -> Refusal
     }
 }
 
+// Why edits are refused, where the one at this index gives entries what they inherit.
+fn unresolved_refusal(why: ResolveError, index: usize) -> Refusal
+    ensures { result ≡ unresolved_refusal why index }
+{
+    match why.unless_out_of_memory() {
+        Ok(why) => Refusal::Unresolved { index, why },
+        Err(no_memory) => Refusal::from(no_memory),
+    }
+}
+
 // Why edits are refused, where the one at this index is.
 fn refusal(step: Step, index: usize) -> Refusal
     ensures { result ≡ refusal_at step index }
@@ -185,6 +217,7 @@ fn refusal(step: Step, index: usize) -> Refusal
         Step::Added(error) => added_refusal(error),
         Step::Refused(why) => edit_refusal(why, index),
         Step::Cycle(definition) => Refusal::Cycle { index, definition },
+        Step::Unresolved(why) => unresolved_refusal(why, index),
     }
 }
 

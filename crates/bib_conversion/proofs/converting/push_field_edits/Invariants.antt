@@ -2,12 +2,11 @@ use Rattle.std.proofs.Common.{◌≡◌, ◌++◌, drop, map}
 use Rattle.std.specs.List.{AllByRecursion}
 use Rattle.bib_syntax.specs.Views.{field_of}
 use Rattle.bib_documents.specs.Placed.{IsPlaced}
-use Rattle.bib_conversion.specs.Tables.{all_change_edits, edit_in_bytes, lent_names}
+use Rattle.bib_conversion.specs.Tables.{change_edits, edit_in_bytes}
 use Rattle.bib_conversion.proofs.converting.push_field_edits.Given as goal
 
 abbrev pub invariant-fields : goal.invariant-fields
 invariant-fields l = record {
-  added : map edit_in_bytes l.edits.items ++ all_change_edits (lent_names l.names) l.divides l.text (map field_of (drop l.field-index l.fields))
-      ≡ map edit_in_bytes l.initial.edits.items ++ all_change_edits (lent_names l.names) l.divides l.text (map field_of l.fields);
-  placed : AllByRecursion (IsPlaced l.text) (map field_of (drop l.field-index l.fields));
+  added : map edit_in_bytes l.edits.items ++ change_edits l.changes l.text (map field_of (drop l.at l.fields)) ≡ map edit_in_bytes l.initial.edits.items ++ change_edits l.changes l.text (map field_of l.fields);
+  placed : AllByRecursion (IsPlaced l.text) (map field_of (drop l.at l.fields));
 }

@@ -1,16 +1,11 @@
-use Rattle.std.proofs.Common.{◌∙◌, sym}
-use Rattle.std.proofs.lemmas.List.{append-nil}
-use Rattle.bib_text.proofs.TextFacts.{less_after}
-use Rattle.bib_csl.proofs.TagFacts.{untied_step, untied_end}
+use Rattle.std.proofs.Common.{◌∙◌, sym, ap, subst}
+use Rattle.std.specs.List.{list_all}
+use Rattle.std.specs.Str.{IsUtf8}
+use Rattle.bib_csl.specs.Unmarked.{is_unmarked}
+use Rattle.bib_csl.proofs.TagFacts.{untied_stays}
 use Rattle.bib_csl.proofs.tags.untied.Goals as goal
 
-pub text-smaller : goal.text-smaller
-text-smaller c = less_after c.in-Some.ensures
-
-pub text-preserved : goal.text-preserved
-text-preserved c =
-    let step = untied_step c.text.out c.push_untied.new.out _ c.in-Some.ensures c.text.invariant.1 c.in_ok-push_untied.ensures c.text.invariant.2 in
-    (step.0 ∙ c.text.invariant.0, step.1, step.2)
-
-pub returns : goal.returns
-returns c = sym (append-nil c.text.out) ∙ untied_end c.text.out _ c.text.scanner c.in_default.ensures.0 c.text.invariant.2
+pub returns-then-is_unmarked : goal.returns-then-is_unmarked
+returns-then-is_unmarked c =
+    let same = c.as_str.ensures in
+    untied_stays c.args.text (subst IsUtf8 same c.as_str.utf8) (ap (list_all is_unmarked) (sym same) ∙ sym c.is_unmarked.ensures ∙ c.if-is_unmarked.true)

@@ -1,0 +1,9 @@
+mod ConvertingFacts
+mod DateFacts
+mod ObjectFacts
+mod PageFacts
+mod PeopleFacts
+mod ReadingFacts
+mod ScanFacts
+mod TagFacts
+mod TextCuts

@@ -1,0 +1,5 @@
+use Rattle.std.proofs.Common.{length}
+use Rattle.bib_from_csl.proofs.places.place_of_fault.Given as goal
+
+abbrev pub decreases-tokens : goal.decreases-tokens
+decreases-tokens l = length l.reader

@@ -1,0 +1,116 @@
+-- Meaning: words of public contracts.
+-- Dates, as an item of CSL-JSON gives them.
+use Rattle.std.specs.Prelude.{ℕ, ◌+◌, ◌^◌, Bool, true, false, ◌==◌, nat_lt, if◌then◌else◌, ℤ, pos, negsuc, List, [], ◌∷◌, codes, bytes_eq, Option, Some, None, is_some, unwrap_or, option_and_then, option_map}
+use Rattle.std.specs.Option.{option_map_or, option_or}
+use Rattle.json.specs.Json.{Json}
+use Rattle.json.specs.Find.{as_bool, get}
+use Rattle.bib_chunks.specs.declared.chunk.Chunk.TheVariants.{Normal}
+use Rattle.bib_chunks.specs.Values.{alone}
+use Rattle.bib_dates.specs.Chunks.{date_read}
+use Rattle.bib_csl.specs.Dates.{read_or_unread}
+use Rattle.bib_csl.specs.declared.item.DateParts.{DateParts}
+use Rattle.bib_csl.specs.declared.item.ItemDate.{ItemDate}
+use Rattle.bib_csl.specs.declared.item.Season.{Season}
+use Rattle.bib_csl.specs.declared.item.Season.TheVariants.{Spring, Summer, Autumn, Winter}
+use Rattle.bib_from_csl.specs.Objects.{array_elements, one_if, object_size, string_under, text_under, whole_number}
+
+-- a number that fits in 16 bits
+abbrev pub sixteen_bits : ℤ → Option ℕ
+sixteen_bits (pos n) = if nat_lt n (2 ^ 16) then Some n else None
+sixteen_bits (negsuc n) = None
+
+-- a month or a day
+abbrev pub small_count : Json → Option ℕ
+small_count j = option_and_then sixteen_bits (whole_number j)
+
+-- a year, a month and a day, where they are numbers
+abbrev pub of_year : Option ℤ → Option DateParts
+of_year year = option_map (λ y. record { year = y; month = None; day = None }) year
+
+abbrev pub of_month : Option ℤ → Option ℕ → Option DateParts
+of_month year month = option_and_then (λ y. option_map (λ m. record { year = y; month = Some m; day = None }) month) year
+
+abbrev pub of_day : Option ℤ → Option ℕ → Option ℕ → Option DateParts
+of_day year month day =
+    option_and_then (λ y. option_and_then (λ m. option_map (λ d. record { year = y; month = Some m; day = Some d }) day) month) year
+
+-- year, month and day, where a list has one to three numbers
+abbrev pub day_of_numbers : List Json → Option DateParts
+day_of_numbers [] = None
+day_of_numbers (year ∷ []) = of_year (whole_number year)
+day_of_numbers (year ∷ month ∷ []) = of_month (whole_number year) (small_count month)
+day_of_numbers (year ∷ month ∷ day ∷ []) = of_day (whole_number year) (small_count month) (small_count day)
+day_of_numbers (year ∷ month ∷ day ∷ more ∷ rest) = None
+
+-- the date that an array is
+abbrev pub day_in : Json → Option DateParts
+day_in j = option_and_then day_of_numbers (array_elements j)
+
+-- two dates, where both are there
+abbrev pub both_dates : Option DateParts → Option DateParts → Option (List DateParts)
+both_dates start end = option_and_then (λ a. option_map (λ b. a ∷ b ∷ []) end) start
+
+-- one date, or the two of a range, where a list has these
+abbrev pub dates_of : List Json → Option (List DateParts)
+dates_of [] = None
+dates_of (only ∷ []) = option_map (λ date. date ∷ []) (day_in only)
+dates_of (start ∷ end ∷ []) = both_dates (day_in start) (day_in end)
+dates_of (start ∷ end ∷ more ∷ rest) = None
+
+-- the dates under `date-parts`
+abbrev pub dates_under : Json → Option (List DateParts)
+dates_under date = option_and_then (λ j. option_and_then dates_of (array_elements j)) (get (codes "date-parts") date)
+
+-- the season with this number
+abbrev pub season_of_number : List ℕ → Option Season
+season_of_number number =
+    if bytes_eq number (codes "1") then Some Spring
+    else if bytes_eq number (codes "2") then Some Summer
+    else if bytes_eq number (codes "3") then Some Autumn
+    else if bytes_eq number (codes "4") then Some Winter
+    else None
+
+-- the season under `season`
+abbrev pub season_under : Json → Option Season
+season_under date = option_and_then season_of_number (text_under (codes "season") date)
+
+-- what stands under `circa`, where that is true or false
+abbrev pub circa_under : Json → Option Bool
+circa_under date = option_and_then as_bool (get (codes "circa") date)
+
+-- the text of a date: what stands under `literal`, else under `raw`
+abbrev pub date_words : Json → Option (List ℕ)
+date_words date = option_or (string_under (codes "literal") date) (string_under (codes "raw") date)
+
+-- a date of these parts, with what else the object says
+unfoldable pub parted_date : List DateParts → Json → ItemDate
+parted_date parts date = record {
+  parts = parts;
+  season = season_under date;
+  circa = unwrap_or (circa_under date) false;
+  literal = date_words date;
+}
+
+-- the date that a text says in the field of a date
+abbrev pub said_date : List ℕ → Option ItemDate
+said_date text = read_or_unread (date_read (alone (Normal text))) text
+
+-- the date of parts, or else of a text
+abbrev pub by_parts_or_text : Option (List DateParts) → Json → Option ItemDate
+by_parts_or_text (Some parts) date = Some (parted_date parts date)
+by_parts_or_text None date = option_and_then said_date (date_words date)
+
+-- the date that an object gives
+unfoldable pub date_given : Json → Option ItemDate
+date_given date = by_parts_or_text (dates_under date) date
+
+-- how many members of an object are parts of the date that it gives
+unfoldable pub said_by_parts : Json → ℕ
+said_by_parts date =
+    if is_some (dates_under date)
+    then 1 + one_if (is_some (season_under date)) + one_if (is_some (circa_under date)) + one_if (is_some (date_words date))
+    else one_if (is_some (date_words date))
+
+-- whether the date that an object gives is all that it says
+abbrev pub is_whole_date : Json → Bool
+is_whole_date date = object_size date == said_by_parts date

@@ -1,0 +1,16 @@
+pub mod EntryTypes
+pub mod FromCsl
+pub mod FromItems
+pub mod GivenDates
+pub mod GivenItems
+pub mod GivenNames
+pub mod LanguageNames
+pub mod Losses
+pub mod Objects
+pub mod PlainDates
+pub mod PlainPeople
+pub mod Tags
+pub mod Values
+pub mod Variables
+pub mod WrittenDates
+pub mod WrittenPeople

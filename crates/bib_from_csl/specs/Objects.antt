@@ -1,0 +1,49 @@
+-- Meaning: words of public contracts.
+-- What values of JSON hold. A text is given by its bytes.
+use Rattle.std.specs.Prelude.{ℕ, ℤ, Bool, if◌then◌else◌, List, [], ◌∷◌, length, Option, Some, None, option_and_then, option_map}
+use Rattle.std.specs.Option.{option_map_or, option_or}
+use Rattle.json.specs.Json.{Json, array, object, Items, no_items, item, Members, no_members, member}
+use Rattle.json.specs.Find.{as_array, as_object, as_str, as_number, get}
+use Rattle.bib_values.specs.Numbers.{decimal_of}
+
+-- items one after another
+abbrev pub listed_items : Items → List Json
+listed_items no_items = []
+listed_items (item j js) = j ∷ listed_items js
+
+-- object_members one after another, each with its name
+abbrev pub listed_members : Members → List (List ℕ × Json)
+listed_members no_members = []
+listed_members (member name j ms) = (name, j) ∷ listed_members ms
+
+-- the array_elements of an array
+abbrev pub array_elements : Json → Option (List Json)
+array_elements j = option_map listed_items (as_array j)
+
+-- the object_members of an object
+abbrev pub object_members : Json → Option (List (List ℕ × Json))
+object_members j = option_map listed_members (as_object j)
+
+-- how many object_members an object has
+abbrev pub object_size : Json → ℕ
+object_size j = option_map_or length (object_members j) 0
+
+-- a text, or the digits of a number
+abbrev pub text_in : Json → Option (List ℕ)
+text_in j = option_or (as_str j) (as_number j)
+
+-- the text that an object has under a name
+abbrev pub string_under : List ℕ → Json → Option (List ℕ)
+string_under name j = option_and_then as_str (get name j)
+
+-- the text or the number that an object has under a name
+abbrev pub text_under : List ℕ → Json → Option (List ℕ)
+text_under name j = option_and_then text_in (get name j)
+
+-- the whole number that a value is, or that its text spells in decimal digits
+abbrev pub whole_number : Json → Option ℤ
+whole_number j = option_and_then decimal_of (text_in j)
+
+-- one for what is there
+abbrev pub one_if : Bool → ℕ
+one_if is_there = if is_there then 1 else 0

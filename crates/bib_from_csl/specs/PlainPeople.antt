@@ -1,0 +1,40 @@
+-- Meaning: words of public contracts.
+-- Names of people that are read back from what is written of them.
+use Rattle.std.specs.Prelude.{◌≡◌, ℕ, ◌<◌, ◌==◌, Bool, false, not, List, [], ◌∷◌, length, codes, bytes_eq}
+use Rattle.std.specs.List.{list_any}
+use Rattle.std.specs.Str.{chars, IsUtf8}
+use Rattle.bib_text.specs.Characters as char
+use Rattle.bib_people.specs.Kept.{AreWords, is_capital_letter, is_name_byte, is_small_letter}
+use Rattle.bib_csl.specs.declared.item.Name.{Name}
+use Rattle.bib_csl.specs.declared.item.Name.TheVariants.{Literal, Parts}
+use Rattle.bib_csl.specs.declared.item.NameParts.{NameParts}
+use Rattle.bib_from_csl.specs.WrittenPeople.{particle}
+
+-- a name that is one text, without a tilde, and isn't the word for other people
+pub record IsPlainLiteral (text : List ℕ) : Type 0 where
+  pub some : 0 < length text
+  pub utf8 : IsUtf8 text
+  pub untied : list_any (λ c. c == char.tilde) (chars text) ≡ false
+  pub other : bytes_eq text (codes "others") ≡ false
+
+-- a person with a family name and a given name, of words of letters of ASCII, points and hyphens with single spaces between them, none of
+-- which is `and`: those of the family name begin with capital letters, and those of the particle with small ones; the particle is the one
+-- that the entry says, and there is no other
+pub record IsPlainParts (uses_prefix : Bool) (p : NameParts) : Type 0 where
+  pub family : AreWords is_capital_letter p.family
+  pub given_name : AreWords is_name_byte p.given
+  pub suffix : AreWords is_name_byte p.suffix
+  pub prefix : AreWords is_small_letter (particle uses_prefix p)
+  pub has_family : 0 < length p.family
+  pub has_given : 0 < length p.given
+  pub no_other : particle (not uses_prefix) p ≡ []
+
+-- a name that is read back, in an entry that says that prefixes count as parts of family names or not
+abbrev pub IsPlainName : Bool → Name → Type 0
+IsPlainName uses_prefix (Literal text) = IsPlainLiteral text
+IsPlainName uses_prefix (Parts p) = IsPlainParts uses_prefix p
+
+-- names that are
+abbrev pub ArePlainNames : Bool → List Name → Type 0
+ArePlainNames uses_prefix [] = Unit {0}
+ArePlainNames uses_prefix (name ∷ names) = IsPlainName uses_prefix name × ArePlainNames uses_prefix names

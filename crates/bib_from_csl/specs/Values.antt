@@ -1,0 +1,50 @@
+-- Meaning: words of public contracts.
+-- Values of fields, as a file has them. A value is given by its bytes.
+use Rattle.std.specs.Prelude.{ℕ, Bool, ◌==◌, if◌then◌else◌, List, [], ◌∷◌, ◌++◌, codes, bytes_eq, encode_utf8}
+use Rattle.std.specs.List.{flat_map, list_any, slice_split}
+use Rattle.std.specs.Str.{chars}
+use Rattle.bib_text.specs.Characters as char
+use Rattle.bib_chunks.specs.declared.chunk.Chunk.TheVariants.{Normal}
+use Rattle.bib_chunks.specs.Values.{alone}
+use Rattle.bib_entry.specs.WrittenEntries.{value_bytes}
+use Rattle.bib_from_csl.specs.Tags.{tagged_source}
+
+-- a character, or what stands in its place
+abbrev pub replacing : ℕ → List ℕ → ℕ → List ℕ
+replacing old text c = if c == old then text else encode_utf8 c
+
+-- characters, with a text in the place of one of them
+abbrev pub replaced : ℕ → List ℕ → List ℕ → List ℕ
+replaced old text = flat_map (replacing old text)
+
+-- the space at which no line breaks
+abbrev pub tie : ℕ
+tie = 160
+
+-- the value of a field that holds a plain text
+abbrev pub plain_value : List ℕ → List ℕ → List ℕ
+plain_value field text = value_bytes field (alone (Normal text))
+
+-- the value of pages: two hyphens stand for an en dash
+unfoldable pub pages_value : List ℕ → List ℕ
+pages_value text = replaced char.en_dash (codes "--") (chars (plain_value (codes "pages") text))
+
+-- a text between braces
+abbrev pub braced : List ℕ → List ℕ
+braced text = codes "{" ++ (text ++ codes "}")
+
+-- a text with a tilde for each space at which no line breaks
+abbrev pub with_ties : List ℕ → List ℕ
+with_ties text = replaced tie (codes "~") (chars text)
+
+-- the value of a field that holds a text with HTML's tags
+abbrev pub tagged_value : List ℕ → List ℕ
+tagged_value text = braced (with_ties (tagged_source text))
+
+-- whether one of the words of a text is `and`
+abbrev pub has_and : List ℕ → Bool
+has_and text = list_any (bytes_eq (codes "and")) (slice_split (λ b. b == char.space) text)
+
+-- the value of a field that is a list, of which the text is one part: braces keep its word `and`
+unfoldable pub listed_value : List ℕ → List ℕ
+listed_value text = if has_and text then braced (tagged_value text) else tagged_value text

@@ -1,0 +1,180 @@
+//! Dates as fields have them.
+
+ghost use Rattle.std.specs.Prelude.{◌≡◌, ◌≤◌, ◌++◌, IfOk, string_bytes};
+ghost use Rattle.std.specs.Option.{option_map};
+ghost use Rattle.bib_dates.specs.Written.{datetime_text as text_of_datetime, date_text as text_of_date};
+ghost use Rattle.bib_from_csl.specs.WrittenDates as spec;
+
+use crate::tags::spelled;
+use crate::values::braced;
+use bib_csl::item::{DateParts, ItemDate, Season};
+use bib_dates::date::{Date, DateValue, Datetime};
+use bib_text::text::Text;
+use std::alloc::{AllocError, Global};
+
+// A year as BibLaTeX counts it, where it has at most four digits.
+fn year_of(year: i64) -> Option<i32>
+    ensures { result ≡ spec.counted_year year }
+{
+    if year < -10000 || 9999 < year {
+        return None;
+    }
+    if year < 0 {
+        return Some(year as i32 + 1);
+    }
+    Some(year as i32)
+}
+
+// A number that counts from 1 to this one, from 0.
+fn from_zero(number: u16, last: u16) -> Option<u8>
+    requires { last ≤ 256 }
+    ensures { result ≡ spec.from_zero number last }
+{
+    if number < 1 || last < number {
+        return None;
+    }
+    Some((number - 1) as u8)
+}
+
+// The same of a number that may not be there; nothing where it is out of range.
+fn counted(number: Option<u16>, last: u16) -> Option<Option<u8>>
+    requires { last ≤ 256 }
+    ensures { result ≡ spec.counted_part number last }
+{
+    match number {
+        Some(number) => Some(Some(from_zero(number, last)?)),
+        None => Some(None),
+    }
+}
+
+// A year, a month and a day as a date.
+fn datetime_of(parts: &DateParts) -> Option<Datetime>
+    ensures { result ≡ spec.datetime_of parts.now }
+{
+    let year = year_of(parts.year)?;
+    let month = counted(parts.month, 12)?;
+    let day = counted(parts.day, 31)?;
+    Some(Datetime {
+        year,
+        month,
+        day,
+        time: None,
+    })
+}
+
+// One date, or the two of a range.
+fn value_of(parts: &[DateParts]) -> Option<DateValue>
+    ensures { result ≡ spec.dates_value parts.now }
+{
+    match parts {
+        [only] => Some(DateValue::At(datetime_of(only)?)),
+        [start, end] => {
+            let start = datetime_of(start)?;
+            let end = datetime_of(end)?;
+            Some(DateValue::Between(start, end))
+        }
+        _ => None,
+    }
+}
+
+// The number of a season after 20.
+fn season_digit(season: Season) -> &'static str
+    ensures { result.now ≡ spec.season_digit season }
+{
+    match season {
+        Season::Spring => "1",
+        Season::Summer => "2",
+        Season::Autumn => "3",
+        Season::Winter => "4",
+    }
+}
+
+// The first of some dates as a date.
+fn first_of(parts: &[DateParts]) -> Option<Datetime>
+    ensures { result ≡ spec.date_of_first parts.now }
+{
+    match parts.first() {
+        Some(first) => datetime_of(first),
+        None => None,
+    }
+}
+
+// The text of a season.
+fn season_text(
+    alloc: Global,
+    parts: &[DateParts],
+    season: Season,
+) -> Result<Option<Text>, AllocError>
+    ensures { IfOk result (λ text. text ≡ spec.season_text parts.now season) }
+{
+    let Some(year) = first_of(parts) else {
+        return Ok(None);
+    };
+    let digit = season_digit(season);
+    Ok(Some(Text::from_string(format!(in alloc; "{year}-2{digit}")?)))
+}
+
+// The mark of a date that isn't exact.
+fn mark_of(circa: bool) -> &'static str
+    ensures { result.now ≡ spec.circa_mark circa }
+{
+    if circa { "~" } else { "" }
+}
+
+// The text of a date or a range.
+fn value_text(alloc: Global, value: DateValue, circa: bool) -> Result<Text, AllocError>
+    ensures { IfOk result (λ text. text ≡ text_of_date (spec.date_with value circa)) }
+{
+    let mark = mark_of(circa);
+    let text = match value {
+        DateValue::At(at) => format!(in alloc; "{at}{mark}")?,
+        DateValue::After(start) => format!(in alloc; "{start}/..{mark}")?,
+        DateValue::Before(end) => format!(in alloc; "../{end}{mark}")?,
+        DateValue::Between(start, end) => format!(in alloc; "{start}/{end}{mark}")?,
+    };
+    Ok(Text::from_string(text))
+}
+
+// The text of dates, where there are one or two that BibLaTeX can count.
+fn parts_text(alloc: Global, parts: &[DateParts], circa: bool) -> Result<Option<Text>, AllocError>
+    ensures { IfOk result (λ text. text ≡ spec.parts_text parts.now circa) }
+{
+    match value_of(parts) {
+        Some(value) => Ok(Some(value_text(alloc, value, circa)?)),
+        None => Ok(None),
+    }
+}
+
+// The text of a date that says itself what it is; the mark goes with dates beside it.
+#[tactic(auto, unfolding(crate::specs::WrittenDates::literal_source))]
+fn literal_text(alloc: Global, literal: &str, date: &ItemDate) -> Result<Text, AllocError>
+    ensures { IfOk result (λ text. text ≡ spec.literal_source literal.now date.now) }
+{
+    let mut text = spelled(alloc, literal)?;
+    text.push_str(mark_of(date.circa && !date.parts.is_empty()))?;
+    Ok(text)
+}
+
+// The text of a date.
+#[tactic(auto, unfolding(crate::specs::WrittenDates::text_of_item))]
+fn text_of_item(alloc: Global, date: &ItemDate) -> Result<Option<Text>, AllocError>
+    ensures { IfOk result (λ text. text ≡ spec.text_of_item date.now) }
+{
+    if let Some(season) = date.season {
+        return season_text(alloc, date.parts.as_slice(), season);
+    }
+    match &date.literal {
+        Some(literal) => Ok(Some(literal_text(alloc, literal.as_str(), date)?)),
+        None => parts_text(alloc, date.parts.as_slice(), date.circa),
+    }
+}
+
+// The value of a field that holds a date.
+pub(crate) fn date_value(alloc: Global, date: &ItemDate) -> Result<Option<Text>, AllocError>
+    ensures { IfOk result (λ value. value ≡ spec.date_source date.now) }
+{
+    match text_of_item(alloc, date)? {
+        Some(text) => Ok(Some(braced(alloc, text.as_str())?)),
+        None => Ok(None),
+    }
+}

@@ -1,0 +1,34 @@
+//! Laws of items as entries. These functions do nothing: what they ensure is proved of the definitions alone.
+
+ghost use Rattle.std.specs.Prelude.{◌≡◌, ℕ, Bool, List, [], ◌∷◌, Some};
+ghost use Rattle.std.specs.declared.ops.Range.{Range as ARange};
+ghost use Rattle.bib_chunks.specs.Values.{alone};
+ghost use Rattle.bib_chunks.specs.declared.chunk.Chunk.TheVariants.{Normal};
+ghost use Rattle.bib_csl.specs.Dates.{date_item};
+ghost use Rattle.bib_csl.specs.Numbers.{pages, pages_after};
+ghost use Rattle.bib_csl.specs.People.{names_listed};
+ghost use Rattle.bib_csl.specs.declared.item.Name.{Name as AName};
+ghost use Rattle.bib_dates.specs.Kept.{IsKeptDate};
+ghost use Rattle.bib_dates.specs.declared.date.Date.{Date as ADate};
+ghost use Rattle.bib_values.specs.Ranges.{RangesKept};
+ghost use Rattle.bib_from_csl.specs.PlainDates.{HasBothEnds, IsDateReadBack};
+ghost use Rattle.bib_from_csl.specs.PlainPeople.{ArePlainNames};
+ghost use Rattle.bib_from_csl.specs.WrittenPeople.{names_chunks};
+
+/// Names of the plain kinds are read back, in their order, from the chunks that are written of them.
+pub fn names_are_read_again()
+    ensures { (uses_prefix : Bool) (name : AName) (names : List AName) → ArePlainNames uses_prefix (name ∷ names) →
+        names_listed uses_prefix (names_chunks uses_prefix (name ∷ names)) ≡ name ∷ names }
+{}
+
+/// The date of an item that a date of BibLaTeX becomes is read back from what is written of it, where the year lies from -9999 to 9999,
+/// the day exists, no time stands there, and both ends of a range do.
+pub fn dates_are_read_again()
+    ensures { (d : ADate) → IsKeptDate d → HasBothEnds d.value → IsDateReadBack (date_item d) }
+{}
+
+/// The pages that ranges of numbers of 32 bits become are read back from a field that holds them.
+pub fn pages_are_read_again()
+    ensures { (ranges : List (ARange ℕ)) → RangesKept ranges →
+        pages (Some (alone (Normal (pages_after [] ranges)))) ≡ pages_after [] ranges }
+{}

@@ -1,0 +1,242 @@
+//! What of an item isn't in its entry.
+
+ghost use Rattle.std.specs.Prelude.{◌≡◌, ◌↔◌, ◌++◌, OnOk, IfOk, IsTrue};
+ghost use Rattle.std.specs.List.{flat_map};
+ghost use Rattle.std.specs.Option.{option_copied};
+ghost use Rattle.bib_from_csl.specs.Losses as spec;
+
+use crate::given::{Given, GivenItem};
+use crate::variables::field_of;
+use crate::writing::{Work, is_empty_content, work_of};
+use bib_csl::item::{Content, Field, Item};
+use bib_csl::making::item_of;
+use bib_entry::entry::Entry;
+use bib_text::items::Items;
+use bib_text::text::Text;
+use std::alloc::{AllocError, Global};
+
+/// A member of an item that its entry has not, or not as it is.
+#[derive(Debug, Drop)]
+pub struct Loss {
+    /// What the item is called.
+    pub id: Text,
+    /// The name of the member.
+    pub name: Text,
+    /// What becomes of it.
+    pub kind: LossKind,
+}
+
+/// What becomes of a member of an item that its entry hasn't as it is.
+#[derive(Debug, Clone, Copy, PartialEq, Eq)]
+pub enum LossKind {
+    /// No field has it.
+    NoField,
+    /// A field has it, and is read as something else.
+    Changed,
+    /// A field has what a variable can hold of it, and no field has the rest.
+    Partly,
+}
+
+// What the variable of a name holds.
+fn content_of<'f>(fields: &'f [Field], name: &str) -> Option<&'f Content>
+    ensures { option_copied result ≡ spec.content_of name.now fields.now }
+{
+    'fields: for field in fields {
+        if field.variable.name() == name {
+            return Some(&field.content);
+        }
+    }
+    None
+}
+
+// Whether a field of this kind of entry has the variable of a name.
+fn has_field(work: &Work, name: &str) -> bool
+    ensures { result ≡ spec.is_fielded work.now name.now }
+{
+    name == "language" || !field_of(&work.kind, work.in_work, name).is_empty()
+}
+
+// Whether the variable of a name holds this.
+fn holds(fields: &[Field], name: &str, content: &Content) -> bool
+    ensures { result ≡ spec.holds_content fields.now name.now content.now }
+{
+    match content_of(fields, name) {
+        Some(found) => found == content,
+        None => false,
+    }
+}
+
+// What becomes of a content.
+#[tactic(auto, unfolding(crate::specs::Losses::content_loss))]
+fn content_loss(
+    work: &Work,
+    fields: &[Field],
+    name: &str,
+    content: &Content,
+    is_whole: bool,
+) -> Option<LossKind>
+    ensures { result ≡ spec.content_loss work.now fields.now name.now content.now is_whole }
+{
+    if is_empty_content(content) {
+        return None;
+    }
+    if !has_field(work, name) {
+        return Some(LossKind::NoField);
+    }
+    if !holds(fields, name, content) {
+        return Some(LossKind::Changed);
+    }
+    partly_unless(is_whole)
+}
+
+// What becomes of a member that is whole or isn't.
+fn partly_unless(is_whole: bool) -> Option<LossKind>
+    ensures { result ≡ spec.partly_unless is_whole }
+{
+    if is_whole {
+        return None;
+    }
+    Some(LossKind::Partly)
+}
+
+// What becomes of a member without a content that a variable can hold.
+fn no_field_unless(is_whole: bool) -> Option<LossKind>
+    ensures { result ≡ spec.no_field_unless is_whole }
+{
+    if is_whole {
+        return None;
+    }
+    Some(LossKind::NoField)
+}
+
+// What becomes of a member, where these are the fields of the item of its entry.
+fn loss_of(work: &Work, fields: &[Field], given: &Given) -> Option<LossKind>
+    ensures { result ≡ spec.loss_of work.now fields.now given.now }
+{
+    match &given.content {
+        Some(content) => content_loss(work, fields, given.name.as_str(), content, given.is_whole),
+        None => no_field_unless(given.is_whole),
+    }
+}
+
+// Appends what is lost of a member, if something is.
+fn push_loss(
+    alloc: Global,
+    losses: &mut Items<Loss>,
+    id: &str,
+    name: &str,
+    kind: Option<LossKind>,
+) -> Result<(), AllocError>
+    ensures { OnOk result (losses.new ≡ losses.old ++ spec.loss id.now name.now kind) }
+{
+    let Some(kind) = kind else {
+        return Ok(());
+    };
+    losses.push(Loss {
+        id: Text::from_str(alloc, id)?,
+        name: Text::from_str(alloc, name)?,
+        kind,
+    })?;
+    Ok(())
+}
+
+// What becomes of a text that is read again as this one.
+fn change_of(given: &str, read: &str) -> Option<LossKind>
+    ensures { result ≡ spec.text_loss given.now read.now }
+{
+    if given == read {
+        return None;
+    }
+    Some(LossKind::Changed)
+}
+
+// Appends what is lost of the members of an item, given the item of its entry.
+fn push_members(
+    alloc: Global,
+    losses: &mut Items<Loss>,
+    work: &Work,
+    item: &GivenItem,
+    read: &Item,
+) -> Result<(), AllocError>
+    ensures { OnOk result (losses.new ≡ losses.old ++ flat_map (spec.member_loss work.now item.now.id read.now.fields) item.now.fields) }
+{
+    'members: for given in item.fields.as_slice() {
+        let kind = loss_of(work, read.fields.as_slice(), given);
+        push_loss(alloc, losses, item.id.as_str(), given.name.as_str(), kind)?;
+    }
+    Ok(())
+}
+
+// Appends what is lost of an item, given the item of its entry.
+#[tactic(auto, unfolding(crate::specs::Losses::item_losses))]
+fn push_item(
+    alloc: Global,
+    losses: &mut Items<Loss>,
+    item: &GivenItem,
+    read: &Item,
+) -> Result<(), AllocError>
+    ensures { OnOk result (losses.new ≡ losses.old ++ spec.item_losses item.now read.now) }
+{
+    let id = item.id.as_str();
+    let work = work_of(item);
+    push_loss(alloc, losses, id, "id", change_of(id, read.id.as_str()))?;
+    push_loss(
+        alloc,
+        losses,
+        id,
+        "type",
+        change_of(item.kind.as_str(), read.kind.name()),
+    )?;
+    push_members(alloc, losses, &work, item, read)
+}
+
+// Appends what is lost of an item, given its entry, if there is one.
+fn push_losses(
+    alloc: Global,
+    losses: &mut Items<Loss>,
+    item: &GivenItem,
+    entry: Option<&Entry>,
+) -> Result<(), AllocError>
+    ensures { OnOk result (losses.new ≡ losses.old ++ spec.losses_in item.now (option_copied entry.entry)) }
+{
+    match entry {
+        Some(entry) => {
+            let read = item_of(alloc, entry)?;
+            push_item(alloc, losses, item, &read)
+        }
+        None => push_loss(
+            alloc,
+            losses,
+            item.id.as_str(),
+            "id",
+            Some(LossKind::NoField),
+        ),
+    }
+}
+
+/// What of items isn't in their entries, which are read of a text in order.
+pub(crate) fn all_losses(
+    alloc: Global,
+    items: &[GivenItem],
+    entries: &[Entry],
+) -> Result<Items<Loss>, AllocError>
+    ensures { IfOk result (λ losses. losses ≡ spec.all_losses items.now entries.now) }
+{
+    let mut losses = Items::new(alloc);
+    let mut left = entries;
+    'items: for item in items {
+        push_losses(alloc, &mut losses, item, left.first())?;
+        left = after_first(left);
+    }
+    Ok(losses)
+}
+
+// The entries after the first.
+fn after_first(entries: &[Entry]) -> &[Entry]
+    ensures { result.now ≡ spec.after_first_entry entries.now }
+{
+    match entries {
+        [_, rest @ ..] => rest,
+        [] => entries,
+    }
+}

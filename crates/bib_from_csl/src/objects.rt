@@ -1,0 +1,87 @@
+//! What values of JSON hold.
+
+ghost use Rattle.std.specs.Prelude.{◌≡◌, map};
+ghost use Rattle.std.specs.Option.{option_map};
+ghost use Rattle.json.specs.Value.{value_view};
+ghost use Rattle.bib_from_csl.specs.Objects as spec;
+ghost use Rattle.bib_values.specs.Numbers.{decimal_of};
+
+use json::Value;
+
+// The elements of an array.
+pub(crate) fn elements<'v, 'a>(value: &'v Value<'a>) -> Option<&'v [Value<'a>]>
+    ensures { option_map (λ all. map value_view all.now) result ≡ spec.array_elements (value_view value.now) }
+{
+    match value {
+        Value::Array(elements) => Some(elements.as_slice()),
+        _ => None,
+    }
+}
+
+// The members of an object.
+pub(crate) fn members<'v, 'a>(value: &'v Value<'a>) -> Option<&'v [(&'a str, Value<'a>)]>
+    ensures { option_map (λ all. map (λ m. (m.0.now, value_view m.1)) all.now) result ≡ spec.object_members (value_view value.now) }
+{
+    match value {
+        Value::Object(members) => Some(members.as_slice()),
+        _ => None,
+    }
+}
+
+// How many members an object has.
+pub(crate) fn size(value: &Value<'_>) -> usize
+    ensures { result ≡ spec.object_size (value_view value.now) }
+{
+    match members(value) {
+        Some(members) => members.len(),
+        None => 0,
+    }
+}
+
+// A text, or the digits of a number.
+pub(crate) fn text_in<'a>(value: &Value<'a>) -> Option<&'a str>
+    ensures { option_map (λ text. text.now) result ≡ spec.text_in (value_view value.now) }
+{
+    match value.as_str() {
+        Some(text) => Some(text),
+        None => value.as_number(),
+    }
+}
+
+// The text that an object has under a name.
+pub(crate) fn string_under<'a>(value: &Value<'a>, name: &str) -> Option<&'a str>
+    ensures { option_map (λ text. text.now) result ≡ spec.string_under name.now (value_view value.now) }
+{
+    let member = value.get(name)?;
+    member.as_str()
+}
+
+// The text or the number that an object has under a name.
+pub(crate) fn text_under<'a>(value: &Value<'a>, name: &str) -> Option<&'a str>
+    ensures { option_map (λ text. text.now) result ≡ spec.text_under name.now (value_view value.now) }
+{
+    let member = value.get(name)?;
+    text_in(member)
+}
+
+// The number that a text spells in decimal digits.
+fn decimal(text: &str) -> Option<i64>
+    ensures { result ≡ decimal_of text.now }
+{
+    text.parse::<i64>().ok()
+}
+
+// The whole number that a value is, or that its text spells.
+pub(crate) fn whole_number(value: &Value<'_>) -> Option<i64>
+    ensures { result ≡ spec.whole_number (value_view value.now) }
+{
+    let text = text_in(value)?;
+    decimal(text)
+}
+
+// One for what is there.
+pub(crate) fn one_if(is_there: bool) -> usize
+    ensures { result ≡ spec.one_if is_there }
+{
+    if is_there { 1 } else { 0 }
+}

@@ -1,0 +1,108 @@
+//! Where in a text of JSON a fault lies.
+
+ghost use Rattle.std.specs.Prelude.{◌≤◌, length, IfOk};
+
+use json::{Reader, Scratch, Token};
+use std::alloc::{AllocError, Global};
+
+// A bracket that is open.
+#[derive(Clone, Copy, PartialEq, Eq)]
+enum Bracket {
+    // Of an array.
+    Square,
+    // Of an object.
+    Curly,
+}
+
+// What is read so far of a text: the brackets that are open, and whether a value at the top ended.
+#[derive(Drop)]
+struct Nesting {
+    open: Vec<Bracket>,
+    is_over: bool,
+}
+
+impl Nesting {
+    // Ends a value.
+    fn end_value(&mut self) {
+        self.is_over = self.open.is_empty();
+    }
+
+    // Ends an array or an object, if such a one is open.
+    fn close(&mut self, bracket: Bracket) -> bool {
+        let is_open = self.open.pop() == Some(bracket);
+        self.end_value();
+        is_open
+    }
+
+    // Passes a token, and says whether it may stand there.
+    fn pass(&mut self, token: &Token<'_>) -> Result<bool, AllocError> {
+        if self.is_over {
+            return Ok(false);
+        }
+        match token {
+            Token::BeginArray => self.open.push(Bracket::Square)?,
+            Token::BeginObject => self.open.push(Bracket::Curly)?,
+            Token::EndArray => return Ok(self.close(Bracket::Square)),
+            Token::EndObject => return Ok(self.close(Bracket::Curly)),
+            Token::Key(_) => return Ok(self.open.last() == Some(&Bracket::Curly)),
+            Token::Bad => return Ok(false),
+            Token::String(_) | Token::Number(_) | Token::Bool(_) | Token::Null => self.end_value(),
+        }
+        Ok(true)
+    }
+}
+
+// A place that lies in a text of this length.
+fn inside(place: usize, end: usize) -> usize
+    ensures { result ≤ end }
+{
+    place.min(end)
+}
+
+/// Where a text stops being JSON: at its end where it is cut off.
+pub(crate) fn place_of_fault(alloc: Global, text: &str) -> Result<usize, AllocError>
+    ensures { IfOk result (λ place. place ≤ length text.now) }
+{
+    let mut scratch = Scratch::new(alloc);
+    let mut reader = Reader::new(text, &mut scratch)?;
+    let mut nesting = Nesting {
+        open: Vec::new(alloc),
+        is_over: false,
+    };
+    let mut place = reader.offset();
+    'tokens: while let Some(token) = reader.next() {
+        if matches!(token, Token::Bad) {
+            return Ok(inside(reader.offset(), text.len()));
+        }
+        if !nesting.pass(&token)? {
+            return Ok(inside(place, text.len()));
+        }
+        place = reader.offset();
+    }
+    Ok(inside(place, text.len()))
+}
+
+/// Where the element with this index begins in a text that is an array.
+pub(crate) fn place_of_element(alloc: Global, text: &str, index: usize) -> Result<usize, AllocError>
+    ensures { IfOk result (λ place. place ≤ length text.now) }
+{
+    let mut scratch = Scratch::new(alloc);
+    let mut reader = Reader::new(text, &mut scratch)?;
+    let mut nesting = Nesting {
+        open: Vec::new(alloc),
+        is_over: false,
+    };
+    let mut place = reader.offset();
+    let mut left = index;
+    'tokens: while let Some(token) = reader.next() {
+        if nesting.open.len() == 1 && !matches!(token, Token::EndArray | Token::Key(_)) {
+            if left == 0 {
+                return Ok(inside(place, text.len()));
+            }
+            left -= 1;
+        }
+        let _may_stand = nesting.pass(&token)?;
+        place = reader.offset();
+    }
+    Ok(inside(place, text.len()))
+}

@@ -1,0 +1,255 @@
+//! Items of CSL-JSON, read from their objects.
+
+ghost use Rattle.std.specs.Prelude.{◌≡◌, map, IfOk};
+ghost use Rattle.std.specs.Option.{option_map};
+ghost use Rattle.json.specs.Value.{value_view};
+ghost use Rattle.bib_from_csl.specs.GivenItems as spec;
+
+use crate::dates::{given_date, is_whole_date};
+use crate::given::{Given, GivenItem};
+use crate::names::{are_objects, are_whole_names, given_names};
+use crate::objects::{elements, members, string_under, text_in, text_under};
+use crate::values::replaced;
+use crate::variables::{is_date, is_names, is_text};
+use bib_csl::item::Content;
+use bib_text::items::Items;
+use bib_text::text::Text;
+use json::Value;
+use std::alloc::{AllocError, Global};
+
+/// Why a text isn't an array of items.
+#[derive(Debug, Clone, Copy, PartialEq, Eq)]
+pub enum Fault {
+    /// It is no JSON.
+    NotJson,
+    /// It is JSON, but no array.
+    NotAnArray,
+    /// An element is no object.
+    NotAnObject,
+    /// An item has no `id` that is a text or a number.
+    NoId,
+    /// An item has no `type` that is a text.
+    NoType,
+    /// A variable of an item hasn't the form that CSL has for it: a text or a number, names, or a date.
+    WrongForm,
+    /// Two items have one key.
+    KeyTwice,
+}
+
+/// What an object is as an item.
+#[derive(Debug, Drop)]
+pub enum ItemReading {
+    /// This item.
+    Says(GivenItem),
+    /// None, for this reason.
+    Unfit(Fault),
+}
+
+/// What an array is as items.
+#[derive(Debug, Drop)]
+pub enum ItemsReading {
+    /// These items.
+    Are(Items<GivenItem>),
+    /// None, for the element with this index, and this reason.
+    Refused(usize, Fault),
+}
+
+// Whether pages are numbers with hyphens, dashes, commas and spaces between them.
+fn are_numbers(text: &str) -> bool
+    ensures { result ≡ spec.are_numbers text.now }
+{
+    text.chars().all(|c| c.is_ascii_digit() || matches!(c, '-' | '–' | ',' | ' '))
+}
+
+// Whether the hyphens of a variable's text are dashes: it is of pages, which are numbers.
+#[tactic(auto, unfolding(crate::specs::GivenItems::has_dashes))]
+fn has_dashes(name: &str, text: &str) -> bool
+    ensures { result ≡ spec.has_dashes name.now text.now }
+{
+    name == "page" && are_numbers(text)
+}
+
+// A text with dashes for its hyphens.
+#[tactic(auto, unfolding(crate::specs::GivenItems::dashed_text))]
+fn dashed_text(alloc: Global, text: &str) -> Result<Text, AllocError>
+    ensures { IfOk result (λ dashed. dashed ≡ spec.dashed_text text.now) }
+{
+    replaced(alloc, text, '-', "–")
+}
+
+// The text of a variable; a hyphen between numbers of pages is a dash.
+#[tactic(auto, unfolding(crate::specs::GivenItems::content_text))]
+fn content_text(alloc: Global, name: &str, text: &str) -> Result<Text, AllocError>
+    ensures { IfOk result (λ content. content ≡ spec.content_text name.now text.now) }
+{
+    if has_dashes(name, text) {
+        return dashed_text(alloc, text);
+    }
+    Text::from_str(alloc, text)
+}
+
+// A member with this content.
+fn given(
+    alloc: Global,
+    name: &str,
+    content: Option<Content>,
+    is_whole: bool,
+) -> Result<Option<Given>, AllocError>
+    ensures { IfOk result (λ member. member ≡ spec.member_with name.now content is_whole) }
+{
+    Ok(Some(Given {
+        name: Text::from_str(alloc, name)?,
+        content,
+        is_whole,
+    }))
+}
+
+// A variable that holds people.
+#[tactic(auto, unfolding(crate::specs::GivenItems::names_member))]
+fn names_member(alloc: Global, name: &str, value: &Value<'_>) -> Result<Option<Given>, AllocError>
+    ensures { IfOk result (λ member. member ≡ spec.names_member name.now (value_view value.now)) }
+{
+    if !are_objects(value) {
+        return Ok(None);
+    }
+    let names = given_names(alloc, value)?;
+    given(
+        alloc,
+        name,
+        Some(Content::Names(names)),
+        are_whole_names(value),
+    )
+}
+
+// A variable that holds a date.
+#[tactic(auto, unfolding(crate::specs::GivenItems::date_member))]
+fn date_member(alloc: Global, name: &str, value: &Value<'_>) -> Result<Option<Given>, AllocError>
+    ensures { IfOk result (λ member. member ≡ spec.date_member name.now (value_view value.now)) }
+{
+    if members(value).is_none() {
+        return Ok(None);
+    }
+    let is_whole = is_whole_date(alloc, value)?;
+    match given_date(alloc, value)? {
+        Some(date) => given(alloc, name, Some(Content::Date(date)), is_whole),
+        None => given(alloc, name, None, is_whole),
+    }
+}
+
+// A variable that holds a text.
+#[tactic(auto, unfolding(crate::specs::GivenItems::text_member))]
+fn text_member(alloc: Global, name: &str, value: &Value<'_>) -> Result<Option<Given>, AllocError>
+    ensures { IfOk result (λ member. member ≡ spec.text_member name.now (value_view value.now)) }
+{
+    let Some(text) = text_in(value) else {
+        return Ok(None);
+    };
+    let text = content_text(alloc, name, text)?;
+    given(alloc, name, Some(Content::Text(text)), true)
+}
+
+// A member, unless it hasn't the form of the variable of its name.
+#[tactic(auto, unfolding(crate::specs::GivenItems::member_of))]
+fn member_of(alloc: Global, name: &str, value: &Value<'_>) -> Result<Option<Given>, AllocError>
+    ensures { IfOk result (λ member. member ≡ spec.member_of name.now (value_view value.now)) }
+{
+    if is_names(name) {
+        return names_member(alloc, name, value);
+    }
+    if is_date(name) {
+        return date_member(alloc, name, value);
+    }
+    if is_text(name) {
+        return text_member(alloc, name, value);
+    }
+    given(alloc, name, None, false)
+}
+
+// Whether a member says what an item is called or its type.
+fn is_head(name: &str) -> bool
+    ensures { result ≡ spec.is_head name.now }
+{
+    matches!(name, "id" | "type")
+}
+
+// The members of an object but for its head, unless one hasn't the form that it should have.
+fn fields_of(
+    alloc: Global,
+    members: &[(&str, Value<'_>)],
+) -> Result<Option<Items<Given>>, AllocError>
+    ensures { IfOk result (λ fields. fields ≡ spec.members_read (map (λ m. (m.0.now, value_view m.1)) members.now)) }
+{
+    let mut fields = Items::new(alloc);
+    'members: for member in members {
+        let name = member.0;
+        if is_head(name) {
+            continue 'members;
+        }
+        match member_of(alloc, name, &member.1)? {
+            Some(field) => fields.push(field)?,
+            None => return Ok(None),
+        }
+    }
+    Ok(Some(fields))
+}
+
+// The item of these members.
+fn item_of_members(
+    alloc: Global,
+    id: &str,
+    kind: &str,
+    members: &[(&str, Value<'_>)],
+) -> Result<ItemReading, AllocError>
+    ensures { IfOk result (λ reading. reading ≡ spec.item_of_members id.now kind.now (map (λ m. (m.0.now, value_view m.1)) members.now)) }
+{
+    match fields_of(alloc, members)? {
+        Some(fields) => Ok(ItemReading::Says(GivenItem {
+            id: Text::from_str(alloc, id)?,
+            kind: Text::from_str(alloc, kind)?,
+            fields,
+        })),
+        None => Ok(ItemReading::Unfit(Fault::WrongForm)),
+    }
+}
+
+// What an element is as an item.
+fn item_in(alloc: Global, value: &Value<'_>) -> Result<ItemReading, AllocError>
+    ensures { IfOk result (λ reading. reading ≡ spec.item_in (value_view value.now)) }
+{
+    let Some(members) = members(value) else {
+        return Ok(ItemReading::Unfit(Fault::NotAnObject));
+    };
+    let Some(id) = text_under(value, "id") else {
+        return Ok(ItemReading::Unfit(Fault::NoId));
+    };
+    let Some(kind) = string_under(value, "type") else {
+        return Ok(ItemReading::Unfit(Fault::NoType));
+    };
+    item_of_members(alloc, id, kind, members)
+}
+
+// What elements are as items.
+fn items_from(alloc: Global, values: &[Value<'_>]) -> Result<ItemsReading, AllocError>
+    ensures { IfOk result (λ reading. reading ≡ spec.items_read_from 0 (map value_view values.now)) }
+{
+    let mut items = Items::new(alloc);
+    let mut index = 0;
+    'elements: for value in values {
+        match item_in(alloc, value)? {
+            ItemReading::Says(item) => items.push(item)?,
+            ItemReading::Unfit(fault) => return Ok(ItemsReading::Refused(index, fault)),
+        }
+        index += 1;
+    }
+    Ok(ItemsReading::Are(items))
+}
+
+/// What a value of JSON is as items.
+pub(crate) fn items_in(alloc: Global, value: &Value<'_>) -> Result<ItemsReading, AllocError>
+    ensures { IfOk result (λ reading. reading ≡ spec.items_in (value_view value.now)) }
+{
+    match elements(value) {
+        Some(values) => items_from(alloc, values),
+        None => Ok(ItemsReading::Refused(0, Fault::NotAnArray)),
+    }
+}

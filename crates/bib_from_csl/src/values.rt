@@ -1,0 +1,111 @@
+//! Values of fields, as a file has them.
+
+ghost use Rattle.std.specs.Prelude.{◌≡◌, ◌==◌, ◌++◌, OnOk, IfOk, codes, string_bytes};
+ghost use Rattle.std.specs.List.{list_any, slice_split};
+ghost use Rattle.std.specs.Str.{chars};
+ghost use Rattle.bib_text.specs.Characters as char;
+ghost use Rattle.bib_from_csl.specs.Values as spec;
+
+use crate::tags::tagged;
+use bib_chunks::chunk::making::normal;
+use bib_chunks::chunk::value_text;
+use bib_entry_types::fields::is_verbatim_field;
+use bib_text::scanner::Scanner;
+use bib_text::text::Text;
+use std::alloc::{AllocError, Global};
+
+// Appends a character, or what stands in its place.
+fn push_replaced(out: &mut Text, replaced: char, with: &str, c: char) -> Result<(), AllocError>
+    ensures { OnOk result (out.new ≡ out.old ++ spec.replacing replaced with.now c) }
+{
+    if c == replaced {
+        out.push_str(with)
+    } else {
+        out.push(c)
+    }
+}
+
+// A text in which another text stands in the place of a character.
+pub(crate) fn replaced(
+    alloc: Global,
+    text: &str,
+    replaced: char,
+    with: &str,
+) -> Result<Text, AllocError>
+    ensures { IfOk result (λ out. out ≡ spec.replaced replaced with.now (chars text.now)) }
+{
+    let mut out = Text::new(alloc);
+    let mut scanner = Scanner::new(text);
+    'text: while let Some(c) = scanner.eat() {
+        push_replaced(&mut out, replaced, with, c)?;
+    }
+    Ok(out)
+}
+
+// The value of a field that holds a plain text.
+pub(crate) fn plain_value(alloc: Global, field: &str, text: &str) -> Result<Text, AllocError>
+    ensures { IfOk result (λ value. value ≡ spec.plain_value field.now text.now) }
+{
+    let chunks = normal(alloc, text)?;
+    let value = value_text(alloc, chunks.as_slice(), is_verbatim_field(field))?;
+    Ok(Text::from_string(value))
+}
+
+// The value of pages: two hyphens stand for an en dash.
+#[tactic(auto, unfolding(crate::specs::Values::pages_value))]
+pub(crate) fn pages_value(alloc: Global, text: &str) -> Result<Text, AllocError>
+    ensures { IfOk result (λ value. value ≡ spec.pages_value text.now) }
+{
+    let value = plain_value(alloc, "pages", text)?;
+    replaced(alloc, value.as_str(), '–', "--")
+}
+
+// A text with a tilde for each space at which no line breaks.
+pub(crate) fn with_ties(alloc: Global, text: &str) -> Result<Text, AllocError>
+    ensures { IfOk result (λ out. out ≡ spec.with_ties text.now) }
+{
+    replaced(alloc, text, '\u{a0}', "~")
+}
+
+// A text between braces.
+pub(crate) fn braced(alloc: Global, text: &str) -> Result<Text, AllocError>
+    ensures { IfOk result (λ value. value ≡ spec.braced text.now) }
+{
+    let mut value = Text::new(alloc);
+    value.push('{')?;
+    value.push_str(text)?;
+    value.push('}')?;
+    Ok(value)
+}
+
+// The value of a field that holds a text with HTML's tags.
+pub(crate) fn tagged_value(alloc: Global, text: &str) -> Result<Text, AllocError>
+    ensures { IfOk result (λ value. value ≡ spec.tagged_value text.now) }
+{
+    let source = tagged(alloc, text)?;
+    let tied = with_ties(alloc, source.as_str())?;
+    braced(alloc, tied.as_str())
+}
+
+// Whether one of the words of a text is `and`.
+pub(crate) fn has_and(text: &str) -> bool
+    ensures { result ≡ spec.has_and text.now }
+{
+    let mut found = false;
+    'words: for word in text.split(' ') {
+        found = found || word == "and";
+    }
+    found
+}
+
+// The value of a field that is a list, of which the text is one part.
+#[tactic(auto, unfolding(crate::specs::Values::listed_value))]
+pub(crate) fn listed_value(alloc: Global, text: &str) -> Result<Text, AllocError>
+    ensures { IfOk result (λ value. value ≡ spec.listed_value text.now) }
+{
+    let value = tagged_value(alloc, text)?;
+    if has_and(text) {
+        return braced(alloc, value.as_str());
+    }
+    Ok(value)
+}

@@ -1,0 +1,361 @@
+//! Items as entries of BibLaTeX, as a file has them.
+
+ghost use Rattle.std.specs.Prelude.{◌≡◌, ◌++◌, OnOk, IfOk, codes};
+ghost use Rattle.std.specs.List.{flat_map, list_any};
+ghost use Rattle.std.specs.Str.{chars};
+ghost use Rattle.bib_from_csl.specs.FromItems as spec;
+
+use crate::days::date_value;
+use crate::given::{Given, GivenItem};
+use crate::languages::language_name;
+use crate::people::{have_fixed_prefix, names_value};
+use crate::types::{entry_type_of, subtype_of};
+use crate::values::{braced, listed_value, pages_value, plain_value, tagged_value};
+use crate::variables::{beside_field, beside_text, field_of, is_listed, is_tagged};
+use bib_csl::item::Content;
+use bib_entry_types::mechanics::EntryType;
+use bib_syntax::raw::is_key;
+use bib_text::scanner::Scanner;
+use bib_text::text::Text;
+use std::alloc::{AllocError, Global};
+
+/// What the fields of an entry depend on.
+#[derive(Debug, Drop)]
+pub struct Work {
+    /// The type of the entry.
+    pub kind: EntryType,
+    /// Whether the item has a title of its one volume.
+    pub in_work: bool,
+    /// Whether prefixes count as parts of family names.
+    pub uses_prefix: bool,
+}
+
+// Whether a member is the title of a volume.
+fn is_volume_title(given: &Given) -> bool
+    ensures { result ≡ spec.is_volume_title given.now }
+{
+    given.name.as_str() == "volume-title"
+}
+
+// Whether a member has a name with a prefix that counts as part of the family name.
+fn has_prefix(given: &Given) -> bool
+    ensures { result ≡ spec.has_prefix given.now }
+{
+    match &given.content {
+        Some(Content::Names(names)) => have_fixed_prefix(names.as_slice()),
+        _ => false,
+    }
+}
+
+// Whether one of some members is the title of a volume.
+fn have_volume_title(fields: &[Given]) -> bool
+    ensures { result ≡ list_any spec.is_volume_title fields.now }
+{
+    fields.iter().any(|given| is_volume_title(given))
+}
+
+// Whether one of some members has such a name.
+fn have_prefix(fields: &[Given]) -> bool
+    ensures { result ≡ list_any spec.has_prefix fields.now }
+{
+    fields.iter().any(|given| has_prefix(given))
+}
+
+// What the fields of the entry of an item depend on.
+#[tactic(auto, unfolding(crate::specs::FromItems::work_for_item))]
+pub(crate) fn work_of(item: &GivenItem) -> Work
+    ensures { result ≡ spec.work_for_item item.now }
+{
+    Work {
+        kind: entry_type_of(item.kind.as_str()),
+        in_work: have_volume_title(item.fields.as_slice()),
+        uses_prefix: have_prefix(item.fields.as_slice()),
+    }
+}
+
+// Appends the line of a field.
+fn push_line(out: &mut Text, name: &str, value: &str) -> Result<(), AllocError>
+    ensures { OnOk result (out.new ≡ out.old ++ spec.entry_field_line name.now value.now) }
+{
+    out.push_str("  ")?;
+    out.push_str(name)?;
+    out.push_str(" = ")?;
+    out.push_str(value)?;
+    out.push_str(",\n")
+}
+
+// Appends the line of a field with this text, unless the text is empty.
+#[tactic(auto, unfolding(crate::specs::FromItems::known_line))]
+fn push_known(alloc: Global, out: &mut Text, name: &str, text: &str) -> Result<(), AllocError>
+    ensures { OnOk result (out.new ≡ out.old ++ spec.known_line name.now text.now) }
+{
+    if text.is_empty() {
+        return Ok(());
+    }
+    let value = braced(alloc, text)?;
+    push_line(out, name, value.as_str())
+}
+
+// The value of a field that holds the text of a variable.
+#[tactic(auto, unfolding(crate::specs::FromItems::variable_source))]
+fn text_value(alloc: Global, field: &str, name: &str, text: &str) -> Result<Text, AllocError>
+    ensures { IfOk result (λ value. value ≡ spec.variable_source field.now name.now text.now) }
+{
+    if is_listed(name) {
+        return listed_value(alloc, text);
+    }
+    if is_tagged(name) {
+        return tagged_value(alloc, text);
+    }
+    if name == "page" {
+        return pages_value(alloc, text);
+    }
+    plain_value(alloc, field, text)
+}
+
+// The value of a field that holds what a variable holds, if that says something that a field can say.
+fn value_of(
+    alloc: Global,
+    uses_prefix: bool,
+    field: &str,
+    name: &str,
+    content: &Content,
+) -> Result<Option<Text>, AllocError>
+    ensures { IfOk result (λ value. value ≡ spec.content_source uses_prefix field.now name.now content.now) }
+{
+    match content {
+        Content::Text(text) => Ok(Some(text_value(alloc, field, name, text.as_str())?)),
+        Content::Names(names) => Ok(Some(names_value(alloc, uses_prefix, names.as_slice())?)),
+        Content::Date(date) => date_value(alloc, date),
+    }
+}
+
+// The field of a language with this tag.
+fn language_field(tag: &str) -> &'static str
+    ensures { result.now ≡ spec.language_field tag.now }
+{
+    if language_name(tag).is_empty() {
+        return "language";
+    }
+    "langid"
+}
+
+// What that field holds.
+fn language_text(tag: &str) -> &str
+    ensures { result.now ≡ spec.language_text tag.now }
+{
+    let name = language_name(tag);
+    if name.is_empty() {
+        return tag;
+    }
+    name
+}
+
+// Appends the line of a language with this tag.
+fn push_language(alloc: Global, out: &mut Text, tag: &str) -> Result<(), AllocError>
+    ensures { OnOk result (out.new ≡ out.old ++ spec.language_line tag.now) }
+{
+    let field = language_field(tag);
+    let value = plain_value(alloc, field, language_text(tag))?;
+    push_line(out, field, value.as_str())
+}
+
+// Appends the lines of a variable that has this field.
+fn push_valued(
+    alloc: Global,
+    out: &mut Text,
+    work: &Work,
+    field: &str,
+    name: &str,
+    content: &Content,
+) -> Result<(), AllocError>
+    ensures { OnOk result (out.new ≡ out.old ++ spec.valued_lines work.now field.now name.now content.now) }
+{
+    let Some(value) = value_of(alloc, work.uses_prefix, field, name, content)? else {
+        return Ok(());
+    };
+    push_line(out, field, value.as_str())?;
+    push_known(alloc, out, beside_field(name), beside_text(name))
+}
+
+// Appends the lines of a variable.
+fn push_content(
+    alloc: Global,
+    out: &mut Text,
+    work: &Work,
+    name: &str,
+    content: &Content,
+) -> Result<(), AllocError>
+    ensures { OnOk result (out.new ≡ out.old ++ spec.content_lines work.now name.now content.now) }
+{
+    if let Content::Text(text) = content {
+        if name == "language" {
+            return push_language(alloc, out, text.as_str());
+        }
+    }
+    let field = field_of(&work.kind, work.in_work, name);
+    if field.is_empty() {
+        return Ok(());
+    }
+    push_valued(alloc, out, work, field, name, content)
+}
+
+// Whether a text or a list of names is empty.
+pub(crate) fn is_empty_content(content: &Content) -> bool
+    ensures { result ≡ spec.is_empty_content content.now }
+{
+    match content {
+        Content::Text(text) => text.is_empty(),
+        Content::Names(names) => names.is_empty(),
+        Content::Date(_) => false,
+    }
+}
+
+// Appends the lines of a member, if it holds something.
+fn push_given(alloc: Global, out: &mut Text, work: &Work, given: &Given) -> Result<(), AllocError>
+    ensures { OnOk result (out.new ≡ out.old ++ spec.given_lines work.now given.now) }
+{
+    match &given.content {
+        Some(content) => {
+            if is_empty_content(content) {
+                return Ok(());
+            }
+            push_content(alloc, out, work, given.name.as_str(), content)
+        }
+        None => Ok(()),
+    }
+}
+
+// Whether a character may stand in the key of an entry, for BibTeX too.
+fn is_of_key(c: char) -> bool
+    ensures { result ≡ spec.is_of_key c }
+{
+    is_key(c)
+        && !matches!(
+            c,
+            '{' | '"' | '#' | '%' | '\\' | '~' | '(' | ')' | '=' | '\'' | '@'
+        )
+}
+
+// Appends a character of a key, or an underscore in its place.
+fn push_of_key(key: &mut Text, c: char) -> Result<(), AllocError>
+    ensures { OnOk result (key.new ≡ key.old ++ spec.key_character c) }
+{
+    if is_of_key(c) {
+        key.push(c)
+    } else {
+        key.push('_')
+    }
+}
+
+// The key of the entry of an item that is called so.
+pub(crate) fn key_of(alloc: Global, id: &str) -> Result<Text, AllocError>
+    ensures { IfOk result (λ key. key ≡ spec.key_text (chars id.now)) }
+{
+    let mut key = Text::new(alloc);
+    let mut scanner = Scanner::new(id);
+    'id: while let Some(c) = scanner.eat() {
+        push_of_key(&mut key, c)?;
+    }
+    Ok(key)
+}
+
+// Appends what stands before the fields of an entry.
+#[tactic(auto, unfolding(crate::specs::FromItems::head))]
+fn push_head(alloc: Global, out: &mut Text, item: &GivenItem) -> Result<(), AllocError>
+    ensures { OnOk result (out.new ≡ out.old ++ spec.head item.now) }
+{
+    let kind = entry_type_of(item.kind.as_str());
+    let key = key_of(alloc, item.id.as_str())?;
+    out.push('@')?;
+    out.push_str(kind.name())?;
+    out.push('{')?;
+    out.push_str(key.as_str())?;
+    out.push_str(",\n")
+}
+
+// What the field `options` says.
+fn options_of(uses_prefix: bool) -> &'static str
+    ensures { result.now ≡ spec.options_of uses_prefix }
+{
+    if uses_prefix { "useprefix=true" } else { "" }
+}
+
+// Appends the fields of an entry.
+fn push_fields(
+    alloc: Global,
+    out: &mut Text,
+    work: &Work,
+    item: &GivenItem,
+) -> Result<(), AllocError>
+    ensures { OnOk result (out.new ≡ out.old ++ flat_map (spec.given_lines work.now) item.now.fields) }
+{
+    'fields: for given in item.fields.as_slice() {
+        push_given(alloc, out, work, given)?;
+    }
+    Ok(())
+}
+
+// Appends what stands before the fields of an entry that are variables.
+#[tactic(auto, unfolding(crate::specs::FromItems::beginning))]
+fn push_beginning(
+    alloc: Global,
+    out: &mut Text,
+    work: &Work,
+    item: &GivenItem,
+) -> Result<(), AllocError>
+    ensures { OnOk result (out.new ≡ out.old ++ spec.beginning work.now item.now) }
+{
+    push_head(alloc, out, item)?;
+    push_known(alloc, out, "entrysubtype", subtype_of(item.kind.as_str()))?;
+    push_known(alloc, out, "options", options_of(work.uses_prefix))
+}
+
+// Appends the end of an entry.
+fn push_end(out: &mut Text) -> Result<(), AllocError>
+    ensures { OnOk result (out.new ≡ out.old ++ codes "}\n") }
+{
+    out.push_str("}\n")
+}
+
+// Appends the entry of an item, given what its fields depend on.
+#[tactic(auto, unfolding(crate::specs::FromItems::source_with))]
+fn push_with(alloc: Global, out: &mut Text, work: &Work, item: &GivenItem) -> Result<(), AllocError>
+    ensures { OnOk result (out.new ≡ out.old ++ spec.source_with work.now item.now) }
+{
+    push_beginning(alloc, out, work, item)?;
+    push_fields(alloc, out, work, item)?;
+    push_end(out)
+}
+
+// Appends the entry of an item.
+#[tactic(auto, unfolding(crate::specs::FromItems::item_source))]
+fn push_entry(alloc: Global, out: &mut Text, item: &GivenItem) -> Result<(), AllocError>
+    ensures { OnOk result (out.new ≡ out.old ++ spec.item_source item.now) }
+{
+    let work = work_of(item);
+    push_with(alloc, out, &work, item)
+}
+
+// Appends the entry of an item, after an empty line unless it is the first.
+fn push_next(alloc: Global, out: &mut Text, first: bool, item: &GivenItem) -> Result<(), AllocError>
+    ensures { OnOk result (out.new ≡ out.old ++ spec.next_entry first item.now) }
+{
+    if !first {
+        out.push('\n')?;
+    }
+    push_entry(alloc, out, item)
+}
+
+// The entries of items.
+pub(crate) fn entries_text(alloc: Global, items: &[GivenItem]) -> Result<Text, AllocError>
+    ensures { IfOk result (λ text. text ≡ spec.items_source items.now) }
+{
+    let mut out = Text::new(alloc);
+    let mut first = true;
+    'items: for item in items {
+        push_next(alloc, &mut out, first, item)?;
+        first = false;
+    }
+    Ok(out)
+}

@@ -1,0 +1,5 @@
+mod AloneFacts
+mod CompareFacts
+mod ResolvedFacts
+mod RestFacts
+mod ValueFacts

@@ -1,0 +1,14 @@
+use Rattle.std.proofs.Common.{◌++◌, ℕ, List, drop, map, take}
+use Rattle.std.specs.List.{AllByRecursion}
+use Rattle.bib_documents.specs.Placed.{IsPlaced}
+use Rattle.bib_resolution.specs.Resolutions.{value_as_it_stands}
+use Rattle.bib_resolution.specs.ValueSets.{HasOnly}
+use Rattle.bib_syntax.specs.Views.{field_of}
+use Rattle.bib_resolution.proofs.values.add_values.Given as goal
+
+-- the set has no more than the values of the fields so far
+abbrev pub invariant-fields : goal.invariant-fields
+invariant-fields l = record {
+  only : (values : List (List ℕ)) → HasOnly values l.initial.set → HasOnly (values ++ map (value_as_it_stands l.text) (map field_of (take l.field-index l.fields))) l.set;
+  placed : AllByRecursion (IsPlaced l.text) (map field_of (drop l.field-index l.fields));
+}

@@ -1,0 +1,16 @@
+use Rattle.std.proofs.Common.{refl}
+use Rattle.bib_documents.specs.Placed.{IsPlaced}
+use Rattle.bib_resolution.specs.Resolutions.{IsValueKept}
+use Rattle.bib_resolution.proofs.RestFacts.{next_holds, rest_holds}
+use Rattle.bib_syntax.specs.Views.{field_of}
+use Rattle.bib_resolution.proofs.values.are_kept.Goals as goal
+
+pub fields-preserved : goal.fields-preserved
+fields-preserved c =
+    let fields = c.args.fields.now in
+    let at = c.fields.field-index in
+    let text = c.args.text.now in
+    record {
+      kept = λ values only. rest_holds field_of (IsValueKept values text) fields at c.field-item.result c.fields-test.true c.field-item.is (c.fields.invariant.kept values only) (c.if-not-is_kept.ensures values only refl);
+      placed = (next_holds field_of (IsPlaced text) fields at c.field-item.result c.fields-test.true c.field-item.is c.fields.invariant.placed).1;
+    }

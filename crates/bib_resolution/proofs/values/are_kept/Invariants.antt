@@ -1,0 +1,14 @@
+use Rattle.std.proofs.Common.{ℕ, List, drop, map}
+use Rattle.std.specs.List.{AllByRecursion}
+use Rattle.bib_documents.specs.Placed.{IsPlaced}
+use Rattle.bib_resolution.specs.Resolutions.{IsValueKept}
+use Rattle.bib_resolution.specs.ValueSets.{HasOnly}
+use Rattle.bib_syntax.specs.Views.{field_of}
+use Rattle.bib_resolution.proofs.values.are_kept.Given as goal
+
+-- all are kept if those that are left are
+abbrev pub invariant-fields : goal.invariant-fields
+invariant-fields l = record {
+  kept : (values : List (List ℕ)) → HasOnly values l.set → AllByRecursion (IsValueKept values l.text) (map field_of (drop l.field-index l.fields)) → AllByRecursion (IsValueKept values l.text) (map field_of l.fields);
+  placed : AllByRecursion (IsPlaced l.text) (map field_of (drop l.field-index l.fields));
+}

@@ -1,0 +1,4 @@
+pub mod Errors
+pub mod Pairs
+pub mod Resolutions
+pub mod ValueSets

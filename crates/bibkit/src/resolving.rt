@@ -1,0 +1,31 @@
+//! The command that gives entries what they inherit in fields of their own.
+
+use crate::edits::{Editing, Edits, Mode, run_edits};
+use bibkit_edits::edit::Edit;
+
+// Gives the entries of a file what they inherit in fields of their own, and answers the status.
+fn resolve_file(rt: &HostRuntime, mode: Mode, name: &str) -> u8 {
+    match vec![in rt.alloc(); Edit::Resolve] {
+        Ok(edits) => run_edits(
+            rt,
+            &Editing {
+                edits: Edits::These(edits),
+                name,
+                mode,
+            },
+        ),
+        Err(_) => {
+            let _ = rt.eprintln("bibkit: out of memory");
+            3
+        }
+    }
+}
+
+/// Gives the entries of files what they inherit in fields of their own, one file after another, and answers the greatest status.
+pub fn run_resolve(rt: &HostRuntime, mode: Mode, names: &[&str]) -> u8 {
+    let mut status = 0;
+    'names: for name in names {
+        status = resolve_file(rt, mode, name).max(status);
+    }
+    status
+}
