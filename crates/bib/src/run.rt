@@ -99,7 +99,8 @@ fn key_lines(alloc: Global, raw: &RawBibliography<'_>) -> Result<String, AllocEr
     Ok(text)
 }
 
-// The answer of the command `keys` for a text.
+// The answer of the command `keys` for a text. Here and below the memory of what was read isn't given back piece by piece:
+// the program ends after its answer.
 fn keys(alloc: Global, text: &str) -> Result<Answer, AllocError>
     ensures { IfOk result (λ answer. IsKeysAnswer text.now
         (string_bytes answer.text) answer.status) }
@@ -108,10 +109,9 @@ fn keys(alloc: Global, text: &str) -> Result<Answer, AllocError>
         Ok(raw) => raw,
         Err(error) => return error_answer(alloc, &error),
     };
-    Ok(Answer {
-        text: key_lines(alloc, &raw)?,
-        status: 0,
-    })
+    let text = key_lines(alloc, &raw)?;
+    mem::forget(raw);
+    Ok(Answer { text, status: 0 })
 }
 
 // The bibliography that a text is, or the answer that it is none.
@@ -132,8 +132,7 @@ fn bibliography(alloc: Global, text: String) -> Result<Result<Bibliography, Answ
     parsed(alloc, text.as_str())
 }
 
-// The answer of the command `biblatex` for a text. Here and below the memory of the bibliography isn't given back entry by
-// entry: the program ends after its answer.
+// The answer of the command `biblatex` for a text.
 fn biblatex(alloc: Global, text: String) -> Result<Answer, AllocError>
     ensures { IfOk result (λ answer. IsBibliographyAnswer ShowsBiblatex (string_bytes text)
         (string_bytes answer.text) answer.status) }

@@ -8,6 +8,7 @@ pub mod EffectFacts
 pub mod EndFacts
 pub mod FrameFacts
 pub mod LaidFacts
+pub mod PlainFacts
 pub mod ProgressFacts
 pub mod ReaderFacts
 pub mod ReadingContents

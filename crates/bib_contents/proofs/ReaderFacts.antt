@@ -65,12 +65,12 @@ pub record ReadSoFar (is_verbatim : Bool) (whole : List ℕ) (start : List Atom)
 pub read_none : (is_verbatim : Bool) (whole : List ℕ) (start now : List Atom) → now ≡ start → ReadSoFar is_verbatim whole start whole 0 now
 read_none is_verbatim whole start now same = record { atoms = []; goes = goes_here is_verbatim 0 whole; is = same ∙ sym (append-nil start) }
 
-pub read_run : {is_verbatim : Bool} {whole text rest : List ℕ} {start now more : List Atom} {depth : ℕ} (run : List ℕ) → ReadSoFar is_verbatim whole start text depth now → text ≡ run ++ rest → list_all (is_ordinary is_verbatim) run ≡ true
-    → more ≡ now ++ map (character depth) run → ReadSoFar is_verbatim whole start rest depth more
-read_run {is_verbatim} {whole} {text} {rest} {start} {now} {more} {depth} run read leading_run all written = record {
-  atoms = read.atoms ++ map (character depth) run;
-  goes = goes_then read.goes (rw leading_run (goes_run is_verbatim depth run rest all));
-  is = written ∙ ap (λ xs. xs ++ map (character depth) run) read.is ∙ append_assoc start read.atoms (map (character depth) run);
+pub read_plain : {is_verbatim : Bool} {whole text rest : List ℕ} {start now more : List Atom} {depth : ℕ} (atoms : List Atom) → ReadSoFar is_verbatim whole start text depth now → Goes is_verbatim depth text atoms depth rest
+    → more ≡ now ++ atoms → ReadSoFar is_verbatim whole start rest depth more
+read_plain {start = start} atoms read goes written = record {
+  atoms = read.atoms ++ atoms;
+  goes = goes_then read.goes goes;
+  is = written ∙ ap (λ xs. xs ++ atoms) read.is ∙ append_assoc start read.atoms atoms;
 }
 
 pub read_unit : {is_verbatim : Bool} {whole text rest : List ℕ} {u : ContentUnit} {start now more : List Atom} {depth after : ℕ} → ReadSoFar is_verbatim whole start text depth now → IsNext is_verbatim u text rest

@@ -1,20 +1,20 @@
 -- The loop that reads contents: what holds at each unit.
-use Rattle.std.proofs.Common.{◌≡◌, ℕ, ◌+◌, ◌-◌, ◌<◌, ◌≤◌, ◌^◌, Bool, true, List, [], ◌++◌, length, drop, map, refl, sym, ap, ◌∙◌, subst, arith, append_assoc, length-append, length-drop}
+use Rattle.std.proofs.Common.{◌≡◌, ℕ, ◌+◌, ◌-◌, ◌<◌, ◌≤◌, ◌^◌, Bool, List, [], ◌++◌, length, drop, map, refl, sym, ap, ◌∙◌, subst, arith, append_assoc, length-append, length-drop}
 use Rattle.std.specs.Prelude.{encode_utf8_all, string_bytes}
-use Rattle.std.specs.List.{list_all}
 use Rattle.std.specs.Str.{chars, IsUtf8}
 use Rattle.std.proofs.lemmas.List.{map-append, append-nil}
-use Rattle.std.proofs.lemmas.Str.{chars-append, chars-nil, encodes-append, encodes-chars, length-le-encodes}
+use Rattle.std.proofs.lemmas.Str.{IsUtf8-string_bytes, chars-nil, encodes-append, encodes-chars, length-le-encodes}
 use Rattle.bib_text.specs.Places.{Place}
 use Rattle.bib_chunks.specs.Styled.{Atom, styled}
 use Rattle.bib_chunks.specs.declared.chunk.Chunk.{Chunk}
 use Rattle.bib_text.specs.declared.spanned.Spanned.{Spanned}
-use Rattle.bib_contents.specs.Contents.{ContentUnit, IsNext, Reads, is_ordinary, character, depth_after, unit_spelling, saturated}
+use Rattle.bib_contents.specs.Contents.{ContentUnit, IsNext, Reads, character, depth_after, unit_spelling, saturated}
 use Rattle.bib_styled.specs.Joined.{AreJoined, ArePlaced}
-use Rattle.bib_contents.specs.Progress.{left, Passes, Took, StaysPlaced, so_far}
+use Rattle.bib_contents.specs.Progress.{left, Passes, Renders, Took, StaysPlaced, so_far}
 use Rattle.bib_contents.specs.declared.growing.OpenChunk.{OpenChunk}
-use Rattle.bib_contents.proofs.ArgumentFacts.{passes_within, passes_ahead}
-use Rattle.bib_contents.proofs.ReaderFacts.{ReadSoFar, read_none, read_run, read_unit, read_all, unit_shorter}
+use Rattle.bib_contents.proofs.ArgumentFacts.{passes_within, passes_ahead, passes_shorter}
+use Rattle.bib_contents.proofs.ReaderFacts.{ReadSoFar, read_none, read_plain, read_unit, read_all, unit_shorter}
+use Rattle.bib_contents.proofs.TakingFacts.{grown_chars}
 
 -- contents were read up to a place: what the chunks say is what was read, they are joined and in order
 pub record Reading (is_verbatim : Bool) (text : List ℕ) (offset : ℕ) (start : List (Spanned Chunk)) (s : Place) (growing : OpenChunk) (out : List (Spanned Chunk)) : Type 0 where
@@ -39,29 +39,29 @@ reading_none is_verbatim text offset start s growing here fits shallow begins em
   within = rw here (omega arith);
 }
 
--- a run of ordinary characters
-pub reading_run : {is_verbatim : Bool} {text : List ℕ} {offset : ℕ} {start out : List (Spanned Chunk)} {s t : Place} (growing grown : OpenChunk) (run : List ℕ) → Reading is_verbatim text offset start s growing out → Passes s (chars run) t → list_all (is_ordinary is_verbatim) (chars run) ≡ true
-    → string_bytes grown.text ≡ string_bytes growing.text ++ run → IsUtf8 (string_bytes growing.text) → grown.depth ≡ growing.depth → grown.start ≡ growing.start
-    → Reading is_verbatim text offset start t grown out
-reading_run {is_verbatim} {text} {offset} {start} {out} {s} {t} growing grown run reading passed all written utf8 depth begins =
-    let ahead : s.at ≤ t.at = passes_ahead passed in
-    let more : so_far out grown ≡ so_far out growing ++ map (character growing.depth) (chars run) =
+-- a part that stands for characters
+pub reading_plain : {is_verbatim : Bool} {text : List ℕ} {offset : ℕ} {start out : List (Spanned Chunk)} {s t : Place} (growing grown : OpenChunk) → Reading is_verbatim text offset start s growing out → Renders is_verbatim s t growing.text grown.text
+    → grown.depth ≡ growing.depth → grown.start ≡ growing.start → Reading is_verbatim text offset start t grown out
+reading_plain {is_verbatim} {text} {offset} {start} {out} {s} {t} growing grown reading renders depth begins =
+    let shown : List ℕ = renders.0 in
+    let passes : Passes s renders.1.passed t = renders.1.passes in
+    let ahead : s.at ≤ t.at = passes_ahead passes in
+    let more : so_far out grown ≡ so_far out growing ++ map (character growing.depth) shown =
     ap (λ d. styled out ++ map (character d) (chars (string_bytes grown.text))) depth
-    ∙ ap (λ bs. styled out ++ map (character growing.depth) (chars bs)) written
-    ∙ ap (λ cs. styled out ++ map (character growing.depth) cs) (chars-append (string_bytes growing.text) run utf8)
-    ∙ ap (λ xs. styled out ++ xs) (map-append (character growing.depth) (chars (string_bytes growing.text)) (chars run))
+    ∙ ap (λ cs. styled out ++ map (character growing.depth) cs) (grown_chars (string_bytes growing.text) (string_bytes grown.text) shown (IsUtf8-string_bytes growing.text) (IsUtf8-string_bytes grown.text) renders.2)
+    ∙ ap (λ xs. styled out ++ xs) (map-append (character growing.depth) (chars (string_bytes growing.text)) shown)
     ∙ sym (append_assoc (styled out) _ _) in
     record {
-      read = subst (λ d. ReadSoFar is_verbatim (chars text) (styled start) (left t) d (so_far out grown)) (sym depth) (read_run (chars run) reading.read passed.left all more);
+      read = subst (λ d. ReadSoFar is_verbatim (chars text) (styled start) (left t) d (so_far out grown)) (sym depth) (read_plain (map (character growing.depth) shown) reading.read (renders.1.goes growing.depth) more);
       shorter =
-          let size : length (left s) ≡ length (chars run) + length (left t) = ap length passed.left ∙ length-append (chars run) _ in
+          let size : length (left t) ≤ length (left s) = passes_shorter passes in
           let before : length (left s) ≤ length (chars text) = reading.shorter in
           omega arith;
       joined = reading.joined;
       placed = λ low placed. let before = reading.placed low placed in rw begins (before.0, omega (arith, before.1, ahead));
       deep = rw depth (omega (arith, reading.deep, ahead));
-      same = passed.same ∙ reading.same;
-      within = passes_within passed reading.within;
+      same = passes.same ∙ reading.same;
+      within = passes_within passes reading.within;
     }
 
 -- the place after a unit

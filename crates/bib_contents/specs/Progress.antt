@@ -1,14 +1,15 @@
 -- Machinery: words of private contracts.
 -- Characters that a cursor passes, and how far contents were read.
-use Rattle.std.specs.Prelude.{◌≡◌, ◌⊎◌, ℕ, ◌+◌, ◌-◌, ◌^◌, ◌≤◌, min, Bool, true, false, List, ◌++◌, length, drop, map, Some, string_bytes, encode_utf8_all}
+use Rattle.std.specs.Prelude.{◌≡◌, ◌⊎◌, ℕ, ◌+◌, ◌≤◌, ◌==◌, ◌&&◌, ◌||◌, not, Bool, true, false, List, ◌++◌, length, drop, map, Some, string_bytes, encode_utf8_all}
 use Rattle.std.specs.Str.{chars}
 use Rattle.bib_text.specs.Places.{Place}
+use Rattle.std.specs.declared.string.String.{String}
+use Rattle.bib_text.specs.Characters as char
 use Rattle.bib_chunks.specs.Styled.{Atom, styled}
+use Rattle.bib_chunks.specs.Writing.{Writes}
 use Rattle.bib_chunks.specs.declared.chunk.Chunk.{Chunk}
 use Rattle.bib_text.specs.declared.spanned.Spanned.{Spanned}
-use Rattle.bib_syntax.specs.Errors.{out_of_memory}
-use Rattle.bib_syntax.specs.declared.raw.ParseError.{ParseError}
-use Rattle.bib_contents.specs.Contents.{LiesBetween, ContentUnit, Reads, character, meaning, is_closable, depth_after, held}
+use Rattle.bib_contents.specs.Contents.{ContentUnit, Reads, begins, is_space, character, meaning, is_closable, depth_after, held}
 use Rattle.bib_styled.specs.Joined.{ArePlaced}
 use Rattle.bib_contents.specs.declared.growing.OpenChunk.{OpenChunk}
 
@@ -28,6 +29,21 @@ pub record Passes (u : Place) (cs : List ℕ) (v : Place) : Type 0 where
 pub record Goes (is_verbatim : Bool) (depth : ℕ) (text : List ℕ) (atoms : List Atom) (after : ℕ) (rest : List ℕ) : Type 0 where
   pub onward : (more : List Atom) → Reads is_verbatim after rest more → Reads is_verbatim depth text (atoms ++ more)
   pub back : (whole : List Atom) → Reads is_verbatim depth text whole → (more : List Atom) × Reads is_verbatim after rest more
+
+-- characters were passed from one place to the other, and are read as these, whatever braces are open
+pub record ReadsAs (is_verbatim : Bool) (u : Place) (shown : List ℕ) (v : Place) : Type 0 where
+  pub passed : List ℕ
+  pub passes : Passes u passed v
+  pub goes : (depth : ℕ) → Goes is_verbatim depth (left u) (map (character depth) shown) depth (left v)
+
+-- a text was read as characters from one place to the other, and they were written at the end of another text
+abbrev pub Renders : {A : Type 0} → Bool → Place → Place → String A → String A → Type 0
+Renders is_verbatim u v old new = (shown : List ℕ) × ReadsAs is_verbatim u shown v × Writes old new shown
+
+-- a space before no white space, or a hyphen before no hyphen
+abbrev pub is_alone : ℕ → List ℕ → Bool
+is_alone c rest =
+    (c == char.space && not (begins is_space rest)) || (c == char.hyphen && not (begins (λ d. d == char.hyphen) rest))
 
 -- a text is not read
 abbrev pub IsStuck : Bool → ℕ → List ℕ → Type 0

@@ -3,10 +3,11 @@
 ghost use Rattle.std.specs.Prelude.{◌≡◌, ℕ, ◌≤◌, ◌<◌, ◌==◌, ◌^◌, Bool, true, false, List, [], ◌∷◌, length, take, drop, MatchOption, MatchBool};
 ghost use Rattle.std.specs.List.{list_all};
 ghost use Rattle.std.specs.Str.{chars, IsCharBoundary, IsUtf8};
-ghost use Rattle.bib_text.specs.Places.{Place, place, Answers, between};
+ghost use Rattle.bib_text.specs.Places.{Place, place, Answers, AtEnd, CharAt, between};
 ghost use Rattle.bib_contents.specs.Contents.{begins, is_space};
-ghost use Rattle.bib_contents.specs.Progress.{left, Passes};
+ghost use Rattle.bib_contents.specs.Progress.{left, Passes, ReadsAs, is_alone};
 
+use crate::classes::{is_ordinary, is_space};
 use bib_text::scanner::Scanner;
 use std::marker::Model;
 
@@ -28,6 +29,38 @@ impl<'s> Model for Characters<'s> {
 
     ghost invariant = { λ c. IsUtf8 c.text.now × (c.text.now ≡ c.scanner.text) ×
         IsUtf8 (drop c.scanner.at c.scanner.text) };
+}
+
+// The character at a place, if the text goes on.
+fn char_at(text: &str, at: usize) -> Option<char>
+    requires { IsCharBoundary text.now at }
+    ensures { MatchOption result
+        (AtEnd (place text.now at))
+        (λ c. (v : Place) × CharAt (place text.now at) c v) }
+{
+    let bytes = text.as_bytes();
+    if at == bytes.len() {
+        return None;
+    }
+    let byte = bytes[at];
+    if byte < 0x80 {
+        return Some(byte as char);
+    }
+    text[at..].chars().next()
+}
+
+// Whether this character, before a place, is a space that no white space follows, or a hyphen that no hyphen follows.
+fn is_alone(c: char, text: &str, at: usize) -> bool
+    requires { IsCharBoundary text.now at }
+    ensures { result ≡ is_alone c (left (place text.now at)) }
+{
+    let Some(next) = char_at(text, at) else {
+        return c == ' ' || c == '-';
+    };
+    if c == ' ' {
+        return !is_space(next);
+    }
+    c == '-' && next != '-'
 }
 
 impl<'s> Characters<'s> {
@@ -94,6 +127,36 @@ impl<'s> Characters<'s> {
             (list_all p (chars result.now) ≡ true) × (begins p (left self.new) ≡ false) }
     {
         self.scanner.eat_while(test)
+    }
+
+    // Takes characters that are read as themselves, and gives the text that they are: ordinary ones, spaces and hyphens.
+    pub(crate) fn eat_shown(&mut self, is_verbatim: bool) -> &'s str
+        ensures { ReadsAs is_verbatim self.old (chars result.now) self.new }
+    {
+        let text = self.text;
+        let bytes = text.as_bytes();
+        let start = self.scanner.cursor();
+        let mut at = start;
+        'run: while at < bytes.len() {
+            let byte = bytes[at];
+            if byte < 0x80 {
+                let c = byte as char;
+                if !(is_ordinary(is_verbatim, c) || is_alone(c, text, at + 1)) {
+                    break;
+                }
+                at += 1;
+            } else {
+                let Some(c) = char_at(text, at) else {
+                    break;
+                };
+                if !is_ordinary(is_verbatim, c) {
+                    break;
+                }
+                at += c.len_utf8();
+            }
+        }
+        self.scanner.jump(at);
+        &text[start..at]
     }
 
     // The text from an earlier place up to here.

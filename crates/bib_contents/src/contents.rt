@@ -12,10 +12,10 @@ ghost use Rattle.bib_contents.specs.UnitViews.{unit_of};
 
 use crate::arguments::write_applied;
 use crate::characters::Characters;
-use crate::classes::is_ordinary;
 use crate::ends::Ends;
 use crate::errors::{ended, unopened};
 use crate::growing::{OpenChunk, finish, finish_before_math, finish_chunk};
+use crate::plain::write_plain;
 use crate::units::{Unit, eat_unit};
 use crate::writing::write_unit;
 use bib_chunks::chunk::{Chunks, Span};
@@ -106,8 +106,7 @@ pub fn contents(
         is_first: true,
     };
     'units: loop {
-        let run = s.eat_while(|c| is_ordinary(is_verbatim, c));
-        growing.text.push_str(run)?;
+        write_plain(&mut growing.text, &mut s, is_verbatim)?;
         if s.done() {
             finish(out, growing, end)?;
             return Ok(());

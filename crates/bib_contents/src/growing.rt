@@ -32,6 +32,16 @@ fn chunk_of(depth: usize, text: String) -> Chunk
     Chunk::Verbatim(Text::from_string(text))
 }
 
+// A text without much room to spare. A few bytes are left, since an allocator does not take them back.
+fn fitted(mut text: String) -> String
+    ensures { string_bytes result ≡ string_bytes text }
+{
+    if text.capacity() > text.len() + 15 {
+        text.shrink_to_fit();
+    }
+    text
+}
+
 // Finishes the chunk at a brace or math that stands from `end` to `following`, and begins one with so many braces open.
 pub(crate) fn finish_chunk(
     out: &mut Chunks,
@@ -48,8 +58,7 @@ pub(crate) fn finish_chunk(
         growing.old.start ≤ end → ArePlaced low end out.new) }
 {
     let empty = String::new(*growing.text.allocator());
-    let mut text = std::mem::replace(&mut growing.text, empty);
-    text.shrink_to_fit();
+    let text = fitted(std::mem::replace(&mut growing.text, empty));
     append(
         out,
         Spanned::new(chunk_of(growing.depth, text), growing.start..end),

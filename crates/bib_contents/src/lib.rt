@@ -4,7 +4,8 @@
 //! commands with their arguments, and single characters. `characters` is a cursor that contracts see by the characters
 //! that are left, so that UTF-8 is spoken of in one file: units are of characters, and spans of bytes. `units` takes
 //! one unit and does not allocate; `contents` goes from unit to unit and adds what each means to the chunk that grows
-//! (`growing`), which a brace or math finishes. `commands` is the table of commands and accents. Each loop keeps a
+//! (`growing`), which a brace or math finishes. What stands for characters and is no command is written by whole parts
+//! (`plain`), without a unit for each. `commands` is the table of commands and accents. Each loop keeps a
 //! record of two directions: what is read of the rest is read of the whole after what was read so far, and where the
 //! whole is read, the rest is. That no text has two readings does the rest.
 //!
@@ -25,5 +26,6 @@ mod ends;
 mod errors;
 mod growing;
 pub mod laws;
+mod plain;
 mod units;
 mod writing;

@@ -51,7 +51,8 @@ pub(crate) enum Unit<'s> {
 }
 
 // Hyphens, counted.
-fn hyphens(s: &mut Characters<'_>) -> usize
+pub(crate) fn hyphens(s: &mut Characters<'_>) -> usize
+    ensures passed { (cs : List ℕ) × Passes s.old cs s.new }
     ensures same { s.new.text ≡ s.old.text }
     ensures spelt { left s.old ≡ replicate result 45 ++ left s.new }
     ensures whole { begins (λ c. c == 45) (left s.new) ≡ false }

@@ -16,7 +16,7 @@ use bib_text::text::Text;
 use std::alloc::{AllocError, Global};
 
 // Writes so many hyphens, cut from the left: threes, then two or one.
-fn write_dashes(text: &mut String, count: usize) -> Result<(), AllocError>
+pub(crate) fn write_dashes(text: &mut String, count: usize) -> Result<(), AllocError>
     ensures { OnOk result (Writes text.old text.new (dashes count)) }
 {
     'threes: for _ in 0..count / 3 {

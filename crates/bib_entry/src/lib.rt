@@ -9,6 +9,6 @@ mod dates;
 mod editors;
 pub mod entry;
 mod fields;
-mod parents;
+pub mod parents;
 pub mod report;
 pub mod write;

@@ -1,7 +1,7 @@
 //! The entries that an entry belongs to, or stands beside.
 
 ghost use Rattle.std.specs.Prelude.{◌≡◌, IfOk, IfErr, map, string_bytes};
-ghost use Rattle.bib_entry.specs.Parents.{parents_of};
+ghost use Rattle.bib_entry.specs.Parents.{has_references, parents_of};
 ghost use Rattle.bib_enums.specs.TypeError.{no_memory};
 
 use crate::entry::Entry;
@@ -21,6 +21,13 @@ fn parents_of(alloc: Global, entry: &Entry) -> Result<Vec<String>, AllocError>
         names.insert(0, format_verbatim(alloc, chunks)?)?;
     }
     Ok(names)
+}
+
+/// Whether an entry has a field by which it takes over from others, `crossref` or `xdata`.
+pub fn has_references(entry: &Entry) -> bool
+    ensures { result ≡ has_references entry.now }
+{
+    entry.get("crossref").is_some() || entry.get("xdata").is_some()
 }
 
 impl Entry {

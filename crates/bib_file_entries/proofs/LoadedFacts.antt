@@ -1,5 +1,5 @@
 -- Facts on what a file says as a bibliography.
-use Rattle.std.proofs.Common.{◌≡◌, ℕ, ◌+◌, Bool, true, false, List, [], ◌∷◌, ◌++◌, length, length-append, refl, sym, ap, ◌∙◌, subst, arith, append_assoc, Option, None, Some, MatchOption, cond, ◌||◌, is_some}
+use Rattle.std.proofs.Common.{◌≡◌, ℕ, ◌+◌, Bool, true, false, List, [], ◌∷◌, ◌++◌, length, length-append, refl, sym, ap, ◌∙◌, subst, arith, append_assoc, Option, None, Some, MatchOption, cond, ◌||◌, is_none, is_some}
 use Rattle.std.specs.Prelude.{bytes_eq, codes}
 use Rattle.std.specs.FinMap as by_name
 use Rattle.std.specs.FinMap.{get-empty, get-insert}
@@ -50,6 +50,15 @@ no_entries (IsFirstErrorOfEntries.duplicate was is) (AreEntries.next fresh read 
 no_entries (IsFirstErrorOfEntries.unreadable fresh error) (AreEntries.next fresh' read rest) = fields_unread error read.readable
 no_entries {definitions} {claimed} (IsFirstErrorOfEntries.following {rest = more} {entry = one} fresh read error) (AreEntries.next {entry = two} {entries = others} fresh' read' rest) =
     no_entries error (subst (λ names. AreEntries definitions (claimed ++ names) more others) (claims_same two one read' read) rest)
+
+-- a name is claimed where it isn't new, and isn't where it is
+pub had_by : {A : Type 0} (o : Option A) (is_new : Bool) → is_new ≡ is_none o → is_new ≡ false → is_some o ≡ true
+had_by None is_new is old = sym old ∙ is
+had_by (Some x) is_new is old = refl
+
+pub absent_by : {A : Type 0} (o : Option A) (is_new : Bool) → is_new ≡ is_none o → is_new ≡ true → is_some o ≡ false
+absent_by None is_new is new = refl
+absent_by (Some x) is_new is new = sym new ∙ is
 
 -- entries after others
 pub loaded_more : (bibliography : Bibliography) (first second : List Entry) → loaded_after bibliography (first ++ second) ≡ loaded_after (loaded_after bibliography first) second

@@ -1,7 +1,7 @@
 -- Meaning: words of public contracts.
 -- What is kept of a file's entries where not all of it can be read: an entry is left out whose key was claimed, and a field
 -- that can't be read, each with its error. A name that stands for nothing is kept as text, as if it stood in braces.
-use Rattle.std.specs.Prelude.{◌≡◌, Bool, true, false, List, [], ◌∷◌, ◌++◌, ℕ, map, slice_get, Some, if◌then◌else◌}
+use Rattle.std.specs.Prelude.{◌≡◌, true, false, List, [], ◌∷◌, ◌++◌, ℕ, map, slice_get, Some, if◌then◌else◌}
 use Rattle.bib_abbreviations.specs.Abbreviations.{Definitions, IsFirstError, error_at, is_known}
 use Rattle.bib_entry.specs.declared.entry.Entry.{Entry}
 use Rattle.bib_entry_types.specs.VerbatimFields.{is_verbatim_field}

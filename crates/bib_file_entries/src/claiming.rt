@@ -1,21 +1,28 @@
 //! The names that an entry claims.
 
 ghost use Rattle.std.specs.Prelude.{◌≡◌, IfOk};
-ghost use Rattle.bib_file_entries.specs.Bibliography.{claims};
+ghost use Rattle.bib_file_entries.specs.Bibliography.{aliases, claims};
 
 use bib_entry::entry::Entry;
 use bib_styled::lists::comma_texts;
 use bib_text::text::Text;
 use std::alloc::{AllocError, Global};
 
+// The other names of an entry: the parts of its field `ids`. Does not allocate where it has none.
+pub(crate) fn aliases(alloc: Global, entry: &Entry) -> Result<Vec<Text>, AllocError>
+    ensures { IfOk result (λ names. names.items ≡ aliases entry.now) }
+{
+    match entry.get("ids") {
+        Some(chunks) => comma_texts(alloc, chunks),
+        None => Ok(Vec::new(alloc)),
+    }
+}
+
 /// The names that an entry claims: its key, then the parts of its field `ids`. Refused only when out of memory.
 pub fn claims(alloc: Global, entry: &Entry) -> Result<Vec<Text>, AllocError>
     ensures { IfOk result (λ names. names.items ≡ claims entry.now) }
 {
-    let mut names = match entry.get("ids") {
-        Some(chunks) => comma_texts(alloc, chunks)?,
-        None => Vec::new(alloc),
-    };
+    let mut names = aliases(alloc, entry)?;
     names.insert(0, entry.key.clone()?)?;
     Ok(names)
 }

@@ -1,5 +1,5 @@
 -- Facts on maps of strings that are seen as maps by text.
-use Rattle.std.proofs.Common.{◌≡◌, ℕ, cond, T, List, [], ◌∷◌, map, Some, refl, sym, ap, ap₂, subst, ◌∙◌, Less, is_lt, string_bytes, string_cmp, String, BTreeMap, nat_cmp}
+use Rattle.std.proofs.Common.{◌≡◌, ℕ, Bool, true, false, not, cond, T, List, [], ◌∷◌, map, Option, Some, None, is_some, is_none, refl, sym, ap, ap₂, subst, ◌∙◌, Less, is_lt, string_bytes, string_cmp, String, BTreeMap, nat_cmp}
 use Rattle.std.specs.Global.{Global}
 use Rattle.std.specs.BTreeMap as tree
 use Rattle.std.specs.List.{AllByRecursion}
@@ -50,6 +50,11 @@ sorted_texts m ordered = is_true _ (rising_texts m.entries ordered)
 pub map_of_texts : (m : BTreeMap (String Global) ℕ) → tree.IsOrdered string_cmp m → map_of (text_pairs m.entries) ≡ by_text.from_entries (text_pairs m.entries)
 map_of_texts m ordered = same_map nat_list_cmp_total by_bytes-IsAntisymmetric _ _ (λ q.
     get-from_sorted by_bytes (text_pairs m.entries) q (rising_texts m.entries ordered) ∙ sym (get-from_entries nat_list_cmp_total (text_pairs m.entries) q))
+
+-- whether there is nothing, by whether there is something
+pub is_none_by : {A : Type 0} (o : Option A) (b : Bool) → is_some o ≡ not b → b ≡ is_none o
+is_none_by o true is = sym (ap not is)
+is_none_by o false is = sym (ap not is)
 
 -- a map of no names
 pub no_texts : (m : BTreeMap (String Global) ℕ) → tree.IsEmpty m → by_text.from_entries {R = by_bytes} (text_pairs m.entries) ≡ by_text.empty

@@ -1,6 +1,6 @@
 //! The names of a bibliography while it is read.
 
-ghost use Rattle.std.specs.Prelude.{◌≡◌, ℕ, take, OnOk, OnErr, IfOk};
+ghost use Rattle.std.specs.Prelude.{◌≡◌, ℕ, take, OnOk, OnErr, IfOk, is_none};
 ghost use Rattle.std.specs.FinMap as map;
 ghost use Rattle.bib_maps.specs.Names.{claimed, claims_for};
 
@@ -55,6 +55,16 @@ impl Claims {
     {
         self.indices.insert(name.into_string(), index)?;
         Ok(())
+    }
+
+    /// Lets a name point to an index, and answers whether it pointed nowhere. A refusal changes nothing.
+    pub fn claim_new(&mut self, name: Text, index: usize) -> Result<bool, AllocError>
+        ensures new { IfOk result (λ is_new. is_new ≡ is_none (map.get self.old name)) }
+        ensures claimed { OnOk result (self.new ≡ map.insert self.old name index) }
+        ensures refused { OnErr result (self.new ≡ self.old) }
+    {
+        let had = self.indices.insert(name.into_string(), index)?;
+        Ok(had.is_none())
     }
 
     /// Lets names point to an index, one after another. A refusal leaves some first ones of them claimed.

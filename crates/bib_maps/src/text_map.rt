@@ -5,6 +5,9 @@ ghost use Rattle.std.specs.Option.{option_copied, option_copied_mut};
 ghost use Rattle.std.specs.Borrow.{sem};
 ghost use Rattle.std.specs.FinMap as map;
 ghost use Rattle.std.specs.Slice.Iter.{iter_rest};
+ghost use Rattle.std.specs.Iterator.{YieldsFirstRef, item_count};
+ghost use Rattle.std.specs.Vec.Iter.{into_iter_items};
+ghost use Rattle.bib_maps.specs.TextMapIterators.{names_left, values_left};
 ghost use Rattle.bib_maps.specs.TextMapLending.{LendsValue};
 ghost use Rattle.bib_maps.specs.TextMap.{AreClones, same_pairs, same_pairs_per, same_pairs_equiv};
 
@@ -14,6 +17,7 @@ use std::alloc::{AllocError, AllocFailed, Global};
 use std::marker::Model;
 use std::mem;
 use std::slice::Iter;
+use std::vec::IntoIter;
 
 // So many names are looked through faster than they are halved: most differ in their lengths already.
 const FEW: usize = 16;
@@ -90,6 +94,27 @@ impl<V> TextMap<V> {
         }
     }
 
+    /// Whether there is this name.
+    pub fn contains_key(&self, name: &str) -> bool
+        ensures { result ≡ map.contains_key self.now name.now }
+    {
+        self.get(name).is_some()
+    }
+
+    /// The names, in the order of their bytes.
+    pub fn keys(&self) -> Keys<'_, V>
+        ensures { names_left result ≡ map.keys self.now }
+    {
+        Keys { pairs: self.iter() }
+    }
+
+    /// The values, in the order of their names' bytes.
+    pub fn values(&self) -> Values<'_, V>
+        ensures { values_left result ≡ map.values self.now }
+    {
+        Values { pairs: self.iter() }
+    }
+
     /// The value of a name, if it has one, to be changed.
     pub fn get_mut(&mut self, name: &str) -> Option<&mut V>
         ensures* writes_back { sem 𝓛 (LendsValue V.row self.entry name.now result) }
@@ -156,6 +181,70 @@ impl<V: Drop> TextMap<V> {
     {
         let pairs = sorted(pairs)?;
         Ok(TextMap { pairs })
+    }
+}
+
+/// The map of the pairs that an iterator gives. Of pairs with one name the last stands. Sorts once.
+impl<V: Drop> FromIterator<(Text, V)> for TextMap<V> {
+    type Alloc = Global;
+
+    ghost from_iter_gives = { λ pairs m. m ≡ map.from_entries (reverse pairs) };
+
+    fn from_iter<U: IntoIterator<Item = (Text, V)>>(
+        alloc: Global,
+        iter: U,
+    ) -> Result<TextMap<V>, AllocError> {
+        TextMap::from_pairs(Vec::from_iter(alloc, iter)?)
+    }
+}
+
+impl<V: Drop> IntoIterator for TextMap<V> {
+    type Item = (Text, V);
+
+    type IntoIter = IntoIter<(Text, V)>;
+
+    ghost into_iter_gives = { λ m it. into_iter_items it ≡ map.entries m };
+
+    fn into_iter(self) -> Self::IntoIter {
+        self.into_pairs().into_iter()
+    }
+}
+
+/// The names of a map, in the order of their bytes.
+#[derive(Debug, Drop)]
+pub struct Keys<'a, V> {
+    pairs: Iter<'a, (Text, V)>,
+}
+
+impl<'a, V> Iterator for Keys<'a, V> {
+    type Item = &'a str;
+
+    ghost next_gives = { YieldsFirstRef names_left };
+
+    ghost remaining = { item_count names_left };
+
+    fn next(&mut self) -> Option<&'a str> {
+        let pair = self.pairs.next()?;
+        Some(pair.0.as_str())
+    }
+}
+
+/// The values of a map, in the order of their names' bytes.
+#[derive(Debug, Drop)]
+pub struct Values<'a, V> {
+    pairs: Iter<'a, (Text, V)>,
+}
+
+impl<'a, V> Iterator for Values<'a, V> {
+    type Item = &'a V;
+
+    ghost next_gives = { YieldsFirstRef values_left };
+
+    ghost remaining = { item_count values_left };
+
+    fn next(&mut self) -> Option<&'a V> {
+        let pair = self.pairs.next()?;
+        Some(&pair.1)
     }
 }
 

@@ -1,5 +1,5 @@
 -- Whether each date that an entry looks for can be read.
-use Rattle.std.proofs.Common.{◌≡◌, ℕ, zero, suc, List, [], ◌∷◌, ◌++◌, take, drop, Bool, false, ◌&&◌, get_or, length, map, refl, sym, ap, subst, arith, ◌∙◌, Option, Some, None}
+use Rattle.std.proofs.Common.{◌≡◌, ℕ, zero, suc, List, [], ◌∷◌, ◌++◌, take, drop, Bool, false, true, ◌&&◌, get_or, length, map, refl, sym, ap, subst, arith, ◌∙◌, Option, Some, None}
 use Rattle.std.specs.Prelude.{IsSomeAnd, codes, slice_get}
 use Rattle.std.specs.FinMap as by_name
 use Rattle.std.proofs.lemmas.List.{length-map}
@@ -19,7 +19,7 @@ use Rattle.bib_inheritance.specs.References.{plain}
 use Rattle.bib_inheritance.specs.Sources.{FieldTexts, Source}
 use Rattle.bib_syntax.specs.declared.raw.ParseError.{ParseError}
 use Rattle.bib_syntax.specs.declared.raw.ParseErrorKind.TheVariants.{ResolutionError}
-use Rattle.bib_references.specs.Resolving.{AllKeepChunks, AreDatesRead, Inherits, IsPlaceAt, IsResolvingError, at_index, has_bad_date, is_bad_date, source_of_entry, sources_of}
+use Rattle.bib_references.specs.Resolving.{AllKeepChunks, Inherits, IsPlaceAt, IsResolvingError, at_index, has_bad_date, is_bad_date, source_of_entry, sources_of}
 use Rattle.bib_references.specs.Turning.{IsFirstUnread, is_unread_at}
 use Rattle.bib_references.proofs.TurnFacts.{at_source}
 
@@ -30,9 +30,6 @@ looks_at (e ∷ own) (suc index) = looks_at own index
 
 pub bad_at : (own : List Entry) (looks : List Bool) (graph : Graph) (values : List Source) (index : ℕ) → looks ≡ map (λ e. looks_for_date (source_of_entry e)) own → is_unread_at looks graph values index ≡ has_bad_date (sources_of own) graph values index
 bad_at own looks graph values index are = ap (λ b. b && list_any (is_bad_date values) (refs_of graph index)) (ap (λ l. get_or l index false) are ∙ looks_at own index)
-
-pub dates_read : (own : List Entry) (looks : List Bool) (graph : Graph) (values : List Source) → looks ≡ map (λ e. looks_for_date (source_of_entry e)) own → ((index : ℕ) → is_unread_at looks graph values index ≡ false) → AreDatesRead (sources_of own) graph values
-dates_read own looks graph values are read index = sym (bad_at own looks graph values index are) ∙ read index
 
 -- what a date in three fields may be refused with is a kind that dates have
 pub of_dates : (fields : FieldTexts) (kind : TypeErrorKind) → DateMayFail fields kind → IsDateKind kind
@@ -62,11 +59,13 @@ place_unread own entries index entry place keys kept there lies =
       lies = lies;
     }
 
-pub date_unread : (spans : List (Range ℕ)) (own : List Entry) (looks : List Bool) (graph : Graph) (entries : List Entry) (error : TypeError) (e : ParseError) → looks ≡ map (λ e. looks_for_date (source_of_entry e)) own → HasNoCycle graph → Inherits (sources_of own) graph (sources_of entries)
+pub date_unread : (spans : List (Range ℕ)) (own : List Entry) (looks : List Bool) (graph : Graph) (entries : List Entry) (error : TypeError) (e : ParseError)
+    → ((index : ℕ) → is_unread_at looks graph (sources_of entries) index ≡ has_bad_date (sources_of own) graph (sources_of entries) index)
+    → ((index : ℕ) → get_or looks index false ≡ true → looks_for_date (at_index (sources_of own) index) ≡ true) → HasNoCycle graph → Inherits (sources_of own) graph (sources_of entries)
     → map (λ e. e.key) entries ≡ map (λ e. e.key) own → AllKeepChunks own entries → IsFirstUnread looks graph entries error → e ≡ record { span = error.span; kind = ResolutionError error.kind } → IsResolvingError spans own graph e
-date_unread spans own looks graph entries error e are none solves keys kept first is =
-    IsResolvingError.date none solves (sym (ap (λ l. get_or l first.index false) are ∙ looks_at own first.index) ∙ first.marked)
-    (λ other before. sym (bad_at own looks graph (sources_of entries) other are) ∙ first.earlier other before)
+date_unread spans own looks graph entries error e same looking none solves keys kept first is =
+    IsResolvingError.date none solves (looking first.index first.marked)
+    (λ other before. sym (same other) ∙ first.earlier other before)
     (record {
       reference = first.unread.reference;
       first = first.unread.first;

@@ -10,7 +10,7 @@ ghost use Rattle.bib_references.specs.Resolving.{sources_of};
 ghost use Rattle.bib_references.specs.Turning.{AreDates, is_unread_at};
 
 use crate::dates::unread_dates;
-use crate::references::{graph, looks};
+use crate::references::{graph, looks, marks};
 use crate::resolving::{cycle, unread};
 use crate::turning::take_turns;
 use crate::unread::first_unread;
@@ -146,8 +146,9 @@ pub fn resolve_readable(
     let mut refs = graph(alloc, entries, names)?;
     let (order, mut errors) = order_and_cycles(alloc, spans, entries, &mut refs)?;
     let looks = looks(alloc, entries)?;
+    let marks = marks(alloc, entries)?;
     let mut dates = unread_dates(alloc, entries.len())?;
-    take_turns(alloc, &order, &refs, entries, &mut dates)?;
+    take_turns(alloc, &order, &refs, &marks, entries, &mut dates)?;
     let mut unread = date_errors(alloc, &refs, &looks, entries, &mut dates)?;
     errors.append(&mut unread)?;
     Ok(errors)

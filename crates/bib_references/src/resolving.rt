@@ -1,6 +1,7 @@
 //! The entries of a bibliography with what they inherit.
 
-ghost use Rattle.std.specs.Prelude.{◌≡◌, ◌⊎◌, ◌<◌, ℕ, IfOk, IfErr, OnOk, length};
+ghost use Rattle.std.specs.Prelude.{◌≡◌, ◌⊎◌, ◌<◌, ℕ, IfOk, IfErr, OnOk, length, map};
+ghost use Rattle.bib_entry.specs.Parents.{has_references};
 ghost use Rattle.bib_graph.specs.Graph.{IsTopologicalOrder, HasNoCycle, IsFirstOnCycle, IsInRange};
 ghost use Rattle.bib_graph.specs.Rows.{rows};
 ghost use Rattle.bib_maps.specs.Names.{AreIndicesBelow};
@@ -9,7 +10,7 @@ ghost use Rattle.bib_syntax.specs.declared.raw.ParseErrorKind.TheVariants.{Resol
 ghost use Rattle.bib_references.specs.Resolving.{AreResolved, IsCycleAt, IsResolvingError, graph_by};
 
 use crate::dates::unread_dates;
-use crate::references::{graph, looks};
+use crate::references::{marked_graph, marks};
 use crate::turning::take_turns;
 use crate::unread::unread_date;
 use bib_chunks::chunk::Span;
@@ -91,11 +92,32 @@ pub fn resolve(
     ensures refused { IfErr result (λ e. (e ≡ out_of_memory) ⊎
         IsResolvingError spans.now entries.old (graph_by names.now entries.old) e) }
 {
-    let refs = graph(alloc, entries, names)?;
-    let looks = looks(alloc, entries)?;
+    let marks = marks(alloc, entries)?;
+    resolve_marked(alloc, spans, names, &marks, entries)
+}
+
+/// The same, where each entry is marked that has a field by which it takes over from others: only these, and those that
+/// they refer to, are looked at.
+pub fn resolve_marked(
+    alloc: Global,
+    spans: &[Span],
+    names: &Names,
+    marks: &[bool],
+    entries: &mut [Entry],
+) -> Result<Vec<usize>, ParseError>
+    requires below { AreIndicesBelow (length entries.old) names.now }
+    requires as_long { length spans.now ≡ length entries.old }
+    requires marks { marks.now ≡ map has_references entries.old }
+    ensures length { length entries.new ≡ length entries.old }
+    ensures turns { IfOk result (λ turns. IsTopologicalOrder (graph_by names.now entries.old) turns.items) }
+    ensures resolved { OnOk result (AreResolved entries.old (graph_by names.now entries.old) entries.new) }
+    ensures refused { IfErr result (λ e. (e ≡ out_of_memory) ⊎
+        IsResolvingError spans.now entries.old (graph_by names.now entries.old) e) }
+{
+    let (refs, looks) = marked_graph(alloc, entries, names, marks)?;
     let order = order(alloc, &refs, spans, entries)?;
     let mut dates = unread_dates(alloc, entries.len())?;
-    let turns = take_turns(alloc, &order, &refs, entries, &mut dates)?;
+    let turns = take_turns(alloc, &order, &refs, marks, entries, &mut dates)?;
     match unread_date(alloc, &refs, &looks, entries, &mut dates)? {
         Some(error) => Err(unread(error)),
         None => Ok(turns),

@@ -5,6 +5,7 @@ ghost use Rattle.std.specs.FinMap as by_name;
 ghost use Rattle.std.specs.List.{All, Contains};
 ghost use Rattle.bib_chunks.specs.Styled.{styled};
 ghost use Rattle.bib_entry.specs.declared.entry.Entry.{Entry as AnEntry};
+ghost use Rattle.bib_entry.specs.Parents.{has_references};
 ghost use Rattle.bib_graph.specs.Graph.{IsInRange, HasNoCycle, IsTopologicalOrder};
 ghost use Rattle.bib_graph.specs.Rows.{rows};
 ghost use Rattle.bib_inheritance.specs.InheritableDate.{date_for};
@@ -166,14 +167,17 @@ fn take_turn(
     Ok(())
 }
 
-// Gives each entry what it inherits, in this order, and answers the turns in which it did. Keeps the dates that it read.
+// Gives each entry what it inherits, in this order, and answers the turns in which it did. Keeps the dates that it read. An
+// entry that isn't marked and refers to nothing stays as it is, and isn't looked at.
 pub(crate) fn take_turns(
     alloc: Global,
     order: &[usize],
     refs: &[Vec<usize>],
+    marks: &[bool],
     entries: &mut [Entry],
     dates: &mut [Option<InheritableDate>],
 ) -> Result<Vec<usize>, AllocError>
+    requires marks { marks.now ≡ map has_references entries.old }
     requires order { IsTopologicalOrder (rows refs.now) order.now }
     requires in_range { IsInRange (rows refs.now) }
     requires as_long { length entries.old ≡ length refs.now }
@@ -189,6 +193,10 @@ pub(crate) fn take_turns(
 {
     let mut turns = Vec::with_capacity(alloc, order.len())?;
     'order: for index in order {
+        if !marks[*index] && refs[*index].is_empty() {
+            turns.push(*index)?;
+            continue 'order;
+        }
         take_turn(alloc, &refs[*index], entries, dates, &mut turns, *index)?;
     }
     Ok(turns)

@@ -1,5 +1,5 @@
 -- What is reported where a rule of the grammar fails.
-use Rattle.std.proofs.Common.{◌≡◌, ℕ, Bool, true, false, refl, subst, sym, inl, inr, length, ◌∙◌, List}
+use Rattle.std.proofs.Common.{◌≡◌, ℕ, Bool, true, false, refl, subst, inl, inr, length, ◌∙◌, List}
 use Rattle.std.specs.Prelude.{◌==◌, ◌||◌, ◌⊎◌}
 use Rattle.bib_text.specs.Braces.{is_plain}
 use Rattle.std.specs.Char.{is_ascii_digit}
@@ -35,14 +35,14 @@ ended (inl end) none = end
 ended (inr here) none = absurd (none here.0 here.1 here.2 here.3)
 
 -- the text ends where neither a quotable character nor a quote nor a backslash stands
-pub quoted_at_end : {u : Place} → EndsOr (λ c. false ≡ is_quotable c) u → ((v : Place) → CharAt u 34 v → ⊥) → ((v : Place) → CharAt u 92 v → ⊥) → AtEnd u
+pub quoted_at_end : {u : Place} → EndsOr (λ c. is_quotable c ≡ false) u → ((v : Place) → CharAt u 34 v → ⊥) → ((v : Place) → CharAt u 92 v → ⊥) → AtEnd u
 quoted_at_end stopped quote slash =
-    ended stopped (λ c v char fails. test_clash (is_quotable c) (rw (stops_without 34 quote c v char, stops_without 92 slash c v char) refl) (sym fails))
+    ended stopped (λ c v char fails. test_clash (is_quotable c) (rw (stops_without 34 quote c v char, stops_without 92 slash c v char) refl) fails)
 
 -- the text ends where neither a plain character nor a brace nor a backslash stands
-pub braced_at_end : {u : Place} → EndsOr (λ c. false ≡ is_plain c) u → ((v : Place) → CharAt u 123 v → ⊥) → ((v : Place) → CharAt u 125 v → ⊥) → ((v : Place) → CharAt u 92 v → ⊥) → AtEnd u
+pub braced_at_end : {u : Place} → EndsOr (λ c. is_plain c ≡ false) u → ((v : Place) → CharAt u 123 v → ⊥) → ((v : Place) → CharAt u 125 v → ⊥) → ((v : Place) → CharAt u 92 v → ⊥) → AtEnd u
 braced_at_end stopped opens closes slash =
-    ended stopped (λ c v char fails. test_clash (is_plain c) (rw (stops_without 123 opens c v char, stops_without 125 closes c v char, stops_without 92 slash c v char) refl) (sym fails))
+    ended stopped (λ c v char fails. test_clash (is_plain c) (rw (stops_without 123 opens c v char, stops_without 125 closes c v char, stops_without 92 slash c v char) refl) fails)
 
 -- an early end, reported at the end of the text
 pub reported_at_end : {u v w : Place} {kind : ParseErrorKind} {e : ParseError} → e ≡ error_at_place kind w → w ≡ v → Ahead u v → AtEnd v → e ≡ error_at_place kind (text_end u)

@@ -313,7 +313,7 @@ impl<T: Drop> From<AllocFailed<T>> for ParseError {
 pub fn is_key(c: char) -> bool
     ensures { result ≡ characters.is_key c }
 {
-    if c.is_ascii_lowercase() {
+    if c.is_ascii_alphanumeric() {
         return true;
     }
     !matches!(c, ',' | '}') && !c.is_control() && !c.is_whitespace()

@@ -1,14 +1,20 @@
 //! Lists of one's own: a `Vec` that contracts see as the list of its elements.
 
-ghost use Rattle.std.specs.Prelude.{◌≡◌, ◌==◌, ◌<◌, List, [], ◌∷◌, ◌++◌, length, is_ok, if◌then◌else◌, IfErr, IsSome, ◌↔◌, option_to_list};
-ghost use Rattle.std.specs.List.{AllZip};
+ghost use Rattle.std.specs.Prelude.{◌≡◌, ◌==◌, ◌<◌, ◌≤◌, ◌-◌, List, [], ◌∷◌, ◌++◌, length, take, is_ok, if◌then◌else◌, IfOk, IfErr, OnOk, OnErr, IsSome, ◌↔◌, option_to_list, slice_get, slice_index_or};
+ghost use Rattle.std.specs.Fn.{CalledAt};
+ghost use Rattle.std.specs.List.{AllZip, insert, remove};
+ghost use Rattle.std.specs.List.Retain.{IsFiltered};
+ghost use Rattle.std.specs.Option.{option_copied};
+ghost use Rattle.std.specs.Vec.Iter.{into_iter_items};
 ghost use Rattle.std.specs.Borrow.{sem};
 ghost use Rattle.std.specs.Slice.Iter.{iter_rest, iter_mut_rest};
 ghost use Rattle.std.specs.Cmp.Lexicographic.{pointwise, lists_per, lists_equiv};
 
 use std::alloc::{AllocError, AllocFailed, Global};
 use std::marker::Model;
+use std::ops::Index;
 use std::slice::{Iter, IterMut};
+use std::vec::IntoIter;
 
 /// A list of values. Contracts see it as the list of its elements.
 #[derive(Debug, Drop)]
@@ -112,6 +118,118 @@ impl<T> Items<T> {
         ensures found { IsSome result ↔ (0 < length self.old) }
     {
         self.vec.pop()
+    }
+
+    /// The element at an index, counted from 0.
+    pub fn get(&self, index: usize) -> Option<&T>
+        ensures { option_copied result ≡ slice_get self.now index }
+    {
+        self.as_slice().get(index)
+    }
+
+    /// The first element.
+    pub fn first(&self) -> Option<&T>
+        ensures { option_copied result ≡ slice_get self.now 0 }
+    {
+        self.as_slice().first()
+    }
+
+    /// The last element.
+    pub fn last(&self) -> Option<&T>
+        ensures { option_copied result ≡ slice_get self.now (length self.now - 1) }
+    {
+        self.as_slice().last()
+    }
+
+    /// Puts an element before the one at an index, or after all others where the index is their count. A refusal changes
+    /// nothing, and gives the element back.
+    pub fn insert(&mut self, index: usize, value: T) -> Result<(), AllocFailed<T>>
+        requires { index ≤ length self.old }
+        ensures items { self.new ≡ (if is_ok result then insert self.old index value else self.old) }
+        ensures returned { IfErr result (λ e. e.value ≡ value) }
+    {
+        self.vec.insert(index, value)
+    }
+
+    /// Takes the element at an index out. The elements after it move up by one.
+    pub fn remove(&mut self, index: usize) -> T
+        requires { index < length self.old }
+        ensures value { result ≡ slice_index_or self.old index result }
+        ensures items { self.new ≡ remove self.old index }
+    {
+        self.vec.remove(index)
+    }
+}
+
+impl<T: Drop> Items<T> {
+    /// Drops all elements, and keeps the memory.
+    pub fn clear(&mut self)
+        ensures { self.new ≡ [] }
+    {
+        self.vec.clear();
+    }
+
+    /// Keeps the first elements, so many of them, and drops the others.
+    pub fn truncate(&mut self, count: usize)
+        ensures { self.new ≡ take count self.old }
+    {
+        self.vec.truncate(count);
+    }
+
+    /// Keeps the elements that pass a test, asked of each in order.
+    pub fn retain<F: FnMut(&T) -> bool>(&mut self, test: F)
+        requires { F.IsAlwaysCallable test }
+        ensures { IsFiltered (CalledAt F.FnMut) test self.old self.new }
+    {
+        self.vec.retain(test);
+    }
+}
+
+// Clones of elements, in order.
+fn clones<T: Clone + Drop>(alloc: Global, elements: &[T]) -> Result<Vec<T>, AllocError>
+    ensures { IfOk result (λ copies. AllZip T.is_clone elements.now copies.items) }
+{
+    let mut copies = Vec::with_capacity(alloc, elements.len())?;
+    'elements: for element in elements {
+        copies.push(element.clone()?)?;
+    }
+    Ok(copies)
+}
+
+impl<T: Clone + Drop> Items<T> {
+    /// Appends clones of elements, in order. A refusal changes nothing.
+    pub fn extend_from_slice(&mut self, elements: &[T]) -> Result<(), AllocError>
+        ensures appended { OnOk result ((copies : List T) × (self.new ≡ self.old ++ copies) ×
+            AllZip T.is_clone elements.now copies) }
+        ensures refused { OnErr result (self.new ≡ self.old) }
+    {
+        let mut copies = clones(*self.vec.allocator(), elements)?;
+        self.vec.append(&mut copies)
+    }
+}
+
+/// The element at an index, which is less than their count.
+impl<T> Index<usize> for Items<T> {
+    type Output = T;
+
+    ghost can_index = { λ items index. index < length items };
+
+    ghost index_gives = { λ items index value. value ≡ slice_index_or items index value };
+
+    fn index(&self, index: usize) -> &T {
+        &self.vec[index]
+    }
+}
+
+impl<T: Drop> IntoIterator for Items<T> {
+    type Item = T;
+
+    type IntoIter = IntoIter<T>;
+
+    ghost into_iter_gives = { λ items it. into_iter_items it ≡ items };
+
+    fn into_iter(self) -> Self::IntoIter {
+        self.into_vec().into_iter()
     }
 }
 

@@ -1,10 +1,13 @@
 //! A cursor over a text.
 
-ghost use Rattle.std.specs.Prelude.{◌≡◌, ℕ, ◌+◌, ◌-◌, ◌≤◌, ◌<◌, ◌^◌, Bool, true, false, not, length, take, drop, MatchOption, MatchBool, IsTrue, ◌↔◌};
+ghost use Rattle.std.specs.Prelude.{◌≡◌, ℕ, ◌+◌, ◌-◌, ◌≤◌, ◌<◌, ◌^◌, ◌==◌, ◌&&◌, Bool, true, false, not, length, take, drop, Option, Some, IfSome, MatchOption, MatchBool, IsTrue, ◌↔◌};
 ghost use Rattle.std.specs.Char.{is_whitespace};
 ghost use Rattle.std.specs.Str.{IsCharBoundary, IsUtf8};
-ghost use Rattle.bib_text.specs.Places.{Place, place, CharAt, Longest, AllBetween, AtEnd, EndsOr, Answers, between};
+ghost use Rattle.std.specs.Option.{unwrap_or};
+ghost use Rattle.memchr.specs.Find.{IsFirstByte, is_byte2, is_byte3};
+ghost use Rattle.bib_text.specs.Places.{Place, place, CharAt, Stops, Longest, AllBetween, AtEnd, EndsOr, Answers, between};
 
+use memchr::{memchr, memchr2, memchr3};
 use std::marker::Model;
 
 /// A text and a place in it, always at the boundary of a character. Places are counted in bytes.
@@ -33,6 +36,48 @@ fn char_at(text: &str, at: usize) -> Option<char>
         (λ c. (v : Place) × CharAt (place text.now at) c v) }
 {
     text[at..].chars().next()
+}
+
+fn is_one_of(byte: u8, a: u8, b: u8, c: u8) -> bool
+    ensures { result ≡ is_byte3 a b c byte }
+{
+    byte == a || byte == b || byte == c
+}
+
+// Where the first of these bytes stands, if that is near. A search of all bytes pays only where it is far.
+fn near(bytes: &[u8], a: u8, b: u8, c: u8) -> Option<usize>
+    ensures { IfSome result (λ n. IsFirstByte (is_byte3 a b c) bytes.now (Some n)) }
+{
+    let mut n = 0;
+    'near: while n < 4 && n < bytes.len() {
+        if is_one_of(bytes[n], a, b, c) {
+            return Some(n);
+        }
+        n += 1;
+    }
+    None
+}
+
+// How many bytes stand before the first of these two.
+fn before_either(bytes: &[u8], a: u8, b: u8) -> usize
+    ensures { (found : Option ℕ) × IsFirstByte (is_byte2 a b) bytes.now found
+        × (result ≡ unwrap_or found (length bytes.now)) }
+{
+    match near(bytes, a, b, b) {
+        Some(n) => n,
+        None => memchr2(a, b, bytes).unwrap_or(bytes.len()),
+    }
+}
+
+// How many bytes stand before the first of these three.
+fn before_any(bytes: &[u8], a: u8, b: u8, c: u8) -> usize
+    ensures { (found : Option ℕ) × IsFirstByte (is_byte3 a b c) bytes.now found
+        × (result ≡ unwrap_or found (length bytes.now)) }
+{
+    match near(bytes, a, b, c) {
+        Some(n) => n,
+        None => memchr3(a, b, c, bytes).unwrap_or(bytes.len()),
+    }
 }
 
 impl<'s> Scanner<'s> {
@@ -186,12 +231,85 @@ impl<'s> Scanner<'s> {
         self.eat_while(|c| !test(c))
     }
 
-    /// Takes white space (Unicode's property White_Space), and gives it.
-    pub fn eat_whitespace(&mut self) -> &'s str
+    // Takes so many bytes, and gives them.
+    fn eat_bytes(&mut self, count: usize) -> &'s str
+        requires { IsCharBoundary self.old.text (self.old.at + count) }
+        ensures reached { self.new ≡ place self.old.text (self.old.at + count) }
+        ensures eaten { result.now ≡ between self.old self.new }
+    {
+        let start = self.at;
+        self.jump(start + count);
+        self.from(start)
+    }
+
+    /// Takes characters up to the first that is `end`, a sign of ASCII, and gives the text that they are.
+    pub fn eat_until_byte(&mut self, end: u8) -> &'s str
+        requires ascii { end < 128 }
+        ensures longest { Longest (λ x. not (x == end)) self.old self.new }
+        ensures stopped { EndsOr (λ x. not (x == end) ≡ false) self.new }
+        ensures same { self.new.text ≡ self.old.text }
+        ensures eaten { result.now ≡ between self.old self.new }
+    {
+        let ahead = self.text[self.at..].as_bytes();
+        let count = memchr(end, ahead).unwrap_or(ahead.len());
+        self.eat_bytes(count)
+    }
+
+    /// Takes characters up to the first that is `a` or `b`, signs of ASCII, and gives the text that they are.
+    pub fn eat_until_either(&mut self, a: u8, b: u8) -> &'s str
+        requires ascii { (a < 128) × (b < 128) }
+        ensures longest { Longest (λ x. not (x == a) && not (x == b)) self.old self.new }
+        ensures stopped { EndsOr (λ x. not (x == a) && not (x == b) ≡ false) self.new }
+        ensures same { self.new.text ≡ self.old.text }
+        ensures eaten { result.now ≡ between self.old self.new }
+    {
+        let ahead = self.text[self.at..].as_bytes();
+        let count = before_either(ahead, a, b);
+        self.eat_bytes(count)
+    }
+
+    /// Takes characters up to the first that is `a`, `b` or `c`, signs of ASCII, and gives the text that they are.
+    pub fn eat_until_any(&mut self, a: u8, b: u8, c: u8) -> &'s str
+        requires ascii { (a < 128) × (b < 128) × (c < 128) }
+        ensures longest { Longest (λ x. not (x == a) && not (x == b) && not (x == c)) self.old self.new }
+        ensures stopped { EndsOr (λ x. not (x == a) && not (x == b) && not (x == c) ≡ false) self.new }
+        ensures same { self.new.text ≡ self.old.text }
+        ensures eaten { result.now ≡ between self.old self.new }
+    {
+        let ahead = self.text[self.at..].as_bytes();
+        let count = before_any(ahead, a, b, c);
+        self.eat_bytes(count)
+    }
+
+    // Whether a visible sign of ASCII stands here.
+    fn is_at_visible(&self) -> bool
+        ensures { IsTrue result → Stops is_whitespace self.now }
+    {
+        if self.done() {
+            return false;
+        }
+        self.text.as_bytes()[self.at].is_ascii_graphic()
+    }
+
+    // Takes the white space that stands here.
+    #[inline(never)]
+    fn eat_white(&mut self) -> &'s str
         ensures longest { Longest is_whitespace self.old self.new }
         ensures eaten { result.now ≡ between self.old self.new }
     {
         self.eat_while(|c| c.is_whitespace())
+    }
+
+    /// Takes white space (Unicode's property White_Space), and gives it.
+    #[inline]
+    pub fn eat_whitespace(&mut self) -> &'s str
+        ensures longest { Longest is_whitespace self.old self.new }
+        ensures eaten { result.now ≡ between self.old self.new }
+    {
+        if self.is_at_visible() {
+            return &self.text[self.at..self.at];
+        }
+        self.eat_white()
     }
 
     /// The text from `start` up to here.

@@ -21,9 +21,9 @@ ghost use Rattle.biblatex.specs.SameBibliography.{same_bibliography, same_biblio
 
 use bib_entry::entry::Entry;
 use bib_file_entries::claiming::claims;
-use bib_file_entries::reading::{load, spans};
+use bib_file_entries::reading::{load_marked, spans};
 use bib_maps::names::Names;
-use bib_references::resolving::resolve;
+use bib_references::resolving::resolve_marked;
 use bib_syntax::raw::{ParseError, RawBibliography};
 use bib_text::text::Text;
 use std::alloc::{AllocError, Global};
@@ -154,8 +154,8 @@ impl Bibliography {
             (IsFirstErrorOf (file_of raw.entry) e × (IsAccepted (file_of raw.entry) → ⊥))) }
     {
         let spans = spans(alloc, &raw.entries)?;
-        let (mut entries, names) = load(alloc, raw)?;
-        let turns = resolve(alloc, &spans, &names, &mut entries)?;
+        let (mut entries, names, marks) = load_marked(alloc, raw)?;
+        let turns = resolve_marked(alloc, &spans, &names, &marks, &mut entries)?;
         Ok((Self::from_names(entries, names), turns))
     }
 

@@ -5,7 +5,6 @@ ghost use Rattle.bib_text.specs.Places.{Place, AtEnd, CharAt};
 ghost use Rattle.bib_syntax.specs.Closings.{AreClosings};
 ghost use Rattle.bib_syntax.specs.OpenBraces.{AreNoted, Closed};
 
-use crate::raw::words::is_plain_char;
 use bib_text::scanner::Scanner;
 use std::alloc::{AllocError, Global};
 
@@ -45,7 +44,7 @@ impl Braces {
         ensures goes_on { IfOk result (λ goes_on. MatchBool goes_on
             (length s.new.text - s.new.at < length s.old.text - s.old.at) (AtEnd s.new)) }
     {
-        s.eat_while(is_plain_char);
+        s.eat_until_any(b'{', b'}', b'\\');
         if s.eat_if('{') {
             self.opened.push(s.cursor())?;
             return Ok(true);

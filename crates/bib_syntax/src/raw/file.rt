@@ -186,13 +186,6 @@ pub(crate) fn add<'s>(raw: &mut RawBibliography<'s>, item: Item<'s>) -> Result<(
     Ok(())
 }
 
-// Whether a character between blocks is skipped.
-pub(crate) fn is_skipped(c: char) -> bool
-    ensures { result ≡ (not (c == 64) && not (c == 37)) }
-{
-    c != '@' && c != '%'
-}
-
 // The blocks of a file, up to its end.
 pub(crate) fn blocks<'s>(
     s: &mut Reader<'s, '_>,
@@ -214,7 +207,7 @@ pub(crate) fn blocks<'s>(
         } else if c == '%' {
             line_comment(s);
         } else {
-            s.eat_while(is_skipped);
+            s.eat_until_either(b'@', b'%');
         }
     }
     Ok(raw)

@@ -1,6 +1,6 @@
 //! A scanner that may know what is noted of its text.
 
-ghost use Rattle.std.specs.Prelude.{◌≡◌, ◌==◌, ℕ, ◌≤◌, ◌<◌, ◌^◌, Bool, true, false, not, length, take, MatchOption, MatchBool, IsTrue, IfOk, IfSome, ◌↔◌};
+ghost use Rattle.std.specs.Prelude.{◌≡◌, ◌==◌, ◌&&◌, ℕ, ◌≤◌, ◌<◌, ◌^◌, Bool, true, false, not, length, take, MatchOption, MatchBool, IsTrue, IfOk, IfSome, ◌↔◌};
 ghost use Rattle.std.specs.Char.{is_whitespace};
 ghost use Rattle.std.specs.Str.{IsCharBoundary};
 ghost use Rattle.bib_text.specs.Places.{Place, place, CharAt, Longest, AllBetween, AtEnd, EndsOr, Answers, between};
@@ -112,6 +112,24 @@ impl<'s, 'n> Reader<'s, 'n> {
         self.scanner.eat_while(test)
     }
 
+    // Goes on to the first character that is `a` or `b`, signs of ASCII.
+    pub(crate) fn eat_until_either(&mut self, a: u8, b: u8)
+        requires ascii { (a < 128) × (b < 128) }
+        ensures longest { Longest (λ x. not (x == a) && not (x == b)) self.old self.new }
+        ensures stopped { EndsOr (λ x. not (x == a) && not (x == b) ≡ false) self.new }
+    {
+        self.scanner.eat_until_either(a, b);
+    }
+
+    // Goes on to the first character that is `a`, `b` or `c`, signs of ASCII.
+    pub(crate) fn eat_until_any(&mut self, a: u8, b: u8, c: u8)
+        requires ascii { (a < 128) × (b < 128) × (c < 128) }
+        ensures longest { Longest (λ x. not (x == a) && not (x == b) && not (x == c)) self.old self.new }
+        ensures stopped { EndsOr (λ x. not (x == a) && not (x == b) && not (x == c) ≡ false) self.new }
+    {
+        self.scanner.eat_until_any(a, b, c);
+    }
+
     // Goes on to the next closing brace, or to the end of the text.
     pub(crate) fn eat_to_brace(&mut self)
         ensures longest { Longest (λ c. not (c == 125)) self.old self.new }
@@ -120,7 +138,7 @@ impl<'s, 'n> Reader<'s, 'n> {
         match self.noted_tail() {
             Some(end) => self.jump(end),
             None => {
-                self.scanner.eat_until(|c| c == '}');
+                self.scanner.eat_until_byte(b'}');
             }
         }
     }
@@ -132,11 +150,12 @@ impl<'s, 'n> Reader<'s, 'n> {
         match self.noted_line() {
             Some(end) => self.jump(end),
             None => {
-                self.scanner.eat_until(|c| c == '\n');
+                self.scanner.eat_until_byte(b'\n');
             }
         }
     }
 
+    #[inline]
     pub(crate) fn eat_whitespace(&mut self) -> &'s str
         ensures longest { Longest is_whitespace self.old self.new }
         ensures eaten { result.now ≡ between self.old self.new }

@@ -14,7 +14,7 @@ ghost use Rattle.bib_syntax.specs.SyntaxErrors.{BlockFails, Reports};
 ghost use Rattle.bib_syntax.specs.Views.{file_of};
 
 use crate::raw::fields::line_comment;
-use crate::raw::file::{Item, add, block, is_skipped};
+use crate::raw::file::{Item, add, block};
 use crate::raw::notes::Notes;
 use crate::raw::reader::Reader;
 use crate::raw::{ParseError, RawBibliography};
@@ -188,7 +188,7 @@ impl<'s> RawRecovery<'s> {
             } else if c == '%' {
                 line_comment(s);
             } else {
-                s.eat_while(is_skipped);
+                s.eat_until_either(b'@', b'%');
             }
         }
         Ok(())

@@ -3,7 +3,7 @@
 ghost use Rattle.std.specs.Prelude.{◌≡◌, ℕ, ◌≤◌, ◌+◌, ◌||◌, ◌&&◌, ◌==◌, not, true, false, length, IfOk, IfErr, OnOk, OnErr, IsTrue, MatchBool};
 ghost use Rattle.std.specs.Char.{is_ascii_digit};
 ghost use Rattle.bib_text.specs.Places.{Place, CharAt, Longest};
-ghost use Rattle.bib_text.specs.Braces.{Parts, is_plain};
+ghost use Rattle.bib_text.specs.Braces.{Parts};
 ghost use Rattle.bib_syntax.specs.Characters as characters;
 ghost use Rattle.bib_syntax.specs.Errors.{IsSyntaxError, is_syntax};
 ghost use Rattle.bib_syntax.specs.Grammar.{Identifier, Number, Quoted, QuotedParts, Braced, Element, longest};
@@ -131,13 +131,6 @@ fn number<'s>(s: &mut Reader<'s, '_>) -> Result<Spanned<&'s str>, ParseError>
     Ok(Spanned::new(s.from(start), start..s.cursor()))
 }
 
-// Whether a character in quotes is neither a quote nor a backslash.
-fn is_quotable(c: char) -> bool
-    ensures { result ≡ (not (c == 34) && not (c == 92)) }
-{
-    c != '"' && c != '\\'
-}
-
 // The parts of a quoted text, up to the quote that closes it.
 fn quoted_parts<'s>(s: &mut Reader<'s, '_>) -> Result<Spanned<&'s str>, ParseError>
     ensures found { OnOk result (QuotedParts s.old s.new × ((v : Place) × CharAt s.new 34 v)) }
@@ -148,7 +141,7 @@ fn quoted_parts<'s>(s: &mut Reader<'s, '_>) -> Result<Spanned<&'s str>, ParseErr
 {
     let start = s.cursor();
     'parts: loop {
-        s.eat_while(is_quotable);
+        s.eat_until_either(b'"', b'\\');
         if s.at('"') {
             return Ok(Spanned::new(s.from(start), start..s.cursor()));
         }
@@ -171,13 +164,6 @@ pub(crate) fn quoted<'s>(s: &mut Reader<'s, '_>) -> Result<Spanned<&'s str>, Par
     Ok(text)
 }
 
-// Whether a character in braces is neither a brace nor a backslash.
-pub(crate) fn is_plain_char(c: char) -> bool
-    ensures { result ≡ is_plain c }
-{
-    c != '{' && c != '}' && c != '\\'
-}
-
 // The parts of a braced text, up to the brace that closes it, where nothing is noted of it.
 fn scanned_parts<'s>(s: &mut Reader<'s, '_>) -> Result<Spanned<&'s str>, ParseError>
     ensures found { OnOk result (Parts s.old s.new × ((v : Place) × CharAt s.new 125 v)) }
@@ -189,7 +175,7 @@ fn scanned_parts<'s>(s: &mut Reader<'s, '_>) -> Result<Spanned<&'s str>, ParseEr
     let start = s.cursor();
     let mut depth = 0usize;
     'parts: loop {
-        s.eat_while(is_plain_char);
+        s.eat_until_any(b'{', b'}', b'\\');
         if s.eat_if('{') {
             depth += 1;
         } else if s.at('}') {

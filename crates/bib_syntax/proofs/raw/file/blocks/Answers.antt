@@ -28,12 +28,12 @@ file-preserved-then-c-eq37 c = (ahead_then c.file.invariant.0 (ahead_line_commen
 
 pub file-smaller : goal.file-smaller
 file-smaller c =
-    let run : Longest is_skipped c.file.s c.eat_while.new.self = c.eat_while.ensures.longest is_skipped (λ x r post. post) in
+    let run : Longest is_skipped c.file.s c.eat_until_either.new.self = c.eat_until_either.ensures.longest in
     skip_smaller c.in-Some.ensures.1 (is_skipped_from _ c.if-c-eq64.false c.if-c-eq37.false) run
 
 pub file-preserved : goal.file-preserved
 file-preserved c =
-    let run : Longest is_skipped c.file.s c.eat_while.new.self = c.eat_while.ensures.longest is_skipped (λ x r post. post) in
+    let run : Longest is_skipped c.file.s c.eat_until_either.new.self = c.eat_until_either.ensures.longest in
     (ahead_then c.file.invariant.0 (ahead_run run.run), skip_read c.file.invariant.1 run)
 
 pub returns-clause-found : goal.returns-clause-found

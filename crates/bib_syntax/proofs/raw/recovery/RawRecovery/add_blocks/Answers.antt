@@ -14,10 +14,10 @@ file-preserved-then-c-eq37 c =
 
 pub file-smaller : goal.file-smaller
 file-smaller c =
-    let run : Longest is_skipped c.file.s c.eat_while.new.self = c.eat_while.ensures.longest is_skipped (λ x r post. post) in
+    let run : Longest is_skipped c.file.s c.eat_until_either.new.self = c.eat_until_either.ensures.longest in
     skip_smaller c.in-Some.ensures.1 (is_skipped_from _ c.if-c-eq64.false c.if-c-eq37.false) run
 
 pub file-preserved : goal.file-preserved
 file-preserved c =
-    let run : Longest is_skipped c.file.s c.eat_while.new.self = c.eat_while.ensures.longest is_skipped (λ x r post. post) in
+    let run : Longest is_skipped c.file.s c.eat_until_either.new.self = c.eat_until_either.ensures.longest in
     ((λ start read. skip_recovered _ _ (c.file.invariant.0 start read) run), (ahead_run run.run).text ∙ c.file.invariant.1, c.file.invariant.2)

@@ -5,21 +5,22 @@ use Rattle.bib_graph.specs.Graph.{HasNoCycle, IsFirstOnCycle, IsInRange}
 use Rattle.bib_graph.specs.Rows.{rows}
 use Rattle.bib_references.specs.Resolving.{Inherits, IsResolvingError, graph_by, sources_of}
 use Rattle.bib_references.specs.Turning.{AreDates, IsFirstUnread, is_unread_at}
-use Rattle.bib_references.proofs.DatesRead.{all_taken, date_unread, dates_read}
+use Rattle.bib_references.proofs.DatesRead.{all_taken, date_unread}
+use Rattle.bib_references.proofs.MarkFacts.{bad_marked, dates_read, looking}
 use Rattle.bib_references.proofs.RangeFacts.{graph_in_range}
-use Rattle.bib_references.proofs.resolving.resolve.Goals as goal
+use Rattle.bib_references.proofs.resolving.resolve_marked.Goals as goal
 
 pub order-requires-clause-in_range : goal.order-requires-clause-in_range
 order-requires-clause-in_range c =
-    subst (λ l. IsInRange (rows l)) (sym c.deref.ensures.value) (subst IsInRange (sym c.in_ok-refs.ensures) (graph_in_range c.args.names.now c.args.entries.now c.requires.below))
+    subst (λ l. IsInRange (rows l)) (sym c.deref.ensures.value) (subst IsInRange (sym c.in_ok-refs.ensures.graph) (graph_in_range c.args.names.now c.args.entries.now c.requires.below))
 
 pub take_turns-requires-clause-in_range : goal.take_turns-requires-clause-in_range
 take_turns-requires-clause-in_range c =
-    subst (λ l. IsInRange (rows l)) (sym c.deref-3.ensures.value) (subst IsInRange (sym c.in_ok-refs.ensures) (graph_in_range c.args.names.now c.args.entries.now c.requires.below))
+    subst (λ l. IsInRange (rows l)) (sym c.deref-3.ensures.value) (subst IsInRange (sym c.in_ok-refs.ensures.graph) (graph_in_range c.args.names.now c.args.entries.now c.requires.below))
 
 pub unread_date-requires-clause-in_range : goal.unread_date-requires-clause-in_range
 unread_date-requires-clause-in_range c =
-    subst (λ l. IsInRange (rows l)) (sym c.deref-4.ensures.value) (subst IsInRange (sym c.in_ok-refs.ensures) (graph_in_range c.args.names.now c.args.entries.now c.requires.below))
+    subst (λ l. IsInRange (rows l)) (sym c.deref-4.ensures.value) (subst IsInRange (sym c.in_ok-refs.ensures.graph) (graph_in_range c.args.names.now c.args.entries.now c.requires.below))
 
 pub unread_date-requires-clause-dates : goal.unread_date-requires-clause-dates
 unread_date-requires-clause-dates c =
@@ -30,7 +31,7 @@ unread_date-requires-clause-dates c =
 pub returns-in_err-order-clause-refused : goal.returns-in_err-order-clause-refused
 returns-in_err-order-clause-refused c =
     let p = err_from_is_err_and c.from_residual-in_err-order.result c.from_residual-in_err-order.ensures.1 in
-    let graph : rows c.deref.result.now ≡ graph_by c.args.names.now c.args.entries.now = ap rows c.deref.ensures.value ∙ c.in_ok-refs.ensures in
+    let graph : rows c.deref.result.now ≡ graph_by c.args.names.now c.args.entries.now = ap rows c.deref.ensures.value ∙ c.in_ok-refs.ensures.graph in
     rw (p.1, p.2) (elim c.in_err-order.ensures.refused [
       | inl memory ↦ inl memory
       | inr error ↦ inr (IsResolvingError.cycle (subst (λ g. IsFirstOnCycle g error.0) graph error.1) error.2)
@@ -41,12 +42,13 @@ returns-in-Some-clause-refused c =
     let own = c.args.entries.now in
     let names = c.args.names.now in
     let values = sources_of c.take_turns.new.entries in
-    let one : rows c.deref.result.now ≡ graph_by names own = ap rows c.deref.ensures.value ∙ c.in_ok-refs.ensures in
-    let three : rows c.deref-3.result.now ≡ graph_by names own = ap rows c.deref-3.ensures.value ∙ c.in_ok-refs.ensures in
-    let four : rows c.deref-4.result.now ≡ graph_by names own = ap rows c.deref-4.ensures.value ∙ c.in_ok-refs.ensures in
+    let one : rows c.deref.result.now ≡ graph_by names own = ap rows c.deref.ensures.value ∙ c.in_ok-refs.ensures.graph in
+    let three : rows c.deref-3.result.now ≡ graph_by names own = ap rows c.deref-3.ensures.value ∙ c.in_ok-refs.ensures.graph in
+    let four : rows c.deref-4.result.now ≡ graph_by names own = ap rows c.deref-4.ensures.value ∙ c.in_ok-refs.ensures.graph in
     let entries = c.take_turns.new.entries in
     let first = subst (λ o. MatchOption o ((index : ℕ) → is_unread_at c.deref-5.result.now (rows c.deref-4.result.now) values index ≡ false) (IsFirstUnread c.deref-5.result.now (rows c.deref-4.result.now) entries)) c.in-Some.is c.in_ok-error.ensures in
-    inr (date_unread c.args.spans.now own c.deref-5.result.now (graph_by names own) entries c.in-Some.error c.unread.result (c.deref-5.ensures.value ∙ c.in_ok-looks.ensures)
+    let are = c.deref-5.ensures.value ∙ c.in_ok-refs.ensures.looks in
+    inr (date_unread c.args.spans.now own c.deref-5.result.now (graph_by names own) entries c.in-Some.error c.unread.result (λ index. bad_marked names own c.deref-5.result.now values index are) (looking own c.deref-5.result.now are)
     (subst HasNoCycle one c.in_ok-order.ensures.no_cycle) (subst (λ g. Inherits (sources_of own) g values) three c.in_ok-turns.ensures.inherits)
     c.in_ok-turns.ensures.keys c.in_ok-turns.ensures.chunks (subst (λ g. IsFirstUnread c.deref-5.result.now g entries c.in-Some.error) four first) c.unread.ensures)
 
@@ -55,15 +57,15 @@ returns-clause-resolved c =
     let own = c.args.entries.now in
     let names = c.args.names.now in
     let values = sources_of c.take_turns.new.entries in
-    let one : rows c.deref.result.now ≡ graph_by names own = ap rows c.deref.ensures.value ∙ c.in_ok-refs.ensures in
-    let three : rows c.deref-3.result.now ≡ graph_by names own = ap rows c.deref-3.ensures.value ∙ c.in_ok-refs.ensures in
-    let four : rows c.deref-4.result.now ≡ graph_by names own = ap rows c.deref-4.ensures.value ∙ c.in_ok-refs.ensures in
+    let one : rows c.deref.result.now ≡ graph_by names own = ap rows c.deref.ensures.value ∙ c.in_ok-refs.ensures.graph in
+    let three : rows c.deref-3.result.now ≡ graph_by names own = ap rows c.deref-3.ensures.value ∙ c.in_ok-refs.ensures.graph in
+    let four : rows c.deref-4.result.now ≡ graph_by names own = ap rows c.deref-4.ensures.value ∙ c.in_ok-refs.ensures.graph in
     let read = subst (λ o. MatchOption o ((index : ℕ) → is_unread_at c.deref-5.result.now (rows c.deref-4.result.now) values index ≡ false) (IsFirstUnread c.deref-5.result.now (rows c.deref-4.result.now) c.take_turns.new.entries)) c.in-None.is c.in_ok-error.ensures in
     record {
       no_cycle = subst HasNoCycle one c.in_ok-order.ensures.no_cycle;
       keys = c.in_ok-turns.ensures.keys;
       inherits = subst (λ g. Inherits (sources_of own) g values) three c.in_ok-turns.ensures.inherits;
-      dates = dates_read own c.deref-5.result.now (graph_by names own) values (c.deref-5.ensures.value ∙ c.in_ok-looks.ensures)
+      dates = dates_read names own c.deref-5.result.now values (c.deref-5.ensures.value ∙ c.in_ok-refs.ensures.looks)
           (subst (λ g. (index : ℕ) → is_unread_at c.deref-5.result.now g values index ≡ false) four read);
       chunks = c.in_ok-turns.ensures.chunks;
     }

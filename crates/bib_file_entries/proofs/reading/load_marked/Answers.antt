@@ -1,7 +1,7 @@
 use Rattle.std.proofs.Common.{ap, ◌∙◌}
 use Rattle.bib_file_entries.specs.Loading.{last_definition}
 use Rattle.bib_file_entries.proofs.RawFacts.{definition_same, definitions_same}
-use Rattle.bib_file_entries.proofs.reading.load.Goals as goal
+use Rattle.bib_file_entries.proofs.reading.load_marked.Goals as goal
 
 pub returns-clause-loaded : goal.returns-clause-loaded
 returns-clause-loaded c =
