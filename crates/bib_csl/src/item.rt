@@ -1,4 +1,4 @@
-//! Items of CSL-JSON: what a citation processor is told of a work.
+//! Items of CSL-JSON: what a citation processor needs to know of a work.
 
 use crate::variables::{ItemType, Variable};
 use bib_text::items::Items;

@@ -76,7 +76,7 @@ numbers_series entry_type.InProceedings = true
 numbers_series entry_type.Booklet = true
 numbers_series other = false
 
--- whether an institution stands behind the work, and no publisher
+-- whether an institution publishes the work, and no publisher
 abbrev pub is_of_institution : EntryType → Bool
 is_of_institution entry_type.Thesis = true
 is_of_institution entry_type.Report = true

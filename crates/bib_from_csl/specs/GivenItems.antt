@@ -2,11 +2,12 @@
 -- Which items a text of CSL-JSON gives, and why it gives none.
 use Rattle.std.specs.Prelude.{ℕ, ◌+◌, Bool, true, false, ◌==◌, ◌&&◌, ◌||◌, if◌then◌else◌, List, [], ◌∷◌, codes, bytes_eq, encode_utf8_all, Option, Some, None, is_some}
 use Rattle.std.specs.Char.{is_ascii_digit}
-use Rattle.std.specs.List.{list_all}
+use Rattle.std.specs.List.{list_all, before_first, after_first}
 use Rattle.std.specs.Option.{option_map_or}
 use Rattle.std.specs.Str.{chars}
 use Rattle.json.specs.Json.{Json, document}
 use Rattle.bib_text.specs.Characters as char
+use Rattle.bib_dates.specs.Dates.{holds as has_byte}
 use Rattle.bib_csl.specs.declared.item.Content.{Content}
 use Rattle.bib_csl.specs.declared.item.Content.TheVariants as content
 use Rattle.bib_csl.specs.declared.item.ItemDate.{ItemDate}
@@ -40,10 +41,16 @@ has_dashes name text = bytes_eq name (codes "page") && are_numbers text
 unfoldable pub dashed_text : List ℕ → List ℕ
 dashed_text text = replaced char.hyphen (encode_utf8_all (codes "–")) (chars text)
 
--- the text of a variable; a hyphen between numbers of pages is a dash
+-- the page of a range that begins and ends with it, as `115` of `115-115`; else the text
+unfoldable pub single_page : List ℕ → List ℕ
+single_page text =
+    if has_byte char.hyphen text && bytes_eq (before_first (λ b. b == char.hyphen) text) (after_first (λ b. b == char.hyphen) text) then before_first (λ b. b == char.hyphen) text
+    else text
+
+-- the text of a variable; a hyphen between numbers of pages is a dash, and a range of one page is the page
 unfoldable pub content_text : List ℕ → List ℕ → List ℕ
 content_text name text =
-    if has_dashes name text then dashed_text text else text
+    if has_dashes name text then dashed_text (single_page text) else text
 
 -- a member with this content
 abbrev pub member_with : List ℕ → Option Content → Bool → Option Given

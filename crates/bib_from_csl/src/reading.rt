@@ -1,7 +1,9 @@
 //! Items of CSL-JSON, read from their objects.
 
-ghost use Rattle.std.specs.Prelude.{◌≡◌, map, IfOk};
+ghost use Rattle.std.specs.Prelude.{◌≡◌, ◌==◌, map, IfOk, IfSome, is_some};
+ghost use Rattle.std.specs.List.{before_first, after_first};
 ghost use Rattle.std.specs.Option.{option_map};
+ghost use Rattle.bib_dates.specs.Dates.{holds as has_byte};
 ghost use Rattle.json.specs.Value.{value_view};
 ghost use Rattle.bib_from_csl.specs.GivenItems as spec;
 
@@ -77,13 +79,33 @@ fn dashed_text(alloc: Global, text: &str) -> Result<Text, AllocError>
     replaced(alloc, text, '-', "–")
 }
 
-// The text of a variable; a hyphen between numbers of pages is a dash.
+// The two sides of the first hyphen.
+fn sides(text: &str) -> Option<(&str, &str)>
+    ensures some { is_some result ≡ has_byte 45 text.now }
+    ensures from { IfSome result (λ p. p.0.now ≡ before_first (λ b. b == 45) text.now) }
+    ensures to { IfSome result (λ p. p.1.now ≡ after_first (λ b. b == 45) text.now) }
+{
+    text.split_once('-')
+}
+
+// The page of a range that begins and ends with it, as `115` of `115-115`; else the text.
+#[tactic(auto, unfolding(crate::specs::GivenItems::single_page))]
+fn single_page(text: &str) -> &str
+    ensures { result.now ≡ spec.single_page text.now }
+{
+    match sides(text) {
+        Some((first, last)) if first == last => first,
+        _ => text,
+    }
+}
+
+// The text of a variable; a hyphen between numbers of pages is a dash, and a range of one page is the page.
 #[tactic(auto, unfolding(crate::specs::GivenItems::content_text))]
 fn content_text(alloc: Global, name: &str, text: &str) -> Result<Text, AllocError>
     ensures { IfOk result (λ content. content ≡ spec.content_text name.now text.now) }
 {
     if has_dashes(name, text) {
-        return dashed_text(alloc, text);
+        return dashed_text(alloc, single_page(text));
     }
     Text::from_str(alloc, text)
 }

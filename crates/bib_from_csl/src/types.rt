@@ -106,7 +106,7 @@ pub(crate) fn counts_series(kind: &EntryType) -> bool
     )
 }
 
-// Whether an institution stands behind the work, and no publisher.
+// Whether an institution publishes the work, and no publisher.
 pub(crate) fn is_of_institution(kind: &EntryType) -> bool
     ensures { result ≡ spec.is_of_institution kind.now }
 {

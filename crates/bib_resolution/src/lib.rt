@@ -1,6 +1,6 @@
 //! A bibliography file's text in which each entry has what it inherits in fields of its own, and refers to no other.
 //!
-//! What an entry inherits is told by the library's own resolving, over entries whose chunks stand where the value of their field
+//! What an entry inherits is found by the library's own resolving, over entries whose chunks stand where the value of their field
 //! stands in the file (`places`): so each inherited field leads to the text that it has there. `fates` says what becomes of an entry's
 //! own fields, and `making` writes the entries (over `layout` and `stretches`).
 //!

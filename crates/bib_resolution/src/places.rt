@@ -105,7 +105,7 @@ fn placed_entries(
     Ok(placed)
 }
 
-// A span for each entry: that of no error is told, since the file has none.
+// A span for each entry: that of no error is reported, since the file has none.
 fn no_spans(alloc: Global, entries: &[Entry]) -> Result<Vec<Span>, AllocError>
     ensures { IfOk result (λ spans. length spans.items ≡ length entries.now) }
 {

@@ -105,7 +105,7 @@ fn check_kept(alloc: Global, document: &RawDocument<'_>, text: &str) -> Result<(
 ///
 /// What is made is read again and compared with the text, and is answered only where the two say the same, as the first clause says.
 /// Refused with the error of `Bibliography::parse` where that doesn't read the text. Where what was made would say something else, the
-/// entry and the field are told.
+/// entry and the field are reported.
 pub fn resolve(alloc: Global, document: &RawDocument<'_>) -> Result<String, ResolveError>
     ensures resolved { IfOk result (λ new. IsResolvedText document.now (string_bytes new)) }
     ensures refused { IfErr result (IsResolveRefused document.now.text) }
