@@ -2,11 +2,16 @@
 """Compares a built `bib` with another program on generated bibliographies.
 
     bench/compare.py OTHER [COMMAND] [--bib PATH] [--rounds N] [--references]
+    bench/compare.py OTHER --table [--bib PATH] [--bench PATH] [--rounds N]
 
 OTHER is a program that takes the same argument and reads standard input. Both run in turn on the same files, on one
 core, and what is printed are ratios, `bib` over OTHER: processor time (user and system, the least of the rounds), peak
 memory, instructions (by valgrind, where it is there), and for each program how its time grows from 1,000 to 100,000
 entries, per entry. With --references nine of ten entries refer to another, and inherit five fields of it and its date.
+
+With --table it prints one table of all: reading within a process, by the program of crates/bench and by `OTHER bench ROUNDS FILE
+COMMAND`, which prints the least time of a reading in a line `parse: min N ns`; the commands `keys` and `biblatex`; values that are
+hard to read fast; and how the time of `bib biblatex` grows up to a million entries.
 """
 import argparse
 import os
@@ -101,6 +106,81 @@ def instructions(program, command, path):
     return int(found.group(1)) if found else None
 
 
+SIZE = 4_000_000
+# values of a field that are hard to read fast: what each repeats, and how many bytes it has
+HARD = [
+    ("words with single spaces", "title", "some words ", SIZE),
+    ("single letters with spaces", "title", "a b ", SIZE),
+    ("two spaces at a time", "title", "word  ", SIZE),
+    ("line ends of CR and LF", "title", "word\r\n", SIZE),
+    ("em spaces (U+2003)", "title", "a\u2003", SIZE),
+    ("no-break spaces (U+00A0)", "title", "a\u00a0", SIZE),
+    ("single hyphens", "title", "a-", SIZE),
+    ("a url of backslashes", "url", "\\\\", SIZE),
+    ("20 MB of é", "title", "é", 20_000_000),
+    ("letters in braces", "title", "{a}b", SIZE),
+]
+
+
+def write_value(path, field, text, size):
+    """Writes a file of one entry, with a value of about so many bytes, in pieces: what this process holds counts as its children's."""
+    piece = text * (100_000 // len(text.encode()))
+    with open(path, "w", encoding="utf-8", newline="") as file:
+        file.write("@misc{a, %s={" % field)
+        for _ in range(size // len(piece.encode())):
+            file.write(piece)
+        file.write("}}")
+
+
+def own_reading(bench, what, path, rounds):
+    """The least nanoseconds of a reading within the program of crates/bench."""
+    with open(path, "rb") as text:
+        return int(subprocess.run([bench, what, str(rounds)], stdin=text, stdout=subprocess.PIPE, check=True).stdout)
+
+
+def other_reading(other, command, path, rounds):
+    """The same within the other program."""
+    done = subprocess.run([other, "bench", str(rounds), path, command], stdout=subprocess.PIPE, check=True, text=True)
+    return int(re.search(r"parse: min (\d+) ns", done.stdout).group(1))
+
+
+def compare_readings(chosen, what, command, path):
+    """The ratio of the least times of readings within the two programs, which take turns."""
+    ours, theirs = [], []
+    for _ in range(4):
+        ours.append(own_reading(chosen.bench, what, path, chosen.rounds))
+        theirs.append(other_reading(chosen.other, command, path, chosen.rounds))
+    return min(ours) / min(theirs)
+
+
+def row(name, time, memory=None):
+    print(f"| {name} | {time:.2f} | " + ("" if memory is None else f"{memory:.2f} ") + "|", flush=True)
+
+
+def compare_all(chosen, folder):
+    """Prints the table."""
+    programs = [chosen.bib, chosen.other]
+    paths = {}
+    for name, entries, make in (("entries", 10_000, entry), ("references", 10_000, reference), ("many", 1_000_000, entry)):
+        paths[name] = os.path.join(folder, f"{name}.bib")
+        generate(paths[name], entries, make)
+    print("| input | time | memory |\n|---|---|---|")
+    row("raw reading in process", compare_readings(chosen, "raw", "keys", paths["entries"]))
+    row("`Bibliography::parse` in process", compare_readings(chosen, "parse", "biblatex", paths["entries"]))
+    row("the same with references", compare_readings(chosen, "parse", "biblatex", paths["references"]))
+    for command, name in (("keys", "entries"), ("biblatex", "entries"), ("biblatex", "references")):
+        ours, theirs = measure(programs, command, paths[name], chosen.rounds)
+        row(f"`bib {command}`, {name}", ours[0] / theirs[0], ours[1] / theirs[1])
+    for name, field, text, size in HARD:
+        path = os.path.join(folder, "hard.bib")
+        write_value(path, field, text, size)
+        ours, theirs = measure(programs, "biblatex", path, chosen.rounds)
+        row(name, ours[0] / theirs[0], ours[1] / theirs[1])
+    few = measure([chosen.bib], "biblatex", paths["entries"], chosen.rounds)[0]
+    many = measure([chosen.bib], "biblatex", paths["many"], 3)[0]
+    row("growth per entry, 10,000 to 1,000,000", many[0] / few[0] / 100, many[1] / few[1] / 100)
+
+
 def main():
     top = os.path.dirname(os.path.dirname(os.path.abspath(__file__)))
     options = argparse.ArgumentParser(description=__doc__, formatter_class=argparse.RawDescriptionHelpFormatter)
@@ -109,9 +189,15 @@ def main():
     options.add_argument("--bib", default=os.path.join(top, "crates/bib/out/bib"))
     options.add_argument("--rounds", type=int, default=9)
     options.add_argument("--references", action="store_true")
+    options.add_argument("--table", action="store_true")
+    options.add_argument("--bench", default=os.path.join(top, "crates/bench/out/bench"))
     chosen = options.parse_args()
     programs = [chosen.bib, chosen.other]
     os.sched_setaffinity(0, {min(os.sched_getaffinity(0))})
+    if chosen.table:
+        with tempfile.TemporaryDirectory() as folder:
+            compare_all(chosen, folder)
+        return
     print(f"bib {chosen.command} against {os.path.basename(chosen.other)}, one core of {os.cpu_count()}")
     times = {}
     with tempfile.TemporaryDirectory() as folder:

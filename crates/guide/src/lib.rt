@@ -4,4 +4,6 @@
 #[cfg(test)]
 mod change;
 #[cfg(test)]
+mod porting;
+#[cfg(test)]
 mod read;
