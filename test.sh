@@ -1,7 +1,7 @@
 #!/usr/bin/env bash
 # Looks, without the prover, whether wrong bodies fit, docs/ name what there is and out of memory is only passed on; runs the tests; proves every crate from
 # nothing, tries the wrong bodies that must be refused, and runs the program; and runs the program that it built on more
-# inputs. Each check has one processor: a second one costs as much again as it saves.
+# inputs, and a C program with the library for C, where that is built. Each check has one processor: a second one costs as much again as it saves.
 set -eu
 cd "$(dirname "$0")"
 python3 check.py
@@ -19,4 +19,5 @@ fi
 if [ -x crates/bibkit/out/bibkit ]; then
     bash crates/bibkit/runs.sh crates/bibkit/out/bibkit docs/GUIDE.md || status=1
 fi
+bash c/test.sh || status=1
 exit "$status"

@@ -15,7 +15,7 @@ mv "$room/crates/bib" "$room/crates/bib_commands"
 (cd "$room/crates/bib_commands/src" && sed -n '/^#!/p; s/^mod /pub mod /p' main.rt > lib.rt && rm main.rt)
 find "$room/crates/tests" -name '*.rs' | while IFS= read -r file; do mv "$file" "${file%.rs}.rt"; done
 cp -r tests/rows HANDLES "$room/"
-libraries=$(cd "$room" && ls -d crates/bib*/src/lib.rt | cut -d/ -f2)
+libraries=$(cd "$room" && ls -d crates/bib*/src/lib.rt | cut -d/ -f2 | grep -vx bib_c)
 { grep '^bib' crates.txt | sed 's/^bib:/bib_commands:/'; echo "tests:" $libraries; } > "$room/crates.txt"
 cd "$room/crates/tests"
 rt try --seconds 300 --cases "$room/rows" > "$room/answers" 2>&1 & rows=$!

@@ -1,0 +1,74 @@
+/* The library's calls for C.
+
+   Each call reads the bytes of its text, writes its answer into the buffer `out` of `capacity` bytes, and stores the
+   answer's size in `*size`. The rest of the buffer stays. Where the buffer is too short it stays as it was, the call
+   answers BIBLATEX_TOO_SHORT, and `*size` is the size that is wanted. A call that fails changes neither.
+
+   Texts are UTF-8, and may have bytes of zero. No pointer may be NULL, even where nothing is there. A call keeps nothing
+   that it is given, and gives nothing to be freed: calls may be made by several threads at once. */
+#ifndef BIBLATEX_H
+#define BIBLATEX_H
+
+#include <stddef.h>
+#include <stdint.h>
+
+#ifdef __cplusplus
+extern "C" {
+#endif
+
+/* How a call ends. */
+enum biblatex_status {
+    BIBLATEX_DONE = 0,
+    BIBLATEX_TOO_SHORT = 1,     /* the buffer is shorter than the answer */
+    BIBLATEX_NOT_UTF8 = 2,
+    BIBLATEX_REFUSED = 3,       /* the text has an error, for which see biblatex_lint, or can't be edited so */
+    BIBLATEX_OUT_OF_MEMORY = 4
+};
+
+/* The keys of a file's entries in its order, each in a line of its own. */
+uint32_t biblatex_keys(const uint8_t *text, size_t length, uint8_t *out, size_t capacity, size_t *size);
+
+/* The bibliography that a text is, in the types and fields of BibLaTeX. */
+uint32_t biblatex_biblatex(const uint8_t *text, size_t length, uint8_t *out, size_t capacity, size_t *size);
+
+/* The bibliography that a text is, in the types and fields of BibTeX. */
+uint32_t biblatex_bibtex(const uint8_t *text, size_t length, uint8_t *out, size_t capacity, size_t *size);
+
+/* The entries of a bibliography, with chunks and typed values, as an array of JSON (docs/entries.schema.json). */
+uint32_t biblatex_json(const uint8_t *text, size_t length, uint8_t *out, size_t capacity, size_t *size);
+
+/* The entries of a bibliography as an array of items of CSL-JSON. */
+uint32_t biblatex_csl(const uint8_t *text, size_t length, uint8_t *out, size_t capacity, size_t *size);
+
+/* What is wrong in a text, as an array of JSON: of each finding file (empty), line and column (from 1), severity, code and
+   message. It refuses no text: bytes that aren't UTF-8 are read as Windows-1252, and are a finding. */
+uint32_t biblatex_lint(const uint8_t *text, size_t length, uint8_t *out, size_t capacity, size_t *size);
+
+/* The text in the usual style. */
+uint32_t biblatex_fmt(const uint8_t *text, size_t length, uint8_t *out, size_t capacity, size_t *size);
+
+/* The text with a field of an entry set to a text in braces. All else stays byte for byte, as in the next three. */
+uint32_t biblatex_set(const uint8_t *text, size_t length, const uint8_t *key, size_t key_length, const uint8_t
+    *name, size_t name_length, const uint8_t *value, size_t value_length, uint8_t *out, size_t capacity,
+    size_t *size);
+
+/* The text without a field of an entry. */
+uint32_t biblatex_unset(const uint8_t *text, size_t length, const uint8_t *key, size_t key_length, const
+    uint8_t *name, size_t name_length, uint8_t *out, size_t capacity, size_t *size);
+
+/* The text with another key of an entry, and in the references to it. */
+uint32_t biblatex_rename(const uint8_t *text, size_t length, const uint8_t *old_key, size_t old_key_length,
+    const uint8_t *new_key, size_t new_key_length, uint8_t *out, size_t capacity, size_t *size);
+
+/* The text without an entry. */
+uint32_t biblatex_remove(const uint8_t *text, size_t length, const uint8_t *key, size_t key_length, uint8_t
+    *out, size_t capacity, size_t *size);
+
+/* What a status says. */
+uint32_t biblatex_message(uint32_t status, uint8_t *out, size_t capacity, size_t *size);
+
+#ifdef __cplusplus
+}
+#endif
+
+#endif

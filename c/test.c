@@ -1,0 +1,180 @@
+/* Tests of the library's calls for C: each call on a small text, the edges of buffers, bytes that are no text, a large text, many
+   calls, and threads. Prints a line for each failure, and how many checks passed. */
+#include "biblatex.h"
+
+#include <pthread.h>
+#include <stdio.h>
+#include <stdlib.h>
+#include <string.h>
+
+typedef uint32_t (*reading)(const uint8_t *, size_t, uint8_t *, size_t, size_t *);
+
+static int passed, failed;
+
+static void check(int holds, const char *what)
+{
+    if (holds) {
+        passed++;
+    } else {
+        failed++;
+        printf("FAILED: %s\n", what);
+    }
+}
+
+static const uint8_t *bytes(const char *text) { return (const uint8_t *)text; }
+
+/* Whether a call answers this text. */
+static int answers(reading call, const char *text, const char *wanted)
+{
+    uint8_t out[4096];
+    size_t size = 0;
+    uint32_t status = call(bytes(text), strlen(text), out, sizeof out, &size);
+    return status == BIBLATEX_DONE && size == strlen(wanted) && memcmp(out, wanted, size) == 0;
+}
+
+static const char FILE_TEXT[] = "@article{a, author={Ann Bell}, title={T}}\n@misc{b, crossref={a}}\n";
+
+static const char ZERO[] = "@a{b,t={\0}}";
+
+static void check_readings(void)
+{
+    uint8_t out[4096];
+    size_t size = 0;
+    check(answers(biblatex_keys, FILE_TEXT, "a\nb\n"), "keys");
+    check(answers(biblatex_biblatex, "@misc{a, title=\"T\"}", "@misc{a,\ntitle = {T},\n}\n"), "biblatex");
+    check(answers(biblatex_bibtex, "@article{a, journaltitle={J}}", "@article{a,\njournal = {J},\n}\n"), "bibtex");
+    check(answers(biblatex_fmt, "@MISC{a,title={T}}\n", "@misc{a,\n  title = {T},\n}\n"), "fmt");
+    check(biblatex_keys(bytes(ZERO), sizeof ZERO - 1, out, sizeof out, &size) == BIBLATEX_DONE && size == 2, "keys of a text with a byte of zero");
+    check(answers(biblatex_keys, "", ""), "keys of nothing");
+    check(answers(biblatex_json, "", "[]\n"), "json of nothing");
+    check(answers(biblatex_csl, "", "[]\n"), "csl of nothing");
+    check(answers(biblatex_lint, "", "[\n]\n"), "lint of nothing");
+    check(biblatex_csl(bytes(FILE_TEXT), strlen(FILE_TEXT), out, sizeof out, &size) == BIBLATEX_DONE && size > 0, "csl");
+    check(biblatex_json(bytes(FILE_TEXT), strlen(FILE_TEXT), out, sizeof out, &size) == BIBLATEX_DONE && size > 0, "json");
+    check(biblatex_lint(bytes("@misc{a"), 7, out, sizeof out, &size) == BIBLATEX_DONE
+              && size > 4, "lint of a text with an error");
+}
+
+static void check_edits(void)
+{
+    const char *text = "@misc{a,\n  title = {T},\n}\n@misc{b, crossref = {a}}\n";
+    uint8_t out[4096];
+    size_t size = 0;
+    const char *wanted = "@misc{a,\n  title = {U},\n}\n@misc{b, crossref = {a}}\n";
+    uint32_t status = biblatex_set(bytes(text), strlen(text), bytes("a"), 1, bytes("title"), 5, bytes("U"), 1, out, sizeof out, &size);
+    check(status == BIBLATEX_DONE && size == strlen(wanted) && memcmp(out, wanted, size) == 0, "set");
+    wanted = "@misc{c,\n  title = {T},\n}\n@misc{b, crossref = {c}}\n";
+    status = biblatex_rename(bytes(text), strlen(text), bytes("a"), 1, bytes("c"), 1, out, sizeof out, &size);
+    check(status == BIBLATEX_DONE && size == strlen(wanted) && memcmp(out, wanted, size) == 0, "rename");
+    wanted = "@misc{b, crossref = {a}}\n";
+    status = biblatex_remove(bytes(text), strlen(text), bytes("a"), 1, out, sizeof out, &size);
+    check(status == BIBLATEX_DONE && size == strlen(wanted) && memcmp(out, wanted, size) == 0, "remove");
+    status = biblatex_unset(bytes(text), strlen(text), bytes("b"), 1, bytes("crossref"), 8, out, sizeof out, &size);
+    check(status == BIBLATEX_DONE && size < strlen(text), "unset");
+    size = 77;
+    memset(out, 'x', sizeof out);
+    status = biblatex_unset(bytes(text), strlen(text), bytes("z"), 1, bytes("title"), 5, out, sizeof out, &size);
+    check(status == BIBLATEX_REFUSED && size == 77 && out[0] == 'x', "an edit of no entry is refused, and changes nothing");
+}
+
+static void check_buffers(void)
+{
+    uint8_t out[8];
+    size_t size = 77;
+    memset(out, 'x', sizeof out);
+    check(biblatex_keys(bytes(FILE_TEXT), strlen(FILE_TEXT), out, 0, &size) == BIBLATEX_TOO_SHORT && size == 4 && out[0] == 'x',
+          "a buffer of no bytes");
+    size = 77;
+    check(biblatex_keys(bytes(FILE_TEXT), strlen(FILE_TEXT), out, 3, &size) == BIBLATEX_TOO_SHORT && size == 4 && out[0] == 'x',
+          "a buffer that is one byte too short");
+    check(biblatex_keys(bytes(FILE_TEXT), strlen(FILE_TEXT), out, 4, &size) == BIBLATEX_DONE && memcmp(out, "a\nb\nxxxx", 8) == 0,
+          "a buffer that is just long enough, and what stands after it");
+    memset(out, 'x', sizeof out);
+    size = 77;
+    check(biblatex_keys(bytes("\xff"), 1, out, 8, &size) == BIBLATEX_NOT_UTF8 && size == 77 && out[0] == 'x', "bytes that aren't UTF-8");
+    check(biblatex_keys(bytes("@a{b"), 4, out, 8, &size) == BIBLATEX_REFUSED && size == 77 && out[0] == 'x', "a text with an error");
+    check(biblatex_biblatex(bytes("@a{b,}@a{b,}"), 12, out, 8, &size) == BIBLATEX_REFUSED && size == 77, "two entries of one key");
+    uint8_t words[64];
+    check(biblatex_message(BIBLATEX_NOT_UTF8, words, sizeof words, &size) == BIBLATEX_DONE && size == 9 && memcmp(words, "not UTF-8", 9) == 0,
+          "the words of a status");
+}
+
+/* Kilobytes that the process has in memory. */
+static long resident(void)
+{
+    long kilobytes = 0;
+    char line[256];
+    FILE *file = fopen("/proc/self/status", "r");
+    while (file && fgets(line, sizeof line, file)) {
+        sscanf(line, "VmRSS: %ld", &kilobytes);
+    }
+    if (file) {
+        fclose(file);
+    }
+    return kilobytes;
+}
+
+static void check_many(void)
+{
+    uint8_t out[4096];
+    size_t size;
+    long before = 0;
+    for (int round = 0; round < 10000; round++) {
+        biblatex_biblatex(bytes(FILE_TEXT), strlen(FILE_TEXT), out, sizeof out, &size);
+        biblatex_lint(bytes(FILE_TEXT), strlen(FILE_TEXT), out, sizeof out, &size);
+        biblatex_csl(bytes(FILE_TEXT), strlen(FILE_TEXT), out, sizeof out, &size);
+        biblatex_keys(bytes("@a{b"), 4, out, sizeof out, &size);
+        if (round == 1000) {
+            before = resident();
+        }
+    }
+    check(resident() <= before + 1024, "memory stays the same over ten thousand calls");
+}
+
+static void check_large(void)
+{
+    const char head[] = "@misc{a, title={";
+    size_t value = 100000000, length = strlen(head) + value + 2, size = 0;
+    uint8_t *text = malloc(length), *out = malloc(length + 100);
+    memcpy(text, head, strlen(head));
+    memset(text + strlen(head), 'x', value);
+    memcpy(text + length - 2, "}}", 2);
+    check(biblatex_biblatex(text, length, out, length + 100, &size) == BIBLATEX_DONE && size > value, "a text of 100 MB");
+    free(text);
+    free(out);
+}
+
+static void *work(void *result)
+{
+    *(int *)result = 1;
+    for (int round = 0; round < 1000; round++) {
+        *(int *)result &= answers(biblatex_keys, FILE_TEXT, "a\nb\n");
+        *(int *)result &= answers(biblatex_fmt, "@MISC{a,title={T}}\n", "@misc{a,\n  title = {T},\n}\n");
+    }
+    return NULL;
+}
+
+static void check_threads(void)
+{
+    pthread_t threads[8];
+    int results[8];
+    for (int at = 0; at < 8; at++) {
+        pthread_create(&threads[at], NULL, work, &results[at]);
+    }
+    for (int at = 0; at < 8; at++) {
+        pthread_join(threads[at], NULL);
+        check(results[at], "calls of eight threads at once");
+    }
+}
+
+int main(void)
+{
+    check_readings();
+    check_edits();
+    check_buffers();
+    check_many();
+    check_large();
+    check_threads();
+    printf("C: %d passed, %d failed\n", passed, failed);
+    return failed != 0;
+}

@@ -1,0 +1,61 @@
+-- Why calls fail, by the errors that they are given.
+use Rattle.std.proofs.Common.{◌≡◌, ◌≢◌, ◌⊎◌, inl, inr, ℕ, List, sym, subst}
+use Rattle.biblatex.specs.Headline.{IsAcceptedText, IsErrorOf}
+use Rattle.bib_syntax.specs.Errors.{Refuses, out_of_memory}
+use Rattle.bib_syntax.specs.Grammar.{IsFile}
+use Rattle.bib_syntax.specs.declared.raw.ParseError.{ParseError}
+use Rattle.bib_syntax.specs.declared.raw.ParseErrorKind.{ParseErrorKind}
+use Rattle.bib_syntax.specs.declared.raw.ParseErrorKind.TheVariants as kind
+use Rattle.bib_documents.specs.Documents.{Document, IsDocument}
+use Rattle.bib_documents.specs.declared.errors.EditError.{EditError}
+use Rattle.bib_documents.specs.declared.errors.EditError.TheVariants as edit_error
+use Rattle.bib_calls.specs.Calls.{EditFails, IsNoBibliography, IsNoFile, TextFails}
+use Rattle.bib_calls.specs.Calls.IsEditRefusedOf.{no_file, refused}
+use Rattle.bib_calls.specs.Statuses.{status_of_edit, status_of_error, status_of_kind}
+use Rattle.bib_calls.specs.declared.status.Status.{Status}
+use Rattle.bib_calls.specs.declared.status.Status.TheVariants.{Refused, OutOfMemory}
+
+-- an error of this kind
+kind_fails : (F : Status → Type 0) (kind : ParseErrorKind) → F OutOfMemory → F Refused → F (status_of_kind kind)
+kind_fails F kind.UnexpectedEof memory text = text
+kind_fails F (kind.Unexpected t) memory text = text
+kind_fails F (kind.Expected t) memory text = text
+kind_fails F (kind.UnknownAbbreviation n) memory text = text
+kind_fails F kind.MalformedCommand memory text = text
+kind_fails F (kind.DuplicateKey k) memory text = text
+kind_fails F (kind.ResolutionError k) memory text = text
+kind_fails F (kind.AbbreviationCycle n) memory text = text
+kind_fails F (kind.ReferenceCycle k) memory text = text
+kind_fails F kind.OutOfMemory memory text = memory
+
+-- an error of a text, which is refused for that reason
+error_fails : {Q R : Type 0} (F : Status → Type 0) (e : ParseError) → (e ≡ out_of_memory) ⊎ (Q × R) → F OutOfMemory → (R → F Refused) → F (status_of_error e)
+error_fails F e (inl is) memory text = subst (λ e. F (status_of_error e)) (sym is) memory
+error_fails F e (inr found) memory text = kind_fails F e.kind memory (text found.1)
+
+-- a text that is no file
+pub file_fails : (bytes text : List ℕ) (e : ParseError) → text ≡ bytes → Refuses text e (IsFile text → ⊥) → TextFails (IsNoFile bytes) bytes (status_of_error e)
+file_fails bytes text e same refuses = error_fails (TextFails (IsNoFile bytes) bytes) e refuses tt (λ unread. subst IsNoFile same unread)
+
+-- a text that is no bibliography
+pub bibliography_fails : (bytes text : List ℕ) (e : ParseError) → text ≡ bytes → (e ≡ out_of_memory) ⊎ (IsErrorOf text e × (IsAcceptedText text → ⊥))
+    → TextFails (IsNoBibliography bytes) bytes (status_of_error e)
+bibliography_fails bytes text e same refuses = error_fails (TextFails (IsNoBibliography bytes) bytes) e refuses tt (λ unread. subst IsNoBibliography same unread)
+
+-- an edit of a text that is no file
+pub unread_fails : (Refuses' : Document → EditError → Type 0) (bytes : List ℕ) (others : List (List ℕ)) (text : List ℕ) (e : ParseError) → text ≡ bytes
+    → Refuses text e (IsFile text → ⊥) → EditFails Refuses' bytes others (status_of_error e)
+unread_fails Refuses' bytes others text e same refuses = error_fails (EditFails Refuses' bytes others) e refuses tt (λ unread. no_file (subst IsNoFile same unread))
+
+-- an edit that is refused
+why_fails : (F : Status → Type 0) (why : EditError) → F OutOfMemory → (why ≢ edit_error.OutOfMemory → F Refused) → F (status_of_edit why)
+why_fails F edit_error.UnknownKey memory other = other (λ is. cc)
+why_fails F edit_error.KeyIsThere memory other = other (λ is. cc)
+why_fails F edit_error.NotAKey memory other = other (λ is. cc)
+why_fails F edit_error.NotAName memory other = other (λ is. cc)
+why_fails F edit_error.NotInBraces memory other = other (λ is. cc)
+why_fails F edit_error.OutOfMemory memory other = memory
+
+pub edit_fails : (Refuses' : Document → EditError → Type 0) (bytes : List ℕ) (others : List (List ℕ)) (d : Document) (why : EditError) → d.text ≡ bytes
+    → IsDocument d → Refuses' d why → EditFails Refuses' bytes others (status_of_edit why)
+edit_fails Refuses' bytes others d why same read because = why_fails (EditFails Refuses' bytes others) why tt (λ other. refused d why same read other because)

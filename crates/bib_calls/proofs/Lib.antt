@@ -1,0 +1,4 @@
+pub mod EndFacts
+pub mod FailureFacts
+pub mod FaultFacts
+pub mod ExportFacts

@@ -1,0 +1,42 @@
+-- Meaning: words of public contracts.
+-- How calls end, as numbers and in words.
+use Rattle.std.specs.Prelude.{ℕ, List, ◌==◌, codes, if◌then◌else◌}
+use Rattle.bib_documents.specs.declared.errors.EditError.{EditError}
+use Rattle.bib_documents.specs.declared.errors.EditError.TheVariants as edit_error
+use Rattle.bib_syntax.specs.declared.raw.ParseError.{ParseError}
+use Rattle.bib_syntax.specs.declared.raw.ParseErrorKind.{ParseErrorKind}
+use Rattle.bib_syntax.specs.declared.raw.ParseErrorKind.TheVariants as kind
+use Rattle.bib_calls.specs.declared.status.Status.{Status}
+use Rattle.bib_calls.specs.declared.status.Status.TheVariants.{Done, TooShort, NotUtf8, Refused, OutOfMemory}
+
+-- the number of a status
+abbrev pub status_number : Status → ℕ
+status_number Done = 0
+status_number TooShort = 1
+status_number NotUtf8 = 2
+status_number Refused = 3
+status_number OutOfMemory = 4
+
+-- what a number says
+abbrev pub status_text : ℕ → List ℕ
+status_text number =
+    if number == 0 then codes "done"
+    else if number == 1 then codes "the buffer is too short"
+    else if number == 2 then codes "not UTF-8"
+    else if number == 3 then codes "refused"
+    else if number == 4 then codes "out of memory"
+    else codes "no status"
+
+-- how a call ends whose text has an error of this kind
+abbrev pub status_of_kind : ParseErrorKind → Status
+status_of_kind kind.OutOfMemory = OutOfMemory
+status_of_kind _ = Refused
+
+-- how a call ends whose text has this error
+abbrev pub status_of_error : ParseError → Status
+status_of_error e = status_of_kind e.kind
+
+-- how a call ends whose edit is refused for this reason
+abbrev pub status_of_edit : EditError → Status
+status_of_edit edit_error.OutOfMemory = OutOfMemory
+status_of_edit _ = Refused

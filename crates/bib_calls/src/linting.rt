@@ -1,0 +1,44 @@
+//! What is wrong in a text.
+
+ghost use Rattle.std.specs.Prelude.{◌≡◌, IfOk, IfErr};
+ghost use Rattle.std.specs.String.{string_bytes};
+ghost use Rattle.bib_calls.specs.Calls.{AreFaults, IsEnd};
+ghost use Rattle.bib_calls.specs.declared.status.Status.TheVariants.{OutOfMemory};
+
+use crate::buffers::end;
+use crate::status::Status;
+use bibkit_core::linting::Linting;
+use bibkit_core::request::{Lint, Style};
+use bibkit_core::selection::Selection;
+use bibkit_core::task::Task;
+use std::alloc::Global;
+
+// What is wrong in a text.
+fn faults_of(alloc: Global, bytes: &[u8]) -> Result<String, Status>
+    ensures found { IfOk result (λ text. AreFaults bytes.now (string_bytes text)) }
+    ensures fails { IfErr result (λ why. why ≡ OutOfMemory) }
+{
+    let lint = Lint {
+        selection: Selection {
+            only: Vec::new(alloc),
+            ignored: Vec::new(alloc),
+        },
+        style: Style::Json,
+        cited: None,
+    };
+    let mut linting = Linting::new(&lint);
+    let mut text = String::from_str(alloc, linting.begin())?;
+    let found = linting.file(alloc, "", bytes)?;
+    text.push_str(&found)?;
+    let ending = linting.end(alloc)?;
+    text.push_str(&ending.text)?;
+    Ok(text)
+}
+
+/// What is wrong in a text, as an array of JSON: for each finding its line and column, how severe it is, its code, and a message.
+/// Bytes that aren't UTF-8 are read as Windows-1252, and are a finding.
+pub fn lint(alloc: Global, text: &[u8], out: &mut [u8], size: &mut usize) -> Status
+    ensures { IsEnd (AreFaults text.now) (λ why. why ≡ OutOfMemory) out.old size.old out.new size.new result }
+{
+    end(faults_of(alloc, text), out, size)
+}
