@@ -1,5 +1,6 @@
 //! Tests of calls that no row says, where memory is there: of texts, lists, maps and values that are made by hand, and copies.
 
+mod buffers;
 mod checks;
 mod chunks;
 mod contents;

@@ -39,6 +39,11 @@ fn map_of_pairs(alloc: Global) -> Result<TextMap<u8>, AllocError> {
     TextMap::from_pairs(pairs)
 }
 
+fn collects_a_map(alloc: Global) -> Answer {
+    let pairs = map_of_pairs(alloc)?.into_pairs();
+    Ok(has_both(&TextMap::from_iter(alloc, pairs)?, 3, 2))
+}
+
 fn makes_a_map_of_pairs(alloc: Global) -> Answer {
     Ok(has_both(&map_of_pairs(alloc)?, 3, 2))
 }
@@ -95,6 +100,14 @@ fn claims_at_once(alloc: Global) -> Result<Claims, AllocError> {
     Ok(claims)
 }
 
+fn claims_a_new_name(alloc: Global) -> Answer {
+    let mut claims = Claims::new(alloc);
+    let first = claims.claim_new(Text::from_str(alloc, "b")?, 1)?;
+    let second = claims.claim_new(Text::from_str(alloc, "a")?, 3)?;
+    let third = claims.claim_new(Text::from_str(alloc, "a")?, 2)?;
+    Ok(first && second && !third && are_claimed(&claims))
+}
+
 fn claims_names_so_far(alloc: Global) -> Answer {
     Ok(are_claimed(&claims_at_once(alloc)?))
 }
@@ -109,11 +122,13 @@ fn maps_and_names(rt: HostRuntime) {
     let calls = [
         ("TextMap::insert", inserts_values(alloc)),
         ("TextMap::from_pairs", makes_a_map_of_pairs(alloc)),
+        ("TextMap::from_iter", collects_a_map(alloc)),
         ("TextMap::clone", clones_a_map(alloc)),
         ("Names::claim", claims_a_name(alloc)),
         ("Names::claim_all", claims_names_at_once(alloc)),
         ("Names::clone", clones_names(alloc)),
         ("Claims::claim", claims_a_name_so_far(alloc)),
+        ("Claims::claim_new", claims_a_new_name(alloc)),
         ("Claims::claim_all", claims_names_so_far(alloc)),
         ("Claims::into_names", keeps_claims(alloc)),
     ];

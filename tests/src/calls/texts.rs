@@ -47,6 +47,26 @@ fn clones_a_list(alloc: Global) -> Answer {
     Ok(copy.as_slice() == [7u8, 8].as_slice())
 }
 
+fn puts_an_element_between(alloc: Global) -> Answer {
+    let mut items = Items::from_vec([7u8, 9].to_vec(alloc)?);
+    items.insert(1, 8)?;
+    Ok(items.as_slice() == [7u8, 8, 9].as_slice())
+}
+
+fn appends_clones(alloc: Global) -> Answer {
+    let mut items = Items::from_vec([7u8].to_vec(alloc)?);
+    items.extend_from_slice([8u8, 9].as_slice())?;
+    Ok(items.as_slice() == [7u8, 8, 9].as_slice())
+}
+
+fn appends_a_million_clones(alloc: Global) -> Answer {
+    let many = Vec::from_elem(alloc, 7u8, 1_048_576)?;
+    let mut items = Items::new(alloc);
+    items.extend_from_slice(many.as_slice())?;
+    items.insert(0, 8)?;
+    Ok(items.len() == 1_048_577 && items.first() == Some(&8) && items.last() == Some(&7))
+}
+
 fn clones_a_placed_value(alloc: Global) -> Answer {
     let copy = Spanned::new(Text::from_str(alloc, "é")?, 2..4).clone()?;
     Ok(copy.v.as_str() == "é" && copy.span == (2..4))
@@ -70,6 +90,9 @@ fn texts_and_lists(rt: HostRuntime) {
         ("Text of 2 MiB", copies_a_long_text(alloc)),
         ("Items::push", appends_an_element(alloc)),
         ("Items::clone", clones_a_list(alloc)),
+        ("Items::insert", puts_an_element_between(alloc)),
+        ("Items::extend_from_slice", appends_clones(alloc)),
+        ("Items of 1 MiB", appends_a_million_clones(alloc)),
         ("Spanned::clone", clones_a_placed_value(alloc)),
         ("Scanner::clone", clones_a_cursor(alloc)),
     ];
