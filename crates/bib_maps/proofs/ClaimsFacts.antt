@@ -1,5 +1,5 @@
 -- Facts on maps of strings that are seen as maps by text.
-use Rattle.std.proofs.Common.{◌≡◌, ℕ, Bool, true, false, not, cond, T, List, [], ◌∷◌, map, Option, Some, None, is_some, is_none, refl, sym, ap, ap₂, subst, ◌∙◌, Less, is_lt, string_bytes, string_cmp, String, BTreeMap, nat_cmp}
+use Rattle.std.proofs.Common.{◌≡◌, ℕ, Bool, true, false, not, cond, T, List, [], ◌∷◌, map, Option, Some, is_some, is_none, refl, sym, ap, ap₂, subst, ◌∙◌, Less, is_lt, string_bytes, string_cmp, String, BTreeMap, nat_cmp}
 use Rattle.std.specs.Global.{Global}
 use Rattle.std.specs.BTreeMap as tree
 use Rattle.std.specs.List.{AllByRecursion}

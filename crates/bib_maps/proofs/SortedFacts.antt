@@ -1,6 +1,6 @@
 -- Facts on sorted pairs, and on the finite maps that they are seen as.
 use Rattle.std.proofs.Common.{◌≡◌, ℕ, ◌+◌, ◌<◌, ◌≤◌, Bool, true, false, cond, not, ◌&&◌, T, List, [], ◌∷◌, length, get_or, set, Option, Some, None, refl, sym, ap, subst, ◌∙◌, suc, zero, arith, Less, Equal, Greater, Ordering, is_lt, is_eq, IsTrue, HoldsAt, IsSortedBy, insert, remove}
-use Rattle.std.proofs.Common.{Result, Ok, Err, MatchResult}
+use Rattle.std.proofs.Common.{◌++◌, reverse, Result, Ok, Err, MatchResult}
 use Rattle.std.specs.List.{AllWithin}
 use Rattle.std.specs.List.Sorted.{IsSearchInRange, IsBinarySearchResult}
 use Rattle.std.proofs.lemmas.List.Sorted.{searchable_from_sorted}
@@ -9,6 +9,7 @@ use Rattle.std.specs.Ordering.{ordering_reverse, eq_by_cmp}
 use Rattle.std.proofs.lemmas.Cmp.{alike_right, eq_by_cmp_equiv, nat_list_cmp_total}
 use Rattle.std.specs.FinMap as map
 use Rattle.std.specs.FinMap.{empty_of_len, len-entries}
+use Rattle.std.proofs.lemmas.List.{reverse-append}
 use Rattle.std.proofs.lemmas.Bool.{false≢true}
 use Rattle.std.proofs.Common.{IsSome, ◌⊎◌, inl}
 use Rattle.std.specs.FinMap.{find, put, is_sorted, IsAntisymmetric, from_sorted, entries-from_sorted, get-from_sorted, same_entries_map, entries-insert, same_map, get-remove, slice_cmp-IsAntisymmetric, nat_cmp-IsAntisymmetric}
@@ -261,3 +262,11 @@ searched es sorted k (Err i) le parted =
 -- two ways to say what a lender ends as are the same if they agree on each last value
 pub lent : {N A B C : Type 0} (n : N) (f g : A → B) → ((w : A) → f w ≡ g w) → ◌≡◌ {A = (N × (A → B)) ⊎ C} (inl (n, f)) (inl (n, g))
 lent n f g same = λ i. inl (n, λ w. same w i)
+
+-- a map is that of its own pairs
+pub of_its_entries : {V : Type 0} (m : ByText V) → map.from_entries (map.entries m) ≡ m
+of_its_entries m = same_map nat_list_cmp_total by_bytes-IsAntisymmetric _ _ (λ q. map.get-from_entries nat_list_cmp_total (map.entries m) q ∙ sym (map.get-entries m q))
+
+-- the map of pairs before those of another, with one more of them
+pub one_more : {V : Type 0} (pairs before : List (List ℕ × V)) (name : List ℕ) (value : V) → map.insert {R = by_bytes} (map.from_entries (reverse before ++ pairs)) name value ≡ map.from_entries (reverse (before ++ (name, value) ∷ []) ++ pairs)
+one_more pairs before name value = ap (λ l. map.from_entries (l ++ pairs)) (sym (reverse-append before ((name, value) ∷ [])))

@@ -1,9 +1,10 @@
 //! Maps by text.
 
-ghost use Rattle.std.specs.Prelude.{◌≡◌, ◌==◌, OnOk, OnErr, IfOk, IfErr, IsSome, IsOk, reverse};
+ghost use Rattle.std.specs.Prelude.{◌≡◌, ◌==◌, ◌++◌, OnOk, OnErr, IfOk, IfErr, IsSome, IsOk, reverse};
 ghost use Rattle.std.specs.Option.{option_copied, option_copied_mut};
 ghost use Rattle.std.specs.Borrow.{sem};
 ghost use Rattle.std.specs.FinMap as map;
+ghost use Rattle.std.specs.Map.Calls.{CalledAtPair, RetainsPairs};
 ghost use Rattle.std.specs.Slice.Iter.{iter_rest};
 ghost use Rattle.std.specs.Iterator.{YieldsFirstRef, item_count};
 ghost use Rattle.std.specs.Vec.Iter.{into_iter_items};
@@ -181,6 +182,34 @@ impl<V: Drop> TextMap<V> {
     {
         let pairs = sorted(pairs)?;
         Ok(TextMap { pairs })
+    }
+
+    /// Keeps the names and values that pass a test, asked of each in the order of the names' bytes, which may change the values.
+    /// Does not allocate.
+    pub fn retain<F: FnMut(&str, &mut V) -> bool>(&mut self, mut test: F)
+        requires { F.IsAlwaysCallable test }
+        ensures { RetainsPairs (CalledAtPair F.FnMut) test (map.entries self.old) (map.entries self.new) }
+    {
+        self.pairs.retain_mut(
+            |pair: &mut (Text, V)| -> bool
+                requires { F.IsAlwaysCallable test }
+                ensures callable { F.IsAlwaysCallable test.exit }
+                ensures called { CalledAtPair F.FnMut test.entry pair.old.0 pair.old.1 result pair.new.1 test.exit }
+                ensures name { pair.new.0 ≡ pair.old.0 }
+            { test(pair.0.as_str(), &mut pair.1) },
+        );
+    }
+}
+
+/// Inserts pairs one after another. A refusal leaves those before it inserted. Of many pairs `from_pairs` makes a map faster.
+impl<V: Drop> Extend<(Text, V)> for TextMap<V> {
+    ghost extend_gives = { λ m pairs n. n ≡ map.from_entries (reverse pairs ++ map.entries m) };
+
+    fn extend<U: IntoIterator<Item = (Text, V)>>(&mut self, iter: U) -> Result<(), AllocError> {
+        'pairs: for (name, value) in iter {
+            self.insert(name, value)?;
+        }
+        Ok(())
     }
 }
 

@@ -255,7 +255,7 @@ impl<'s> Scanner<'s> {
         self.eat_bytes(count)
     }
 
-    /// Takes characters up to the first that is `a` or `b`, signs of ASCII, and gives the text that they are.
+    /// Takes characters up to the first that is `a` or `b`, which are ASCII, and gives the text that they are.
     pub fn eat_until_either(&mut self, a: u8, b: u8) -> &'s str
         requires ascii { (a < 128) × (b < 128) }
         ensures longest { Longest (λ x. not (x == a) && not (x == b)) self.old self.new }
@@ -268,7 +268,7 @@ impl<'s> Scanner<'s> {
         self.eat_bytes(count)
     }
 
-    /// Takes characters up to the first that is `a`, `b` or `c`, signs of ASCII, and gives the text that they are.
+    /// Takes characters up to the first that is `a`, `b` or `c`, which are ASCII, and gives the text that they are.
     pub fn eat_until_any(&mut self, a: u8, b: u8, c: u8) -> &'s str
         requires ascii { (a < 128) × (b < 128) × (c < 128) }
         ensures longest { Longest (λ x. not (x == a) && not (x == b) && not (x == c)) self.old self.new }

@@ -10,7 +10,7 @@ ghost use Rattle.bib_enums.specs.ReadAs.{IsReadAs, LiesAt};
 
 use crate::typed::Type;
 use bib_chunks::chunk::{
-    ChunksRef, Span, format_sentence, format_verbatim, value_text, whole_span,
+    Chunks, ChunksRef, Span, format_sentence, format_verbatim, value_text, whole_span,
 };
 use bib_enums::type_error::TypeError;
 use std::alloc::{AllocError, Global};
@@ -69,5 +69,29 @@ impl ChunksExt for ChunksRef<'_> {
 
     fn to_biblatex_string(&self, alloc: Global, is_verbatim: bool) -> Result<String, AllocError> {
         value_text(alloc, self, is_verbatim)
+    }
+}
+
+impl ChunksExt for Chunks {
+    ghost contents = { λ chunks. chunks };
+
+    fn parse<T: Type>(&self, alloc: Global) -> Result<T, TypeError> {
+        self.as_slice().parse(alloc)
+    }
+
+    fn format_verbatim(&self, alloc: Global) -> Result<String, AllocError> {
+        self.as_slice().format_verbatim(alloc)
+    }
+
+    fn format_sentence(&self, alloc: Global) -> Result<String, AllocError> {
+        self.as_slice().format_sentence(alloc)
+    }
+
+    fn span(&self) -> Span {
+        self.as_slice().span()
+    }
+
+    fn to_biblatex_string(&self, alloc: Global, is_verbatim: bool) -> Result<String, AllocError> {
+        self.as_slice().to_biblatex_string(alloc, is_verbatim)
     }
 }

@@ -52,6 +52,22 @@ fn clones_a_map(alloc: Global) -> Answer {
     Ok(has_both(&map_of_pairs(alloc)?.clone()?, 3, 2))
 }
 
+fn retains_values(alloc: Global) -> Answer {
+    let mut map = map_of_pairs(alloc)?;
+    map.retain(|name, value| {
+        *value += 4;
+        name == "b"
+    });
+    Ok(map.len() == 1 && map.get("b") == Some(&7))
+}
+
+fn extends_a_map(alloc: Global) -> Answer {
+    let mut map = TextMap::new(alloc);
+    map.insert(Text::from_str(alloc, "b")?, 9u8)?;
+    map.extend(map_of_pairs(alloc)?)?;
+    Ok(has_both(&map, 3, 2))
+}
+
 // Whether `b` points to the place 1, `a` to 2, and `c` nowhere.
 fn are_pointing(names: &Names) -> bool {
     names.get("b") == Some(1) && names.get("a") == Some(2) && names.get("c") == None
@@ -124,6 +140,8 @@ fn maps_and_names(rt: HostRuntime) {
         ("TextMap::from_pairs", makes_a_map_of_pairs(alloc)),
         ("TextMap::from_iter", collects_a_map(alloc)),
         ("TextMap::clone", clones_a_map(alloc)),
+        ("TextMap::retain", retains_values(alloc)),
+        ("TextMap::extend", extends_a_map(alloc)),
         ("Names::claim", claims_a_name(alloc)),
         ("Names::claim_all", claims_names_at_once(alloc)),
         ("Names::clone", clones_names(alloc)),

@@ -112,7 +112,7 @@ impl<'s, 'n> Reader<'s, 'n> {
         self.scanner.eat_while(test)
     }
 
-    // Goes on to the first character that is `a` or `b`, signs of ASCII.
+    // Goes on to the first character that is `a` or `b`, which are ASCII.
     pub(crate) fn eat_until_either(&mut self, a: u8, b: u8)
         requires ascii { (a < 128) × (b < 128) }
         ensures longest { Longest (λ x. not (x == a) && not (x == b)) self.old self.new }
@@ -121,7 +121,7 @@ impl<'s, 'n> Reader<'s, 'n> {
         self.scanner.eat_until_either(a, b);
     }
 
-    // Goes on to the first character that is `a`, `b` or `c`, signs of ASCII.
+    // Goes on to the first character that is `a`, `b` or `c`, which are ASCII.
     pub(crate) fn eat_until_any(&mut self, a: u8, b: u8, c: u8)
         requires ascii { (a < 128) × (b < 128) × (c < 128) }
         ensures longest { Longest (λ x. not (x == a) && not (x == b) && not (x == c)) self.old self.new }
