@@ -4,7 +4,7 @@ Such an error is `AllocError`, a variant `OutOfMemory`, or a struct that hands a
 
 - in a function with a parameter of such a type, as `From::from` has it, and in `unless_out_of_memory`, which splits an
   error into out of memory and the rest;
-- where an `io::Error` was found to be of the kind `OutOfMemory`, and where a `match` copies the variant that it found.
+- where an `io::Error` was found to be of the kind `OutOfMemory`, and where a `match` copies the variant that it found, or its namesake of another type.
 
 Elsewhere it is passed on, by `?`. A contract can't say so: a body that answers out of memory where memory is there meets it.
 """
@@ -90,8 +90,9 @@ def is_tested(text, start, end):
 
 
 def is_passed_on(text, start, what):
-    """Whether a match found this very variant, or an `io::Error` of this kind."""
-    return bool(re.search(rf"{re.escape(what)}\s*=>\s*$|\bErrorKind::OutOfMemory\s*=>\s*(?:return )?(?:Err\()?$", text[:start]))
+    """Whether a match found the variant of this name, of the same type or another, or an `io::Error` of this kind."""
+    variant = rf"\b{what.rpartition('::')[2]}"
+    return bool(re.search(rf"{variant}\s*=>\s*$|\bErrorKind::OutOfMemory\s*=>\s*(?:return )?(?:Err\()?$", text[:start]))
 
 
 def is_type(text, start, end):

@@ -3,7 +3,8 @@
 
 Runs `rt ci` over the crates that are named, or over `bib`, and those below them, side by side, on a copy without the wrong bodies, which
 the gate tries. Where the kit keeps what it proved, a run that was stopped goes on where it was, and the gate takes it from there.
-The program then stands in crates/bib/out/bib. RT_JOBS=N uses N processors.
+The program then stands in crates/bib/out/bib, and the library for C, where `bib_c` is named, in crates/bib_c/out/libbiblatex.a.
+RT_JOBS=N uses N processors.
 """
 import os
 import pathlib
@@ -84,6 +85,14 @@ def follow(run, count):
     return "".join(said[:60]) + rest[-2000:]
 
 
+def take(room, name, file):
+    """Takes over a file that was built for a crate."""
+    out = TOP / "crates" / name / "out"
+    out.mkdir(exist_ok=True)
+    shutil.copy2(room / "crates" / name / "out" / file, out / file)
+    os.utime(out / file)
+
+
 def prove(wanted, rows):
     needed = with_below(wanted, rows)
     with tempfile.TemporaryDirectory() as folder:
@@ -101,11 +110,11 @@ def prove(wanted, rows):
             say("not proved:", True)
             print(said, file=sys.stderr)
             return 1
+        if "bib_c" in wanted:
+            subprocess.run([sys.executable, TOP / "c" / "build.py", room], check=True, stdout=subprocess.DEVNULL)
+            take(room, "bib_c", "libbiblatex.a")
         for program in [it for it in needed if (room / "crates" / it / "out" / it).is_file()]:
-            out = TOP / "crates" / program / "out"
-            out.mkdir(exist_ok=True)
-            shutil.copy2(room / "crates" / program / "out" / program, out / program)
-            os.utime(out / program)
+            take(room, program, program)
     return 0
 
 

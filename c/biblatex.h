@@ -21,8 +21,21 @@ enum biblatex_status {
     BIBLATEX_DONE = 0,
     BIBLATEX_TOO_SHORT = 1,     /* the buffer is shorter than the answer */
     BIBLATEX_NOT_UTF8 = 2,
-    BIBLATEX_REFUSED = 3,       /* the text has an error, for which see biblatex_lint, or can't be edited so */
-    BIBLATEX_OUT_OF_MEMORY = 4
+    BIBLATEX_REFUSED = 3,       /* the text has an error, for which see biblatex_lint, or the number is no format's */
+    BIBLATEX_OUT_OF_MEMORY = 4,
+    BIBLATEX_UNKNOWN_KEY = 5,   /* this and the next four: why a text can't be edited so */
+    BIBLATEX_KEY_IS_THERE = 6,
+    BIBLATEX_NOT_A_KEY = 7,
+    BIBLATEX_NOT_A_NAME = 8,
+    BIBLATEX_NOT_IN_BRACES = 9  /* braces of the value, or of the new key, don't match, or a backslash hides the last one */
+};
+
+/* What biblatex_recover writes. */
+enum biblatex_format {
+    BIBLATEX_FORMAT_BIBLATEX = 0,
+    BIBLATEX_FORMAT_BIBTEX = 1,
+    BIBLATEX_FORMAT_JSON = 2,
+    BIBLATEX_FORMAT_CSL = 3
 };
 
 /* The keys of a file's entries in its order, each in a line of its own. */
@@ -40,14 +53,22 @@ uint32_t biblatex_json(const uint8_t *text, size_t length, uint8_t *out, size_t 
 /* The entries of a bibliography as an array of items of CSL-JSON. */
 uint32_t biblatex_csl(const uint8_t *text, size_t length, uint8_t *out, size_t capacity, size_t *size);
 
+/* What can be read of a text, whatever is wrong in it, in a format of enum biblatex_format, as the four calls above write the
+   bibliography that a text is. biblatex_lint says what is wrong. Bytes that aren't UTF-8 are read as Windows-1252. It refuses
+   a number alone that no format has. */
+uint32_t biblatex_recover(const uint8_t *text, size_t length, uint32_t format, uint8_t *out, size_t capacity, size_t *size);
+
 /* What is wrong in a text, as an array of JSON: of each finding file (empty), line and column (from 1), severity, code and
-   message. It refuses no text: bytes that aren't UTF-8 are read as Windows-1252, and are a finding. */
+   message. It refuses no text: bytes that aren't UTF-8 are read as Windows-1252, and are a finding. A text that biblatex_keys
+   or biblatex_fmt refuses has a finding of the code unread-bytes or syntax; one that biblatex_biblatex, biblatex_bibtex,
+   biblatex_json and biblatex_csl refuse has one of these, or of unread-field, unknown-abbreviation, circular-abbreviation,
+   duplicate-key, circular-reference or unread-date. */
 uint32_t biblatex_lint(const uint8_t *text, size_t length, uint8_t *out, size_t capacity, size_t *size);
 
 /* The text in the usual style. */
 uint32_t biblatex_fmt(const uint8_t *text, size_t length, uint8_t *out, size_t capacity, size_t *size);
 
-/* The text with a field of an entry set to a text in braces. All else stays byte for byte, as in the next three. */
+/* The text with a field of an entry set to a text in braces. All else stays byte for byte, as in the next four. */
 uint32_t biblatex_set(const uint8_t *text, size_t length, const uint8_t *key, size_t key_length, const uint8_t
     *name, size_t name_length, const uint8_t *value, size_t value_length, uint8_t *out, size_t capacity,
     size_t *size);
@@ -63,6 +84,14 @@ uint32_t biblatex_rename(const uint8_t *text, size_t length, const uint8_t *old_
 /* The text without an entry. */
 uint32_t biblatex_remove(const uint8_t *text, size_t length, const uint8_t *key, size_t key_length, uint8_t
     *out, size_t capacity, size_t *size);
+
+/* The text with that of another after it, in a line of its own; BIBLATEX_KEY_IS_THERE where an entry has the key of one of the
+   other's. */
+uint32_t biblatex_add(const uint8_t *text, size_t length, const uint8_t *added, size_t added_length, uint8_t *out, size_t capacity,
+    size_t *size);
+
+/* The library's version: three numbers with points between them. */
+uint32_t biblatex_version(uint8_t *out, size_t capacity, size_t *size);
 
 /* What a status says. */
 uint32_t biblatex_message(uint32_t status, uint8_t *out, size_t capacity, size_t *size);

@@ -74,7 +74,63 @@ static void check_edits(void)
     size = 77;
     memset(out, 'x', sizeof out);
     status = biblatex_unset(bytes(text), strlen(text), bytes("z"), 1, bytes("title"), 5, out, sizeof out, &size);
-    check(status == BIBLATEX_REFUSED && size == 77 && out[0] == 'x', "an edit of no entry is refused, and changes nothing");
+    check(status == BIBLATEX_UNKNOWN_KEY && size == 77 && out[0] == 'x', "an edit of no entry is refused, and changes nothing");
+    check(biblatex_rename(bytes(text), strlen(text), bytes("a"), 1, bytes("b"), 1, out, sizeof out, &size) == BIBLATEX_KEY_IS_THERE && size == 77,
+          "a new key that is there");
+    check(biblatex_rename(bytes(text), strlen(text), bytes("a"), 1, bytes("b c"), 3, out, sizeof out, &size) == BIBLATEX_NOT_A_KEY, "a new key that is none");
+    check(biblatex_set(bytes(text), strlen(text), bytes("a"), 1, bytes("b c"), 3, bytes("U"), 1, out, sizeof out, &size) == BIBLATEX_NOT_A_NAME,
+          "a name that is none");
+    check(biblatex_set(bytes(text), strlen(text), bytes("a"), 1, bytes("note"), 4, bytes("U}"), 2, out, sizeof out, &size) == BIBLATEX_NOT_IN_BRACES,
+          "a value with a brace that closes nothing");
+    check(biblatex_set(bytes("@misc{a"), 7, bytes("a"), 1, bytes("note"), 4, bytes("U"), 1, out, sizeof out, &size) == BIBLATEX_REFUSED && size == 77,
+          "an edit of a text with an error");
+}
+
+static void check_addition(void)
+{
+    const char *text = "@misc{a,title={T}}", *wanted = "@misc{a,title={T}}\n@misc{b,title={U}}";
+    uint8_t out[4096];
+    size_t size = 0;
+    uint32_t status = biblatex_add(bytes(text), strlen(text), bytes("@misc{b,title={U}}"), 18, out, sizeof out, &size);
+    check(status == BIBLATEX_DONE && size == strlen(wanted) && memcmp(out, wanted, size) == 0, "add");
+    size = 77;
+    check(biblatex_add(bytes(text), strlen(text), bytes(text), strlen(text), out, sizeof out, &size) == BIBLATEX_KEY_IS_THERE && size == 77,
+          "an addition of a key that is there is refused");
+    check(biblatex_add(bytes(text), strlen(text), bytes("@misc{b"), 7, out, sizeof out, &size) == BIBLATEX_REFUSED && size == 77,
+          "an addition of a text with an error is refused");
+}
+
+/* Whether this is what can be read of a text with an error in the second of its three entries. */
+static int recovers(uint32_t format, const char *wanted)
+{
+    const char *text = "@article{a, journaltitle={J}}\n@misc{b, title={T}\n@misc{c, note={N}}\n";
+    uint8_t out[4096];
+    size_t size = 0;
+    uint32_t status = biblatex_recover(bytes(text), strlen(text), format, out, sizeof out, &size);
+    return status == BIBLATEX_DONE && size == strlen(wanted) && memcmp(out, wanted, size) == 0;
+}
+
+static void check_recovery(void)
+{
+    uint8_t out[4096];
+    size_t size = 77;
+    check(recovers(BIBLATEX_FORMAT_BIBLATEX, "@article{a,\njournaltitle = {J},\n}\n\n@misc{c,\nnote = {N},\n}\n"), "recover as BibLaTeX");
+    check(recovers(BIBLATEX_FORMAT_BIBTEX, "@article{a,\njournal = {J},\n}\n\n@misc{c,\nnote = {N},\n}\n"), "recover as BibTeX");
+    check(recovers(BIBLATEX_FORMAT_JSON,
+                   "[\n{\"fields\":{\"journaltitle\":{\"chunks\":[{\"end\":27,\"kind\":\"normal\",\"start\":26,\"text\":\"J\"}]}},"
+                   "\"key\":\"a\",\"type\":\"article\"},\n"
+                   "{\"fields\":{\"note\":{\"chunks\":[{\"end\":65,\"kind\":\"normal\",\"start\":64,\"text\":\"N\"}]}},"
+                   "\"key\":\"c\",\"type\":\"misc\"}\n]\n"),
+          "recover as JSON");
+    check(biblatex_recover(bytes("@misc{a"), 7, BIBLATEX_FORMAT_CSL, out, sizeof out, &size) == BIBLATEX_DONE && size == 3
+              && memcmp(out, "[]\n", 3) == 0,
+          "recover nothing as CSL");
+    size = 77;
+    check(biblatex_recover(bytes(""), 0, 4, out, sizeof out, &size) == BIBLATEX_REFUSED && size == 77, "a number that no format has");
+    check(biblatex_recover(bytes("@misc{a,note={\xe9}}"), 17, BIBLATEX_FORMAT_BIBLATEX, out, sizeof out, &size) == BIBLATEX_DONE && size == 24
+              && memcmp(out, "@misc{a,\nnote = {\xc3\xa9},\n}\n", 24) == 0,
+          "recover bytes that aren't UTF-8");
+    check(biblatex_version(out, sizeof out, &size) == BIBLATEX_DONE && size == 5 && memcmp(out, "0.1.0", 5) == 0, "version");
 }
 
 static void check_buffers(void)
@@ -95,6 +151,13 @@ static void check_buffers(void)
     check(biblatex_keys(bytes("@a{b"), 4, out, 8, &size) == BIBLATEX_REFUSED && size == 77 && out[0] == 'x', "a text with an error");
     check(biblatex_biblatex(bytes("@a{b,}@a{b,}"), 12, out, 8, &size) == BIBLATEX_REFUSED && size == 77, "two entries of one key");
     uint8_t words[64];
+    static const char *const said[] = {"done", "the buffer is too short", "not UTF-8", "refused", "out of memory", "no entry has the key",
+        "an entry has the key already", "the text can't be a key", "the text can't be the name of a field",
+        "the value can't stand between braces", "no status"};
+    for (uint32_t status = 0; status < 11; status++) {
+        check(biblatex_message(status, words, sizeof words, &size) == BIBLATEX_DONE && size == strlen(said[status])
+                  && memcmp(words, said[status], size) == 0, "the words of each status");
+    }
     check(biblatex_message(BIBLATEX_NOT_UTF8, words, sizeof words, &size) == BIBLATEX_DONE && size == 9 && memcmp(words, "not UTF-8", 9) == 0,
           "the words of a status");
 }
@@ -171,6 +234,8 @@ int main(void)
 {
     check_readings();
     check_edits();
+    check_addition();
+    check_recovery();
     check_buffers();
     check_many();
     check_large();

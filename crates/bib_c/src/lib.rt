@@ -1,20 +1,23 @@
 //! The library's calls for C: each export is a call of `bib_calls`, and answers the number of its status. The header is c/biblatex.h.
 #![tactic(auto)]
 
-ghost use Rattle.std.specs.Prelude.{◌≡◌, [], ◌∷◌};
+ghost use Rattle.std.specs.Prelude.{◌≡◌, [], ◌∷◌, codes};
 ghost use Rattle.biblatex.specs.Syntax.{biblatex_entry, bibtex_entry};
 ghost use Rattle.bib_documents.specs.Documents.{EntryIsRefused, EntryRemoved, FieldSet, FieldUnset, SetIsRefused};
 ghost use Rattle.bib_documents.specs.References.{KeyRenamed, RenameIsRefused};
 ghost use Rattle.bibkit_convert.specs.declared.target.Target.TheVariants.{Csl, Json};
-ghost use Rattle.bib_calls.specs.Calls.{AreFaults, AreKeysInLines, EditFails, IsEditedText, IsLaidOut, IsNoBibliography, IsNoFile, IsNumberedEnd, IsWrittenAnew, IsWrittenAs, TextFails};
+ghost use Rattle.bib_calls.specs.Calls.{AddFails, AreFaults, AreKeysInLines, EditFails, IsEditedText, IsLaidOut, IsNoBibliography, IsNoFile, IsNumberedEnd, IsWrittenAnew, IsWrittenAs, TextFails, WithEntriesOf};
+ghost use Rattle.bib_calls.specs.Recovered.{IsRecoveredIn, RecoverFails};
 ghost use Rattle.bib_calls.specs.Statuses.{status_text};
 ghost use Rattle.bib_calls.specs.declared.status.Status.TheVariants.{OutOfMemory};
 
-use bib_calls::editing::{fmt, remove, rename, set, unset};
+use bib_calls::editing::{add, fmt, remove, rename, set, unset};
 use bib_calls::exporting::{csl, json};
 use bib_calls::linting::lint;
 use bib_calls::reading::{biblatex, bibtex, keys};
+use bib_calls::recovering::recover;
 use bib_calls::status::message;
+use bib_calls::version::version;
 use std::alloc::Global;
 
 /// The keys of a file's entries in its order, each in a line of its own.
@@ -153,6 +156,44 @@ pub extern "C" fn biblatex_remove(
         out.old size.old out.new size.new result }
 {
     remove(alloc, text, key, out, size).number()
+}
+
+/// The text with that of another after it, in a line of its own.
+#[unsafe(no_mangle)]
+pub extern "C" fn biblatex_add(
+    alloc: Global,
+    text: &[u8],
+    added: &[u8],
+    out: &mut [u8],
+    size: &mut usize,
+) -> u32
+    ensures { IsNumberedEnd (IsEditedText (WithEntriesOf added.now) text.now) (AddFails text.now added.now)
+        out.old size.old out.new size.new result }
+{
+    add(alloc, text, added, out, size).number()
+}
+
+/// What can be read of a text, whatever is wrong in it, in the format of a number.
+#[unsafe(no_mangle)]
+pub extern "C" fn biblatex_recover(
+    alloc: Global,
+    text: &[u8],
+    format: u32,
+    out: &mut [u8],
+    size: &mut usize,
+) -> u32
+    ensures { IsNumberedEnd (IsRecoveredIn format text.now) (RecoverFails format)
+        out.old size.old out.new size.new result }
+{
+    recover(alloc, text, format, out, size).number()
+}
+
+/// The library's version.
+#[unsafe(no_mangle)]
+pub extern "C" fn biblatex_version(out: &mut [u8], size: &mut usize) -> u32
+    ensures { IsNumberedEnd (λ answer. answer ≡ codes "0.1.0") (λ _. ⊥) out.old size.old out.new size.new result }
+{
+    version(out, size).number()
 }
 
 /// What the number of a status says.

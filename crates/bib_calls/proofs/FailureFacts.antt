@@ -1,16 +1,15 @@
 -- Why calls fail, by the errors that they are given.
-use Rattle.std.proofs.Common.{◌≡◌, ◌≢◌, ◌⊎◌, inl, inr, ℕ, List, sym, subst}
+use Rattle.std.proofs.Common.{◌≡◌, ◌⊎◌, inl, inr, ℕ, List, sym, subst}
 use Rattle.biblatex.specs.Headline.{IsAcceptedText, IsErrorOf}
 use Rattle.bib_syntax.specs.Errors.{Refuses, out_of_memory}
 use Rattle.bib_syntax.specs.Grammar.{IsFile}
 use Rattle.bib_syntax.specs.declared.raw.ParseError.{ParseError}
 use Rattle.bib_syntax.specs.declared.raw.ParseErrorKind.{ParseErrorKind}
 use Rattle.bib_syntax.specs.declared.raw.ParseErrorKind.TheVariants as kind
-use Rattle.bib_documents.specs.Documents.{Document, IsDocument}
+use Rattle.bib_documents.specs.Documents.{Document, EntriesAreRefused, IsDocument}
 use Rattle.bib_documents.specs.declared.errors.EditError.{EditError}
 use Rattle.bib_documents.specs.declared.errors.EditError.TheVariants as edit_error
-use Rattle.bib_calls.specs.Calls.{EditFails, IsNoBibliography, IsNoFile, TextFails}
-use Rattle.bib_calls.specs.Calls.IsEditRefusedOf.{no_file, refused}
+use Rattle.bib_calls.specs.Calls.{AddFails, EditFails, IsNoBibliography, IsNoFile, TextFails}
 use Rattle.bib_calls.specs.Statuses.{status_of_edit, status_of_error, status_of_kind}
 use Rattle.bib_calls.specs.declared.status.Status.{Status}
 use Rattle.bib_calls.specs.declared.status.Status.TheVariants.{Refused, OutOfMemory}
@@ -45,17 +44,33 @@ bibliography_fails bytes text e same refuses = error_fails (TextFails (IsNoBibli
 -- an edit of a text that is no file
 pub unread_fails : (Refuses' : Document → EditError → Type 0) (bytes : List ℕ) (others : List (List ℕ)) (text : List ℕ) (e : ParseError) → text ≡ bytes
     → Refuses text e (IsFile text → ⊥) → EditFails Refuses' bytes others (status_of_error e)
-unread_fails Refuses' bytes others text e same refuses = error_fails (EditFails Refuses' bytes others) e refuses tt (λ unread. no_file (subst IsNoFile same unread))
+unread_fails Refuses' bytes others text e same refuses = error_fails (EditFails Refuses' bytes others) e refuses tt (λ unread. subst IsNoFile same unread)
 
 -- an edit that is refused
-why_fails : (F : Status → Type 0) (why : EditError) → F OutOfMemory → (why ≢ edit_error.OutOfMemory → F Refused) → F (status_of_edit why)
-why_fails F edit_error.UnknownKey memory other = other (λ is. cc)
-why_fails F edit_error.KeyIsThere memory other = other (λ is. cc)
-why_fails F edit_error.NotAKey memory other = other (λ is. cc)
-why_fails F edit_error.NotAName memory other = other (λ is. cc)
-why_fails F edit_error.NotInBraces memory other = other (λ is. cc)
-why_fails F edit_error.OutOfMemory memory other = memory
-
 pub edit_fails : (Refuses' : Document → EditError → Type 0) (bytes : List ℕ) (others : List (List ℕ)) (d : Document) (why : EditError) → d.text ≡ bytes
     → IsDocument d → Refuses' d why → EditFails Refuses' bytes others (status_of_edit why)
-edit_fails Refuses' bytes others d why same read because = why_fails (EditFails Refuses' bytes others) why tt (λ other. refused d why same read other because)
+edit_fails Refuses' bytes others d edit_error.UnknownKey same read because = record { document = d; same = same; read = read; refused = because }
+edit_fails Refuses' bytes others d edit_error.KeyIsThere same read because = record { document = d; same = same; read = read; refused = because }
+edit_fails Refuses' bytes others d edit_error.NotAKey same read because = record { document = d; same = same; read = read; refused = because }
+edit_fails Refuses' bytes others d edit_error.NotAName same read because = record { document = d; same = same; read = read; refused = because }
+edit_fails Refuses' bytes others d edit_error.NotInBraces same read because = record { document = d; same = same; read = read; refused = because }
+edit_fails Refuses' bytes others d edit_error.OutOfMemory same read because = tt
+
+-- an addition to a text that is no file
+pub text_fails : (bytes added text : List ℕ) (e : ParseError) → text ≡ bytes → Refuses text e (IsFile text → ⊥) → AddFails bytes added (status_of_error e)
+text_fails bytes added text e same refuses = error_fails (AddFails bytes added) e refuses tt (λ unread. inl (subst IsNoFile same unread))
+
+-- an addition of a text that is no file
+pub added_fails : (bytes added text : List ℕ) (e : ParseError) → text ≡ added → Refuses text e (IsFile text → ⊥) → AddFails bytes added (status_of_error e)
+added_fails bytes added text e same refuses = error_fails (AddFails bytes added) e refuses tt (λ unread. inr (subst IsNoFile same unread))
+
+-- an addition that is refused
+pub add_fails : (bytes added : List ℕ) (d more : Document) (why : EditError) → d.text ≡ bytes → IsDocument d → more.text ≡ added → IsDocument more
+    → EntriesAreRefused d more why → AddFails bytes added (status_of_edit why)
+add_fails bytes added d more edit_error.UnknownKey same read same' read' because = absurd because
+add_fails bytes added d more edit_error.KeyIsThere same read same' read' because =
+    record { document = d; more = more; same = same; read = read; same_added = same'; read_added = read'; shared = because }
+add_fails bytes added d more edit_error.NotAKey same read same' read' because = absurd because
+add_fails bytes added d more edit_error.NotAName same read same' read' because = absurd because
+add_fails bytes added d more edit_error.NotInBraces same read same' read' because = absurd because
+add_fails bytes added d more edit_error.OutOfMemory same read same' read' because = tt

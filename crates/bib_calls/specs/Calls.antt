@@ -1,13 +1,13 @@
 -- Meaning: words of public contracts.
 -- What calls over buffers answer, and how they end.
-use Rattle.std.specs.Prelude.{◌≡◌, ◌≢◌, ◌≤◌, ◌<◌, ◌⊎◌, ℕ, ⊤, Bool, true, List, [], ◌∷◌, ◌++◌, length, drop, codes, None}
+use Rattle.std.specs.Prelude.{◌≡◌, ◌≤◌, ◌<◌, ◌⊎◌, ℕ, ⊤, true, List, [], ◌∷◌, ◌++◌, length, drop, codes, None}
 use Rattle.std.specs.List.{AllByRecursion}
 use Rattle.std.specs.Str.{IsUtf8}
 use Rattle.biblatex.specs.Headline.{IsAcceptedText, IsBibliographyOf}
-use Rattle.biblatex.specs.Syntax.{Bibliography, Entry, FileReading, IsFile, IsRawReading, biblatex_entry, bibtex_entry, entries_text}
+use Rattle.biblatex.specs.Syntax.{Bibliography, Entry, FileReading, IsFile, IsRawReading, entries_text}
 use Rattle.bib_excerpts.specs.Answers.{lines_of_keys}
 use Rattle.bibkit_convert.specs.Converted.{end, is_first_after, texts_after}
-use Rattle.bib_documents.specs.Documents.{Document, IsDocument, IsEdited}
+use Rattle.bib_documents.specs.Documents.{Document, EntriesAdded, IsDocument, IsEdited, SharesNoKey}
 use Rattle.bib_documents.specs.declared.errors.EditError.{EditError}
 use Rattle.bib_documents.specs.declared.errors.EditError.TheVariants as edit_error
 use Rattle.bib_format.specs.Formatted.{text_in_style}
@@ -20,7 +20,7 @@ use Rattle.bibkit_core.specs.declared.request.Style.TheVariants as style
 use Rattle.bibkit_core.specs.declared.tally.Tally.{Tally}
 use Rattle.bib_calls.specs.Statuses.{status_number}
 use Rattle.bib_calls.specs.declared.status.Status.{Status}
-use Rattle.bib_calls.specs.declared.status.Status.TheVariants.{Done, TooShort, NotUtf8, Refused, OutOfMemory}
+use Rattle.bib_calls.specs.declared.status.Status.TheVariants.{Done, TooShort, NotUtf8, Refused, OutOfMemory, UnknownKey, KeyIsThere, NotAKey, NotAName, NotInBraces}
 
 -- how a call ends, with what it leaves in a buffer and says of the size: it has such an answer, which fills the start of the
 -- buffer or is longer than it, or fails for such a reason
@@ -37,11 +37,10 @@ pub record IsNumberedEnd (Answers : List ℕ → Type 0) (Fails : Status → Typ
 
 -- why a call of a text fails: the bytes aren't UTF-8, or the text is such that it is refused, or there is no memory
 abbrev pub TextFails : Type 0 → List ℕ → Status → Type 0
-TextFails IsRefused bytes Done = ⊥
-TextFails IsRefused bytes TooShort = ⊥
 TextFails IsRefused bytes NotUtf8 = IsUtf8 bytes → ⊥
 TextFails IsRefused bytes Refused = IsRefused
 TextFails IsRefused bytes OutOfMemory = ⊤
+TextFails IsRefused bytes _ = ⊥
 
 -- no file of the grammar
 abbrev pub IsNoFile : List ℕ → Type 0
@@ -63,11 +62,15 @@ pub record IsWrittenAnew (write : Entry → List ℕ) (text answer : List ℕ) :
   pub of_text : IsBibliographyOf text bibliography
   pub is : answer ≡ entries_text write bibliography.entries
 
+-- a bibliography in another format
+abbrev pub exported_text : Target → Bibliography → List ℕ
+exported_text target bibliography = texts_after target true bibliography.entries ++ end target (is_first_after target true bibliography.entries)
+
 -- the bibliography that a text is, in another format
 pub record IsWrittenAs (target : Target) (text answer : List ℕ) : Type 0 where
   pub bibliography : Bibliography
   pub of_text : IsBibliographyOf text bibliography
-  pub is : answer ≡ texts_after target true bibliography.entries ++ end target (is_first_after target true bibliography.entries)
+  pub is : answer ≡ exported_text target bibliography
 
 -- all findings of a text, as an array of JSON, each in the file of no name
 pub record AreFaults (bytes answer : List ℕ) : Type 0 where
@@ -91,18 +94,47 @@ pub record IsEditedText (Outcome : Document → Document → Type 0) (text answe
   pub read : IsDocument document
   pub edited : IsEdited (Outcome document) answer
 
--- an edit of a text is refused: the text is no file of the grammar, or the edit of its document is refused for such a reason
-pub data IsEditRefusedOf (Refuses : Document → EditError → Type 0) (text : List ℕ) : Type 0 where
-  no_file : IsNoFile text → IsEditRefusedOf Refuses text
-  refused : (d : Document) (why : EditError) → d.text ≡ text → IsDocument d → why ≢ edit_error.OutOfMemory → Refuses d why → IsEditRefusedOf Refuses text
+-- an edit of the document that a text has is refused for this reason
+pub record IsRefusedFor (Refuses : Document → EditError → Type 0) (text : List ℕ) (why : EditError) : Type 0 where
+  pub document : Document
+  pub same : document.text ≡ text
+  pub read : IsDocument document
+  pub refused : Refuses document why
 
 -- why an edit fails that is given these texts, of which the first is edited
 abbrev pub EditFails : (Document → EditError → Type 0) → List ℕ → List (List ℕ) → Status → Type 0
 EditFails Refuses text others Done = ⊥
 EditFails Refuses text others TooShort = ⊥
 EditFails Refuses text others NotUtf8 = AllByRecursion IsUtf8 (text ∷ others) → ⊥
-EditFails Refuses text others Refused = IsEditRefusedOf Refuses text
+EditFails Refuses text others Refused = IsNoFile text
 EditFails Refuses text others OutOfMemory = ⊤
+EditFails Refuses text others UnknownKey = IsRefusedFor Refuses text edit_error.UnknownKey
+EditFails Refuses text others KeyIsThere = IsRefusedFor Refuses text edit_error.KeyIsThere
+EditFails Refuses text others NotAKey = IsRefusedFor Refuses text edit_error.NotAKey
+EditFails Refuses text others NotAName = IsRefusedFor Refuses text edit_error.NotAName
+EditFails Refuses text others NotInBraces = IsRefusedFor Refuses text edit_error.NotInBraces
+
+-- a document with the entries of another text added
+abbrev pub WithEntriesOf : List ℕ → Document → Document → Type 0
+WithEntriesOf added document new = (more : Document) × (more.text ≡ added) × IsDocument more × EntriesAdded document more new
+
+-- an entry of a text has the key of one of another's
+pub record AreKeysShared (text added : List ℕ) : Type 0 where
+  pub document : Document
+  pub more : Document
+  pub same : document.text ≡ text
+  pub read : IsDocument document
+  pub same_added : more.text ≡ added
+  pub read_added : IsDocument more
+  pub shared : SharesNoKey document more → ⊥
+
+-- why the entries of another text aren't added
+abbrev pub AddFails : List ℕ → List ℕ → Status → Type 0
+AddFails text added NotUtf8 = AllByRecursion IsUtf8 (text ∷ added ∷ []) → ⊥
+AddFails text added Refused = IsNoFile text ⊎ IsNoFile added
+AddFails text added OutOfMemory = ⊤
+AddFails text added KeyIsThere = AreKeysShared text added
+AddFails text added _ = ⊥
 
 -- the text in the usual style
 pub record IsLaidOut (text answer : List ℕ) : Type 0 where

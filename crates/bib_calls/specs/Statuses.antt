@@ -7,7 +7,7 @@ use Rattle.bib_syntax.specs.declared.raw.ParseError.{ParseError}
 use Rattle.bib_syntax.specs.declared.raw.ParseErrorKind.{ParseErrorKind}
 use Rattle.bib_syntax.specs.declared.raw.ParseErrorKind.TheVariants as kind
 use Rattle.bib_calls.specs.declared.status.Status.{Status}
-use Rattle.bib_calls.specs.declared.status.Status.TheVariants.{Done, TooShort, NotUtf8, Refused, OutOfMemory}
+use Rattle.bib_calls.specs.declared.status.Status.TheVariants.{Done, TooShort, NotUtf8, Refused, OutOfMemory, UnknownKey, KeyIsThere, NotAKey, NotAName, NotInBraces}
 
 -- the number of a status
 abbrev pub status_number : Status → ℕ
@@ -16,6 +16,11 @@ status_number TooShort = 1
 status_number NotUtf8 = 2
 status_number Refused = 3
 status_number OutOfMemory = 4
+status_number UnknownKey = 5
+status_number KeyIsThere = 6
+status_number NotAKey = 7
+status_number NotAName = 8
+status_number NotInBraces = 9
 
 -- what a number says
 abbrev pub status_text : ℕ → List ℕ
@@ -25,6 +30,11 @@ status_text number =
     else if number == 2 then codes "not UTF-8"
     else if number == 3 then codes "refused"
     else if number == 4 then codes "out of memory"
+    else if number == 5 then codes "no entry has the key"
+    else if number == 6 then codes "an entry has the key already"
+    else if number == 7 then codes "the text can't be a key"
+    else if number == 8 then codes "the text can't be the name of a field"
+    else if number == 9 then codes "the value can't stand between braces"
     else codes "no status"
 
 -- how a call ends whose text has an error of this kind
@@ -38,5 +48,9 @@ status_of_error e = status_of_kind e.kind
 
 -- how a call ends whose edit is refused for this reason
 abbrev pub status_of_edit : EditError → Status
+status_of_edit edit_error.UnknownKey = UnknownKey
+status_of_edit edit_error.KeyIsThere = KeyIsThere
+status_of_edit edit_error.NotAKey = NotAKey
+status_of_edit edit_error.NotAName = NotAName
+status_of_edit edit_error.NotInBraces = NotInBraces
 status_of_edit edit_error.OutOfMemory = OutOfMemory
-status_of_edit _ = Refused

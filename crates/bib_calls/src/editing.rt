@@ -4,7 +4,7 @@ ghost use Rattle.std.specs.Prelude.{◌≡◌, [], ◌∷◌, IfOk, IfErr};
 ghost use Rattle.std.specs.String.{string_bytes};
 ghost use Rattle.bib_documents.specs.Documents.{EntryIsRefused, EntryRemoved, FieldSet, FieldUnset, SetIsRefused};
 ghost use Rattle.bib_documents.specs.References.{KeyRenamed, RenameIsRefused};
-ghost use Rattle.bib_calls.specs.Calls.{EditFails, IsEditedText, IsEnd, IsLaidOut, IsNoFile, TextFails};
+ghost use Rattle.bib_calls.specs.Calls.{AddFails, EditFails, IsEditedText, IsEnd, IsLaidOut, IsNoFile, TextFails, WithEntriesOf};
 
 use crate::buffers::end;
 use crate::reading::text_of;
@@ -137,4 +137,22 @@ pub fn remove(alloc: Global, text: &[u8], key: &[u8], out: &mut [u8], size: &mut
         out.old size.old out.new size.new result }
 {
     end(remove_in(alloc, text, key), out, size)
+}
+
+// The text with the entries of another after it.
+fn add_to(alloc: Global, text: &[u8], added: &[u8]) -> Result<String, Status>
+    ensures made { IfOk result (λ edited. IsEditedText (WithEntriesOf added.now) text.now (string_bytes edited)) }
+    ensures fails { IfErr result (AddFails text.now added.now) }
+{
+    let document = RawDocument::parse(alloc, text_of(text)?)?;
+    let more = RawDocument::parse(alloc, text_of(added)?)?;
+    Ok(document.add_entries(alloc, &more)?)
+}
+
+/// The text with that of another after it, in a line of its own. Refused where an entry has the key of one of the other's.
+pub fn add(alloc: Global, text: &[u8], added: &[u8], out: &mut [u8], size: &mut usize) -> Status
+    ensures { IsEnd (IsEditedText (WithEntriesOf added.now) text.now) (AddFails text.now added.now)
+        out.old size.old out.new size.new result }
+{
+    end(add_to(alloc, text, added), out, size)
 }

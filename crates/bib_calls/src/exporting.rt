@@ -1,16 +1,17 @@
 //! Bibliographies in other formats.
 
-ghost use Rattle.std.specs.Prelude.{◌≡◌, ◌⊎◌, ⊤, Some, IfErr, IfOk, OnErr};
+ghost use Rattle.std.specs.Prelude.{◌≡◌, ⊤, Some, IfErr, IfOk};
 ghost use Rattle.std.specs.String.{string_bytes};
-ghost use Rattle.bib_calls.specs.Calls.{IsEnd, IsNoBibliography, IsWrittenAs, TextFails};
+ghost use Rattle.bib_calls.specs.Calls.{IsEnd, IsNoBibliography, IsWrittenAs, TextFails, exported_text};
+ghost use Rattle.bib_calls.specs.declared.status.Status.TheVariants.{OutOfMemory};
 ghost use Rattle.bibkit_convert.specs.declared.target.Target.TheVariants.{Csl, Json};
 
 use crate::buffers::end;
 use crate::reading::text_of;
 use crate::status::Status;
-use bibkit_convert::converting::{ConvertError, print_converted};
+use bibkit_convert::converting::{ConvertError, print_entries};
 use bibkit_convert::target::Target;
-use biblatex::{ParseError, Sink};
+use biblatex::{Bibliography, ParseError, Sink};
 use std::alloc::{AllocError, Global};
 
 // A text that grows as it is written.
@@ -41,11 +42,33 @@ impl Sink for Growing {
 // The error of a text, unless it is that there was no memory: the text that grows refuses nothing else.
 fn unless_out_of_memory(error: ConvertError) -> Result<ParseError, AllocError>
     ensures file { IfOk result (λ file. error ≡ ConvertError.File file) }
-    ensures no_memory { OnErr result ((error ≡ ConvertError.NotTaken) ⊎ (error ≡ ConvertError.OutOfMemory)) }
 {
     match error {
         ConvertError::File(file) => Ok(file),
         ConvertError::NotTaken | ConvertError::OutOfMemory => Err(AllocError),
+    }
+}
+
+// The entries of a bibliography in a format.
+pub(crate) fn entries_as(
+    alloc: Global,
+    target: Target,
+    bibliography: &Bibliography,
+) -> Result<String, Status>
+    ensures text { IfOk result (λ text. string_bytes text ≡ exported_text target bibliography.now) }
+    ensures fails { IfErr result (λ why. why ≡ OutOfMemory) }
+{
+    let mut growing = Growing {
+        text: String::new(alloc),
+        refusals: 0,
+    };
+    match print_entries(alloc, target, true, bibliography, &mut growing) {
+        Ok(is_empty) => {
+            let Growing { mut text, .. } = growing;
+            text.push_str(target.end(is_empty))?;
+            Ok(text)
+        }
+        Err(error) => Err(Status::from(unless_out_of_memory(error)?)),
     }
 }
 
@@ -54,19 +77,8 @@ fn written_as(alloc: Global, target: Target, bytes: &[u8]) -> Result<String, Sta
     ensures text { IfOk result (λ text. IsWrittenAs target bytes.now (string_bytes text)) }
     ensures fails { IfErr result (TextFails (IsNoBibliography bytes.now) bytes.now) }
 {
-    let text = text_of(bytes)?;
-    let mut growing = Growing {
-        text: String::new(alloc),
-        refusals: 0,
-    };
-    match print_converted(alloc, target, true, text, &mut growing) {
-        Ok(is_empty) => {
-            let Growing { mut text, .. } = growing;
-            text.push_str(target.end(is_empty))?;
-            Ok(text)
-        }
-        Err(error) => Err(Status::from(unless_out_of_memory(error)?)),
-    }
+    let bibliography = Bibliography::parse(alloc, text_of(bytes)?)?;
+    entries_as(alloc, target, &bibliography)
 }
 
 /// The entries of a bibliography, with chunks and typed values, as an array of JSON.

@@ -9,4 +9,6 @@ pub mod editing;
 pub mod exporting;
 pub mod linting;
 pub mod reading;
+pub mod recovering;
 pub mod status;
+pub mod version;

@@ -1,6 +1,6 @@
 //! How calls end.
 
-ghost use Rattle.std.specs.Prelude.{◌≡◌, ◌≢◌, OnErr, OnOk};
+ghost use Rattle.std.specs.Prelude.{◌≡◌};
 ghost use Rattle.bib_calls.specs.Calls.{IsEnd};
 ghost use Rattle.bib_calls.specs.Statuses as spec;
 
@@ -18,10 +18,20 @@ pub enum Status {
     TooShort,
     /// The bytes aren't UTF-8.
     NotUtf8,
-    /// The text is refused: what is asked of it can't be done.
+    /// The text has an error, or the number is no format's.
     Refused,
     /// There was no memory.
     OutOfMemory,
+    /// No entry has the key.
+    UnknownKey,
+    /// An entry has the key already.
+    KeyIsThere,
+    /// The text isn't one that can be a key.
+    NotAKey,
+    /// The text isn't one that can be a field's name.
+    NotAName,
+    /// The value can't stand between braces.
+    NotInBraces,
 }
 
 impl Status {
@@ -35,6 +45,11 @@ impl Status {
             Status::NotUtf8 => 2,
             Status::Refused => 3,
             Status::OutOfMemory => 4,
+            Status::UnknownKey => 5,
+            Status::KeyIsThere => 6,
+            Status::NotAKey => 7,
+            Status::NotAName => 8,
+            Status::NotInBraces => 9,
         }
     }
 }
@@ -49,6 +64,11 @@ fn text_of(number: u32) -> &'static str
         2 => "not UTF-8",
         3 => "refused",
         4 => "out of memory",
+        5 => "no entry has the key",
+        6 => "an entry has the key already",
+        7 => "the text can't be a key",
+        8 => "the text can't be the name of a field",
+        9 => "the value can't stand between braces",
         _ => "no status",
     }
 }
@@ -81,24 +101,17 @@ impl From<ParseError> for Status {
     }
 }
 
-// Why an edit is refused, unless it is that there was no memory.
-fn unless_out_of_memory(why: EditError) -> Result<(), AllocError>
-    ensures other { OnOk result (why ≢ EditError.OutOfMemory) }
-    ensures no_memory { OnErr result (why ≡ EditError.OutOfMemory) }
-{
-    match why {
-        EditError::OutOfMemory => Err(AllocError),
-        _ => Ok(()),
-    }
-}
-
 impl From<EditError> for Status {
     ghost from_gives = { λ error status. status ≡ spec.status_of_edit error };
 
     fn from(error: EditError) -> Self {
-        match unless_out_of_memory(error) {
-            Ok(()) => Status::Refused,
-            Err(no_memory) => Status::from(no_memory),
+        match error {
+            EditError::UnknownKey => Status::UnknownKey,
+            EditError::KeyIsThere => Status::KeyIsThere,
+            EditError::NotAKey => Status::NotAKey,
+            EditError::NotAName => Status::NotAName,
+            EditError::NotInBraces => Status::NotInBraces,
+            EditError::OutOfMemory => Status::OutOfMemory,
         }
     }
 }

@@ -70,6 +70,12 @@ pub record IsExported {K : Type 0} (taken : K → Option (List ℕ)) (target : T
   pub printed : Appends (taken old) (taken new) (texts_after target is_first bibliography.entries)
   pub next : is_first' ≡ is_first_after target is_first bibliography.entries
 
+-- why an entry isn't printed
+abbrev pub EntryFails : {K : Type 0} → (K → ℕ) → K → K → ConvertError → Type 0
+EntryFails refusals old new (File e) = ⊥
+EntryFails refusals old new NotTaken = refusals old < 2 ^ 64 - 1 → refusals old < refusals new
+EntryFails refusals old new OutOfMemory = refusals new ≡ refusals old
+
 -- why a text isn't converted: it is no bibliography, and then nothing is printed, or the output refuses an entry
 abbrev pub ConvertFails : {K : Type 0} → (K → ℕ) → List ℕ → K → K → ConvertError → Type 0
 ConvertFails refusals text old new (File e) = IsErrorOf text e × (IsAcceptedText text → ⊥) × (new ≡ old)

@@ -1,11 +1,10 @@
 -- Machinery: words of private contracts.
 -- Why a bibliography isn't converted.
-use Rattle.std.specs.Prelude.{◌≡◌, ◌<◌, ◌-◌, ◌^◌, ℕ}
 use Rattle.bib_syntax.specs.declared.raw.ParseError.{ParseError}
 use Rattle.bib_syntax.specs.declared.raw.ParseErrorKind.{ParseErrorKind}
 use Rattle.bib_syntax.specs.declared.raw.ParseErrorKind.TheVariants as kind
 use Rattle.bibkit_convert.specs.declared.converting.ConvertError.{ConvertError}
-use Rattle.bibkit_convert.specs.declared.converting.ConvertError.TheVariants.{File, NotTaken, OutOfMemory}
+use Rattle.bibkit_convert.specs.declared.converting.ConvertError.TheVariants.{File, OutOfMemory}
 
 -- an error, unless its kind is that there was no memory
 abbrev pub unless_of_memory : ParseErrorKind → ConvertError → ConvertError
@@ -15,9 +14,3 @@ unless_of_memory _ error = error
 -- what an error of a text is
 abbrev pub file_error : ParseError → ConvertError
 file_error e = unless_of_memory e.kind (File e)
-
--- why an entry isn't printed
-abbrev pub EntryFails : {K : Type 0} → (K → ℕ) → K → K → ConvertError → Type 0
-EntryFails refusals old new (File e) = ⊥
-EntryFails refusals old new NotTaken = refusals old < 2 ^ 64 - 1 → refusals old < refusals new
-EntryFails refusals old new OutOfMemory = refusals new ≡ refusals old

@@ -3,8 +3,8 @@
 ghost use Rattle.std.specs.Prelude.{◌≡◌, ◌≢◌, IfErr, IfOk, OnErr};
 ghost use Rattle.std.specs.String.{string_bytes};
 ghost use Rattle.std.specs.Io.KnownBytes.{Appends};
-ghost use Rattle.bibkit_convert.specs.Converted.{ConvertFails, IsExported, texts_after, text_after, is_first_after, is_still_first};
-ghost use Rattle.bibkit_convert.specs.Converting.{EntryFails, file_error};
+ghost use Rattle.bibkit_convert.specs.Converted.{ConvertFails, EntryFails, IsExported, texts_after, text_after, is_first_after, is_still_first};
+ghost use Rattle.bibkit_convert.specs.Converting.{file_error};
 
 use crate::target::Target;
 use biblatex::{Bibliography, Entry, ParseError, Sink};
@@ -93,8 +93,10 @@ fn print_entry<K: Sink>(
     }
 }
 
-// Prints the entries of a bibliography, and answers whether the next one is still the first.
-fn print_entries<K: Sink>(
+/// Prints the entries of a bibliography as they stand, each with what stands before it, and answers whether the next entry would
+/// be the first of what is printed, where `is_first` says whether the first of these is. The output is handed one text for each
+/// entry. What stands after the last is [`Target::end`].
+pub fn print_entries<K: Sink>(
     alloc: Global,
     target: Target,
     is_first: bool,

@@ -1,5 +1,5 @@
 use Rattle.std.proofs.Common.{refl}
-use Rattle.bib_calls.specs.Calls.IsEnd.{done, too_short}
+use Rattle.bib_calls.specs.Calls.IsEnd.{too_short}
 use Rattle.bib_calls.proofs.EndFacts.{written}
 use Rattle.bib_calls.proofs.buffers.write.Goals as goal
 
