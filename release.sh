@@ -1,7 +1,7 @@
 #!/usr/bin/env bash
 # Makes one archive of what is proved and built, and tries it: release.sh [FOLDER]
 # FOLDER, or out/, gets biblatex-VERSION-x86_64-linux.tar.gz, and its sum beside it. It takes what the gate, or
-# `./prove.py bib bibkit bib_c`, has left in crates/*/out, and refuses it where a source has changed since.
+# `./prove.py bib bibkit bib_c`, has left in crates/*/out, and refuses it where a source, a contract's word or a proof has changed since.
 set -eu
 cd "$(dirname "$0")"
 to=${1:-out}
@@ -10,7 +10,7 @@ bib=crates/bib/out/bib
 bibkit=crates/bibkit/out/bibkit
 library=crates/bib_c/out/libbiblatex.a
 for built in "$bib" "$bibkit" "$library"; do
-    if [ ! -f "$built" ] || [ -n "$(find crates/*/src -name '*.rt' -newer "$built" -print -quit)" ]; then
+    if [ ! -f "$built" ] || [ -n "$(find crates/*/src crates/*/specs crates/*/proofs -name '*.[ra]*t' -newer "$built" -print -quit)" ]; then
         echo "release.sh: $built isn't built, or a source has changed since: ./prove.py bib bibkit bib_c proves and builds it" >&2
         exit 1
     fi
