@@ -23,7 +23,7 @@ type_kind_text UnknownLangId = codes "unknown language id"
 type_kind_text YearZeroCE = codes "year 0 CE or BCE does not exist"
 type_kind_text OutOfMemory = codes "out of memory"
 
--- the kind, and the bytes at error
+-- the kind, and the byte range in error
 abbrev pub type_error_text : TypeError → List ℕ
 type_error_text e = type_kind_text e.kind ++ codes ": " ++ decimal e.span.start ++ codes "-" ++ decimal e.span.end
 

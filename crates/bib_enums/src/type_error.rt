@@ -12,7 +12,7 @@ use std::fmt;
 /// Why chunks are not read as a value, and where.
 #[derive(Debug, Clone, PartialEq, Eq, Drop)]
 pub struct TypeError {
-    /// The bytes of the chunks at error. At the kind `OutOfMemory` it is `0..0`.
+    /// The byte range of the chunks that are in error; `0..0` for the kind `OutOfMemory`.
     pub span: Span,
     /// What is wrong.
     pub kind: TypeErrorKind,

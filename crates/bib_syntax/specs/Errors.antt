@@ -36,7 +36,7 @@ kind_text (AbbreviationCycle name) = Some (codes "circular abbreviation ") ++? q
 kind_text (ReferenceCycle key) = Some (codes "circular reference ") ++? quoted key
 kind_text OutOfMemory = Some (codes "out of memory")
 
--- the kind, and the bytes at error
+-- the kind, and the byte range in error
 abbrev pub error_text : ParseError → Option (List ℕ)
 error_text e = kind_text e.kind ++? Some (codes ": " ++ decimal e.span.start ++ codes "-" ++ decimal e.span.end)
 

@@ -150,7 +150,7 @@ impl<'s> Pair<'s> {
 /// Why a text was refused, and where.
 #[derive(Debug, Clone, PartialEq, Eq, Drop)]
 pub struct ParseError {
-    /// The bytes of the text at error. At the kind `OutOfMemory` it is `0..0`.
+    /// The byte range of the text that is in error; `0..0` for the kind `OutOfMemory`.
     pub span: Span,
     /// What is wrong.
     pub kind: ParseErrorKind,

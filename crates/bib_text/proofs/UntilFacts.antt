@@ -86,7 +86,7 @@ until_found ends passes split ascii text at utf8 boundary (Some k) n first is =
       boundary = IsCharBoundary-before_ascii text (at + k) (omega (arith, length-drop at text)) (omega arith);
     }
 
--- a test for one, two or three signs of ASCII passes ASCII alone
+-- a test for one, two or three ASCII characters passes only ASCII characters
 one_ascii : (a : ℕ) → a < 128 → (c : ℕ) → c == a ≡ true → c < 128
 one_ascii a low c is = omega (arith, eqb-true c a is)
 
@@ -143,6 +143,6 @@ or_same false false = refl
 pub first_of_two : (a b : ℕ) (hay : List ℕ) (n : ℕ) → IsFirstByte (is_byte3 a b b) hay (Some n) → IsFirstByte (is_byte2 a b) hay (Some n)
 first_of_two a b = first_same (is_byte3 a b b) (is_byte2 a b) (λ x. or_same (x == a) (x == b))
 
--- a visible sign of ASCII is no white space
+-- a visible ASCII character is no white space
 pub not_white : (c : ℕ) → 33 ≤ c → c < 127 → is_whitespace c ≡ false
 not_white c low high = grind (arith, nat_tests)

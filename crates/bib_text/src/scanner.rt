@@ -242,7 +242,7 @@ impl<'s> Scanner<'s> {
         self.from(start)
     }
 
-    /// Takes characters up to the first that is `end`, a sign of ASCII, and gives the text that they are.
+    /// Takes characters up to the first that is `end`, an ASCII character, and gives the text that they are.
     pub fn eat_until_byte(&mut self, end: u8) -> &'s str
         requires ascii { end < 128 }
         ensures longest { Longest (λ x. not (x == end)) self.old self.new }
@@ -281,7 +281,7 @@ impl<'s> Scanner<'s> {
         self.eat_bytes(count)
     }
 
-    // Whether a visible sign of ASCII stands here.
+    // Whether a visible ASCII character stands here.
     fn is_at_visible(&self) -> bool
         ensures { IsTrue result → Stops is_whitespace self.now }
     {

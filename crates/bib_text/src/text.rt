@@ -3,6 +3,7 @@
 ghost use Rattle.std.specs.Prelude.{◌≡◌, ◌==◌, refl, Some, ◌↔◌, List, [], ◌++◌, length, is_ok, if◌then◌else◌, IfOk, IsTrue, nat_eq, encode_utf8, string_bytes};
 ghost use Rattle.std.specs.Cmp;
 ghost use Rattle.std.specs.Cmp.Lexicographic.{pointwise, nat_list_cmp_total, nat_list_eq_equiv, slice_cmp, texts_po, texts_ties};
+ghost use Rattle.std.specs.Fmt.{styled_text};
 ghost use Rattle.std.proofs.Common.{rules};
 ghost use Rattle.std.specs.Cmp.Rules.{hashing};
 ghost use Rattle.std.specs.Hash as fed;
@@ -125,6 +126,8 @@ impl AsStr for Text {
 /// Writes the text, padded as the format asks for.
 impl fmt::Display for Text {
     ghost output = { λ t. Some t };
+
+    ghost styled_output = { λ t spec. Some (styled_text spec t) };
 
     fn fmt<W: fmt::Write>(&self, f: &mut fmt::Formatter<W>) -> fmt::Result {
         f.pad(self.as_str())
