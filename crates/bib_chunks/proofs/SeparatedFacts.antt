@@ -40,7 +40,7 @@ module _ (width : ℕ) (between : List ℕ → List (List ℕ)) (chunk : List �
   whole_formats t following whole none =
       ap (λ xs. formatted_chunk (λ cs. cs) false (chunk t) ++ xs) (none (space_after false (chunk t))) ∙ append-nil (formatted_chunk (λ cs. cs) false (chunk t)) ∙ whole.says
 
-  -- an empty chunk in start changes nothing
+  -- an empty chunk at the start changes nothing
   blank_prefix : (span : Range ℕ) (xs : Value) → formatted (blank span ++ xs) ≡ formatted xs
   blank_prefix span xs = ap (λ cs. flowing false cs ++ formatted_after (ends_in_space false (flowing false cs)) xs) chars-nil
 

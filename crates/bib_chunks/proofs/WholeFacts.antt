@@ -62,7 +62,7 @@ rejoined separator [] = []
 rejoined separator (text ∷ []) = text
 rejoined separator (text ∷ after ∷ more) = text ++ (separator ++ rejoined separator (after ∷ more))
 
--- one chunk in start
+-- one chunk at the start
 one_styled : (c : Spanned Chunk) (text : List Atom) → styled (c ∷ []) ++ text ≡ atoms_of c.v ++ text
 one_styled c text = ap (λ l. l ++ text) (append-nil (atoms_of c.v))
 

@@ -13,6 +13,6 @@ with_text (Normal text) new = Normal new
 with_text (Verbatim text) new = Verbatim new
 with_text (Math text) new = Math new
 
--- the chunk keeps its kind, and ends with the text that is left after the reference
+-- when the borrow ends, the chunk has its old kind and the last text of the reference
 abbrev pub LendsText : MutBor Chunk → MutBor (List ℕ) → Fml
 LendsText chunk text = Lends chunk_row text_row chunk text (with_text chunk.now)

@@ -6,6 +6,6 @@ use Rattle.std.specs.FinMap.{insert}
 use Rattle.bib_maps.specs.Sorted.{ByText}
 use Rattle.bib_maps.specs.contracts.text_map.TextMap.{the_row}
 
--- the map ends with what is left after the reference as the value of the name; without that name, it stays as it is
+-- when the borrow ends, the map has the last value of the reference at the name; if it lacks the name, it is unchanged
 abbrev pub LendsValue : (V : RattleType) → MutBor (ByText V.Denot) → List ℕ → Option (MutBor V.Denot) → Fml
 LendsValue V map name value = LendsIf (the_row V) V map value (insert map.now name) map.now
