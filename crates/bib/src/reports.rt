@@ -46,12 +46,12 @@ fn push_error(
     text: &mut String,
     key: &str,
     name: &str,
-    error_answer: &TypeError,
+    error: &TypeError,
 ) -> Result<(), AllocError>
     ensures { OnOk result (string_bytes text.new ≡ string_bytes text.old ++
-        malformed_line key.now (name.now, error_answer.now)) }
+        malformed_line key.now (name.now, error.now)) }
 {
-    let listed = format!(in alloc; "{name}: {}", error_answer.kind)?;
+    let listed = format!(in alloc; "{name}: {}", error.kind)?;
     push_line(text, key, "malformed", &listed)
 }
 
@@ -65,8 +65,8 @@ fn push_errors(
     ensures { OnOk result (string_bytes text.new ≡ string_bytes text.old ++
         flat_map (malformed_line key.now) errors.now) }
 {
-    'errors: for (name, error_answer) in errors {
-        push_error(alloc, text, key, name.as_str(), error_answer)?;
+    'errors: for (name, error) in errors {
+        push_error(alloc, text, key, name.as_str(), error)?;
     }
     Ok(())
 }

@@ -57,7 +57,11 @@ impl Chunk {
         }
     }
 
-    /// The text of the chunk as it is written in a field, verbatim or not, without braces and dollar signs round it.
+    /// Writes the text of the chunk with escapes, without braces and dollar signs around it. A command that the reader does
+    /// not know is plain text: `\emph{x}` is written `\\emph\{x\}`, and outside verbatim fields `~` is written
+    /// `\textasciitilde{}`. The edits and `convert` of `bibkit` keep a file's own text.
+    ///
+    /// `is_verbatim` says whether the field is a verbatim one. The only error is out of memory.
     pub fn to_biblatex_string(&self, alloc: Global, is_verbatim: bool) -> Result<String, AllocError>
         ensures { IfOk result (λ text. string_bytes text ≡
             encode_utf8_all (written_chunk self.now is_verbatim)) }

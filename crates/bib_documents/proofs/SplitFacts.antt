@@ -78,7 +78,7 @@ block_of {u} {v} {e} b = record {
       (entry_found e.kind e.key e.start e.end (sym b.starts) b.ends b.key_is b.key b.white b.comma b.gap b.fields b.closes);
 }
 
--- a block says one entry or no_entry
+-- a block says one entry or none
 pub one_entry : {start u v : Place} {kind : Part} {k : BlockKind} {says : FileReading} → Body longest start kind k u says v → (says.entries ≡ []) ⊎ ((e : EntryReading) × (says ≡ entry_alone e))
 one_entry (body.comment brace chars closes) = inl refl
 one_entry (body.preamble quoted white closes is_brace) = inl refl

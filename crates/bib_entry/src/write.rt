@@ -253,8 +253,12 @@ pub fn write_entry(
 }
 
 impl Entry {
-    /// The entry as it is written in a file with BibLaTeX's types and fields: `journal`, `address` and `school` become
-    /// `journaltitle`, `location` and `institution`. The fields stand in the order of their own names' bytes.
+    /// Writes the entry with escapes, in BibLaTeX's types and fields. A command that the reader does not know is plain text:
+    /// `\emph{x}` is written `\\emph\{x\}`, and outside verbatim fields `~` is written `\textasciitilde{}`. The edits and
+    /// `convert` of `bibkit` keep a file's own text.
+    ///
+    /// `journal`, `address` and `school` become `journaltitle`, `location` and `institution`. The fields are in the order of
+    /// their own names' bytes. The only error is out of memory.
     pub fn to_biblatex_string(&self, alloc: Global) -> Result<String, AllocError>
         ensures { IfOk result (λ text. string_bytes text ≡ biblatex_entry self.now) }
     {
@@ -263,10 +267,14 @@ impl Entry {
         Ok(out)
     }
 
-    /// The entry as it is written in a file with BibTeX's types and fields: `journaltitle` and `location` become `journal`
-    /// and `address`, the `institution` of a thesis its `school`, and a `date` that is read as a date its `year`, `month`
-    /// and `day`, of a range with two sides also `endyear`, `endmonth` and `endday`. A date that isn't read stays as it is.
-    /// The fields stand in the order of their own names' bytes.
+    /// Writes the entry with escapes, in BibTeX's types and fields. A command that the reader does not know is plain text:
+    /// `\emph{x}` is written `\\emph\{x\}`, and outside verbatim fields `~` is written `\textasciitilde{}`. The edits and
+    /// `convert` of `bibkit` keep a file's own text.
+    ///
+    /// `journaltitle` and `location` become `journal` and `address`, and the `institution` of a thesis becomes `school`. A
+    /// `date` that can be parsed becomes `year`, `month` and `day`, and a range with two sides also `endyear`, `endmonth` and
+    /// `endday`; any other `date` is written as it is. The fields are in the order of their own names' bytes. The only error
+    /// is out of memory.
     pub fn to_bibtex_string(&self, alloc: Global) -> Result<String, AllocError>
         ensures { IfOk result (λ text. string_bytes text ≡ bibtex_entry self.now) }
     {

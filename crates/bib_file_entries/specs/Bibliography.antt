@@ -53,7 +53,7 @@ appended bibliography entry = record {
 abbrev pub exchanged : Bibliography → ℕ → Entry → Bibliography
 exchanged bibliography index entry = record bibliography { entries = slice_set bibliography.entries index entry }
 
--- an entry added: in the index that its key points to, or else after the others
+-- an entry added at the index that its key points to, or after the others
 abbrev pub inserted_at : Bibliography → Entry → Option ℕ → Bibliography
 inserted_at bibliography entry (Some index) = exchanged bibliography index entry
 inserted_at bibliography entry None = appended bibliography entry

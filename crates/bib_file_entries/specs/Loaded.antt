@@ -31,7 +31,7 @@ abbrev pub field_in : List FieldReading → List ℕ → Option FieldReading
 field_in fields name = find (λ f. bytes_eq name (name_of f)) (reverse fields)
 
 -- chunks are the contents of a field: their styled text is what its elements say, no two neighbours are both normal or
--- both verbatim, and where the field is one text, in an index as long as the text, they stand in that index, in order
+-- both verbatim; if the field is one literal whose span is as long as its text, the chunks lie in that span, in order
 pub record AreContents (definitions : Definitions) (is_verbatim : Bool) (pieces : List Piece) (chunks : List (Spanned Chunk)) : Type 0 where
   pub says : Evaluates definitions is_verbatim pieces (styled chunks)
   pub joined : AreJoined chunks

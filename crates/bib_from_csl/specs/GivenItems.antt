@@ -96,12 +96,12 @@ before_fields None rest = None
 before_fields (Some field) None = None
 before_fields (Some field) (Some fields) = Some (field ∷ fields)
 
--- object_members but for the head, unless one hasn't the form that it should have
+-- the members except the head; none if one of them has a wrong form
 abbrev pub members_read : List (List ℕ × Json) → Option (List Given)
 members_read [] = Some []
 members_read (m ∷ ms) = if is_head m.0 then members_read ms else before_fields (member_of m.0 m.1) (members_read ms)
 
--- the item with this head and these object_members
+-- the item with this head and these members
 abbrev pub item_with : List ℕ → List ℕ → Option (List Given) → ItemReading
 item_with id kind None = Unfit fault.WrongForm
 item_with id kind (Some fields) = Says (record { id = id; kind = kind; fields = fields })
@@ -109,7 +109,7 @@ item_with id kind (Some fields) = Says (record { id = id; kind = kind; fields = 
 abbrev pub item_of_members : List ℕ → List ℕ → List (List ℕ × Json) → ItemReading
 item_of_members id kind ms = item_with id kind (members_read ms)
 
--- the item of an object, member_with what its object_members `id` and `type` hold
+-- the item of an object, given the values of its members `id` and `type`
 abbrev pub item_of_parts : Option (List (List ℕ × Json)) → Option (List ℕ) → Option (List ℕ) → ItemReading
 item_of_parts None id kind = Unfit fault.NotAnObject
 item_of_parts (Some ms) None kind = Unfit fault.NoId
@@ -126,7 +126,7 @@ before_items index (Unfit fault) rest = Refused index fault
 before_items index (Says item) (Are items) = Are (item ∷ items)
 before_items index (Says item) (Refused other fault) = Refused other fault
 
--- what array_elements are as items, the first of which has this index
+-- the items that these elements are; the first element has this index
 abbrev pub items_read_from : ℕ → List Json → ItemsReading
 items_read_from index [] = Are []
 items_read_from index (j ∷ js) = before_items index (item_in j) (items_read_from (index + 1) js)

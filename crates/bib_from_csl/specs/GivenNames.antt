@@ -36,7 +36,7 @@ given_name person = literal_or_parts (string_under (codes "literal") person) per
 abbrev pub count : List ℕ → Json → ℕ
 count name person = one_if (is_some (string_under name person))
 
--- how many object_members of an object are parts of the name that it gives
+-- how many members of an object are parts of the name that it gives
 unfoldable pub said_parts : Json → ℕ
 said_parts person =
     if is_some (string_under (codes "literal") person) then 1

@@ -18,7 +18,7 @@ use Rattle.bib_from_csl.specs.declared.writing.Work.{Work}
 use Rattle.bib_from_csl.specs.FromItems.{is_empty_content, work_for_item}
 use Rattle.bib_from_csl.specs.Variables.{variable_field}
 
--- what the variable of a name holds_content
+-- the content of the variable of a name
 abbrev pub content_of : List ℕ → List Field → Option Content
 content_of name [] = None
 content_of name (field ∷ fields) = if bytes_eq (variable_name field.variable) name then Some field.content else content_of name fields
@@ -32,7 +32,7 @@ abbrev pub is_this : Option Content → Content → Bool
 is_this None given = false
 is_this (Some found) given = content.ghosts.eq found given
 
--- whether the variable of a name holds_content this
+-- whether the variable of a name holds this content
 abbrev pub holds_content : List Field → List ℕ → Content → Bool
 holds_content fields name given = is_this (content_of name fields) given
 

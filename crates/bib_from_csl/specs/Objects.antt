@@ -11,20 +11,20 @@ abbrev pub listed_items : Items → List Json
 listed_items no_items = []
 listed_items (item j js) = j ∷ listed_items js
 
--- object_members one after another, each with its name
+-- the members in order, each with its name
 abbrev pub listed_members : Members → List (List ℕ × Json)
 listed_members no_members = []
 listed_members (member name j ms) = (name, j) ∷ listed_members ms
 
--- the array_elements of an array
+-- the elements of an array
 abbrev pub array_elements : Json → Option (List Json)
 array_elements j = option_map listed_items (as_array j)
 
--- the object_members of an object
+-- the members of an object
 abbrev pub object_members : Json → Option (List (List ℕ × Json))
 object_members j = option_map listed_members (as_object j)
 
--- how many object_members an object has
+-- how many members an object has
 abbrev pub object_size : Json → ℕ
 object_size j = option_map_or length (object_members j) 0
 

@@ -25,7 +25,7 @@ use bib_text::items::Items;
 use bib_text::text::Text;
 use std::alloc::{AllocError, Global};
 
-// The styled text as one verbatim chunk in its index, which is read as its plain text.
+// Returns the styled text as one verbatim chunk with the span of all chunks. It is read as its plain text.
 fn as_text(alloc: Global, chunks: &Chunks) -> Result<Chunks, AllocError>
     ensures read { IfOk result (λ one. text one ≡ plain (styled chunks.now)) }
     ensures one { IfOk result (λ one. one ≡ as_text chunks.now) }
@@ -55,7 +55,8 @@ fn field_as_text(
     }
 }
 
-fn gathered_text(chunks: &Option<Chunks>) -> Option<ChunksRef<'_>>
+// Borrows the chunks of a field, if there are any.
+fn lent_chunks(chunks: &Option<Chunks>) -> Option<ChunksRef<'_>>
     ensures { option_copied result ≡ chunks.now }
 {
     match chunks {
@@ -77,8 +78,8 @@ fn three_fields(alloc: Global, year: &Chunks, fields: &TextMap<Chunks>) -> Resul
     Date::parse_three_fields(
         alloc,
         year.as_slice(),
-        gathered_text(&month),
-        gathered_text(&day),
+        lent_chunks(&month),
+        lent_chunks(&day),
     )
 }
 

@@ -42,7 +42,11 @@ pub trait ChunksExt {
     fn span(&self) -> Span
         ensures { result ≡ whole_span (contents self.now) };
 
-    /// The value as it is written in a file, in its braces, for a verbatim field or another.
+    /// Writes the value with escapes, in its braces. A command that the reader does not know is plain text: `\emph{x}` is
+    /// written `\\emph\{x\}`, and outside verbatim fields `~` is written `\textasciitilde{}`. The edits and `convert` of
+    /// `bibkit` keep a file's own text.
+    ///
+    /// `is_verbatim` says whether the field is a verbatim one. The only error is out of memory.
     fn to_biblatex_string(&self, alloc: Global, is_verbatim: bool) -> Result<String, AllocError>
         ensures { IfOk result (λ text. string_bytes text ≡
             encode_utf8_all (written_value (contents self.now) is_verbatim)) };

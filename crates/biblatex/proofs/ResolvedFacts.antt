@@ -85,7 +85,7 @@ graphs_by names others one two same sources =
     by_sources names one ∙ ap (λ n. map (λ (s : Source). references n s.fields) (sources_of one)) same
     ∙ ap (map (λ (s : Source). references others s.fields)) sources ∙ sym (by_sources others two)
 
--- the entries that a file says are one list, but for the borders of chunks and their indices
+-- two lists of a file's entries agree, except for the borders of chunks and their spans
 module _ (says : FileReading) {one two : List Entry} (first : AreOwn says one) (second : AreOwn says two) where
   pub sources_same : sources_of one ≡ sources_of two
   sources_same = sources_go [] first second

@@ -14,8 +14,8 @@ abbrev pub with_entry : Bibliography → Option ℕ → Entry → Bibliography
 with_entry bibliography (Some index) entry = exchanged bibliography index entry
 with_entry bibliography None entry = bibliography
 
--- the bibliography ends with what is left after the reference in the index that the name points to, and with all names as
--- they were; if it points nowhere, the bibliography stays as it is
+-- when the borrow ends, the bibliography has the last value of the reference at the index that the name points to, and its
+-- old names; if the name points nowhere, the bibliography is unchanged
 abbrev pub LendsEntry : MutBor Bibliography → List ℕ → Option (MutBor Entry) → Fml
 LendsEntry bibliography name entry = LendsIf bibliography_row entry_row bibliography entry (with_entry bibliography.now (index_of bibliography.now name)) bibliography.now
 
@@ -23,6 +23,6 @@ LendsEntry bibliography name entry = LendsIf bibliography_row entry_row bibliogr
 abbrev pub with_entries : Bibliography → List Entry → Bibliography
 with_entries bibliography entries = record bibliography { entries = take (length bibliography.entries) (entries ++ drop (length entries) bibliography.entries) }
 
--- the entries end as they are left after the iterator's references, in order, with all names as they were
+-- when the borrow ends, the entries are as the iterator's references left them, in order, with their old names
 abbrev pub LendsEntries : MutBor Bibliography → IterMut Entry → Fml
 LendsEntries bibliography entries = follows bibliography_row (Array entry_row 0) bibliography.ghost_name (iter_mut_name entries) (with_entries bibliography.now)

@@ -68,7 +68,7 @@ pub record IsOfDate (e : ParseError) : Type 0 where
   pub is : e.kind ≡ ResolutionError kind
   pub of_dates : IsDateKind kind
 
--- two errors of a file are one: the same kind at the same index; of a text that is not read, and of a date that is not,
--- the index and what is said of the kind stay open
+-- two errors of a file agree: they have the same kind and span; for a literal or a date that cannot be parsed, the span and
+-- the choice among its kinds are left open
 abbrev pub AreOneErrorOf : ParseError → ParseError → Type 0
 AreOneErrorOf e f = AreOneError e f ⊎ (IsOfDate e × IsOfDate f)

@@ -122,7 +122,7 @@ impl Bibliography {
         Self::from_raw(alloc, raw)
     }
 
-    /// The bibliography of a file that was read already. What the file says of texts and indices is believed.
+    /// Builds the bibliography of a raw bibliography. Its texts and spans are trusted: a span needn't lie in any text.
     ///
     /// An entry's own fields that stay keep their chunks, one for one; of a field that it inherits the styled text is promised, and
     /// not how chunks cut it, nor where they stand.

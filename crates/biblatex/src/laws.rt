@@ -30,8 +30,8 @@ pub fn inherits_in_one_way()
         HasOneSolution no_entry (rule_by own) graph }
 {}
 
-/// What is loaded can be a bibliography, and two bibliographies that one file is loaded as have the same names and, but
-/// for the borders of chunks and their indices, the same entries.
+/// A file that is loaded is an accepted one. Two bibliographies that one file is loaded as have the same names and, except
+/// for the borders of chunks and their spans, the same entries.
 pub fn one_bibliography()
     ensures accepted { (says : FileReading) (bibliography : Bibliography) → IsLoaded says bibliography → IsAccepted says }
     ensures keys { (says : FileReading) (one other : Bibliography) → IsLoaded says one → IsLoaded says other →
@@ -54,9 +54,9 @@ pub fn fresh_keys()
     ensures { (says : FileReading) (own : List Entry) → AreOwn says own → HasFreshKeys own }
 {}
 
-/// What can be a bibliography has no error, and else there is at most one first error: its kind, and for names and keys
-/// its index. Of a text that can't be read the kind, one of two, and the index stay open, and of a date that can't be
-/// read its index and the kind of its error.
+/// An accepted file has no error, and any other file at most one first error: one kind and, for names and keys, one span.
+/// For a literal that cannot be parsed, the span and the choice between two kinds are left open; for a date that cannot be
+/// parsed, the span and the kind of its error.
 pub fn one_error()
     ensures none { (says : FileReading) (e : ParseError) → IsAccepted says → IsFirstErrorOf says e → ⊥ }
     ensures one { (says : FileReading) (first second : ParseError) → IsFirstErrorOf says first →
@@ -74,8 +74,8 @@ pub fn recovered_is_loaded()
         IsRecoveredBibliography text bibliography origins skipped errors → (skipped ≡ []) × (errors ≡ []) }
 {}
 
-/// Of each text one bibliography is recovered: of two the keys and the names are the same and, but for the borders of chunks
-/// and their places, the fields. So are the stretches that are passed over and, as far as `one_error` says, each error.
+/// Each text has at most one recovery: two of them have the same keys, names and origins and, except for the borders of chunks
+/// and their spans, the same fields. They skip the same blocks and, as far as `one_error` says, report the same errors.
 pub fn one_recovered_bibliography()
     ensures { (text : List ℕ) (one other : Bibliography) (origins indices : List ℕ)
         (skipped passed : List SkippedBlock) (errors others : List ParseError) →

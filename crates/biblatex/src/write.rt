@@ -20,7 +20,7 @@ use thiserror::Error;
 #[derive(Debug, Clone, Copy, PartialEq, Eq, Error)]
 pub enum WriteError {
     /// The sink refused a text.
-    #[error("the sink refused a text")]
+    #[error("write refused")]
     Refused,
     /// There was no memory.
     #[error("out of memory")]
@@ -118,11 +118,13 @@ fn hand<K: Sink>(
 }
 
 impl Bibliography {
-    /// The bibliography as it is written in a file with BibLaTeX's types and fields, as
-    /// [`Entry::to_biblatex_string`] writes each entry, with an empty line between two.
+    /// Writes the bibliography with escapes, in BibLaTeX's types and fields. A command that the reader does not know is plain
+    /// text: `\emph{x}` is written `\\emph\{x\}`, and outside verbatim fields `~` is written `\textasciitilde{}`. The edits
+    /// and `convert` of `bibkit` keep a file's own text.
     ///
-    /// If the bibliography is settled, this text is read again as its entries in order, in BibLaTeX's types and fields,
-    /// with equal styled texts.
+    /// Each entry is written by [`Entry::to_biblatex_string`], with an empty line between two entries. The output for a
+    /// settled bibliography parses to its entries in order, in BibLaTeX's types and fields, with equal styled texts. The only
+    /// error is out of memory.
     pub fn to_biblatex_string(&self, alloc: Global) -> Result<String, AllocError>
         ensures text { IfOk result (λ text. string_bytes text ≡
             entries_text biblatex_entry self.now.entries) }
@@ -132,8 +134,12 @@ impl Bibliography {
         text_of(alloc, self.as_slice(), Format::Biblatex)
     }
 
-    /// The bibliography as it is written in a file with BibTeX's types and fields, as [`Entry::to_bibtex_string`] writes
-    /// each entry, with an empty line between two.
+    /// Writes the bibliography with escapes, in BibTeX's types and fields. A command that the reader does not know is plain
+    /// text: `\emph{x}` is written `\\emph\{x\}`, and outside verbatim fields `~` is written `\textasciitilde{}`. The edits
+    /// and `convert` of `bibkit` keep a file's own text.
+    ///
+    /// Each entry is written by [`Entry::to_bibtex_string`], with an empty line between two entries. The only error is out of
+    /// memory.
     pub fn to_bibtex_string(&self, alloc: Global) -> Result<String, AllocError>
         ensures { IfOk result (λ text. string_bytes text ≡
             entries_text bibtex_entry self.now.entries) }
@@ -141,9 +147,11 @@ impl Bibliography {
         text_of(alloc, self.as_slice(), Format::Bibtex)
     }
 
-    /// Writes what [`Self::to_biblatex_string`] gives to a sink, which is handed one text for each entry, whole and once.
-    /// Memory is taken for one entry's text at a time. `Refused` says that the sink refused a text; what it took before
-    /// stays, and nothing is handed to it after that.
+    /// Writes the text of [`Self::to_biblatex_string`] to a sink, with its escapes: a command that the reader does not know is
+    /// written as plain text. The edits and `convert` of `bibkit` keep a file's own text.
+    ///
+    /// The sink is handed one text for each entry, whole and once. Memory is allocated for one entry's text at a time.
+    /// `Refused` means that the sink refused a text: it keeps the texts that it took before, and is handed no other.
     pub fn write_biblatex<K: Sink>(&self, alloc: Global, sink: &mut K) -> Result<(), WriteError>
         ensures written { OnOk result (Appends (K.taken sink.old) (K.taken sink.new)
             (entries_text biblatex_entry self.now.entries)) }
@@ -157,7 +165,10 @@ impl Bibliography {
         hand(alloc, sink, self.as_slice(), Format::Biblatex)
     }
 
-    /// Writes what [`Self::to_bibtex_string`] gives to a sink, as [`Self::write_biblatex`] does.
+    /// Writes the text of [`Self::to_bibtex_string`] to a sink, with its escapes: a command that the reader does not know is
+    /// written as plain text. The edits and `convert` of `bibkit` keep a file's own text.
+    ///
+    /// The sink is used as by [`Self::write_biblatex`].
     pub fn write_bibtex<K: Sink>(&self, alloc: Global, sink: &mut K) -> Result<(), WriteError>
         ensures written { OnOk result (Appends (K.taken sink.old) (K.taken sink.new)
             (entries_text bibtex_entry self.now.entries)) }

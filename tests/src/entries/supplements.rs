@@ -10,7 +10,7 @@ use std::alloc::Global;
 fn set_further(entry: &mut Entry, name: &str, chunks: Chunks) -> Result<Option<Chunks>, SetError> {
     match name {
         "label" => entry.set_label(chunks),
-        "library" => entry.set_bibliography(chunks),
+        "library" => entry.set_library(chunks),
         "name_addon" => entry.set_name_addon(chunks),
         "options" => entry.set_options(chunks),
         "page_total" => entry.set_page_total(chunks),
@@ -32,7 +32,7 @@ fn get_further<'e>(
 ) -> Option<Result<ChunksRef<'e>, RetrievalError>> {
     match name {
         "label" => Some(entry.label(alloc)),
-        "library" => Some(entry.bibliography(alloc)),
+        "library" => Some(entry.library(alloc)),
         "name_addon" => Some(entry.name_addon(alloc)),
         "options" => Some(entry.options(alloc)),
         "page_total" => Some(entry.page_total(alloc)),

@@ -323,17 +323,17 @@ impl Entry {
         self.set_as("language", value)
     }
 
-    /// The field `bibliography`: the library where the work is found (BibLaTeX manual, 2.2.2).
+    /// The field `library`: the library where the work is found (BibLaTeX manual, 2.2.2).
     /// Where it isn't there, the error is `Missing` with the name `library`.
-    pub fn bibliography(&self, alloc: Global) -> Result<ChunksRef<'_>, RetrievalError>
+    pub fn library(&self, alloc: Global) -> Result<ChunksRef<'_>, RetrievalError>
         ensures { GetsChunks self.now (codes "library") result }
     {
         self.chunks_of_field(alloc, "library")
     }
 
-    /// Sets the field `bibliography`: the library where the work is found.
+    /// Sets the field `library`: the library where the work is found.
     /// Answers what it held. A refusal changes nothing, and gives the chunks back.
-    pub fn set_bibliography(&mut self, chunks: Chunks) -> Result<Option<Chunks>, SetError>
+    pub fn set_library(&mut self, chunks: Chunks) -> Result<Option<Chunks>, SetError>
         ensures { SetsChunks chunks (codes "library") self.old self.new result }
     {
         self.set("library", chunks)
