@@ -6,7 +6,8 @@ mod run;
 mod start;
 mod streams;
 
-use crate::streams::{Input, Output};
+use crate::streams::Input;
+use biblatex::Output;
 use std::process::ExitCode;
 use std::{env, io};
 

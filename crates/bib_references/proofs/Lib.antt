@@ -2,6 +2,7 @@ pub mod CutFacts
 pub mod DateErrors
 pub mod DateFacts
 pub mod DatesRead
+pub mod ExistenceFacts
 pub mod MarkFacts
 pub mod RangeFacts
 pub mod RecoveredFacts

@@ -2,7 +2,6 @@
 
 use crate::edits::{after_mark, print};
 use crate::stops::{Stop, bytes_of, error_line, say};
-use crate::streams::Output;
 use bib_conversion::notes::{NoteKind, notes};
 use bib_documents::document::RawDocument;
 use bib_encoding::decoding::decode;
@@ -12,7 +11,7 @@ use bib_syntax::raw::Pair;
 use bibkit_convert::converting::{ConvertError, print_converted};
 use bibkit_convert::target::Target;
 use bibkit_edits::edit::Edit;
-use biblatex::{ParseError, Sink};
+use biblatex::{Output, ParseError, Sink};
 use std::alloc::{AllocError, Global};
 use std::io;
 use std::str::from_utf8;

@@ -2,7 +2,6 @@
 
 use crate::replacing::replace;
 use crate::stops::{Stop, bytes_of, error_line, say, syntax_line};
-use crate::streams::Output;
 use bib_documents::errors::EditError;
 use bib_encoding::decoding::decode;
 use bib_resolution::errors::ResolveError;
@@ -11,6 +10,7 @@ use bibkit_edits::edit::{Edit, Refusal};
 use bibkit_edits::editing::edited_file;
 use bibkit_edits::printing::{Unprinted, print_difference, print_edited};
 use bibkit_files::replacing::ReplaceError;
+use biblatex::Output;
 use std::alloc::{AllocError, Global};
 use std::io;
 use std::io::ErrorKind;

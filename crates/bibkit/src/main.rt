@@ -13,7 +13,6 @@ mod replacing;
 mod resolving;
 mod start;
 mod stops;
-mod streams;
 
 use crate::start::start;
 use std::process::ExitCode;

@@ -4,7 +4,9 @@ pub mod ErrorFacts
 pub mod HandingFacts
 pub mod InsideFacts
 pub mod KeptFacts
+pub mod KindFacts
 pub mod IndexLaws
+pub mod OriginFacts
 pub mod RecoveredLaws
 pub mod RecoveryFacts
 pub mod RefusalFacts

@@ -231,6 +231,16 @@ once_of says {kept} {left} {own} {others} one other {skipped} {passed} {of_entri
       names = names ∙ names_same file first second ∙ sym names';
     }
 
+-- the same is read of a text, and the same entries are kept of it
+pub kept_once : {text : List ℕ} (one other : Bibliography) {origins indices : List ℕ} {skipped passed : List SkippedBlock} {errors faults : List ParseError}
+    → (r : IsRecoveredBibliography text one origins skipped errors) (s : IsRecoveredBibliography text other indices passed faults)
+    → (r.says.entries ≡ s.says.entries) × (r.kept ≡ s.kept)
+kept_once one other r s =
+    let same = raw.recovery_same r.recovery s.recovery in
+    let moved : EntriesKept (definition_in r.says.abbreviations) [] r.says.entries s.kept s.own s.of_entries =
+    subst (λ t. EntriesKept (definition_in t.abbreviations) [] t.entries s.kept s.own s.of_entries) (sym same.0) s.entries in
+    (ap (λ (t : FileReading). t.entries) same.0, (entries_once r.entries moved).0)
+
 pub recovered_once : {text : List ℕ} (one other : Bibliography) {origins indices : List ℕ} {skipped passed : List SkippedBlock} {errors faults : List ParseError} → IsRecoveredBibliography text one origins skipped errors → IsRecoveredBibliography text other indices passed faults
     → IsSameRecovery one other skipped passed errors faults
 recovered_once {text} one other {origins} {indices} {skipped} {passed} {errors} {faults} r s =

@@ -4,7 +4,7 @@ use Rattle.std.specs.Prelude.{◌&&◌, ◌||◌, find}
 use Rattle.std.specs.List.{list_any}
 use Rattle.std.specs.FinMap as by_name
 use Rattle.std.proofs.lemmas.Bool.{false≢true}
-use Rattle.std.proofs.lemmas.List.{append-nil, append_assoc}
+use Rattle.std.proofs.lemmas.List.{append-nil, append_assoc, length-map}
 use Rattle.bib_chunks.specs.Styled.{styled}
 use Rattle.bib_chunks.specs.declared.chunk.Chunk.{Chunk}
 use Rattle.bib_abbreviations.specs.Abbreviations.{Definitions}
@@ -25,6 +25,7 @@ use Rattle.bib_file_entries.specs.Bibliography.{Bibliography, appended, claims, 
 use Rattle.bib_file_entries.specs.Loaded.{AreEntries, IsEntry, FieldSays, field_in, loaded_after}
 use Rattle.bib_references.specs.Resolving.{AreDatesRead, Inherits, at_index, graph_by, is_bad_date, rule_by, source_of_entry, sources_of}
 use Rattle.biblatex.specs.Resolved.{AreOwn, IsAccepted, IsFirstErrorOf, IsLoaded, graph_of, names_of}
+use Rattle.bib_references.proofs.ExistenceFacts.{heirs}
 use Rattle.bib_references.proofs.RangeFacts.{graph_in_range}
 use Rattle.bib_file_entries.proofs.BibliographyFacts.{below_claimed, below_empty, below_more}
 use Rattle.bib_file_entries.proofs.LoadedFacts.{claims_same, no_entries}
@@ -141,6 +142,17 @@ fields_once {says} one other first second =
     (subst (λ s. Inherits s (graph_of second.accepted.own) (sources_of other.entries)) (sources_same says second.accepted.entries first.accepted.entries) second.inherits)
     in
     solutions_same first.accepted.own (sources_of one.entries) (sources_of other.entries) first.accepted.no_cycle first.inherits moved
+
+-- ---- a file that is accepted has a bibliography
+
+pub bibliography_of : {says : FileReading} → IsAccepted says → (bibliography : Bibliography) × IsLoaded says bibliography
+bibliography_of accepted =
+    let own = accepted.own in
+    let found = heirs own (graph_of own) (length-map own _) (graph_in_range (names_of own) own (names_below own)) accepted.no_cycle in
+    (
+      record { entries = found.0; names = names_of own },
+      record { accepted = accepted; keys = found.1.keys; inherits = found.1.inherits; chunks = found.1.chunks; names = refl },
+    )
 
 -- ---- what can be a bibliography has no error
 

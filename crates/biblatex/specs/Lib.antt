@@ -4,6 +4,7 @@ pub mod HandedOver
 pub mod Headline
 pub mod Keys
 pub mod Lending
+pub mod PartlyWritten
 pub mod Places
 pub mod Resolved
 pub mod SameBibliography

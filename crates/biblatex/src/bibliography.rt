@@ -209,6 +209,7 @@ impl Bibliography {
     pub fn get_mut(&mut self, key: &str) -> Option<&mut Entry>
         ensures* writes_back { sem 𝓛 (LendsEntry self.entry key.now result) }
         ensures value { option_copied_mut result ≡ entry_of self.old key.now }
+        ensures named { IsSome (index_of self.old key.now) → IsSome result }
     {
         let index = self.names.get(key)?;
         self.entries.get_mut(index)

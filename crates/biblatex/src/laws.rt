@@ -7,10 +7,11 @@ ghost use Rattle.bib_graph.specs.Graph.{Graph, HasNoCycle, HasOneSolution, IsInR
 ghost use Rattle.bib_inheritance.specs.Sources.{Source, no_entry};
 ghost use Rattle.bib_syntax.specs.Reading.{FileReading};
 ghost use Rattle.bib_syntax.specs.declared.raw.ParseError.{ParseError};
+ghost use Rattle.bib_syntax.specs.declared.raw.ParseErrorKind.TheVariants.{MalformedCommand};
 ghost use Rattle.bib_file_entries.specs.Bibliography.{Bibliography};
 ghost use Rattle.bib_syntax.specs.declared.raw.recovery.SkippedBlock.{SkippedBlock};
 ghost use Rattle.biblatex.specs.BibliographyRecovery.{IsRecoveredBibliography, IsSameRecovery};
-ghost use Rattle.biblatex.specs.Headline.{IsAcceptedText, IsBibliographyOf, IsReadAgain, IsSettledBibliography, written};
+ghost use Rattle.biblatex.specs.Headline.{IsAcceptedText, IsBibliographyOf, IsErrorOf, IsReadAgain, IsSettledBibliography, written};
 ghost use Rattle.biblatex.specs.Places.{HasFreshKeys, PointsToLastClaims};
 ghost use Rattle.bib_references.specs.Resolving.{rule_by, sources_of};
 ghost use Rattle.biblatex.specs.Resolved.{AreOneErrorOf, AreOwn, IsAccepted, IsFirstErrorOf, IsLoaded, graph_of};
@@ -28,6 +29,20 @@ pub fn inherits_in_one_way()
     ensures in_range { (own : List Entry) → IsInRange (graph_of own) }
     ensures one { (own : List Source) (graph : Graph) → IsInRange graph → HasNoCycle graph →
         HasOneSolution no_entry (rule_by own) graph }
+{}
+
+/// Each accepted text has a bibliography, and each text with a bibliography is accepted.
+pub fn accepted_texts_have_bibliographies()
+    ensures has { (text : List ℕ) → IsAcceptedText text →
+        (bibliography : Bibliography) × IsBibliographyOf text bibliography }
+    ensures accepted { (text : List ℕ) (bibliography : Bibliography) → IsBibliographyOf text bibliography →
+        IsAcceptedText text }
+{}
+
+/// All lists of a file's own entries have one graph of references.
+pub fn one_graph()
+    ensures { (says : FileReading) (one other : List Entry) → AreOwn says one → AreOwn says other →
+        graph_of one ≡ graph_of other }
 {}
 
 /// A file that is loaded is an accepted one. Two bibliographies that one file is loaded as have the same names and, except
@@ -63,6 +78,11 @@ pub fn one_error()
         IsFirstErrorOf says second → AreOneErrorOf first second }
 {}
 
+/// No text has an error of the kind `MalformedCommand`.
+pub fn no_command_is_malformed()
+    ensures { (text : List ℕ) (e : ParseError) → IsErrorOf text e → e.kind ≡ MalformedCommand → ⊥ }
+{}
+
 /// What is recovered of a text has no errors exactly where the text is accepted, and then is its bibliography.
 pub fn recovered_is_loaded()
     ensures accepted { (text : List ℕ) (bibliography : Bibliography) (origins : List ℕ) →
@@ -77,9 +97,12 @@ pub fn recovered_is_loaded()
 /// Each text has at most one recovery: two of them have the same keys, names and origins and, except for the borders of chunks
 /// and their spans, the same fields. They skip the same blocks and, as far as `one_error` says, report the same errors.
 pub fn one_recovered_bibliography()
-    ensures { (text : List ℕ) (one other : Bibliography) (origins indices : List ℕ)
+    ensures same { (text : List ℕ) (one other : Bibliography) (origins indices : List ℕ)
         (skipped passed : List SkippedBlock) (errors others : List ParseError) →
         IsRecoveredBibliography text one origins skipped errors →
         IsRecoveredBibliography text other indices passed others →
-        IsSameRecovery one other skipped passed errors others }
+        IsSameRecovery one other skipped passed errors others }    ensures origins { (text : List ℕ) (one other : Bibliography) (origins indices : List ℕ)
+        (skipped passed : List SkippedBlock) (errors others : List ParseError) →
+        IsRecoveredBibliography text one origins skipped errors →
+        IsRecoveredBibliography text other indices passed others → origins ≡ indices }
 {}

@@ -36,5 +36,5 @@ pub use bib_typed::ext::ChunksExt;
 pub use bib_typed::typed::{PermissiveType, Type};
 pub use bibliography::{Bibliography, InsertError, Keys};
 pub use recovery::BibliographyRecovery;
-pub use sink::Sink;
+pub use sink::{Output, Sink};
 pub use write::WriteError;

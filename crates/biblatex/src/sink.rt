@@ -1,9 +1,12 @@
-//! What takes a text that is written.
+//! Sinks: what takes the texts that are written, and a writer as a sink.
 
-ghost use Rattle.std.specs.Prelude.{◌≡◌, ℕ, Bool, ◌-◌, ◌^◌, ◌<◌, List};
+ghost use Rattle.std.specs.Prelude.{◌≡◌, ℕ, Bool, ◌+◌, ◌-◌, ◌^◌, ◌<◌, List, min, IsTrue, MatchBool};
 ghost use Rattle.std.specs.Bool.{OnTrue, OnFalse};
 ghost use Rattle.std.specs.Io.KnownBytes.{Appends};
 ghost use Rattle.std.specs.declared.option.Option.{Option};
+ghost use Rattle.biblatex.specs.PartlyWritten.{AppendsPart};
+
+use std::io::{ErrorKind, Write};
 
 /// Takes text, or refuses it.
 pub trait Sink {
@@ -24,4 +27,78 @@ pub trait Sink {
         ensures refused { OnFalse result (refusals self.old < 2 ^ 64 - 1 →
             refusals self.old < refusals self.new) }
         ensures handed { hands_over self.old text.now result self.new };
+}
+
+// Writes the bytes, each once. False if the writer refuses: then it has taken some first ones of them, and is offered no
+// more. A write that was interrupted took nothing, and is tried again.
+fn write_once<W: Write>(writer: &mut W, bytes: &[u8]) -> bool
+    ensures whole { OnTrue result (Appends (W.contents writer.old) (W.contents writer.new) bytes.now) }
+    ensures part { OnFalse result (AppendsPart (W.contents writer.old) (W.contents writer.new) bytes.now) }
+{
+    let mut rest = bytes;
+    'writes: for _ in 0..u64::MAX {
+        if rest.is_empty() {
+            return true;
+        }
+        match writer.write(rest) {
+            Ok(0) => return false,
+            Ok(count) => rest = &rest[count..],
+            Err(error) if error.kind() == ErrorKind::Interrupted => {}
+            Err(_) => return false,
+        }
+    }
+    false
+}
+
+/// A writer as a sink. It takes a text by writing each of its bytes once, and offers the writer none of a text's bytes
+/// after one that the writer refused.
+#[derive(Drop)]
+pub struct Output<W> {
+    writer: W,
+    refusals: u64,
+}
+
+impl<W> Output<W> {
+    /// Returns a sink over this writer that has refused nothing.
+    pub fn new(writer: W) -> Self
+        ensures writer { result.writer ≡ writer }
+        ensures refusals { result.refusals ≡ 0 }
+    {
+        Output {
+            writer,
+            refusals: 0,
+        }
+    }
+
+    /// Returns the writer.
+    pub fn into_writer(self) -> W
+        ensures { result ≡ self.writer }
+    {
+        let Output {
+            writer,
+            refusals: _,
+        } = self;
+        writer
+    }
+}
+
+impl<W: Write> Sink for Output<W> {
+    ghost taken = { λ output. W.contents output.writer };
+
+    ghost refusals = { λ output. output.refusals };
+
+    // A text that is taken is appended whole, once. Of one that is refused, the writer may have a first part, once, and the
+    // refusal is counted.
+    ghost hands_over = { λ old text is_taken new. MatchBool is_taken
+        (Appends (W.contents old.writer) (W.contents new.writer) text × (new.refusals ≡ old.refusals))
+        (AppendsPart (W.contents old.writer) (W.contents new.writer) text
+        × (new.refusals ≡ min (old.refusals + 1) (2 ^ 64 - 1))) };
+
+    fn write_str(&mut self, text: &str) -> bool {
+        if write_once(&mut self.writer, text.as_bytes()) {
+            return true;
+        }
+        self.refusals = self.refusals.saturating_add(1);
+        false
+    }
 }

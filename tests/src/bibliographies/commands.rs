@@ -1,7 +1,7 @@
 //! The program `bib`: its status, and what it prints.
 
 use bib_commands::run::run;
-use bib_commands::streams::{Input, Output};
+use bib_commands::streams::Input;
 use std::alloc::{AllocError, Global};
 use std::str;
 

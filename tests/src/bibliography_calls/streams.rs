@@ -2,7 +2,8 @@
 
 use bib_commands::run::run;
 use bib_commands::start::start;
-use bib_commands::streams::{Input, Output};
+use bib_commands::streams::Input;
+use biblatex::Output;
 use std::alloc::Global;
 use std::env::Args;
 use std::io::{ErrorKind, Read, Write};

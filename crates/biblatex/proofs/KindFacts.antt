@@ -1,0 +1,40 @@
+-- Which kinds of errors a text can have.
+use Rattle.std.proofs.Common.{◌≡◌, List, sym, ap, ◌∙◌, subst, inl, inr}
+use Rattle.bib_abbreviations.specs.Abbreviations.{Definitions, IsFirstError}
+use Rattle.bib_abbreviations.specs.Abbreviations.{IsFirstError as of_pieces}
+use Rattle.bib_file_entries.specs.Loaded.{IsFirstErrorOfEntries, IsFirstErrorOfFields}
+use Rattle.bib_file_entries.specs.Loaded.{IsFirstErrorOfEntries as of_entries, IsFirstErrorOfFields as of_fields}
+use Rattle.bib_syntax.specs.Errors.{is_syntax}
+use Rattle.bib_syntax.specs.Reading.{EntryReading, FieldReading, FileReading, Piece}
+use Rattle.bib_syntax.specs.declared.raw.ParseError.{ParseError}
+use Rattle.bib_syntax.specs.declared.raw.ParseErrorKind.{ParseErrorKind}
+use Rattle.bib_syntax.specs.declared.raw.ParseErrorKind.TheVariants.{MalformedCommand}
+use Rattle.biblatex.specs.Resolved.{IsFirstErrorOf}
+
+pieces_not_malformed : {definitions : Definitions} {is_verbatim : Bool} {path : List (List ℕ)} {pieces : List Piece} {e : ParseError}
+    → IsFirstError definitions is_verbatim path pieces e → e.kind ≡ MalformedCommand → ⊥
+pieces_not_malformed (of_pieces.unread none (inl ended) lies) is = let clash = sym is ∙ ended in cc
+pieces_not_malformed (of_pieces.unread none (inr closed) lies) is = let clash = sym is ∙ closed in cc
+pieces_not_malformed (of_pieces.unknown undefined no_month same) is = let clash = sym is ∙ ap (λ (x : ParseError). x.kind) same in cc
+pieces_not_malformed (of_pieces.cycle on_path same) is = let clash = sym is ∙ ap (λ (x : ParseError). x.kind) same in cc
+pieces_not_malformed (of_pieces.inside apart defined inner) is = pieces_not_malformed inner is
+pieces_not_malformed (of_pieces.following evaluates later) is = pieces_not_malformed later is
+
+fields_not_malformed : {definitions : Definitions} {fields : List FieldReading} {e : ParseError} → IsFirstErrorOfFields definitions fields e → e.kind ≡ MalformedCommand → ⊥
+fields_not_malformed (of_fields.here first unread) is = pieces_not_malformed first is
+fields_not_malformed (of_fields.following read later) is = fields_not_malformed later is
+
+entries_not_malformed : {definitions : Definitions} {claimed : List (List ℕ)} {said : List EntryReading} {e : ParseError} → IsFirstErrorOfEntries definitions claimed said e → e.kind ≡ MalformedCommand → ⊥
+entries_not_malformed (of_entries.duplicate claimed same) is = let clash = sym is ∙ ap (λ (x : ParseError). x.kind) same in cc
+entries_not_malformed (of_entries.unreadable fresh first) is = fields_not_malformed first is
+entries_not_malformed (of_entries.following fresh entry later) is = entries_not_malformed later is
+
+-- no error of a file has the kind that nothing gives
+pub file_not_malformed : {says : FileReading} {e : ParseError} → IsFirstErrorOf says e → e.kind ≡ MalformedCommand → ⊥
+file_not_malformed (IsFirstErrorOf.entry first) is = entries_not_malformed first is
+file_not_malformed (IsFirstErrorOf.cycle own first error) is = let clash = sym is ∙ ap (λ (x : ParseError). x.kind) error.is in cc
+file_not_malformed (IsFirstErrorOf.date own none inherits looks earlier error) is = let clash = sym is ∙ error.is in cc
+
+-- nor has one of the grammar
+pub syntax_not_malformed : (kind : ParseErrorKind) → IsTrue (is_syntax kind) → kind ≡ MalformedCommand → ⊥
+syntax_not_malformed kind syntax is = subst (λ k. IsTrue (is_syntax k)) is syntax
