@@ -7,7 +7,9 @@ pub mod FailureFacts
 pub mod FieldFacts
 pub mod FileFacts
 pub mod FileFailureFacts
+pub mod FileOutcomes
 pub mod LawFacts
+pub mod LeftFacts
 pub mod ModeFacts
 pub mod QuoteFacts
 pub mod ReadingFacts
@@ -15,3 +17,4 @@ pub mod RecoveryFacts
 pub mod SliceFacts
 pub mod StretchFacts
 pub mod WordFacts
+pub mod WordOutcomes
