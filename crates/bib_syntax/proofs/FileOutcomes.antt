@@ -1,172 +1,38 @@
 -- Each text has a raw reading or an error, and has a recovery.
-use Rattle.std.proofs.Common.{◌≡◌, ◌⊎◌, ℕ, zero, suc, ◌<◌, ◌≤◌, arith, Bool, true, false, List, [], ◌∷◌, inl, inr, refl, subst}
-use Rattle.std.specs.Prelude.{not, ◌&&◌, ◌||◌, ◌==◌, take}
+use Rattle.std.proofs.Common.{◌≡◌, ◌⊎◌, ℕ, zero, suc, ◌<◌, arith, Bool, true, false, List, [], inl, inr, refl}
+use Rattle.std.specs.Prelude.{not, ◌||◌, ◌==◌, take}
 use Rattle.std.specs.Char.{is_whitespace}
 use Rattle.std.proofs.lemmas.Bool.{cases_Bool}
-use Rattle.bib_text.specs.Places.{Place, CharAt, Stops, Longest, AtEnd, between}
-use Rattle.bib_text.proofs.PlaceFacts.{char_clash, no_char_at_end, test_clash}
+use Rattle.bib_text.specs.Places.{Place, CharAt, AtEnd}
+use Rattle.bib_text.proofs.PlaceFacts.{char_clash, test_clash}
 use Rattle.bib_syntax.specs.declared.raw.ParseErrorKind.{ParseErrorKind}
 use Rattle.bib_syntax.specs.declared.raw.ParseError.{ParseError}
 use Rattle.bib_syntax.specs.declared.raw.recovery.SkippedBlock.{SkippedBlock}
-use Rattle.bib_syntax.specs.Characters.{is_key, is_id_start}
-use Rattle.bib_syntax.specs.Reading.{Part, part, Piece, ValueReading, FieldReading, FileReading, empty_reading, then}
-use Rattle.bib_syntax.specs.Grammar.{Identifier, Elements, Field, LineComment, Gap, Fields, Quoted, BlockKind, block_kind, Head, Body, Block, File, longest}
-use Rattle.bib_syntax.specs.Grammar.{Elements as elements}
-use Rattle.bib_syntax.specs.Grammar.{Gap as gap}
-use Rattle.bib_syntax.specs.Grammar.{Fields as fields}
+use Rattle.bib_syntax.specs.Characters.{is_key}
+use Rattle.bib_syntax.specs.Reading.{Part, FileReading, empty_reading, then}
+use Rattle.bib_syntax.specs.Grammar.{LineComment, BlockKind, block_kind, Head, Body, Block, File, longest}
 use Rattle.bib_syntax.specs.Grammar.{Body as body}
 use Rattle.bib_syntax.specs.Grammar.{File as file}
-use Rattle.bib_syntax.specs.SyntaxErrors.{IdentifierFails, QuotedFails, ElementsFails, FieldFails, FieldsFails, HeadFails, BodyFails, BlockFails, FileFails, error_at_place, Reports}
-use Rattle.bib_syntax.specs.SyntaxErrors.{IdentifierFails as identifier_fail}
-use Rattle.bib_syntax.specs.SyntaxErrors.{ElementsFails as elements_fail}
-use Rattle.bib_syntax.specs.SyntaxErrors.{FieldFails as field_fail}
-use Rattle.bib_syntax.specs.SyntaxErrors.{FieldsFails as fields_fail}
+use Rattle.bib_syntax.specs.SyntaxErrors.{HeadFails, BodyFails, BlockFails, FileFails, Reports}
 use Rattle.bib_syntax.specs.SyntaxErrors.{HeadFails as head_fail}
 use Rattle.bib_syntax.specs.SyntaxErrors.{BodyFails as body_fail}
 use Rattle.bib_syntax.specs.SyntaxErrors.{BlockFails as block_fail}
 use Rattle.bib_syntax.specs.SyntaxErrors.{FileFails as file_fail}
-use Rattle.bib_syntax.specs.Recovery.{ends_blank, BeginsLine, Passed, GoesOnAt, IsUnreadBlock, Recovered, skipped_block}
+use Rattle.bib_syntax.specs.Recovery.{ends_blank, BeginsLine, GoesOnAt, Recovered}
 use Rattle.bib_syntax.specs.Recovery.{Passed as passed}
 use Rattle.bib_syntax.specs.Recovery.{Recovered as recovered}
 use Rattle.bib_syntax.proofs.LeftFacts.{Left, end_or_char, Found, found_at, found_as, Outcome, run_found, First, first, Sign, sign, is_sign}
-use Rattle.bib_syntax.proofs.WordOutcomes.{NameAt, name_outcome, quoted_outcome, element_outcome}
+use Rattle.bib_syntax.proofs.WordOutcomes.{name_outcome, quoted_outcome}
+use Rattle.bib_syntax.proofs.FieldOutcomes.{line_comment_found, gap_found, fields_outcome}
 use Rattle.bib_syntax.proofs.FileFacts.{is_skipped}
-
--- ---- fields
-
--- from one place to the other, elements
-abbrev ElementsAt : Place → Place → Type 0
-ElementsAt u v = (es : List Piece) × Elements longest u es v
-
-elements_outcome : (bound : ℕ) {n : ℕ} {u : Place} → n < bound → Left n u → Outcome n (ElementsAt u) (ElementsFails u)
-elements_outcome zero below left = absurd (omega (arith, below))
-elements_outcome (suc bound) below left = elim (element_outcome left) [
-  | Outcome.fails f ↦ Outcome.fails (elements_fail.first f)
-  | Outcome.read e ↦
-      let white = run_found is_whitespace e.rest in
-      elim (sign 35 white.rest) [
-        | Sign.missing stops ↦ Outcome.read (found_as (omega (arith, e.fits)) white (_, elements.last e.rule.1 white.rule stops))
-        | Sign.here hash rest less ↦
-            let white' = run_found is_whitespace rest in
-            elim (elements_outcome bound (omega (arith, below, e.fits, white.fits, less, white'.fits)) white'.rest) [
-              | Outcome.fails f ↦ Outcome.fails (elements_fail.more e.rule.1 white.rule hash white'.rule f)
-              | Outcome.read es ↦
-                  let all = elements.more e.rule.1 white.rule hash white'.rule es.rule.1 in
-                  Outcome.read (found_as (omega (arith, e.fits, white.fits, less, white'.fits)) es (_, all))
-            ]
-      ]
-]
-
--- from one place to the other, a field
-abbrev FieldAt : Place → Place → Type 0
-FieldAt u v = (f : FieldReading) × Field longest u f v
-
-field_outcome : {n : ℕ} {u : Place} → Found n (NameAt u) → Outcome n (FieldAt u) (FieldFails u)
-field_outcome {u = u} name =
-    let white = run_found is_whitespace name.rest in
-    elim (sign 61 white.rest) [
-      | Sign.missing stops ↦ Outcome.fails (field_fail.equals name.rule white.rule stops)
-      | Sign.here equals rest less ↦
-          let white' = run_found is_whitespace rest in
-          elim (elements_outcome (suc white'.left) (omega arith) white'.rest) [
-            | Outcome.fails f ↦ Outcome.fails (field_fail.value name.rule white.rule equals white'.rule f)
-            | Outcome.read es ↦
-                let value : ValueReading = record { pieces = es.rule.0; start = white'.place.at; end = es.place.at } in
-                let says : FieldReading = record { name = part u name.place; value = value } in
-                Outcome.read (found_as (omega (arith, name.fits, white.fits, less, white'.fits)) es (says, record {
-                  name_end = name.place;
-                  before_sign = white.place;
-                  after_sign = _;
-                  value_start = white'.place;
-                  name = name.rule;
-                  white = white.rule;
-                  sign = equals;
-                  white' = white'.rule;
-                  elements = es.rule.1;
-                  starts = refl;
-                  ends = refl;
-                }))
-          ]
-    ]
-
-line_comment_found : {n : ℕ} {u v : Place} → CharAt u 37 v → Left n v → Found n (LineComment u)
-line_comment_found percent rest =
-    let line = run_found (λ c. not (c == 10)) rest in
-    found_as (omega arith) line (record { inside = _; sign = percent; line = line.rule })
-
-gap_found : {n : ℕ} {u : Place} → Left n u → Found n (Gap longest u)
-gap_found left =
-    let white = run_found is_whitespace left in
-    elim (sign 37 white.rest) [
-      | Sign.missing stops ↦ found_as (omega arith) white (gap.white white.rule stops)
-      | Sign.here percent rest less ↦
-          let line = line_comment_found percent rest in
-          let white' = run_found is_whitespace line.rest in
-          found_as (omega (arith, white.fits, less, line.fits)) white' (gap.line_comment white.rule line.rule white'.rule)
-    ]
-
--- fields, and the brace before this place
-abbrev FieldsClosed : Place → Place → Type 0
-FieldsClosed u w = (fs : List FieldReading) × (v : Place) × Fields longest u fs v × CharAt v 125 w
-
-name_missing : {u v : Place} {kind : ParseErrorKind} → IdentifierFails u kind v → Stops is_id_start u
-name_missing (identifier_fail.missing stops) = stops
-
-neither : (a b : Bool) → a ≡ false → b ≡ false → a || b ≡ false
-neither a b first second = rw (first, second)
-
--- no name begins here
-fields_end : {n : ℕ} {u : Place} → Stops is_id_start u → Left n u → Outcome n (FieldsClosed u) (FieldsFails u)
-fields_end no_name left =
-    let white = run_found is_whitespace left in
-    elim (sign 125 white.rest) [
-      | Sign.here close rest less ↦
-          Outcome.read (found_at (omega (arith, white.fits, less)) rest ([], white.place, fields.none white.rule, close))
-      | Sign.missing stops ↦ elim (end_or_char white.rest) [
-          | inl end ↦ Outcome.fails (fields_fail.ended no_name white.rule end)
-          | inr char ↦ Outcome.fails (fields_fail.name no_name white.rule stops (λ end. no_char_at_end end char.2))
-        ]
-    ]
-
--- after a field no comma
-field_last : {n m : ℕ} {u : Place} (f : Found n (FieldAt u)) (g : Found m (Gap longest f.place)) → m ≤ n → Stops (λ c. c == 44) g.place
-    → Outcome n (FieldsClosed u) (FieldsFails u)
-field_last f g fits no_comma = elim (sign 125 g.rest) [
-  | Sign.here close rest less ↦
-      Outcome.read (found_at (omega (arith, fits, g.fits, less)) rest (f.rule.0 ∷ [], g.place, fields.last f.rule.1 g.rule, close))
-  | Sign.missing no_close ↦
-      let missing : Stops (λ c. c == 44 || c == 125) g.place = λ c v char. neither (c == 44) (c == 125) (no_comma c v char) (no_close c v char) in
-      Outcome.fails (fields_fail.comma f.rule.1 g.rule missing)
-]
-
-fields_outcome : (bound : ℕ) {n : ℕ} {u : Place} → n < bound → Left n u → Outcome n (FieldsClosed u) (FieldsFails u)
-fields_outcome zero below left = absurd (omega (arith, below))
-fields_outcome (suc bound) {u = u} below left = elim (name_outcome left) [
-  | Outcome.fails none ↦ fields_end (name_missing none) left
-  | Outcome.read name ↦ elim (field_outcome name) [
-      | Outcome.fails f ↦ Outcome.fails (fields_fail.first f)
-      | Outcome.read f ↦
-          let g = gap_found f.rest in
-          elim (sign 44 g.rest) [
-            | Sign.missing stops ↦ field_last f g f.fits stops
-            | Sign.here comma rest less ↦
-                let h = gap_found rest in
-                elim (fields_outcome bound (omega (arith, below, f.fits, g.fits, less, h.fits)) h.rest) [
-                  | Outcome.fails x ↦ Outcome.fails (fields_fail.more f.rule.1 g.rule comma h.rule x)
-                  | Outcome.read fs ↦
-                      let all = fields.more f.rule.1 g.rule comma h.rule fs.rule.2 in
-                      let closed : FieldsClosed u fs.place = (f.rule.0 ∷ fs.rule.0, fs.rule.1, all, fs.rule.3) in
-                      Outcome.read (found_as (omega (arith, f.fits, g.fits, less, h.fits)) fs closed)
-                ]
-          ]
-    ]
-]
 
 -- ---- blocks
 
+-- a character that may follow the name of a block
 abbrev opens_body : ℕ → Bool
 opens_body c = c == 123 || c == 34
 
+-- a character that may end a preamble
 abbrev closes_preamble : ℕ → Bool
 closes_preamble c = c == 125 || c == 34
 
@@ -174,6 +40,7 @@ closes_preamble c = c == 125 || c == 34
 abbrev HeadAt : Place → Place → Type 0
 HeadAt u v = (p : Part) × Head longest u p v
 
+-- the head of a block is read, or fails
 head_outcome : {n : ℕ} {u v : Place} → CharAt u 64 v → Left n v → Outcome n (HeadAt u) (HeadFails u)
 head_outcome at_sign left = elim (name_outcome left) [
   | Outcome.fails f ↦ Outcome.fails (head_fail.name at_sign f)
@@ -183,19 +50,22 @@ head_outcome at_sign left = elim (name_outcome left) [
         | First.stops stops ↦ Outcome.fails (head_fail.brace at_sign name.rule white.rule stops)
         | First.passes brace opens rest less ↦
             let white' = run_found is_whitespace rest in
-            Outcome.read (found_as (omega (arith, name.fits, white.fits, less)) white' (_, record {
-              name_start = _;
-              name_end = name.place;
-              before_brace = white.place;
-              after_brace = _;
-              brace = _;
-              sign = at_sign;
-              name = name.rule;
-              white = white.rule;
-              opens = brace;
-              is_brace = opens;
-              white' = white'.rule;
-            }))
+            Outcome.read (found_as (omega (arith, name.fits, white.fits, less)) white' (
+              _,
+              record {
+                name_start = _;
+                name_end = name.place;
+                before_brace = white.place;
+                after_brace = _;
+                brace = _;
+                sign = at_sign;
+                name = name.rule;
+                white = white.rule;
+                opens = brace;
+                is_brace = opens;
+                white' = white'.rule;
+              },
+            ))
       ]
 ]
 
@@ -203,6 +73,7 @@ head_outcome at_sign left = elim (name_outcome left) [
 abbrev BodyAt : Place → Part → BlockKind → Place → Place → Type 0
 BodyAt start p k u v = (says : FileReading) × Body longest start p k u says v
 
+-- a run of other characters does not stop at another character
 other_stops : (b : Bool) → b ≡ false → not b ≡ false → ⊥
 other_stops b fails stops = cc
 
@@ -210,6 +81,7 @@ other_stops b fails stops = cc
 abbrev BodyOutcome : Place → Part → BlockKind → ℕ → Place → Type 0
 BodyOutcome start p k n u = Outcome n (BodyAt start p k u) (BodyFails k u)
 
+-- a comment block is read, or fails
 comment_outcome : (start : Place) (p : Part) {n : ℕ} {u : Place} → Left n u → BodyOutcome start p BlockKind.comment n u
 comment_outcome start p left =
     let run = run_found (λ c. not (c == 125)) left in
@@ -217,13 +89,14 @@ comment_outcome start p left =
       | Sign.here close rest less ↦
           Outcome.read (found_at (omega (arith, run.fits, less)) rest (empty_reading, body.comment run.place run.rule close))
       | Sign.missing stops ↦ elim (end_or_char run.rest) [
-          | inl end ↦ Outcome.fails (body_fail.comment run.rule end)
-          | inr char ↦
-              let ends = run.rule.stops char.0 char.1 char.2 in
-              absurd (other_stops (char.0 == 125) (stops char.0 char.1 char.2) ends)
-        ]
+        | inl end ↦ Outcome.fails (body_fail.comment run.rule end)
+        | inr char ↦
+            let ends = run.rule.stops char.0 char.1 char.2 in
+            absurd (other_stops (char.0 == 125) (stops char.0 char.1 char.2) ends)
+      ]
     ]
 
+-- a preamble is read, or fails
 preamble_outcome : (start : Place) (p : Part) {n : ℕ} {u : Place} → Left n u → BodyOutcome start p BlockKind.preamble n u
 preamble_outcome start p left = elim (quoted_outcome left) [
   | Outcome.fails f ↦ Outcome.fails (body_fail.preamble f)
@@ -236,12 +109,14 @@ preamble_outcome start p left = elim (quoted_outcome left) [
       ]
 ]
 
+-- a list of abbreviations is read, or fails
 strings_outcome : (start : Place) (p : Part) {n : ℕ} {u : Place} → Left n u → BodyOutcome start p BlockKind.strings n u
 strings_outcome start p {n} left = elim (fields_outcome (suc n) (omega arith) left) [
   | Outcome.fails f ↦ Outcome.fails (body_fail.strings f)
   | Outcome.read fs ↦ Outcome.read (found_as (omega arith) fs (_, body.strings fs.rule.2 fs.rule.3))
 ]
 
+-- an entry is read, or fails
 entry_outcome : (start : Place) (p : Part) {n : ℕ} {u : Place} → Left n u → BodyOutcome start p BlockKind.entry n u
 entry_outcome start p left =
     let key = run_found is_key left in
@@ -258,6 +133,7 @@ entry_outcome start p left =
           ]
     ]
 
+-- the rest of a block is read, or fails, whatever the block is
 body_outcome : (start : Place) (p : Part) (k : BlockKind) {n : ℕ} {u : Place} → Left n u → BodyOutcome start p k n u
 body_outcome start p BlockKind.comment left = comment_outcome start p left
 body_outcome start p BlockKind.preamble left = preamble_outcome start p left
@@ -268,6 +144,7 @@ body_outcome start p BlockKind.entry left = entry_outcome start p left
 abbrev BlockAt : Place → Place → Type 0
 BlockAt u v = (says : FileReading) × Block longest u says v
 
+-- a block is read at an at sign, or fails
 block_outcome : {n : ℕ} {u v : Place} → CharAt u 64 v → Left n v → Outcome n (BlockAt u) (BlockFails u)
 block_outcome {u = u} at_sign left = elim (head_outcome at_sign left) [
   | Outcome.fails f ↦ Outcome.fails (block_fail.head f)
@@ -276,7 +153,12 @@ block_outcome {u = u} at_sign left = elim (head_outcome at_sign left) [
       elim (body_outcome u name (block_kind name.text) head.rest) [
         | Outcome.fails f ↦ Outcome.fails (block_fail.body head.rule.1 f)
         | Outcome.read b ↦
-            let block : Block longest u b.rule.0 b.place = record { inside = head.place; kind = name; head = head.rule.1; body = b.rule.1 } in
+            let block : Block longest u b.rule.0 b.place = record {
+              inside = head.place;
+              kind = name;
+              head = head.rule.1;
+              body = b.rule.1;
+            } in
             Outcome.read (found_as head.fits b (_, block))
       ]
 ]
@@ -287,6 +169,7 @@ block_outcome {u = u} at_sign left = elim (head_outcome at_sign left) [
 abbrev FileCase : Place → Type 0
 FileCase u = ((says : FileReading) × File longest u says) ⊎ ((e : ParseError) × Reports (FileFails u) e)
 
+-- what is read or fails from a later place on is read or fails from this place on
 file_map : {u v : Place} (says : FileReading → FileReading) → ((r : FileReading) → File longest v r → File longest u (says r))
     → ((kind : ParseErrorKind) (w : Place) → FileFails v kind w → FileFails u kind w) → FileCase v → FileCase u
 file_map says found failed (inl r) = inl (says r.0, found r.0 r.1)
@@ -300,18 +183,20 @@ data Step (n : ℕ) (u : Place) : Type 0 where
   line_comment : {m : ℕ} {v : Place} → LineComment u v → Left m v → m < n → Step n u
   at_sign : {m : ℕ} {v : Place} → CharAt u 64 v → Left m v → m < n → Step n u
 
+-- one of the four comes next
 next_step : {n : ℕ} {u : Place} → Left n u → Step n u
 next_step (Left.none end) = Step.ended end
 next_step (Left.more {c = c} char rest) = elim (cases_Bool (c == 64)) [
   | inl is_at ↦ Step.at_sign (is_sign 64 char is_at) rest (omega arith)
   | inr no_at ↦ elim (cases_Bool (c == 37)) [
-      | inl is_percent ↦
-          let line = line_comment_found (is_sign 37 char is_percent) rest in
-          Step.line_comment line.rule line.rest (omega (arith, line.fits))
-      | inr no_percent ↦ Step.skipped char (rw (no_at, no_percent) refl) rest (omega arith)
-    ]
+    | inl is_percent ↦
+        let line = line_comment_found (is_sign 37 char is_percent) rest in
+        Step.line_comment line.rule line.rest (omega (arith, line.fits))
+    | inr no_percent ↦ Step.skipped char (rw (no_at, no_percent) refl) rest (omega arith)
+  ]
 ]
 
+-- from each place on there is a reading or an error
 pub file_case : (bound : ℕ) {n : ℕ} {u : Place} → n < bound → Left n u → FileCase u
 file_case zero below left = absurd (omega (arith, below))
 file_case (suc bound) below left = elim (next_step left) [
@@ -323,22 +208,23 @@ file_case (suc bound) below left = elim (next_step left) [
       let more = file_case bound (omega (arith, below, less)) rest in
       file_map (λ r. r) (λ r x. file.line_comment line x) (λ kind w f. file_fail.line_comment line f) more
   | Step.at_sign char rest less ↦ elim (block_outcome char rest) [
-      | Outcome.fails f ↦ inr (_, record { kind = _; place = _; fails = file_fail.first f; is = refl })
-      | Outcome.read b ↦
-          let more = file_case bound (omega (arith, below, less, b.fits)) b.rest in
-          file_map (then b.rule.0) (λ r x. file.block b.rule.1 x) (λ kind w f. file_fail.more b.rule.1 f) more
-    ]
+    | Outcome.fails f ↦ inr (_, record { kind = _; place = _; fails = file_fail.first f; is = refl })
+    | Outcome.read b ↦
+        let more = file_case bound (omega (arith, below, less, b.fits)) b.rest in
+        file_map (then b.rule.0) (λ r x. file.block b.rule.1 x) (λ kind w f. file_fail.more b.rule.1 f) more
+  ]
 ]
 
 -- ---- recovery
 
+-- whether an at sign that begins a line is at a place
 line_case : {u v : Place} (c : ℕ) → CharAt u c v → BeginsLine u ⊎ (BeginsLine u → ⊥)
 line_case {u} {v} c char = elim (cases_Bool (c == 64)) [
   | inr no_at ↦ inr (λ line. char_clash char line.1 no_at)
   | inl is_at ↦ elim (cases_Bool (ends_blank (take u.at u.text))) [
-      | inl blank ↦ inl (v, is_sign 64 char is_at, blank)
-      | inr filled ↦ inr (λ line. test_clash _ line.2 filled)
-    ]
+    | inl blank ↦ inl (v, is_sign 64 char is_at, blank)
+    | inr filled ↦ inr (λ line. test_clash _ line.2 filled)
+  ]
 ]
 
 -- reading goes on somewhere
@@ -349,7 +235,10 @@ goes_on_found {u = u} (Left.more {c = c} char rest) =
     elim (line_case c char) [
       | inl line ↦ found_at (omega arith) (Left.more char rest) (record { passed = passed.stop; stands = inr line })
       | inr other ↦
-          let later : GoesOnAt u following.place = record { passed = passed.step char other following.rule.passed; stands = following.rule.stands } in
+          let later : GoesOnAt u following.place = record {
+            passed = passed.step char other following.rule.passed;
+            stands = following.rule.stands;
+          } in
           found_as (omega arith) following later
     ]
 
@@ -357,6 +246,7 @@ goes_on_found {u = u} (Left.more {c = c} char rest) =
 abbrev RecoveredFrom : Place → Type 0
 RecoveredFrom u = (says : FileReading) × (errors : List SkippedBlock) × Recovered u says errors
 
+-- from each place on there is a recovery
 pub recovery_found : (bound : ℕ) {n : ℕ} {u : Place} → n < bound → Left n u → RecoveredFrom u
 recovery_found zero below left = absurd (omega (arith, below))
 recovery_found (suc bound) below left = elim (next_step left) [
@@ -368,12 +258,12 @@ recovery_found (suc bound) below left = elim (next_step left) [
       let found = recovery_found bound (omega (arith, below, less)) rest in
       (found.0, found.1, recovered.line_comment line found.2)
   | Step.at_sign char rest less ↦ elim (block_outcome char rest) [
-      | Outcome.read b ↦
-          let found = recovery_found bound (omega (arith, below, less, b.fits)) b.rest in
-          (_, found.1, recovered.block b.rule.1 found.2)
-      | Outcome.fails f ↦
-          let on = goes_on_found rest in
-          let found = recovery_found bound (omega (arith, below, less, on.fits)) on.rest in
-          (found.0, _, recovered.unread char (record { kind = _; place = _; fails = f; is = refl }) on.rule found.2)
-    ]
+    | Outcome.read b ↦
+        let found = recovery_found bound (omega (arith, below, less, b.fits)) b.rest in
+        (_, found.1, recovered.block b.rule.1 found.2)
+    | Outcome.fails f ↦
+        let on = goes_on_found rest in
+        let found = recovery_found bound (omega (arith, below, less, on.fits)) on.rest in
+        (found.0, _, recovered.unread char (record { kind = _; place = _; fails = f; is = refl }) on.rule found.2)
+  ]
 ]

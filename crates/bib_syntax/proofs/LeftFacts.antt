@@ -1,6 +1,6 @@
 -- The characters from a place to the end of its text, and the outcomes of rules that are tried on them.
-use Rattle.std.proofs.Common.{◌≡◌, ◌⊎◌, ℕ, zero, suc, ◌+◌, ◌<◌, ◌≤◌, arith, length, drop, Bool, true, false, List, [], ◌∷◌, ◌++◌, inl, inr, refl, sym, ap, ◌∙◌, subst}
-use Rattle.std.specs.Prelude.{◌==◌, encode_utf8, encode_utf8_all}
+use Rattle.std.proofs.Common.{◌≡◌, ◌⊎◌, ℕ, zero, suc, ◌+◌, ◌<◌, ◌≤◌, arith, length, drop, Bool, true, List, [], ◌∷◌, inl, inr, sym, ap, subst}
+use Rattle.std.specs.Prelude.{◌==◌, encode_utf8_all}
 use Rattle.std.specs.Char.{len_utf8}
 use Rattle.std.specs.Str.{IsUtf8}
 use Rattle.std.proofs.lemmas.Str.{drop_past_char}
@@ -42,6 +42,7 @@ pub record Found (n : ℕ) (Rule : Place → Type 0) : Type 0 where
   pub fits : left ≤ n
   pub rule : Rule place
 
+-- a rule that ends where characters are left
 pub found_at : {m n : ℕ} {u : Place} {Rule : Place → Type 0} → m ≤ n → Left m u → Rule u → Found n Rule
 found_at {m} {n} {u} fits rest rule = record { left = m; place = u; rest = rest; fits = fits; rule = rule }
 
@@ -77,6 +78,7 @@ pub data First (test : ℕ → Bool) (n : ℕ) (u : Place) : Type 0 where
   passes : {m c : ℕ} {v : Place} → CharAt u c v → test c ≡ true → Left m v → m < n → First test n u
   stops : Stops test u → First test n u
 
+-- whether a character that passes the test comes first
 pub first : (test : ℕ → Bool) {n : ℕ} {u : Place} → Left n u → First test n u
 first test (Left.none end) = First.stops (stops_at_end test end)
 first test (Left.more {c = c} char rest) = elim (cases_Bool (test c)) [
@@ -93,9 +95,11 @@ pub data Sign (k n : ℕ) (u : Place) : Type 0 where
 pub is_sign : (k : ℕ) {u v : Place} {c : ℕ} → CharAt u c v → c == k ≡ true → CharAt u k v
 is_sign k {u} {v} {c} char same = subst (λ x. CharAt u x v) (eqb-true c k same) char
 
+-- a first character that passes the test for this one is this one
 sign_first : (k : ℕ) {n : ℕ} {u : Place} → First (λ c. c == k) n u → Sign k n u
 sign_first k (First.passes char same rest less) = Sign.here (is_sign k char same) rest less
 sign_first k (First.stops absent) = Sign.missing absent
 
+-- whether this character comes first
 pub sign : (k : ℕ) {n : ℕ} {u : Place} → Left n u → Sign k n u
 sign k left = sign_first k (first (λ c. c == k) left)

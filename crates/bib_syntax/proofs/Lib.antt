@@ -5,6 +5,7 @@ pub mod ErrorPlaceFacts
 pub mod FailingFacts
 pub mod FailureFacts
 pub mod FieldFacts
+pub mod FieldOutcomes
 pub mod FileFacts
 pub mod FileFailureFacts
 pub mod FileOutcomes
