@@ -1,4 +1,5 @@
--- Values, fields and lists of fields are read, or fail.
+-- Values, fields and lists of fields are read, or fail. A list is decided by recursion on a bound above the number of characters
+-- left.
 use Rattle.std.proofs.Common.{◌≡◌, ℕ, zero, suc, ◌<◌, ◌≤◌, arith, Bool, false, List, [], ◌∷◌, inl, inr, refl}
 use Rattle.std.specs.Prelude.{not, ◌||◌, ◌==◌}
 use Rattle.std.specs.Char.{is_whitespace}
@@ -101,15 +102,15 @@ gap_found left =
 abbrev pub FieldsClosed : Place → Place → Type 0
 FieldsClosed u w = (fs : List FieldReading) × (v : Place) × Fields longest u fs v × CharAt v 125 w
 
--- where a name fails, no character begins one
+-- no character begins a name where a name fails
 name_missing : {u v : Place} {kind : ParseErrorKind} → IdentifierFails u kind v → Stops is_id_start u
 name_missing (identifier_fail.missing stops) = stops
 
--- two classes without a character
+-- a character in neither of two classes is not in both together
 neither : (a b : Bool) → a ≡ false → b ≡ false → a || b ≡ false
 neither a b first second = rw (first, second)
 
--- no name begins here
+-- fields end, or fail, where no name begins
 fields_end : {n : ℕ} {u : Place} → Stops is_id_start u → Left n u → Outcome n (FieldsClosed u) (FieldsFails u)
 fields_end no_name left =
     let white = run_found is_whitespace left in
@@ -122,7 +123,7 @@ fields_end no_name left =
       ]
     ]
 
--- after a field no comma
+-- fields end, or fail, after a field without a comma
 field_last : {n m : ℕ} {u : Place} (f : Found n (FieldAt u)) (g : Found m (Gap longest f.place)) → m ≤ n → Stops (λ c. c == 44) g.place
     → Outcome n (FieldsClosed u) (FieldsFails u)
 field_last f g fits no_comma = elim (sign 125 g.rest) [

@@ -169,7 +169,7 @@ block_outcome {u = u} at_sign left = elim (head_outcome at_sign left) [
 abbrev FileCase : Place → Type 0
 FileCase u = ((says : FileReading) × File longest u says) ⊎ ((e : ParseError) × Reports (FileFails u) e)
 
--- what is read or fails from a later place on is read or fails from this place on
+-- a reading or an error from a later place on makes one from this place on
 file_map : {u v : Place} (says : FileReading → FileReading) → ((r : FileReading) → File longest v r → File longest u (says r))
     → ((kind : ParseErrorKind) (w : Place) → FileFails v kind w → FileFails u kind w) → FileCase v → FileCase u
 file_map says found failed (inl r) = inl (says r.0, found r.0 r.1)
@@ -217,7 +217,7 @@ file_case (suc bound) below left = elim (next_step left) [
 
 -- ---- recovery
 
--- whether an at sign that begins a line is at a place
+-- whether an at sign that begins a line occurs at a place
 line_case : {u v : Place} (c : ℕ) → CharAt u c v → BeginsLine u ⊎ (BeginsLine u → ⊥)
 line_case {u} {v} c char = elim (cases_Bool (c == 64)) [
   | inr no_at ↦ inr (λ line. char_clash char line.1 no_at)

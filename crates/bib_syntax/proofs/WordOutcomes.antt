@@ -79,7 +79,7 @@ NoQuote u = (w x : Place) → QuotedParts u w → CharAt w 34 x → ⊥
 abbrev QuoteCase : ℕ → Place → Type 0
 QuoteCase n u = Found n (QuoteClosed u) ⊎ NoQuote u
 
--- what closes a quoted text is known from one place if it is known from another that says the same
+-- the case of a quote at one place, from the case at another with the same closing quote
 quote_moved : {m n : ℕ} {u v : Place} → m ≤ n → SameQuoted u v → QuoteCase m v → QuoteCase n u
 quote_moved fits same (inl f) = inl (found_as fits f (f.rule.0, same.there _ _ f.rule.1 f.rule.2, f.rule.2))
 quote_moved fits same (inr none) = inr (λ w x p c. none w x (same.back w x p c) c)
@@ -150,7 +150,7 @@ NoBrace depth u = (x y : Place) → ClosesOpen depth u x → CharAt x 125 y → 
 abbrev BraceCase : ℕ → ℕ → Place → Type 0
 BraceCase depth n u = Found n (BraceClosed depth u) ⊎ NoBrace depth u
 
--- what closes the open braces is known from one place if it is known from another that says the same
+-- the case of a brace at one place, from the case at another with the same closing brace
 brace_moved : {depth inner m n : ℕ} {u v : Place} → m ≤ n → SameBraced depth u inner v → BraceCase inner m v → BraceCase depth n u
 brace_moved fits same (inl f) = inl (found_as fits f (f.rule.0, same.there _ _ f.rule.1 f.rule.2, f.rule.2))
 brace_moved fits same (inr none) = inr (λ x y p c. none x y (same.back x y p c) c)
@@ -181,7 +181,7 @@ brace_step depth {u = u} {v = v} {c = c} char rest here hides fits hidden = elim
 brace_end : (depth : ℕ) {n : ℕ} {u : Place} → AtEnd u → BraceCase depth n u
 brace_end depth end = inr (λ x y. brace.closes_end end)
 
--- whether a brace closes the whole, with so many braces open within it
+-- whether a brace closes the whole, with `depth` more braces open
 brace_case : (depth : ℕ) {n : ℕ} {u : Place} → Left n u → BraceCase depth n u
 brace_case depth (Left.none end) = brace_end depth end
 brace_case depth (Left.more {n = n} char (Left.none end)) =
