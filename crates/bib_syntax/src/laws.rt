@@ -78,8 +78,8 @@ pub fn recovered_entries_stand()
         IsRecovery text says errors → AllByRecursion (IsBlockOf text) says.entries }
 {}
 
-/// An entry that the file grammar can read at a place is read, unless the place lies inside a block or a line comment that
-/// recovery reads, or in a skipped stretch. A block or a comment at a place that recovery doesn't reach excuses no loss.
+/// Recovery reads each entry that the file grammar can read at a place, with two exceptions. The place lies inside a block or
+/// a line comment that recovery reads, or it lies in a skipped stretch. A block that recovery doesn't reach excuses no loss.
 pub fn nothing_is_lost()
     ensures { (text : List ℕ) (says : FileReading) (errors : List SkippedBlock) (e : EntryReading) →
         IsRecovery text says errors → IsBlockOf text e → Contains says.entries e ⊎
