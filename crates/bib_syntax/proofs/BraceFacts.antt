@@ -140,7 +140,7 @@ pub braced_stuck : {n : ℕ} {u x y : Place} → Stops is_plain u → ((v : Plac
 braced_stuck stops brace close slash (last parts) closing = parts_stuck stops brace close slash parts closing
 braced_stuck stops brace close slash (level parts end rest) closing = parts_stuck stops brace close slash parts end
 
-closes_zero : {u x : Place} → ClosesOpen zero u x → Parts u x
+pub closes_zero : {u x : Place} → ClosesOpen zero u x → Parts u x
 closes_zero (last parts) = parts
 
 -- what closes no brace is the parts themselves

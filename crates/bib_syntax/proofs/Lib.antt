@@ -5,9 +5,12 @@ pub mod ErrorPlaceFacts
 pub mod FailingFacts
 pub mod FailureFacts
 pub mod FieldFacts
+pub mod FieldOutcomes
 pub mod FileFacts
 pub mod FileFailureFacts
+pub mod FileOutcomes
 pub mod LawFacts
+pub mod LeftFacts
 pub mod ModeFacts
 pub mod QuoteFacts
 pub mod ReadingFacts
@@ -15,3 +18,4 @@ pub mod RecoveryFacts
 pub mod SliceFacts
 pub mod StretchFacts
 pub mod WordFacts
+pub mod WordOutcomes

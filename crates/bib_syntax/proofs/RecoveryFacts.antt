@@ -15,7 +15,7 @@ use Rattle.bib_syntax.specs.Grammar.{LineComment, BlockKind, Body, Block, File, 
 use Rattle.bib_syntax.specs.Grammar.{Body as body}
 use Rattle.bib_syntax.specs.Grammar.{File as file}
 use Rattle.bib_syntax.specs.Recovering.{RecoveredTo}
-use Rattle.bib_syntax.specs.Recovery.{ends_blank, BeginsLine, Passed, GoesOnAt, IsUnreadBlock, Recovered, skipped_block, entry_alone, IsBlockOf, LiesInside, IsPassedOver}
+use Rattle.bib_syntax.specs.Recovery.{ends_blank, BeginsLine, Passed, GoesOnAt, IsUnreadBlock, Recovered, skipped_block, entry_alone, IsBlockOf, Reached, LiesInside, IsPassedOver}
 use Rattle.bib_syntax.specs.Recovery.{Passed as passed}
 use Rattle.bib_syntax.specs.Recovery.{Recovered as recovered}
 use Rattle.bib_syntax.specs.declared.raw.ParseError.{ParseError}
@@ -292,28 +292,29 @@ same_entry {u} {r = r} text e here b at =
 at_not_skipped : (c : ℕ) → is_skipped c ≡ true → c ≡ 64 → ⊥
 at_not_skipped c passes is = let fails : is_skipped 64 ≡ true = subst (λ d. is_skipped d ≡ true) is passes in cc
 
-pub nothing_lost : {w : Place} {says : FileReading} {errors : List SkippedBlock} (text : List ℕ) (e : EntryReading) → w.text ≡ text → w.at ≤ e.start → IsBlockOf text e → Recovered w says errors
+-- from a place that is reached on, an entry that can be read is found
+pub nothing_lost : {w : Place} {says : FileReading} {errors : List SkippedBlock} (text : List ℕ) (e : EntryReading) → Reached (place text 0) w → w.text ≡ text → w.at ≤ e.start → IsBlockOf text e → Recovered w says errors
     → Found errors (place text e.start) says e
-nothing_lost {w} text e same before at (recovered.end end) =
+nothing_lost {w} text e onward same before at (recovered.end end) =
     let left = char_left at.1.head.sign in
     absurd (omega (arith, before, left, end, ap length same, (len_utf8_bounds 64).0))
-nothing_lost {w} text e same before at (recovered.skipped {v = v} {c = c} char passes x) = elim (next w v (place text e.start) same (ahead_char char) before) [
+nothing_lost {w} text e onward same before at (recovered.skipped {v = v} {c = c} char passes x) = elim (next w v (place text e.start) same (ahead_char char) before) [
   | Next.reached here ↦ absurd (pass_clash is_skipped char passes (subst (λ y. CharAt y 64 at.1.head.name_start) (sym here) at.1.head.sign) refl)
   | Next.begun below inside ↦ absurd (at_not_skipped c passes (in_character char at.1.head.sign (sym same) before inside))
-  | Next.ended later text' ↦ nothing_lost text e text' later at x
+  | Next.ended later text' ↦ nothing_lost text e (Reached.skipped onward char passes) text' later at x
 ]
-nothing_lost {w} text e same before at (recovered.line_comment {v = v} m x) = elim (next w v (place text e.start) same (ahead_line_comment m) before) [
+nothing_lost {w} text e onward same before at (recovered.line_comment {v = v} m x) = elim (next w v (place text e.start) same (ahead_line_comment m) before) [
   | Next.reached here ↦ absurd (char_clash m.sign (subst (λ y. CharAt y 64 at.1.head.name_start) (sym here) at.1.head.sign) refl)
-  | Next.begun below inside ↦ inr (inl (record { start = w; end = v; is = inr m; same = same; before = below; following = inside }))
-  | Next.ended later text' ↦ nothing_lost text e text' later at x
+  | Next.begun below inside ↦ inr (inl (record { start = w; end = v; reached = onward; is = inr m; before = below; following = inside }))
+  | Next.ended later text' ↦ nothing_lost text e (Reached.line_comment onward m) text' later at x
 ]
-nothing_lost {w} {errors = errors} text e same before at (recovered.block {v = v} {first = first} {rest = rest} b x) = elim (next w v (place text e.start) same (ahead_block b) before) [
+nothing_lost {w} {errors = errors} text e onward same before at (recovered.block {v = v} {first = first} {rest = rest} b x) = elim (next w v (place text e.start) same (ahead_block b) before) [
   | Next.reached here ↦ inl (Contains-append_left first.entries rest.entries e (same_entry text e here b at))
-  | Next.begun below inside ↦ inr (inl (record { start = w; end = v; is = inl (first, b); same = same; before = below; following = inside }))
-  | Next.ended later text' ↦ found_later first rest errors e (nothing_lost text e text' later at x)
+  | Next.begun below inside ↦ inr (inl (record { start = w; end = v; reached = onward; is = inl (first, b); before = below; following = inside }))
+  | Next.ended later text' ↦ found_later first rest errors e (nothing_lost text e (Reached.block onward b) text' later at x)
 ]
-nothing_lost {w} {says = says} text e same before at (recovered.unread {w = z} {e = error} {errors = errors} sign none on x) = elim (next w z (place text e.start) same (ahead_then (ahead_char sign) (ahead_passed on.passed)) before) [
+nothing_lost {w} {says = says} text e onward same before at (recovered.unread {w = z} {e = error} {errors = errors} sign none on x) = elim (next w z (place text e.start) same (ahead_then (ahead_char sign) (ahead_passed on.passed)) before) [
   | Next.reached here ↦ absurd (block_unread none.fails (subst (λ y. Block longest y (entry_alone e) at.0) (sym here) at.1))
   | Next.begun below inside ↦ inr (inr (zero, skipped_block error w z, omega arith, refl, (below, inside)))
-  | Next.ended later text' ↦ found_past _ says (skipped_block error w z) errors e (nothing_lost text e text' later at x)
+  | Next.ended later text' ↦ found_past _ says (skipped_block error w z) errors e (nothing_lost text e (Reached.unread onward sign none on) text' later at x)
 ]

@@ -40,11 +40,11 @@ kind_text OutOfMemory = Some (codes "out of memory")
 abbrev pub error_text : ParseError → Option (List ℕ)
 error_text e = kind_text e.kind ++? Some (codes ": " ++ decimal e.span.start ++ codes "-" ++ decimal e.span.end)
 
--- the error that is no error of the text
+-- out of memory, which is not an error of the text
 abbrev pub out_of_memory : ParseError
 out_of_memory = record { span = record { start = 0; end = 0 }; kind = OutOfMemory }
 
--- an error of the grammar: something stands where it may not, or doesn't stand where it should
+-- an error of the grammar: something occurs where it may not, or is missing where it must occur
 abbrev pub is_syntax : ParseErrorKind → Bool
 is_syntax UnexpectedEof = true
 is_syntax (Unexpected t) = true
@@ -63,6 +63,6 @@ pub record IsSyntaxError (text : List ℕ) (e : ParseError) : Type 0 where
   pub ordered : e.span.start ≤ e.span.end
   pub within : e.span.end ≤ length text
 
--- refused when out of memory, or with an error of the grammar where what was asked for doesn't stand
+-- why a text is refused: out of memory, or an error of the grammar, and then what was asked for is absent
 abbrev pub Refuses : List ℕ → ParseError → Type 0 → Type 0
 Refuses text e Absent = (e ≡ out_of_memory) ⊎ (IsSyntaxError text e × Absent)

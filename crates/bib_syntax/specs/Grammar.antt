@@ -84,7 +84,7 @@ pub data Element (mode : Mode) : Place → Piece → Place → Type 0 where
   braced : {u v : Place} {p : Part} → Braced u p v → Element mode u (literal p) v
   quoted : {u v : Place} {p : Part} → Quoted u p v → Element mode u (literal p) v
 
--- elements separated by #, and white space round each
+-- elements separated by #, with white space after each element and each #
 pub data Elements (mode : Mode) : Place → List Piece → Place → Type 0 where
   last : {u v w : Place} {e : Piece} → Element mode u e v → White mode v w → Ends mode (λ c. c == char.hash) w → Elements mode u (e ∷ []) w
   more : {u v w x y z : Place} {e : Piece} {es : List Piece} → Element mode u e v → White mode v w → CharAt w char.hash x
@@ -110,7 +110,7 @@ pub record LineComment (u v : Place) : Type 0 where
   pub sign : CharAt u char.percent inside
   pub line : Longest (λ c. not (c == char.line_feed)) inside v
 
--- white space, in which one comment may stand
+-- white space, in which one line comment may occur
 pub data Gap (mode : Mode) : Place → Place → Type 0 where
   white : {u v : Place} → White mode u v → Ends mode (λ c. c == char.percent) v → Gap mode u v
   line_comment : {u v w x : Place} → White mode u v → LineComment v w → White mode w x → Gap mode u x
@@ -140,7 +140,7 @@ block_kind name =
     (cond (is_word name (codes "preamble")) BlockKind.preamble
     (cond (is_word name (codes "string")) BlockKind.strings BlockKind.entry))
 
--- where a block begins: an at sign, its name, and a brace or a quote, with white space round that
+-- the head of a block: an at sign, a name, and a brace or a quote, with white space before and after that
 pub record Head (mode : Mode) (u : Place) (kind : Part) (v : Place) : Type 0 where
   pub name_start : Place
   pub name_end : Place
@@ -154,7 +154,7 @@ pub record Head (mode : Mode) (u : Place) (kind : Part) (v : Place) : Type 0 whe
   pub is_brace : brace == char.open_brace || brace == char.quote ≡ true
   pub white' : White mode after_brace v
 
--- what stands between a block's head and the place after it, and what it says; the block began at `start`
+-- the rest of a block after its head, and what the block says; the block begins at `start`
 pub data Body (mode : Mode) (start : Place) (kind : Part) : BlockKind → Place → FileReading → Place → Type 0 where
   comment : {u w : Place} (v : Place) → Chars mode (λ c. not (c == char.close_brace)) u v → CharAt v char.close_brace w → Body mode start kind BlockKind.comment u empty_reading w
   preamble : {u v w x : Place} {p : Part} {c : ℕ} → Quoted u p v → White mode v w → CharAt w c x → c == char.close_brace || c == char.quote ≡ true
@@ -166,14 +166,14 @@ pub data Body (mode : Mode) (start : Place) (kind : Part) : BlockKind → Place 
       → Body mode start kind BlockKind.entry u
       (record { preamble = []; entries = record { key = part u v; kind = kind; fields = fs; start = start.at; end = z.at } ∷ []; abbreviations = [] }) end
 
--- a block, from its at sign to after its last brace
+-- a block, from its at sign to after the brace or quote that ends it
 pub record Block (mode : Mode) (u : Place) (says : FileReading) (v : Place) : Type 0 where
   pub inside : Place
   pub kind : Part
   pub head : Head mode u kind inside
   pub body : Body mode u kind (block_kind kind.text) inside says v
 
--- a file, from a place on: blocks, comments, and other characters, which are skipped
+-- a file, from a place on: blocks, line comments, and other characters, which are skipped
 pub data File (mode : Mode) : Place → FileReading → Type 0 where
   end : {u : Place} → AtEnd u → File mode u empty_reading
   skipped : {u v : Place} {c : ℕ} {says : FileReading} → CharAt u c v → not (c == char.at) && not (c == char.percent) ≡ true → File mode v says → File mode u says

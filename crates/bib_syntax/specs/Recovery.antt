@@ -70,12 +70,21 @@ entry_alone e = record { preamble = []; entries = e ∷ []; abbreviations = [] }
 abbrev pub IsBlockOf : List ℕ → EntryReading → Type 0
 IsBlockOf text e = (v : Place) × Block longest (place text e.start) (entry_alone e) v
 
--- a place lies in a block of the file grammar, or in a line comment, that begins before it
+-- recovery that begins at `start` reads on from this place: it is `start`, or the end of a step from such a place. A step is a
+-- skipped character, a line comment, a block or a skipped block
+pub data Reached (start : Place) : Place → Type 0 where
+  here : Reached start start
+  skipped : {u v : Place} {c : ℕ} → Reached start u → CharAt u c v → not (c == char.at) && not (c == char.percent) ≡ true → Reached start v
+  line_comment : {u v : Place} → Reached start u → LineComment u v → Reached start v
+  block : {u v : Place} {says : FileReading} → Reached start u → Block longest u says v → Reached start v
+  unread : {u v w : Place} {e : ParseError} → Reached start u → CharAt u char.at v → IsUnreadBlock u e → GoesOnAt v w → Reached start w
+
+-- a place lies strictly inside a block or a line comment that begins at a place reached from the start of the text
 pub record LiesInside (u : Place) : Type 0 where
   pub start : Place
   pub end : Place
+  pub reached : Reached (place u.text 0) start
   pub is : ((says : FileReading) × Block longest start says end) ⊎ LineComment start end
-  pub same : start.text ≡ u.text
   pub before : start.at < u.at
   pub following : u.at < end.at
 

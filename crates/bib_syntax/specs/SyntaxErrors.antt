@@ -103,7 +103,7 @@ pub data BlockFails : Place → ParseErrorKind → Place → Type 0 where
   body : {u v w : Place} {name : Part} {kind : ParseErrorKind} → Head longest u name v → BodyFails (block_kind name.text) v kind w
       → BlockFails u kind w
 
--- the first block that fails, after comments, blocks that are read and characters that are skipped
+-- the first block that fails, after line comments, blocks that are read and characters that are skipped
 pub data FileFails : Place → ParseErrorKind → Place → Type 0 where
   skipped : {u v w : Place} {c : ℕ} {kind : ParseErrorKind} → CharAt u c v → not (c == char.at) && not (c == char.percent) ≡ true
       → FileFails v kind w → FileFails u kind w

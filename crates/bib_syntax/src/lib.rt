@@ -2,12 +2,12 @@
 //!
 //! `raw` reads in one pass and never backs up. Each function has two clauses: `found` (Ok: the rule stands between the
 //! place before and the place after, with this reading) and `fails` (Err: the rule fails here, with this error).
-//! `words` has names, keys, numbers and texts in braces and quotes; `fields` has comments, elements and fields; `file`
+//! `words` has names, keys, numbers and texts in braces and quotes; `fields` has line comments, elements and fields; `file`
 //! has blocks and the file. Nested braces are counted, not recursed on, so that reading is linear in the text, in the
 //! depth of braces too.
 //!
-//! Beside the grammar stands how each of its rules fails, with which error and where (specs/SyntaxErrors.antt). That a
-//! rule that fails isn't read, and fails in one way, is proved of the definitions alone.
+//! specs/SyntaxErrors.antt says of each rule of the grammar how it fails, with which error and where. `laws` proves of the
+//! definitions alone that each text in UTF-8 has either one raw reading or one error, and one recovery.
 //!
 //! `recovery` reads a file of which not each block can be read: where a block fails, its error is kept, and reading goes on at
 //! the next at sign that begins a line. What a block that fails has passed is read again, so `notes` then notes once where the

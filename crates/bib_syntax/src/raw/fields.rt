@@ -26,7 +26,7 @@ pub(crate) fn line_comment(s: &mut Reader<'_, '_>)
     s.eat_line();
 }
 
-// White space, in which one comment may stand.
+// White space, in which one line comment may occur.
 pub(crate) fn gap(s: &mut Reader<'_, '_>)
     ensures { Gap longest s.old s.new }
 {
@@ -70,7 +70,7 @@ fn field<'s>(s: &mut Reader<'s, '_>, alloc: Global) -> Result<Pair<'s>, ParseErr
     Ok(Pair::new(name, Spanned::new(pieces, start..s.cursor())))
 }
 
-// The brace after fields, with white space before it, where no name stands.
+// White space up to the brace that closes fields, where no name begins.
 fn closed(s: &mut Reader<'_, '_>) -> Result<(), ParseError>
     requires { Stops is_id_start s.old }
     ensures found { OnOk result (Longest is_whitespace s.old s.new ×

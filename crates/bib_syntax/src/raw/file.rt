@@ -57,7 +57,7 @@ pub(crate) enum Item<'s> {
     Entry(Spanned<RawEntry<'s>>),
 }
 
-// The head of a block after its at sign: its name and a brace.
+// The head of a block: its at sign, its name, and a brace or a quote.
 fn head<'s>(s: &mut Reader<'s, '_>) -> Result<Spanned<&'s str>, ParseError>
     requires { (v : Place) × CharAt s.old 64 v }
     ensures found { IfOk result (λ kind. Head longest s.old (part_of kind) s.new) }
@@ -72,7 +72,7 @@ fn head<'s>(s: &mut Reader<'s, '_>) -> Result<Spanned<&'s str>, ParseError>
     Ok(kind)
 }
 
-// A comment, up to its first closing brace.
+// The rest of a comment block, with its first closing brace.
 fn comment(s: &mut Reader<'_, '_>) -> Result<(), ParseError>
     ensures found { OnOk result ((u : Place) (p : Part) →
         Body longest u p ABlock.comment s.old empty_reading s.new) }

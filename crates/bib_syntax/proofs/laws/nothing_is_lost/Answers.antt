@@ -1,6 +1,7 @@
 use Rattle.std.proofs.Common.{refl, arith}
+use Rattle.bib_syntax.specs.Recovery.{Reached}
 use Rattle.bib_syntax.proofs.RecoveryFacts.{nothing_lost}
 use Rattle.bib_syntax.proofs.laws.nothing_is_lost.Goals as goal
 
 pub returns : goal.returns
-returns c text says errors e recovers is = nothing_lost text e refl (omega arith) is recovers
+returns c text says errors e recovers is = nothing_lost text e Reached.here refl (omega arith) is recovers

@@ -1,0 +1,269 @@
+-- Each text has a raw reading or an error, and has a recovery.
+use Rattle.std.proofs.Common.{◌≡◌, ◌⊎◌, ℕ, zero, suc, ◌<◌, arith, Bool, true, false, List, [], inl, inr, refl}
+use Rattle.std.specs.Prelude.{not, ◌||◌, ◌==◌, take}
+use Rattle.std.specs.Char.{is_whitespace}
+use Rattle.std.proofs.lemmas.Bool.{cases_Bool}
+use Rattle.bib_text.specs.Places.{Place, CharAt, AtEnd}
+use Rattle.bib_text.proofs.PlaceFacts.{char_clash, test_clash}
+use Rattle.bib_syntax.specs.declared.raw.ParseErrorKind.{ParseErrorKind}
+use Rattle.bib_syntax.specs.declared.raw.ParseError.{ParseError}
+use Rattle.bib_syntax.specs.declared.raw.recovery.SkippedBlock.{SkippedBlock}
+use Rattle.bib_syntax.specs.Characters.{is_key}
+use Rattle.bib_syntax.specs.Reading.{Part, FileReading, empty_reading, then}
+use Rattle.bib_syntax.specs.Grammar.{LineComment, BlockKind, block_kind, Head, Body, Block, File, longest}
+use Rattle.bib_syntax.specs.Grammar.{Body as body}
+use Rattle.bib_syntax.specs.Grammar.{File as file}
+use Rattle.bib_syntax.specs.SyntaxErrors.{HeadFails, BodyFails, BlockFails, FileFails, Reports}
+use Rattle.bib_syntax.specs.SyntaxErrors.{HeadFails as head_fail}
+use Rattle.bib_syntax.specs.SyntaxErrors.{BodyFails as body_fail}
+use Rattle.bib_syntax.specs.SyntaxErrors.{BlockFails as block_fail}
+use Rattle.bib_syntax.specs.SyntaxErrors.{FileFails as file_fail}
+use Rattle.bib_syntax.specs.Recovery.{ends_blank, BeginsLine, GoesOnAt, Recovered}
+use Rattle.bib_syntax.specs.Recovery.{Passed as passed}
+use Rattle.bib_syntax.specs.Recovery.{Recovered as recovered}
+use Rattle.bib_syntax.proofs.LeftFacts.{Left, end_or_char, Found, found_at, found_as, Outcome, run_found, First, first, Sign, sign, is_sign}
+use Rattle.bib_syntax.proofs.WordOutcomes.{name_outcome, quoted_outcome}
+use Rattle.bib_syntax.proofs.FieldOutcomes.{line_comment_found, gap_found, fields_outcome}
+use Rattle.bib_syntax.proofs.FileFacts.{is_skipped}
+
+-- ---- blocks
+
+-- a character that may follow the name of a block
+abbrev opens_body : ℕ → Bool
+opens_body c = c == 123 || c == 34
+
+-- a character that may end a preamble
+abbrev closes_preamble : ℕ → Bool
+closes_preamble c = c == 125 || c == 34
+
+-- from one place to the other, the head of a block
+abbrev HeadAt : Place → Place → Type 0
+HeadAt u v = (p : Part) × Head longest u p v
+
+-- the head of a block is read, or fails
+head_outcome : {n : ℕ} {u v : Place} → CharAt u 64 v → Left n v → Outcome n (HeadAt u) (HeadFails u)
+head_outcome at_sign left = elim (name_outcome left) [
+  | Outcome.fails f ↦ Outcome.fails (head_fail.name at_sign f)
+  | Outcome.read name ↦
+      let white = run_found is_whitespace name.rest in
+      elim (first opens_body white.rest) [
+        | First.stops stops ↦ Outcome.fails (head_fail.brace at_sign name.rule white.rule stops)
+        | First.passes brace opens rest less ↦
+            let white' = run_found is_whitespace rest in
+            Outcome.read (found_as (omega (arith, name.fits, white.fits, less)) white' (
+              _,
+              record {
+                name_start = _;
+                name_end = name.place;
+                before_brace = white.place;
+                after_brace = _;
+                brace = _;
+                sign = at_sign;
+                name = name.rule;
+                white = white.rule;
+                opens = brace;
+                is_brace = opens;
+                white' = white'.rule;
+              },
+            ))
+      ]
+]
+
+-- from one place to the other, the rest of a block
+abbrev BodyAt : Place → Part → BlockKind → Place → Place → Type 0
+BodyAt start p k u v = (says : FileReading) × Body longest start p k u says v
+
+-- a run of other characters does not stop at another character
+other_stops : (b : Bool) → b ≡ false → not b ≡ false → ⊥
+other_stops b fails stops = cc
+
+-- the rest of a block of this kind is read, or fails
+abbrev BodyOutcome : Place → Part → BlockKind → ℕ → Place → Type 0
+BodyOutcome start p k n u = Outcome n (BodyAt start p k u) (BodyFails k u)
+
+-- a comment block is read, or fails
+comment_outcome : (start : Place) (p : Part) {n : ℕ} {u : Place} → Left n u → BodyOutcome start p BlockKind.comment n u
+comment_outcome start p left =
+    let run = run_found (λ c. not (c == 125)) left in
+    elim (sign 125 run.rest) [
+      | Sign.here close rest less ↦
+          Outcome.read (found_at (omega (arith, run.fits, less)) rest (empty_reading, body.comment run.place run.rule close))
+      | Sign.missing stops ↦ elim (end_or_char run.rest) [
+        | inl end ↦ Outcome.fails (body_fail.comment run.rule end)
+        | inr char ↦
+            let ends = run.rule.stops char.0 char.1 char.2 in
+            absurd (other_stops (char.0 == 125) (stops char.0 char.1 char.2) ends)
+      ]
+    ]
+
+-- a preamble is read, or fails
+preamble_outcome : (start : Place) (p : Part) {n : ℕ} {u : Place} → Left n u → BodyOutcome start p BlockKind.preamble n u
+preamble_outcome start p left = elim (quoted_outcome left) [
+  | Outcome.fails f ↦ Outcome.fails (body_fail.preamble f)
+  | Outcome.read q ↦
+      let white = run_found is_whitespace q.rest in
+      elim (first closes_preamble white.rest) [
+        | First.stops stops ↦ Outcome.fails (body_fail.preamble_end q.rule.1 white.rule stops)
+        | First.passes close closes rest less ↦
+            Outcome.read (found_at (omega (arith, q.fits, white.fits, less)) rest (_, body.preamble q.rule.1 white.rule close closes))
+      ]
+]
+
+-- a list of abbreviations is read, or fails
+strings_outcome : (start : Place) (p : Part) {n : ℕ} {u : Place} → Left n u → BodyOutcome start p BlockKind.strings n u
+strings_outcome start p {n} left = elim (fields_outcome (suc n) (omega arith) left) [
+  | Outcome.fails f ↦ Outcome.fails (body_fail.strings f)
+  | Outcome.read fs ↦ Outcome.read (found_as (omega arith) fs (_, body.strings fs.rule.2 fs.rule.3))
+]
+
+-- an entry is read, or fails
+entry_outcome : (start : Place) (p : Part) {n : ℕ} {u : Place} → Left n u → BodyOutcome start p BlockKind.entry n u
+entry_outcome start p left =
+    let key = run_found is_key left in
+    let white = run_found is_whitespace key.rest in
+    elim (sign 44 white.rest) [
+      | Sign.missing stops ↦ Outcome.fails (body_fail.comma key.rule white.rule stops)
+      | Sign.here comma rest less ↦
+          let g = gap_found rest in
+          elim (fields_outcome (suc g.left) (omega arith) g.rest) [
+            | Outcome.fails f ↦ Outcome.fails (body_fail.fields key.rule white.rule comma g.rule f)
+            | Outcome.read fs ↦
+                let entry = body.entry key.place key.rule white.rule comma g.rule fs.rule.2 fs.rule.3 in
+                Outcome.read (found_as (omega (arith, key.fits, white.fits, less, g.fits)) fs (_, entry))
+          ]
+    ]
+
+-- the rest of a block is read, or fails, whatever the block is
+body_outcome : (start : Place) (p : Part) (k : BlockKind) {n : ℕ} {u : Place} → Left n u → BodyOutcome start p k n u
+body_outcome start p BlockKind.comment left = comment_outcome start p left
+body_outcome start p BlockKind.preamble left = preamble_outcome start p left
+body_outcome start p BlockKind.strings left = strings_outcome start p left
+body_outcome start p BlockKind.entry left = entry_outcome start p left
+
+-- from one place to the other, a block
+abbrev BlockAt : Place → Place → Type 0
+BlockAt u v = (says : FileReading) × Block longest u says v
+
+-- a block is read at an at sign, or fails
+block_outcome : {n : ℕ} {u v : Place} → CharAt u 64 v → Left n v → Outcome n (BlockAt u) (BlockFails u)
+block_outcome {u = u} at_sign left = elim (head_outcome at_sign left) [
+  | Outcome.fails f ↦ Outcome.fails (block_fail.head f)
+  | Outcome.read head ↦
+      let name : Part = head.rule.0 in
+      elim (body_outcome u name (block_kind name.text) head.rest) [
+        | Outcome.fails f ↦ Outcome.fails (block_fail.body head.rule.1 f)
+        | Outcome.read b ↦
+            let block : Block longest u b.rule.0 b.place = record {
+              inside = head.place;
+              kind = name;
+              head = head.rule.1;
+              body = b.rule.1;
+            } in
+            Outcome.read (found_as head.fits b (_, block))
+      ]
+]
+
+-- ---- files
+
+-- a reading from a place on, or the error of the first block that fails
+abbrev FileCase : Place → Type 0
+FileCase u = ((says : FileReading) × File longest u says) ⊎ ((e : ParseError) × Reports (FileFails u) e)
+
+-- a reading or an error from a later place on makes one from this place on
+file_map : {u v : Place} (says : FileReading → FileReading) → ((r : FileReading) → File longest v r → File longest u (says r))
+    → ((kind : ParseErrorKind) (w : Place) → FileFails v kind w → FileFails u kind w) → FileCase v → FileCase u
+file_map says found failed (inl r) = inl (says r.0, found r.0 r.1)
+file_map says found failed (inr e) =
+    inr (e.0, record { kind = e.1.kind; place = e.1.place; fails = failed e.1.kind e.1.place e.1.fails; is = e.1.is })
+
+-- what comes next in a file: its end, a character that is skipped, a line comment or an at sign
+data Step (n : ℕ) (u : Place) : Type 0 where
+  ended : AtEnd u → Step n u
+  skipped : {m c : ℕ} {v : Place} → CharAt u c v → is_skipped c ≡ true → Left m v → m < n → Step n u
+  line_comment : {m : ℕ} {v : Place} → LineComment u v → Left m v → m < n → Step n u
+  at_sign : {m : ℕ} {v : Place} → CharAt u 64 v → Left m v → m < n → Step n u
+
+-- one of the four comes next
+next_step : {n : ℕ} {u : Place} → Left n u → Step n u
+next_step (Left.none end) = Step.ended end
+next_step (Left.more {c = c} char rest) = elim (cases_Bool (c == 64)) [
+  | inl is_at ↦ Step.at_sign (is_sign 64 char is_at) rest (omega arith)
+  | inr no_at ↦ elim (cases_Bool (c == 37)) [
+    | inl is_percent ↦
+        let line = line_comment_found (is_sign 37 char is_percent) rest in
+        Step.line_comment line.rule line.rest (omega (arith, line.fits))
+    | inr no_percent ↦ Step.skipped char (rw (no_at, no_percent) refl) rest (omega arith)
+  ]
+]
+
+-- from each place on there is a reading or an error
+pub file_case : (bound : ℕ) {n : ℕ} {u : Place} → n < bound → Left n u → FileCase u
+file_case zero below left = absurd (omega (arith, below))
+file_case (suc bound) below left = elim (next_step left) [
+  | Step.ended end ↦ inl (empty_reading, file.end end)
+  | Step.skipped char passes rest less ↦
+      let more = file_case bound (omega (arith, below, less)) rest in
+      file_map (λ r. r) (λ r x. file.skipped char passes x) (λ kind w f. file_fail.skipped char passes f) more
+  | Step.line_comment line rest less ↦
+      let more = file_case bound (omega (arith, below, less)) rest in
+      file_map (λ r. r) (λ r x. file.line_comment line x) (λ kind w f. file_fail.line_comment line f) more
+  | Step.at_sign char rest less ↦ elim (block_outcome char rest) [
+    | Outcome.fails f ↦ inr (_, record { kind = _; place = _; fails = file_fail.first f; is = refl })
+    | Outcome.read b ↦
+        let more = file_case bound (omega (arith, below, less, b.fits)) b.rest in
+        file_map (then b.rule.0) (λ r x. file.block b.rule.1 x) (λ kind w f. file_fail.more b.rule.1 f) more
+  ]
+]
+
+-- ---- recovery
+
+-- whether an at sign that begins a line occurs at a place
+line_case : {u v : Place} (c : ℕ) → CharAt u c v → BeginsLine u ⊎ (BeginsLine u → ⊥)
+line_case {u} {v} c char = elim (cases_Bool (c == 64)) [
+  | inr no_at ↦ inr (λ line. char_clash char line.1 no_at)
+  | inl is_at ↦ elim (cases_Bool (ends_blank (take u.at u.text))) [
+    | inl blank ↦ inl (v, is_sign 64 char is_at, blank)
+    | inr filled ↦ inr (λ line. test_clash _ line.2 filled)
+  ]
+]
+
+-- reading goes on somewhere
+goes_on_found : {n : ℕ} {u : Place} → Left n u → Found n (GoesOnAt u)
+goes_on_found (Left.none end) = found_at (omega arith) (Left.none {n = zero} end) (record { passed = passed.stop; stands = inl end })
+goes_on_found {u = u} (Left.more {c = c} char rest) =
+    let following = goes_on_found rest in
+    elim (line_case c char) [
+      | inl line ↦ found_at (omega arith) (Left.more char rest) (record { passed = passed.stop; stands = inr line })
+      | inr other ↦
+          let later : GoesOnAt u following.place = record {
+            passed = passed.step char other following.rule.passed;
+            stands = following.rule.stands;
+          } in
+          found_as (omega arith) following later
+    ]
+
+-- a recovery from a place on
+abbrev RecoveredFrom : Place → Type 0
+RecoveredFrom u = (says : FileReading) × (errors : List SkippedBlock) × Recovered u says errors
+
+-- from each place on there is a recovery
+pub recovery_found : (bound : ℕ) {n : ℕ} {u : Place} → n < bound → Left n u → RecoveredFrom u
+recovery_found zero below left = absurd (omega (arith, below))
+recovery_found (suc bound) below left = elim (next_step left) [
+  | Step.ended end ↦ (empty_reading, [], recovered.end end)
+  | Step.skipped char passes rest less ↦
+      let found = recovery_found bound (omega (arith, below, less)) rest in
+      (found.0, found.1, recovered.skipped char passes found.2)
+  | Step.line_comment line rest less ↦
+      let found = recovery_found bound (omega (arith, below, less)) rest in
+      (found.0, found.1, recovered.line_comment line found.2)
+  | Step.at_sign char rest less ↦ elim (block_outcome char rest) [
+    | Outcome.read b ↦
+        let found = recovery_found bound (omega (arith, below, less, b.fits)) b.rest in
+        (_, found.1, recovered.block b.rule.1 found.2)
+    | Outcome.fails f ↦
+        let on = goes_on_found rest in
+        let found = recovery_found bound (omega (arith, below, less, on.fits)) on.rest in
+        (found.0, _, recovered.unread char (record { kind = _; place = _; fails = f; is = refl }) on.rule found.2)
+  ]
+]
