@@ -7,7 +7,10 @@ With --definitions it prints each word of specs/ with its comment, by crate and 
   stands there exactly once. Its name is words in lowercase with hyphens between them, and no other has it.
 - crates/NAME/wrong/INDEX.md names each wrong body of its crate, in the section of its folder, with the promise that it
   breaks and the clause that refuses it, and none that isn't there.
+- Each wrong body that the promises name is tried by the gate, or shown by the tests that are named with it (PROMISED).
 - Each file of specs/ says in its first line whether it is meaning or machinery.
+- No comment has a name with an underscore outside of backticks: a name that a script put there reads as prose.
+- The public surface of `biblatex` is that of tests/surface.txt (tests/surface.py).
 - Each word that a public contract cites has a comment in specs/. No word is defined in two files of specs/, and no
   definition says the code of a character that has a name.
 - Each public call of `biblatex` that may be refused memory is named in a test, which calls it where memory is there.
@@ -25,12 +28,55 @@ import sys
 
 import out_of_memory
 
+sys.path.insert(0, str(pathlib.Path(__file__).resolve().parent / "tests"))
+import surface
+
 TOP = pathlib.Path(__file__).resolve().parent
 CRATES = TOP / "crates"
 FOLDERS = ("must-fail", "wrong")
 DEFINITION = re.compile(r"(?:(?:pub|abbrev|unfoldable|opaque|data|record) )+([A-Za-z_][\w'-]*)(?=[ :(]|$)")
 NAMED = re.compile(r"(?m)^(\w+) = (\d+)$")
 CODE = re.compile(r"(?:== |≡ |CharAt [\w']+ |cut_at [\w'.]+ )(\d+)\b|(?<![\w'.])(\d+)(?= ∷)")
+# Wrong bodies that the promises of the library name, each with the edits in must-fail/ that stand for it, or the file and the
+# text of a test that shows it.
+PROMISED = {
+    "references are copied as they are written, and not as they are resolved": ["bib_references/copies-references-as-written"],
+    "a cycle is reported at any second meeting of an entry": ["bib_graph/cycle-at-any-second-meeting"],
+    "the first dated reference wins": ["bib_references/first-dated-reference-wins"],
+    "the date of a reference overwrites an own date": ["bib_references/date-of-a-reference-overwrites-an-own-one"],
+    "an entry that cannot be parsed is skipped": ["bib_syntax/unreadable-entry-skipped"],
+    "an entry needs no comma after its key": ["bib_syntax/entry-without-its-comma"],
+    "an undefined name says nothing": ["bib_abbreviations/undefined-name-reads-as-nothing"],
+    "all pieces of a value are read as one text": ["bib_abbreviations/pieces-read-as-one-text"],
+    "a later entry with a claimed key replaces the earlier": ["bib_file_entries/later-duplicate-replaces-the-earlier"],
+    "a name that was taken over finds its old entry, or there are no names":
+        ["bib_maps/taken-over-key-finds-its-old-entry", "biblatex/names-left-empty"],
+    "verbatim chunks are written without braces": ["bib_chunks/no-braces-round-verbatim"],
+    "an ampersand or a backslash is not escaped": ["bib_chunks/no-escape-of-ampersand", "bib_chunks/no-escape-of-backslash"],
+    "`is_settled` always says yes, or always no":
+        ["bib_styled/is-settled-always", "bib_styled/is-settled-never", "biblatex/bibliography-is-settled-always",
+         "biblatex/bibliography-is-settled-never"],
+    "`remove` leaves later indices as they are": ["bib_maps/remove-leaves-later-places"],
+    "`insert` appends on a present name": ["biblatex/insert-appends-on-a-present-name"],
+    "a list of people is cut at `and` inside a word": ["bib_chunks/and-cut-inside-a-word"],
+    "a shared parent is resolved anew on each use": ["bib_references/shared-parent-resolved-anew"],
+    "a raw piece is copied out trimmed": ["bib_syntax/raw-piece-trimmed"],
+    "a typed setter keeps the old value": ["bib_fields/setter-keeps-the-old-value"],
+    "a call always answers out of memory": ["tests/src/calls/values.rs: #[test]", "check.py: def check_calls"],
+    "a class of kept values is empty":
+        ["bib_typed/empty-kept-class", "bib_typed/no-range-is-kept", "bib_typed/no-ranges-are-kept", "bib_typed/no-text-is-kept",
+         "bib_typed/no-texts-are-kept", "bib_typed/no-language-is-kept", "bib_typed/no-languages-are-kept",
+         "bib_typed/no-pagination-is-kept", "bib_typed/no-gender-is-kept", "bib_typed/no-editor-type-is-kept",
+         "bib_typed/no-people-are-kept", "bib_typed/no-date-is-kept", "bib_typed/permissive-keeps-nothing"],
+    "the topological order is the order of the file": ["bib_graph/turns-in-file-order"],
+    "an own month alone stops the inheritance of a date": ["bib_references/own-month-alone-stops-inheritance"],
+    "a child with an own year is refused for its parent's date": ["bib_references/own-year-refused-for-the-date-of-the-parent"],
+    "a circumflex is written as a command in math too": ["bib_chunks/circumflex-command-in-math"],
+    "`is_settled` accepts any math without a dollar sign": ["bib_styled/settled-takes-any-math-without-dollar"],
+    "every syntax error is an early end at 0..0": ["tests/rows/syntax.stdout: keys|@article{a} => expected comma: 10-10"],
+    "empty chunks are dropped, or stand between all others":
+        ["bib_styled/neighbours-of-one-kind-stay-apart", "tests/rows/contents.stdout: title|a{}b => N<a>V<>N<b>"],
+}
 errors = []
 
 
@@ -94,6 +140,33 @@ def check_indexes():
             for name in named[folder]:
                 if name not in names or named[folder].count(name) > 1:
                     error(index, f"it names {folder}/{name}, which isn't there once")
+
+
+def check_promised():
+    """Each named wrong body has its edits in must-fail/, or its tests."""
+    for body, shown in PROMISED.items():
+        for it in shown:
+            file, is_test, text = it.partition(": ")
+            crate, _, name = file.partition("/")
+            if is_test:
+                if not (TOP / file).is_file() or text not in (TOP / file).read_text():
+                    error(TOP / file, f"it lacks {text!r}, which shows that it is wrong if {body}")
+            elif not (CRATES / crate / "must-fail" / f"{name}.edit").is_file():
+                error(CRATES / crate / "must-fail", f"it lacks {name}.edit, which shows that it is wrong if {body}")
+
+
+def check_comments():
+    """A name with an underscore stands in backticks in a comment."""
+    for file in [*sorted(CRATES.glob("*/**/*.rt")), *sorted(CRATES.glob("*/**/*.antt"))]:
+        for number, line in enumerate(file.read_text().splitlines(), 1):
+            comment = re.match(r"\s*(?://[/!]?|--) (.*)", line)
+            if comment and re.search(r"\b[a-z]+_[a-z]", re.sub(r"`[^`]*`|\[[^\]]*\]", "", comment[1])):
+                error(file, f"line {number} has a name outside of backticks: {comment[1]}")
+
+
+def check_surface():
+    for path, why in surface.compare(TOP):
+        error(path, why)
 
 
 def contracts(text):
@@ -313,6 +386,9 @@ def check_theorems():
 def main():
     names = edits()
     check_indexes()
+    check_promised()
+    check_comments()
+    check_surface()
     check_definitions()
     check_specs()
     check_words()

@@ -9,7 +9,7 @@ core, and what is printed are ratios, `bib` over OTHER: processor time (user and
 memory, instructions (by valgrind, where it is there), and for each program how its time grows from 1,000 to 100,000
 entries, per entry. With --references nine of ten entries refer to another, and inherit five fields of it and its date.
 
-With --table it prints one table of all: reading within a process, by the program of crates/bench and by `OTHER bench ROUNDS FILE
+With --table it prints one table of all: reading within a process, by the program of bench/reading and by `OTHER bench ROUNDS FILE
 COMMAND`, which prints the least time of a reading in a line `parse: min N ns`; the commands `keys` and `biblatex`; values that are
 hard to read fast; and how the time of `bib biblatex` grows up to a million entries.
 """
@@ -21,6 +21,8 @@ import shutil
 import subprocess
 import sys
 import tempfile
+
+import building
 
 WORDS = ("sparse systems theory survey {Bayesian} {DNA} folding rivers $O(n)$ time methods large weak "
          "assumptions design notes on the of with").split()
@@ -133,7 +135,7 @@ def write_value(path, field, text, size):
 
 
 def own_reading(bench, what, path, rounds):
-    """The least nanoseconds of a reading within the program of crates/bench."""
+    """The least nanoseconds of a reading within the program of bench/reading."""
     with open(path, "rb") as text:
         return int(subprocess.run([bench, what, str(rounds)], stdin=text, stdout=subprocess.PIPE, check=True).stdout)
 
@@ -190,12 +192,13 @@ def main():
     options.add_argument("--rounds", type=int, default=9)
     options.add_argument("--references", action="store_true")
     options.add_argument("--table", action="store_true")
-    options.add_argument("--bench", default=os.path.join(top, "crates/bench/out/bench"))
+    options.add_argument("--bench", help="the built program of bench/reading; without one it is proved and built")
     chosen = options.parse_args()
     programs = [chosen.bib, chosen.other]
     os.sched_setaffinity(0, {min(os.sched_getaffinity(0))})
     if chosen.table:
         with tempfile.TemporaryDirectory() as folder:
+            chosen.bench = chosen.bench or building.build("reading", os.path.join(folder, "reading"), ["raw", "0"])
             compare_all(chosen, folder)
         return
     print(f"bib {chosen.command} against {os.path.basename(chosen.other)}, one core of {os.cpu_count()}")

@@ -23,6 +23,8 @@ import sys
 import tempfile
 import time
 
+import building
+
 TOP = pathlib.Path(__file__).resolve().parent.parent
 
 
@@ -36,19 +38,8 @@ def generated(count):
 
 
 def built(folder):
-    """Proves and builds the program in a crate that is there for so long."""
-    program = os.path.join(folder, "recover")
-    with tempfile.TemporaryDirectory(dir=TOP / "bench", prefix="recover-") as crate:
-        work = pathlib.Path(crate)
-        (work / "src").mkdir()
-        shutil.copy(TOP / "bench" / "recover" / "main.rt.txt", work / "src" / "main.rt")
-        (work / "BUILD.bazel").write_text('rattle_crate(name = "recover", deps = ["//crates/biblatex"])\n')
-        done = subprocess.run(["rt", "run", "--", "parse"], cwd=work, stdin=subprocess.DEVNULL, stdout=subprocess.PIPE,
-                              stderr=subprocess.STDOUT, text=True)
-        if done.returncode:
-            sys.exit("\n".join(done.stdout.splitlines()[-20:]) + "\nrecover: the program was not built")
-        shutil.copy(work / "out" / "recover", program)
-    return program
+    """Proves and builds the program."""
+    return building.build("recover", os.path.join(folder, "recover"), ["parse"])
 
 
 def seconds(program, word, text):

@@ -16,6 +16,8 @@ mod entries;
 mod excerpts;
 mod exports;
 mod formats;
+#[cfg(test)]
+mod guide;
 mod imports;
 mod items;
 mod resolutions;

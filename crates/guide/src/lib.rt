@@ -1,4 +1,5 @@
-//! The examples of docs/GUIDE.md, each as a test.
+//! Three examples of docs/GUIDE.md as tests, proved as a user's code is: reading, changing, and code of the Rust crate. The
+//! others are tests in tests/src/guide.rs.
 #![tactic(auto)]
 
 #[cfg(test)]
