@@ -309,7 +309,7 @@ abbrev blank : Entry
 blank = record { key = []; entry_type = Misc; fields = by_name.empty }
 
 blank_source : source_of_entry blank ≡ no_entry
-blank_source = λ i. record { kind = Misc; fields = λ name. ap (option_map styled) (get-empty {X = Value} nat_list_cmp_total name) i }
+blank_source = λ i. record { kind = Misc; fields = λ name. ap (option_map styled) (get-empty by_bytes name) i }
 
 entry_at : (own : List Entry) (index : ℕ) → source_of_entry (get_or own index blank) ≡ at_index (sources_of own) index
 entry_at own index = sym (get_or-map source_of_entry own index blank) ∙ ap (get_or (sources_of own) index) blank_source
@@ -337,6 +337,7 @@ module _ (own : List Entry) (graph : Graph) (long : length graph ≡ length own)
   values = solved.0
 
   each : (index : ℕ) → index < length graph → get_or values index blank ≡ next own index (map (λ r. get_or values r blank) (refs_of graph index))
+  unfolding values solved
   each index within = solved.1.each index within
 
   is_heir : (index : ℕ) → index < length graph → IsHeir (get_or own index blank) (map (λ r. get_or values r blank) (refs_of graph index)) (get_or values index blank)
@@ -351,6 +352,7 @@ module _ (own : List Entry) (graph : Graph) (long : length graph ≡ length own)
       ∙ ap (inherited (at_index (sources_of own) index)) (at_indices values (refs_of graph index))
 
   long_values : length values ≡ length graph
+  unfolding values solved
   long_values = solved.1.same_length
 
   key_at : (entries : List Entry) (index : ℕ) → get_or (map (λ (e : Entry). e.key) entries) index [] ≡ (get_or entries index blank).key

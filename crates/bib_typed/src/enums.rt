@@ -30,7 +30,7 @@ impl Type for Pagination {
 
     ghost writes = { pagination_written };
 
-    ghost kept = { λ _. ⊤ };
+    ghost kept = { λ scheme. ⊤ };
 
     ghost survives = { λ scheme _. pagination_survives scheme };
 
@@ -58,7 +58,7 @@ impl Type for Gender {
 
     ghost writes = { gender_written };
 
-    ghost kept = { λ _. ⊤ };
+    ghost kept = { λ gender. ⊤ };
 
     ghost survives = { λ gender _. gender_survives gender };
 
@@ -86,7 +86,7 @@ impl Type for Language {
 
     ghost writes = { language_written };
 
-    ghost kept = { λ _. ⊤ };
+    ghost kept = { λ language. ⊤ };
 
     ghost survives = { λ language _. language_survives language };
 
