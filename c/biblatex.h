@@ -41,10 +41,14 @@ enum biblatex_format {
 /* The keys of a file's entries in its order, each in a line of its own. */
 uint32_t biblatex_keys(const uint8_t *text, size_t length, uint8_t *out, size_t capacity, size_t *size);
 
-/* The bibliography that a text is, in the types and fields of BibLaTeX. */
+/* Writes the bibliography of a text with escapes, in the types and fields of BibLaTeX. A command that the reader does not
+   know is plain text: \emph{x} is written \\emph\{x\}, and outside verbatim fields ~ is written \textasciitilde{}. The edits
+   (biblatex_set to biblatex_add) and biblatex_fmt keep a file's own text. */
 uint32_t biblatex_biblatex(const uint8_t *text, size_t length, uint8_t *out, size_t capacity, size_t *size);
 
-/* The bibliography that a text is, in the types and fields of BibTeX. */
+/* Writes the bibliography of a text with escapes, in the types and fields of BibTeX. A command that the reader does not
+   know is plain text: \emph{x} is written \\emph\{x\}, and outside verbatim fields ~ is written \textasciitilde{}. The edits
+   (biblatex_set to biblatex_add) and biblatex_fmt keep a file's own text. */
 uint32_t biblatex_bibtex(const uint8_t *text, size_t length, uint8_t *out, size_t capacity, size_t *size);
 
 /* The entries of a bibliography, with chunks and typed values, as an array of JSON (docs/entries.schema.json). */
@@ -53,9 +57,10 @@ uint32_t biblatex_json(const uint8_t *text, size_t length, uint8_t *out, size_t 
 /* The entries of a bibliography as an array of items of CSL-JSON. */
 uint32_t biblatex_csl(const uint8_t *text, size_t length, uint8_t *out, size_t capacity, size_t *size);
 
-/* What can be read of a text, whatever is wrong in it, in a format of enum biblatex_format, as the four calls above write the
-   bibliography that a text is. biblatex_lint says what is wrong. Bytes that aren't UTF-8 are read as Windows-1252. It refuses
-   a number alone that no format has. */
+/* Writes what can be read of a text, in a format of enum biblatex_format. In the first two formats it escapes each command
+   that the reader does not know, as biblatex_biblatex and biblatex_bibtex do; the edits keep a file's own text. Each format
+   is that of one of the four calls above. biblatex_lint reports what is wrong. Bytes that aren't UTF-8 are read as
+   Windows-1252. The only input that it refuses is a number of no format. */
 uint32_t biblatex_recover(const uint8_t *text, size_t length, uint32_t format, uint8_t *out, size_t capacity, size_t *size);
 
 /* What is wrong in a text, as an array of JSON: of each finding file (empty), line and column (from 1), severity, code and
@@ -68,7 +73,8 @@ uint32_t biblatex_lint(const uint8_t *text, size_t length, uint8_t *out, size_t 
 /* The text in the usual style. */
 uint32_t biblatex_fmt(const uint8_t *text, size_t length, uint8_t *out, size_t capacity, size_t *size);
 
-/* The text with a field of an entry set to a text in braces. All else stays byte for byte, as in the next four. */
+/* The text with a field of an entry set to a text in braces, which is written as given, without escapes. All else stays
+   byte for byte, as in the next four. */
 uint32_t biblatex_set(const uint8_t *text, size_t length, const uint8_t *key, size_t key_length, const uint8_t
     *name, size_t name_length, const uint8_t *value, size_t value_length, uint8_t *out, size_t capacity,
     size_t *size);

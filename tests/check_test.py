@@ -40,6 +40,67 @@ fn read(chunks: ChunksRef<'_>) -> Result<Date, TypeError> {
     "another name": "use std::alloc::{AllocError as Refused, Global};\n",
     "another name of the type": "type Refused = std::alloc::AllocError;\n",
     "a value in a test": "fn f() -> bool {\n    matches!(g(AllocError), Ok(_))\n}\n",
+    "a split that is given a size": """
+fn unless_out_of_memory(n: usize) -> Result<(), AllocError> {
+    if n > 50_000_000 {
+        return Err(AllocError);
+    }
+    Ok(())
+}
+""",
+    "a split of a type that isn't an error": """
+impl Names {
+    fn unless_out_of_memory(&self) -> Result<(), AllocError> {
+        match self.state {
+            State::OutOfMemory => Err(AllocError),
+            _ => Ok(()),
+        }
+    }
+}
+""",
+    "a split that is given a size too": """
+impl TypeError {
+    fn unless_out_of_memory(self, n: usize) -> Result<TypeError, AllocError> {
+        match n {
+            0 => Ok(self),
+            _ => Err(AllocError),
+        }
+    }
+}
+""",
+    "another variant in a split": """
+impl TypeError {
+    fn unless_out_of_memory(self) -> Result<TypeError, AllocError> {
+        match self.kind {
+            TypeErrorKind::OutOfMemory => Err(AllocError),
+            TypeErrorKind::InvalidNumber => Err(AllocError),
+            _ => Ok(self),
+        }
+    }
+}
+""",
+    "another variant beside it in a split": """
+fn unless_out_of_memory(error: ReadError) -> Result<(), AllocError> {
+    match error {
+        ReadError::Unread | ReadError::OutOfMemory => Err(AllocError),
+        _ => Ok(()),
+    }
+}
+""",
+    "a growth by the greatest size": """
+fn f(alloc: Global, src: &str) -> Result<(), AllocError> {
+    if src.len() > 50_000_000 {
+        let _room: Vec<u8> = Vec::with_capacity(alloc, usize::MAX)?;
+    }
+    Ok(())
+}
+""",
+    "a growth by a large number": "fn f(mut names: Vec<Text>) -> Result<(), AllocError> {\n    names.reserve(1_000_000_000_000)\n}\n",
+    "a growth by a large constant": "const MANY: usize = 1_000_000_000_000;\n\nfn f(text: &mut String) -> Result<(), AllocError> {\n    text.reserve_exact(MANY)\n}\n",
+    "a growth by an unknown constant": "fn f(text: &mut String) -> Result<(), AllocError> {\n    text.try_reserve(MANY)\n}\n",
+    "a growth by a product": "fn f(text: &mut String, names: &[Text]) -> Result<(), AllocError> {\n    text.reserve(names.len() * 4096)\n}\n",
+    "a growth by a call": "fn f(text: &mut String, names: &[Text]) -> Result<(), AllocError> {\n    text.reserve(names.len().saturating_mul(4096))\n}\n",
+    "a growth by a shift": "fn f(alloc: Global, text: &str) -> Result<String, AllocError> {\n    text.repeat(alloc, text.len() << 40)\n}\n",
     "after a text with marks of a comment": "fn f() -> Result<(), AllocError> {\n    let _x = \"http://a\"; Err(AllocError)\n}\n",
 }
 
@@ -108,6 +169,45 @@ fn f(e: &Kind) -> u8 {
         Kind::Other | Kind::OutOfMemory if g().is_ok() => 6,
         Kind::OutOfMemory => 7,
     }
+}
+""",
+    "a split of an error by reference": """
+impl ParseError {
+    pub fn unless_out_of_memory(&self) -> Result<(), AllocError> {
+        match self.kind {
+            ParseErrorKind::OutOfMemory => Err(AllocError),
+            _ => Ok(()),
+        }
+    }
+}
+""",
+    "splits of errors of other crates": """
+fn unless_out_of_memory(error: ReplaceError) -> Result<ReplaceError, AllocError> {
+    match error {
+        ReplaceError::OutOfMemory => Err(AllocError),
+        ReplaceError::NotReplaced(error) if error.kind() == ErrorKind::OutOfMemory => {
+            Err(AllocError)
+        }
+        error => Ok(error),
+    }
+}
+
+fn unless_out_of_memory(error: ConvertError) -> Result<ParseError, AllocError> {
+    match error {
+        ConvertError::File(file) => Ok(file),
+        ConvertError::NotTaken | ConvertError::OutOfMemory => Err(AllocError),
+    }
+}
+""",
+    "usual sizes": """
+const USUAL_LENGTH: usize = 1024;
+
+fn reserve(&mut self, count: usize) -> Result<(), AllocError> {
+    let mut names = Vec::with_capacity(*self.names.allocator(), raw.fields.len())?;
+    names.reserve_exact(given.len().saturating_add(more))?;
+    self.pairs.reserve(1)?;
+    let mut out = Writer::new(Vec::with_capacity(alloc, USUAL_LENGTH)?);
+    out.reserve(count)
 }
 """,
     "a copy": "fn clone(&self) -> Kind {\n    match self {\n        Kind::OutOfMemory => Kind::OutOfMemory,\n    }\n}\n",

@@ -59,15 +59,21 @@ class Library(Mapping[str, Entry]):
         return tuple(self._by_key.values())
 
     def to_biblatex(self) -> str:
-        """The bibliography in the types and fields of BibLaTeX, each entry with what it inherits.
+        """Writes the bibliography with escapes, in the types and fields of BibLaTeX.
 
-        The values are written anew: of some, as math with a brace that nothing closes, what is written isn't read again as the
-        same. Edits, as `set_field`, leave values as they stand.
+        A command that the reader does not know is plain text: `\\emph{x}` is written `\\\\emph\\{x\\}`, and outside verbatim
+        fields `~` is written `\\textasciitilde{}`. Edits, as `set_field`, keep a file's own text. Each entry has the fields that
+        it inherits. Some values don't parse back to themselves, for example math with an unclosed brace.
         """
         return self._source.written(Format.BIBLATEX).decode()
 
     def to_bibtex(self) -> str:
-        """The bibliography in the types and fields of BibTeX, each entry with what it inherits."""
+        """Writes the bibliography with escapes, in the types and fields of BibTeX.
+
+        A command that the reader does not know is plain text: `\\emph{x}` is written `\\\\emph\\{x\\}`, and outside verbatim
+        fields `~` is written `\\textasciitilde{}`. Edits, as `set_field`, keep a file's own text. Each entry has the fields that
+        it inherits.
+        """
         return self._source.written(Format.BIBTEX).decode()
 
     def to_csl(self) -> list[dict[str, Any]]:
@@ -102,6 +108,8 @@ def recover(text: AnyText) -> tuple[Library, list[Fault]]:
 
     Blocks that can't be read are left out, as are entries whose key is taken and fields whose text can't be read; the guide
     has the list. Bytes that aren't UTF-8 are read as Windows-1252, and chunks have the places of that text in UTF-8.
+
+    The writers of the library escape commands that the reader does not know, as `to_biblatex` says.
     """
     data = as_bytes(text)
     return Library(Source(data, recovers=True)), faults_with(data, READING_CODES)

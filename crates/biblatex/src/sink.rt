@@ -29,8 +29,8 @@ pub trait Sink {
         ensures handed { hands_over self.old text.now result self.new };
 }
 
-// Writes the bytes, each once. False if the writer refuses: then it has taken some first ones of them, and is offered no
-// more. A write that was interrupted took nothing, and is tried again.
+// Writes the bytes, each once. Returns false if the writer refuses: it has then taken a first part of them, at most. A write
+// that was interrupted took nothing, and is tried again.
 fn write_once<W: Write>(writer: &mut W, bytes: &[u8]) -> bool
     ensures whole { OnTrue result (Appends (W.contents writer.old) (W.contents writer.new) bytes.now) }
     ensures part { OnFalse result (AppendsPart (W.contents writer.old) (W.contents writer.new) bytes.now) }
@@ -50,8 +50,8 @@ fn write_once<W: Write>(writer: &mut W, bytes: &[u8]) -> bool
     false
 }
 
-/// A writer as a sink. It takes a text by writing each of its bytes once, and offers the writer none of a text's bytes
-/// after one that the writer refused.
+/// A writer as a sink. A text that is taken is written once. Of a text that is refused, the writer has a first part, at most
+/// once.
 #[derive(Drop)]
 pub struct Output<W> {
     writer: W,
