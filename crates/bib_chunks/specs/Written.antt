@@ -1,6 +1,6 @@
 -- Meaning: words of public contracts.
 -- Values as they are written in a file. A written text is given by its characters.
-use Rattle.std.specs.Prelude.{ℕ, Bool, true, false, ◌==◌, ◌||◌, not, if◌then◌else◌, List, [], ◌∷◌, ◌++◌, codes}
+use Rattle.std.specs.Prelude.{ℕ, Bool, true, false, ◌==◌, ◌||◌, if◌then◌else◌, List, [], ◌∷◌, ◌++◌, codes}
 use Rattle.std.specs.List.{flat_map}
 use Rattle.std.specs.Str.{chars}
 use Rattle.bib_chunks.specs.declared.chunk.Chunk.{Chunk}
@@ -26,13 +26,6 @@ spelled is_verbatim c =
     else if c == char.tilde then codes "\\textasciitilde{}"
     else if c == char.circumflex then codes "\\textasciicircum{}"
     else c ∷ []
-
--- whether a character stands for itself
-unfoldable pub is_bare : Bool → ℕ → Bool
-is_bare is_verbatim c =
-    if is_grouping c then false
-    else if is_verbatim then true
-    else not (is_reserved c || c == char.tilde || c == char.circumflex)
 
 -- how a text is written, character by character
 abbrev pub spelling : Bool → List ℕ → List ℕ

@@ -2,8 +2,8 @@
 
 ghost use Rattle.std.specs.Prelude.{◌≡◌, ◌∷◌, [], ◌++◌, false, OnOk, IfOk, string_bytes, encode_utf8_all};
 ghost use Rattle.std.specs.Str.{chars};
-ghost use Rattle.bib_chunks.specs.Written.{is_grouping, is_reserved, is_bare, spelled, spelling, lead, trail, is_open_after, written_chunk, written_chunks, written_value};
-ghost use Rattle.bib_chunks.specs.Writing.{Writes};
+ghost use Rattle.bib_chunks.specs.Written.{is_grouping, is_reserved, spelled, spelling, lead, trail, is_open_after, written_chunk, written_chunks, written_value};
+ghost use Rattle.bib_chunks.specs.Writing.{Writes, is_bare};
 
 use super::{Chunk, ChunksRef};
 use bib_text::scanner::Scanner;
@@ -26,7 +26,7 @@ fn is_reserved(c: char) -> bool
 }
 
 // Whether the character stands for itself.
-#[tactic(auto, unfolding(crate::specs::Written::is_bare, crate::specs::Written::is_grouping, crate::specs::Written::is_reserved))]
+#[tactic(auto, unfolding(crate::specs::Writing::is_bare, crate::specs::Written::is_grouping, crate::specs::Written::is_reserved))]
 fn is_bare(is_verbatim: bool, c: char) -> bool
     ensures { result ≡ is_bare is_verbatim c }
 {

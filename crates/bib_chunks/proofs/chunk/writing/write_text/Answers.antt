@@ -1,7 +1,7 @@
 use Rattle.std.proofs.Common.{◌∙◌, refl, rules}
 use Rattle.std.specs.Prelude.{string_bytes}
 use Rattle.bib_text.specs.Places.{Longest, between}
-use Rattle.bib_chunks.specs.Written.{is_bare}
+use Rattle.bib_chunks.specs.Writing.{is_bare}
 use Rattle.bib_text.proofs.TextFacts.{less_left, pushed_part}
 use Rattle.bib_chunks.proofs.WrittenFacts.{written_run_char, written_run_end}
 use Rattle.bib_chunks.proofs.chunk.writing.write_text.Goals as goal
