@@ -15,8 +15,9 @@ mv "$room/crates/bib" "$room/crates/bib_commands"
 (cd "$room/crates/bib_commands/src" && sed -n '/^#!/p; s/^mod /pub mod /p' main.rt > lib.rt && rm main.rt)
 find "$room/crates/tests" -name '*.rs' | while IFS= read -r file; do mv "$file" "${file%.rs}.rt"; done
 cp -r tests/rows HANDLES "$room/"
+python3 tests/expected.py "$room"/rows/*.stdout
 libraries=$(cd "$room" && ls -d crates/bib*/src/lib.rt | cut -d/ -f2 | grep -vx bib_c)
-{ grep '^bib' crates.txt | sed 's/^bib:/bib_commands:/'; echo "tests:" $libraries; } > "$room/crates.txt"
+{ grep '^bib' crates.txt | sed 's/^bib:/bib_commands:/'; echo "tests: sha2" $libraries; } > "$room/crates.txt"
 cd "$room/crates/tests"
 rt try --seconds 300 --cases "$room/rows" > "$room/answers" 2>&1 & rows=$!
 rt try --seconds 300 --test > "$room/functions" 2>&1 & functions=$!
