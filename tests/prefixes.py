@@ -4,10 +4,11 @@
     tests/prefixes.py PROGRAM
 
 The examples are the rows `cuts` of tests/rows/bibliographies.stdout. `keys` and `biblatex` must read each prefix, with status 0, or
-refuse it with one line that begins with `error: `, and status 1; the place that a syntax error reports lies in the prefix. Of a
-whole example `biblatex` must report the error that its row wants, or none where the row says `parsed`. The status of this script
-is 1 if a run is wrong, or if there are no runs.
+refuse it with one line that begins with `error: `, and status 1. The span of a syntax error must lie in the prefix. On a whole example
+`biblatex` must print the error that the row wants, or none if the row says `parsed`. The status of this script is 1 if a run is
+wrong, or if there are no runs.
 """
+import concurrent.futures
 import os
 import pathlib
 import re
@@ -73,9 +74,9 @@ def main(words):
     program = os.path.abspath(words[0])
     texts = list(examples(ROWS.read_text(encoding="utf-8")))
     runs, found = 0, []
-    for text, answer in texts:
-        more, wrong_ones = faults(program, text, answer)
-        runs, found = runs + more, found + wrong_ones
+    with concurrent.futures.ThreadPoolExecutor() as pool:
+        for more, wrong_ones in pool.map(lambda it: faults(program, *it), texts):
+            runs, found = runs + more, found + wrong_ones
     for it in found:
         print(it)
     print(f"prefixes: {len(texts)} examples, {runs} runs, {len(found)} failed")
