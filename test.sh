@@ -1,8 +1,8 @@
 #!/usr/bin/env bash
-# Looks, without the prover, whether wrong bodies fit, docs/ name what there is and out of memory is only passed on; runs the tests; proves every crate from
-# nothing, tries the wrong bodies that must be refused, and runs the program; runs the programs that it built on more inputs, the library for C from C and from
-# Python, and tries the archive of a release. Each check has one processor: a second one costs as much again as it saves.
-# A program that wasn't built, a compiler or an interpreter that is missing fails the gate. Only the shells zsh and fish may be missing.
+# The gate. Runs check.py and the tests; proves every crate from nothing, tries the wrong bodies that must be refused, and runs the
+# programs, by `rt ci`; runs the built programs on more inputs, and the library for C from C and from Python; makes the archive of a
+# release and tries it. Each check has one processor: a second one costs as much again as it saves.
+# A program that isn't built, and a missing compiler or interpreter, fail the gate. The shells zsh and fish, and mypy, may be missing.
 set -eu
 cd "$(dirname "$0")"
 bib=crates/bib/out/bib

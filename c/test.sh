@@ -1,6 +1,6 @@
 #!/usr/bin/env bash
 # Builds c/test.c with the library for C, and runs it, once as it is and once with the sanitizers for addresses and undefined behaviour.
-# It fails where there is no C compiler, or the library isn't built.
+# It fails if there is no C compiler, or if the library isn't built.
 set -eu
 cd "$(dirname "$0")"
 library=../crates/bib_c/out/libbiblatex.a

@@ -1,5 +1,5 @@
 #!/usr/bin/env bash
-# Runs the tests of the Python package, and mypy over it if that is installed. It fails where there is no Python 3.9 or later, or the
+# Runs the tests of the Python package, and mypy over it if that is installed. It fails if there is no Python 3.9 or later, or if the
 # shared object isn't built.
 set -eu
 cd "$(dirname "$0")"

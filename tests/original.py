@@ -2,12 +2,12 @@
 """Runs a built `bib` on many inputs, and compares it with what the Rust crate `biblatex` 0.12.0 printed: tests/original.py PROGRAM
 
 tests/original/outputs.jsonl has the inputs, and what the Rust crate printed of each, with its status; tests/original/make.py made it.
-`bib` must print the same with the same status. Where it doesn't, tests/original/differences.jsonl has the input with the name of a
-rule and with what is wanted of `bib` by that rule, for each command that differs. A rule is named in tests/original/rules.txt, with the
-words by which its row in docs/DIFFERENCES.md begins.
+`bib` must print the same with the same status, except on the inputs of tests/original/differences.jsonl. Each of these has the name of
+a rule, and what `bib` must print by that rule, for each command that differs. tests/original/rules.txt lists the rules, with the words
+by which their rows of docs/DIFFERENCES.md begin.
 
-The status is 1 if a run is wrong, a rule has no row or no input, a difference is none or is of an input that isn't recorded, or fewer
-than 500 inputs are recorded.
+The status is 1 if a run is wrong, if a rule has no row or no input, if an input of a difference isn't recorded or doesn't differ, or if
+fewer than 500 inputs are recorded.
 """
 import concurrent.futures
 import json
@@ -24,7 +24,7 @@ LEAST = 500
 
 def rows(name):
     """The objects in the lines of a file; a command that names another one gets that one's output."""
-    for line in (FOLDER / name).read_text(encoding="utf-8").splitlines():
+    for line in (FOLDER / name).read_text(encoding="utf-8").rstrip("\n").split("\n"):
         row = json.loads(line)
         for command in COMMANDS:
             if isinstance(row.get(command), str):
@@ -35,7 +35,7 @@ def rows(name):
 def faults_of_rules(differences):
     """Each rule that has no row in docs/DIFFERENCES.md or no input, and each that isn't listed."""
     document = (TOP / "docs" / "DIFFERENCES.md").read_text(encoding="utf-8")
-    rules = dict(line.split(": ", 1) for line in (FOLDER / "rules.txt").read_text(encoding="utf-8").splitlines())
+    rules = dict(line.split(": ", 1) for line in (FOLDER / "rules.txt").read_text(encoding="utf-8").rstrip("\n").split("\n"))
     used = {row["rule"] for row in differences}
     for name, start in rules.items():
         if f"\n| {start}" not in document:

@@ -22,7 +22,7 @@ ROWS = TOP / "tests" / "rows" / "bibliographies.stdout"
 
 def examples(rows):
     """The text of each row `cuts`, with characters in place of their numbers, and its answer."""
-    for row in rows.splitlines():
+    for row in rows.split("\n"):
         if row.startswith("cuts|"):
             text, _, answer = row.removeprefix("cuts|").partition(" => ")
             yield re.sub("⟨([0-9A-F]+)⟩", lambda found: chr(int(found[1], 16)), text), answer

@@ -191,9 +191,9 @@ KINDS = ((entries_of_all_types, 110), (contents, 130), (verbatim, 50), (dates, 7
 
 def inputs():
     """The inputs of the differences, the written ones, and those that are made."""
-    for line in (HERE / "differences.jsonl").read_text(encoding="utf-8").splitlines():
+    for line in (HERE / "differences.jsonl").read_text(encoding="utf-8").rstrip("\n").split("\n"):
         yield json.loads(line)["in"]
-    for line in (HERE / "inputs.txt").read_text(encoding="utf-8").splitlines():
+    for line in (HERE / "inputs.txt").read_text(encoding="utf-8").rstrip("\n").split("\n"):
         yield line.replace("⏎", "\n")
     chance = random.Random(SEED)
     for kind, count in KINDS:
