@@ -24,5 +24,15 @@ rt try --seconds 300 --test > "$room/functions" 2>&1 & functions=$!
 status=0
 wait "$rows" || status=1
 wait "$functions" || status=1
+# each file of rows was compared, and test functions ran
+layers=$(ls "$room"/rows/*.args | wc -l)
+if [ "$(grep -c '^case=.* output=expected ' "$room/answers")" != "$layers" ]; then
+    echo "tests.sh: not all of $layers files of rows were compared, or not as wanted"
+    status=1
+fi
+if ! grep -q '^test result: ok\. [1-9][0-9]* passed; 0 failed; 0 ignored;' "$room/functions"; then
+    echo 'tests.sh: no test functions ran, or not all passed'
+    status=1
+fi
 grep -hv '^checked: \|^interpreter: ' "$room/answers" "$room/functions" || true
 exit "$status"
