@@ -5,7 +5,7 @@ ORIGINAL is the Rust crate behind a small command line program, which reads stan
 `bibtex` and `check` of `bib`. The inputs are those of tests/original/differences.jsonl, each line of tests/original/inputs.txt (in
 which ⏎ is a line feed), and those that the functions below make, with one seed. Each line of the output is a JSON object: the input
 `in`, and for each command the status and what was printed, or the name of an earlier command that printed the same with the same
-status. A status below 0 is the number of a signal: the original overflows its stack, or panics.
+status. The status -6 is a signal, as the original overflowed its stack; the status 101 is a panic.
 """
 import json
 import pathlib
