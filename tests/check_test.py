@@ -1,10 +1,19 @@
 #!/usr/bin/env python3
-"""Tests of out_of_memory.py: wrong bodies, each of which it has to report, and right ones, of which it may report none."""
+"""Tests of check.py and out_of_memory.py.
+
+Each rule of check.py gets a small tree in a temporary folder that keeps it, and changes of that tree, each of which it has to report.
+out_of_memory.py gets wrong bodies, each of which it has to report, and right ones, of which it may report none.
+"""
+import contextlib
+import io
 import pathlib
 import sys
+import tempfile
 import unittest
+from unittest import mock
 
 sys.path.insert(0, str(pathlib.Path(__file__).resolve().parent.parent))
+import check
 from out_of_memory import built
 
 WRONG = {
@@ -214,6 +223,181 @@ fn reserve(&mut self, count: usize) -> Result<(), AllocError> {
     "an io error": "fn f() -> Result<(), AllocError> {\n    match g() {\n        Err(error) if error.kind() == ErrorKind::OutOfMemory => Err(AllocError),\n        _ => Ok(()),\n    }\n}\n",
     "a value handed back": "fn handing_back(_error: AllocError, chunks: Chunks) -> SetError\n    ensures { result.chunks ≡ chunks }\n{\n    SetError { chunks }\n}\n",
 }
+
+
+SOURCE = "fn f() -> u8 {\n    1\n}\n\nfn g() -> u8 {\n    2\n}\n"
+EDIT = "file: src/lib.rt\nold:     1\nnew:     3\n"
+INDEX = "## Those of must-fail/\n\n- `f-is-three`: `f` is one; `value`\n\n## Those of wrong/\n\n- `g-is-three`: `g` is two; `value`\n"
+EDITS = {
+    "crates/a/src/lib.rt": SOURCE,
+    "crates/a/must-fail/f-is-three.edit": EDIT,
+    "crates/a/wrong/g-is-three.edit": "file: src/lib.rt\nold:     2\nnew:     3\n",
+    "crates/a/wrong/INDEX.md": INDEX,
+}
+SPECS = {
+    "crates/a/specs/Lib.antt": "pub mod Meanings\npub mod Steps\n",
+    "crates/a/specs/Meanings.antt": "-- Meaning: numbers.\n\n-- Whether a number is one.\npub unfoldable IsOne : ℕ → Type 0\n",
+    "crates/a/specs/Steps.antt": "-- Machinery: steps.\n\npub unfoldable IsStep : ℕ → Type 0\n",
+    "crates/a/src/lib.rt": "ghost use Rattle.a.specs.Meanings.{IsOne};\n\npub fn f() -> u8\n    ensures one { IsOne result }\n{\n    1\n}\n",
+}
+CHARACTERS = {
+    "crates/bib_text/specs/Characters.antt": "-- Meaning: characters.\n\ncomma = 44\nquote = 34\n",
+    "crates/a/specs/Lists.antt": "-- Meaning: lists.\n\n-- Whether it is a comma.\npub unfoldable IsComma : ℕ → Type 0\nIsComma c = c == char.comma\n",
+}
+CALLED = {
+    "crates/biblatex/src/lib.rt": "pub use bib_a::{Kept, made};\n",
+    "crates/bib_a/src/lib.rt": "impl Kept {\n    pub fn copied(&self) -> Result<Kept, AllocError>\n        ensures { result ≡ self }\n    {\n        self.clone()\n    }\n}\n\n"
+    "pub fn made(alloc: Global) -> Result<Kept, AllocError> {\n    Kept::new(alloc)\n}\n\nimpl Hidden {\n    pub fn untold(&self) -> Result<Hidden, AllocError> {\n        g()\n    }\n}\n",
+    "tests/src/calls.rs": "fn f() {\n    let kept = made(alloc)?;\n    kept.copied()?;\n}\n",
+}
+ROWS = {"tests/rows/a": "# keys\nkeys|x\nkeys|y", "tests/rows/a.stdout": "# keys\nkeys|x => a\nkeys|y => "}
+EXAMPLE = "use biblatex::Bibliography;\n\nlet it = f(alloc)?;\nprintln!(rt; \"{}\", it)?;\n"
+README = {
+    "README.md": f"# biblatex\n\n```rust\n{EXAMPLE}```\n\nIt prints:\n\n```text\none\n```\n",
+    "tests/src/bibliography_calls/readme.rs": "fn reads() {\n    let it = f(alloc)?;\n    let line = format!(in alloc; \"{}\", it)?;\n    assert!(rt; line == \"one\");\n}\n",
+}
+DOCUMENTS = {
+    "README.md": "See docs/USE.md, `check.py`, tests/ and the crate `bib_a`; each crates/NAME/src/lib.rt.\n",
+    "docs/USE.md": "`bib_a::f` is in src/lib.rt; crates/NAME/out/a.txt is made.\n",
+    "check.py": "",
+    "tests/a.py": "",
+    "crates/bib_a/src/lib.rt": "",
+}
+ARCHITECTURE = {
+    "docs/ARCHITECTURE.md": "| crate | modules | specs |\n|---|---|---|\n| `a` | `one`, `one::two` | Meanings; Steps |\n",
+    "crates/a/src/lib.rt": "mod one;\n",
+    "crates/a/src/one.rt": "mod two;\n",
+    "crates/a/src/one/two.rt": "",
+    **{name: text for name, text in SPECS.items() if "specs" in name},
+}
+THEOREMS = {
+    "docs/THEOREMS.md": "| word | meaning | file |\n|---|---|---|\n| `IsOne` | one | a/specs/Meanings.antt |\n\n| promise | call | clause |\n|---|---|---|\n"
+    "| one | `a::f` | `one` |\n",
+    **SPECS,
+}
+
+# of each rule: the function, a tree that keeps it, and changes of that tree, each with a text that all errors of it have to contain
+RULES = {
+    "wrong bodies fit": (check.edits, EDITS, [
+        ({"crates/a/src/lib.rt": SOURCE.replace("    1", "    7")}, "its text stands 0 times"),
+        ({"crates/a/src/lib.rt": SOURCE + "\nfn h() -> u8 {\n    1\n}\n"}, "its text stands 2 times"),
+        ({"crates/a/must-fail/f-is-three.edit": EDIT.replace("lib.rt", "none.rt")}, "its text stands 0 times"),
+        ({"crates/a/must-fail/f-is-three.edit": "file: src/lib.rt\n"}, "it changes nothing"),
+        ({"crates/a/must-fail/f-is-three.edit": EDIT + "old:     1\nnew:     4\n"}, "its text stands 0 times"),
+        ({"crates/a/wrong/F_is_three.edit": EDIT}, "its name is not words in lowercase"),
+        ({"crates/a/wrong/f-is-three.edit": EDIT}, "another wrong body has this name"),
+        ({"crates/b/src/lib.rt": SOURCE, "crates/b/wrong/f-is-three.edit": EDIT}, "another wrong body has this name"),
+    ]),
+    "wrong bodies are in an index": (check.check_indexes, EDITS, [
+        ({"crates/a/must-fail/another.edit": EDIT}, "it doesn't name must-fail/another"),
+        ({"crates/a/wrong/another.edit": EDIT}, "it doesn't name wrong/another"),
+        ({"crates/a/wrong/INDEX.md": INDEX + "- `none`: `f` is one; `value`\n"}, "it names wrong/none, which isn't there once"),
+        ({"crates/a/wrong/INDEX.md": INDEX + "- `g-is-three`: `g` is two; `value`\n"}, "it names wrong/g-is-three, which isn't there once"),
+        ({"crates/a/wrong/INDEX.md": INDEX.replace("two; `value`", "two")}, "it doesn't say what it breaks; and which clause"),
+    ]),
+    "words of contracts have comments": (check.check_definitions, SPECS, [
+        ({"crates/a/specs/Meanings.antt": SPECS["crates/a/specs/Meanings.antt"].replace("-- Whether a number is one.\n", "")}, "it cites IsOne, which has no comment"),
+        ({"crates/a/src/lib.rt": SPECS["crates/a/src/lib.rt"].replace("Meanings.{IsOne}", "Steps.{IsStep}").replace("IsOne", "IsStep")}, "it cites IsStep, which has no comment"),
+        ({"crates/a/src/lib.rt": SPECS["crates/a/src/lib.rt"].replace("Meanings.{IsOne}", "Steps.{IsStep as IsOne}")}, "it cites IsStep, which has no comment"),
+    ]),
+    "files of specs/ begin with what they are": (check.check_specs, SPECS, [
+        ({"crates/a/specs/Steps.antt": "-- Steps.\n"}, "its first line doesn't say whether it is meaning or machinery"),
+    ]),
+    "a word is defined in one file": (check.check_words, SPECS, [
+        ({"crates/a/specs/Steps.antt": "-- Machinery: steps.\n\npub opaque IsOne : ℕ → Type 0\n"}, "IsOne is defined in a/specs/Meanings.antt too"),
+        ({"crates/b/specs/More.antt": "-- Meaning: more.\n\ndata IsOne : Type 0 where\n"}, "IsOne is defined in a/specs/Meanings.antt too"),
+    ]),
+    "definitions name characters": (check.check_characters, CHARACTERS, [
+        ({"crates/a/specs/Lists.antt": CHARACTERS["crates/a/specs/Lists.antt"].replace("char.comma", "44")}, "line 5 says 44 where it means char.comma"),
+        ({"crates/a/specs/Lists.antt": "-- Meaning: lists.\n\nquoted s = 34 ∷ s\n"}, "line 3 says 34 where it means char.quote"),
+    ]),
+    "calls that may be refused memory are in a test": (check.check_calls, CALLED, [
+        ({"tests/src/calls.rs": "fn f() {\n    let kept = made(alloc)?;\n}\n"}, "no test calls Kept::copied"),
+        ({"tests/src/calls.rs": "fn f() {\n    kept.copied()?;\n}\n"}, "no test calls made"),
+        ({"tests/src/calls.rs": "fn f() {\n    let kept = made(alloc)?;\n    kept.copied_all()?;\n}\n"}, "no test calls Kept::copied"),
+    ]),
+    "out of memory is only passed on": (check.check_memory, {"crates/a/src/lib.rt": "fn f() -> Result<(), AllocError> {\n    g()?;\n    Ok(())\n}\n"}, [
+        ({"crates/a/src/lib.rt": WRONG["a plain function"]}, "line 2 builds AllocError"),
+        ({"crates/a/src/deep/one.rt": WRONG["an imported variant"]}, "line 2 builds OutOfMemory"),
+    ]),
+    "rows have answers": (check.check_rows, ROWS, [
+        ({"tests/rows/a": "# keys\nkeys|x"}, "it has 3 lines, and a 2"),
+        ({"tests/rows/a.stdout": "# keys\nkeys|x => a\nkeys|z => "}, "line 3 doesn't begin with the row of a"),
+        ({"tests/rows/a.stdout": "# keys\nkeys|x\nkeys|y => "}, "line 2 doesn't begin with the row of a"),
+        ({"tests/rows/a.stdout": "# names\nkeys|x => a\nkeys|y => "}, "line 1 doesn't begin with the row of a"),
+    ]),
+    "README.md is short, and its example is tested": (check.check_readme, README, [
+        ({"README.md": README["README.md"] + "\n" * 80}, "and not 80 at most"),
+        ({"README.md": README["README.md"].replace("f(alloc)", "g(alloc)")}, "its example is not the code of"),
+        ({"README.md": README["README.md"].replace("```text\none", "```text\ntwo")}, "what its example prints is not what"),
+        ({"README.md": "# biblatex\n"}, "its example is not the code of"),
+    ]),
+    "documents name what there is": (check.check_documents, DOCUMENTS, [
+        ({"README.md": "See docs/NONE.md.\n"}, "it names docs/NONE.md, which isn't there"),
+        ({"docs/USE.md": "See none/ for more.\n"}, "it names none/, which isn't there"),
+        ({"docs/USE.md": "See `bib_b::f`.\n"}, "it names the crate bib_b, which isn't there"),
+        ({"crates/bib_a/wrong/INDEX.md": "In src/none.rt.\n"}, "it names src/none.rt, which isn't there"),
+    ]),
+    "docs/ARCHITECTURE.md names modules and specs": (check.check_architecture, ARCHITECTURE, [
+        ({"crates/a/src/three.rt": ""}, "the row of a doesn't name three"),
+        ({"crates/a/specs/More.antt": "-- Meaning: more.\n"}, "the row of a doesn't name More where it belongs"),
+        ({"crates/a/specs/Steps.antt": "-- Meaning: steps.\n"}, "the row of a doesn't name Steps where it belongs"),
+    ]),
+    "docs/THEOREMS.md names definitions and calls": (check.check_theorems, THEOREMS, [
+        ({"docs/THEOREMS.md": THEOREMS["docs/THEOREMS.md"].replace("`IsOne`", "`IsTwo`")}, "IsTwo isn't defined in a/specs/Meanings.antt"),
+        ({"docs/THEOREMS.md": THEOREMS["docs/THEOREMS.md"].replace("`a::f`", "`a::g`")}, "no source has a::g"),
+    ]),
+}
+
+
+@contextlib.contextmanager
+def tree(files):
+    """A folder with these files, which check.py takes for the repository; gives its list of errors."""
+    with tempfile.TemporaryDirectory() as folder:
+        top = pathlib.Path(folder)
+        for name, text in files.items():
+            file = top / name
+            file.parent.mkdir(parents=True, exist_ok=True)
+            file.write_text(text)
+        with mock.patch.multiple(check, TOP=top, CRATES=top / "crates", errors=[]):
+            yield check.errors
+
+
+class Rules(unittest.TestCase):
+    def test_trees_that_keep_a_rule_are_passed(self):
+        for name, (rule, files, _) in RULES.items():
+            with self.subTest(name), tree(files) as errors:
+                rule()
+                self.assertEqual(errors, [])
+
+    def test_trees_that_break_a_rule_are_reported(self):
+        for name, (rule, files, changes) in RULES.items():
+            for change, why in changes:
+                with self.subTest(name, error=why), tree({**files, **change}) as errors:
+                    rule()
+                    self.assertTrue(errors)
+                    self.assertEqual([it for it in errors if why not in it], [])
+
+    def test_each_rule_has_a_test_and_is_run(self):
+        rules = {it for name, it in vars(check).items() if name.startswith("check_") and name != "check_fit"}
+        tested = {rule for rule, _, _ in RULES.values()}
+        self.assertEqual(rules | {check.edits}, tested)
+        with contextlib.ExitStack() as stack:
+            stack.enter_context(contextlib.redirect_stdout(io.StringIO()))
+            run = [stack.enter_context(mock.patch.object(check, it.__name__)) for it in rules]
+            stack.enter_context(tree({}))
+            self.assertEqual(check.main(), 0)
+            for it in run:
+                it.assert_called_once()
+
+    def test_an_error_is_a_status(self):
+        with contextlib.ExitStack() as stack:
+            stack.enter_context(contextlib.redirect_stdout(io.StringIO()))
+            for name in vars(check):
+                if name.startswith("check_") and name != "check_fit":
+                    stack.enter_context(mock.patch.object(check, name))
+            stack.enter_context(tree({**EDITS, "crates/a/must-fail/f-is-three.edit": "file: src/lib.rt\n"}))
+            self.assertEqual(check.main(), 1)
 
 
 class OutOfMemory(unittest.TestCase):

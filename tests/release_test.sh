@@ -11,7 +11,7 @@ cd "$room" || exit 1
 passed=0
 failed=0
 
-# counts a check: its name, and a command
+# counts a check, and returns whether it passed: its name, and a command
 holds() {
     if "${@:2}" >output 2>&1; then
         passed=$((passed + 1))
@@ -19,6 +19,7 @@ holds() {
         failed=$((failed + 1))
         echo "failed: $1"
         head -5 output
+        return 1
     fi
 }
 
@@ -65,23 +66,19 @@ holds 'bibkit convert' bin/bibkit convert --to csl refs.bib
 holds 'the manual page' grep -q '^\.TH' share/man/man1/bibkit.1
 holds 'completions of bash' bash -n share/bash-completion/completions/bibkit
 holds 'completions of fish and zsh' test -s share/fish/vendor_completions.d/bibkit.fish -a -s share/zsh/site-functions/_bibkit
-if command -v gcc >/dev/null; then
+if holds 'a C compiler, gcc' command -v gcc; then
     block c 'From C' > example.c
     holds 'the guide'\''s example in C' test -s example.c
     holds 'compiling the guide'\''s example in C' gcc -std=c11 -Wall -Wextra -Werror -Iinclude example.c lib/libbiblatex.a -o example
     holds 'running it' grep -q '"key":"a"' <(./example)
-else
-    echo 'there is no C compiler: the example in C is left out'
 fi
-if command -v python3 >/dev/null; then
+if holds 'an interpreter, python3' command -v python3; then
     block python 'From Python' > example.py
     holds 'the guide'\''s example in Python' test -s example.py
     holds 'running it' env PYTHONPATH=python python3 example.py
     printf '@book{c, author = {Ann Bell}, title = {T}, date = {2019}}' > works.bib
     holds 'the package'\''s first example' prints $'Bell, Ann\n    2019 T' env PYTHONPATH=python python3 python/examples/authors.py works.bib
     holds 'the version of the Python package' prints "${top##*-}" env PYTHONPATH=python python3 -c 'import biblatex; print(biblatex.version())'
-else
-    echo 'there is no Python: its package is left out'
 fi
 echo "release: $passed passed, $failed failed"
 [ "$failed" = 0 ]

@@ -15,7 +15,8 @@ trap 'rm -rf "$files"' EXIT
 cd "$files" || exit 1
 passed=0
 failed=0
-left_out=0
+skipped=0
+missing=
 
 # counts a run that wrote the file `output`: its name, its status, and the status and the output that are wanted
 count() {
@@ -26,6 +27,18 @@ count() {
         echo "failed: $1 (status $2)"
         diff <(printf %s "$4") output | head -5
     fi
+}
+
+# fails for a program or a module that the tests need and the machine doesn't have
+lacks() {
+    failed=$((failed + 1))
+    echo "failed: there is no $1"
+}
+
+# counts tests as skipped for a shell that is not installed: the shell, and how many tests
+skip() {
+    skipped=$((skipped + $2))
+    missing="$missing, no $1"
 }
 
 # counts a test that is a condition: its name, and a command
@@ -217,7 +230,7 @@ elif command -v setpriv >/dev/null && [ -x /usr/bin/setpriv ]; then
     setpriv --reuid 65534 --clear-groups ./program keys secret.bib >results 2>output
     count 'a file without rights' $? 2 $'bibkit: secret.bib: it may not be read\n'
 else
-    left_out=$((left_out + 1))
+    lacks setpriv
 fi
 "$program" keys <&- >output 2>messages
 holds 'a closed input' [ $? = 2 ]
@@ -558,7 +571,7 @@ if command -v patch >/dev/null; then
     patches expand.bib "$expanded" strings --expand -f
     patches far.bib "$(sed 's/= s}/= {x}}/' far.bib)"$'\n' strings --expand -f
 else
-    left_out=$((left_out + 7))
+    lacks patch
 fi
 
 # byte order marks, and ends of lines
@@ -616,7 +629,7 @@ if [ "$(id -u)" != 0 ] || [ -x /usr/bin/setpriv ]; then
     chmod 644 written/a.bib
     chmod 755 written
 else
-    left_out=$((left_out + 4))
+    lacks setpriv
 fi
 for i in $(seq 1 5000); do printf '@misc{key%d, title={T}}\n' "$i"; done >written/a.bib
 want=$(cat written/a.bib)
@@ -850,7 +863,7 @@ if command -v python3 >/dev/null; then
     python3 terminal.py "$program" keys two.bib </dev/null >/dev/null
     count 'no progress on one file' $? 0 $'a\nb\n'
 else
-    left_out=$((left_out + 5))
+    lacks python3
 fi
 
 # no memory
@@ -932,7 +945,7 @@ run_messages 'an abbreviation that is not defined' 1 $'abbreviated.bib:1:16: err
 printf '@misc{a, title={\xe9}}\n' >latin.bib
 run 'items of a file in Windows-1252' 0 $'[\n{"id":"a","title":"é","type":"document"}\n]\n' convert --to csl latin.bib
 run 'BibTeX of a file in Windows-1252' 2 '' convert --to bibtex latin.bib
-# all kinds of values of JSON, by the schema, where its validator is installed
+# all kinds of values of JSON, by the schema
 cat >values.bib <<'BIB'
 @book{b, author = {family=Cruz, given=Maria, prefix=de la, useprefix=true}, date = {-0044-03-15T10:00:00Z/2001?}, pages = {1--3, 7},
   volume = 2, edition = {Second}, keywords = {x, y}, langid = {english}, pagination = {page}, title = {$x$ {Y} z}, editor = {{A B}}, editortype = {compiler},
@@ -949,7 +962,7 @@ if python3 -W ignore -c 'import jsonschema' 2>/dev/null; then
     is_by_schema
     holds 'the schema refuses another kind of chunk' [ $? != 0 ]
 else
-    left_out=$((left_out + 2))
+    lacks 'jsonschema for python3'
 fi
 
 # items of CSL-JSON
@@ -1129,7 +1142,7 @@ if command -v fish >/dev/null; then
     in_fish 'bibkit fmt --sort au' $'author\n'
     in_fish 'bibkit fmt --delimiters q' $'quotes\n'
 else
-    left_out=$((left_out + 10))
+    skip fish 10
 fi
 if command -v zsh >/dev/null; then
     mkdir zsh
@@ -1158,7 +1171,7 @@ ZSH
     in_zsh 'bibkit fmt --delimiters q>' $'bibkit fmt --delimiters quotes\n'
     in_zsh 'bibkit fmt --order author,ti>' $'bibkit fmt --order author,title\n'
 else
-    left_out=$((left_out + 11))
+    skip zsh 11
 fi
 
 # the sessions of guides: a block is one session in a folder of its own; `$ COMMAND` and the lines that it prints
@@ -1190,5 +1203,5 @@ for guide in "${guides[@]+"${guides[@]}"}"; do
     holds "the sessions of $guide" python3 sessions.py "$program" "$guide"
 done
 
-echo "runs: $passed passed, $failed failed, $left_out left out"
+echo "runs: $passed passed, $failed failed, $skipped skipped${missing/,/:}"
 [ "$failed" = 0 ]

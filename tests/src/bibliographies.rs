@@ -60,6 +60,7 @@ fn answer_of_bibliography(
         "entries" => entries::entries(alloc, bibliography),
         "types" => entries::types(alloc, bibliography),
         "chunks" => entries::chunks(alloc, bibliography),
+        "title" => entries::title(alloc, bibliography),
         "number" => entries::number(alloc, bibliography),
         "parents" => reports::parents(alloc, bibliography),
         "editors" => reports::editors(alloc, bibliography),
@@ -68,6 +69,7 @@ fn answer_of_bibliography(
         "bibtex" => written::bibtex(alloc, bibliography),
         "settled" => written::settled(alloc, bibliography),
         "again" => written::again(alloc, bibliography),
+        "reread" => written::reread_entries(alloc, bibliography),
         _ => return Ok(None),
     };
     Ok(Some(answer?))

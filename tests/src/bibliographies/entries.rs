@@ -2,7 +2,7 @@
 
 use biblatex::{Bibliography, ChunksExt, ChunksRef, Entry, RetrievalError};
 use std::alloc::{AllocError, Global};
-use crate::support::chunks::chunks_text;
+use crate::support::chunks::{chunks_text, styled_text};
 
 // The text of chunks.
 fn verbatim(alloc: Global, chunks: ChunksRef<'_>) -> Result<String, AllocError> {
@@ -77,6 +77,15 @@ pub(crate) fn chunks(alloc: Global, bibliography: &Bibliography) -> Result<Strin
     let chunks = bibliography.get("k").and_then(|entry| entry.get("t"));
     match chunks {
         Some(chunks) => chunks_text(alloc, chunks),
+        None => String::from_str(alloc, "-"),
+    }
+}
+
+/// The chunks of the first entry's title that have a text.
+pub(crate) fn title(alloc: Global, bibliography: &Bibliography) -> Result<String, AllocError> {
+    let chunks = bibliography.iter().next().and_then(|entry| entry.get("title"));
+    match chunks {
+        Some(chunks) => styled_text(alloc, chunks),
         None => String::from_str(alloc, "-"),
     }
 }

@@ -1,5 +1,6 @@
 //! What is written of bibliographies and entries, whether they are settled, and what is read of it again.
 
+use crate::bibliographies::entries::entries;
 use crate::bibliographies::reread::reread;
 use crate::bibliographies::truth;
 use biblatex::{Bibliography, Entry, ParseError};
@@ -56,6 +57,18 @@ fn compared(
 pub(crate) fn again(alloc: Global, bibliography: &Bibliography) -> Result<String, AllocError> {
     match read_again(alloc, bibliography) {
         Some(Ok(again)) => compared(alloc, bibliography, &again),
+        Some(Err(error)) => error.to_string(alloc),
+        None => String::from_str(alloc, "not settled"),
+    }
+}
+
+/// The entries of what is written of a settled bibliography and read again.
+pub(crate) fn reread_entries(
+    alloc: Global,
+    bibliography: &Bibliography,
+) -> Result<String, AllocError> {
+    match read_again(alloc, bibliography) {
+        Some(Ok(again)) => entries(alloc, &again),
         Some(Err(error)) => error.to_string(alloc),
         None => String::from_str(alloc, "not settled"),
     }

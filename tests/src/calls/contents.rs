@@ -70,6 +70,6 @@ fn reads_long_chains_of_names(rt: HostRuntime) -> Result<(), Fail> {
     agrees(&rt, only(&said(alloc, file.as_str())?), "end");
     let file = chain(alloc, "x", 16, true)?;
     let doubled = said(alloc, file.as_str())?;
-    assert!(rt; only(&doubled).len() == 65_536);
+    assert!(rt; only(&doubled).len() == 65_536 && only(&doubled).bytes().all(|byte| byte == b'x'));
     Ok(())
 }

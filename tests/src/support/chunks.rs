@@ -40,17 +40,33 @@ pub fn chunks_text(alloc: Global, chunks: ChunksRef<'_>) -> Result<String, Alloc
     Ok(out)
 }
 
+// A chunk as its kind and text.
+fn push_kind(out: &mut String, chunk: &Chunk) -> Result<(), AllocError> {
+    out.push_str(match chunk {
+        Chunk::Normal(_) => "N<",
+        Chunk::Verbatim(_) => "V<",
+        Chunk::Math(_) => "M<",
+    })?;
+    out.push_str(chunk.get())?;
+    Ok(out.push('>')?)
+}
+
 /// Chunks as kinds and texts alone: `N<a >V<b>`.
 pub fn kinds_text(alloc: Global, chunks: ChunksRef<'_>) -> Result<String, AllocError> {
     let mut out = String::new(alloc);
     for chunk in chunks {
-        out.push_str(match chunk.v {
-            Chunk::Normal(_) => "N<",
-            Chunk::Verbatim(_) => "V<",
-            Chunk::Math(_) => "M<",
-        })?;
-        out.push_str(chunk.v.get())?;
-        out.push('>')?;
+        push_kind(&mut out, &chunk.v)?;
+    }
+    Ok(out)
+}
+
+/// Chunks that have a text, as kinds and texts alone.
+pub fn styled_text(alloc: Global, chunks: ChunksRef<'_>) -> Result<String, AllocError> {
+    let mut out = String::new(alloc);
+    for chunk in chunks {
+        if !chunk.v.get().is_empty() {
+            push_kind(&mut out, &chunk.v)?;
+        }
     }
     Ok(out)
 }

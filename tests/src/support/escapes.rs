@@ -1,6 +1,7 @@
-//! Characters that a line can't hold or doesn't show stand as their numbers: `⟨A⟩` is a line feed, `⟨A0⟩` a no-break space. A long
-//! text stands as `⟨1000×ab⟩`, and of a long answer its first and last characters and its length are shown.
+//! Characters that a line can't hold or doesn't show are written as their numbers: `⟨A⟩` is a line feed, `⟨A0⟩` a no-break space. A long
+//! text is written as `⟨1000×ab⟩`, and a long answer as its length and its SHA-256, which tests/expected.py computes of the wanted text.
 
+use sha2::{Digest, Sha256};
 use std::alloc::{AllocError, Global};
 
 // Adds a text so many times.
@@ -65,16 +66,23 @@ pub fn push_escaped(out: &mut String, alloc: Global, text: &str) -> Result<(), A
     Ok(())
 }
 
-// How many bytes are long.
+// The number of bytes of the shortest long answer; tests/expected.py has the same.
 const LONG: usize = 5_000;
 
-/// Adds an answer, with numbers as in `push_escaped`: of a long one its first and last 12 bytes, and how many bytes it has.
+// The length of a text in bytes, and its SHA-256.
+fn digest_text(alloc: Global, text: &str) -> Result<String, AllocError> {
+    let mut out = format!(in alloc; "{} bytes, SHA-256 ", text.len())?;
+    for byte in &Sha256::digest(text.as_bytes()) {
+        let digits = format!(in alloc; "{:02x}", *byte)?;
+        out.push_str(digits.as_str())?;
+    }
+    Ok(out)
+}
+
+/// Adds an answer, with numbers as in `push_escaped`, or its length and SHA-256 if it is long.
 pub fn push_shortened(out: &mut String, alloc: Global, text: &str) -> Result<(), AllocError> {
     if text.len() < LONG {
         return push_escaped(out, alloc, text);
     }
-    let first = text.get(..12).unwrap_or("");
-    let last = text.get(text.len() - 12..).unwrap_or("");
-    let line = format!(in alloc; "{first}..{last} ({} bytes)", text.len())?;
-    push_escaped(out, alloc, line.as_str())
+    Ok(out.push_str(digest_text(alloc, text)?.as_str())?)
 }

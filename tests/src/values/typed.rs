@@ -23,6 +23,12 @@ pub fn written<T: Type>(alloc: Global, value: &T) -> Result<String, AllocError> 
     chunks_text(alloc, chunks.as_slice())
 }
 
+// The text that is written for a value's chunks.
+fn value_text<T: Type>(alloc: Global, value: &T) -> Result<String, AllocError> {
+    let chunks = value.to_chunks(alloc)?;
+    chunks.as_slice().to_biblatex_string(alloc, false)
+}
+
 // The chunks that are written for a value, and what they are read as.
 fn rewritten<T: Type + Shown + Drop>(alloc: Global, value: &T) -> Result<String, AllocError> {
     let chunks = value.to_chunks(alloc)?;
@@ -45,6 +51,7 @@ fn of_value<T: Type + Shown + Clone + Drop>(
 ) -> Result<Option<String>, AllocError> {
     Ok(Some(match how {
         "write" => written(alloc, value)?,
+        "value" => value_text(alloc, value)?,
         "reread" => rewritten(alloc, value)?,
         "copy" => copied(alloc, value)?,
         _ => return Ok(None),

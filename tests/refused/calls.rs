@@ -8,24 +8,6 @@ use biblatex::{
 };
 use std::alloc::{AllocError, Global};
 
-/// The names of the calls.
-pub static CALLS: [&str; 14] = [
-    "parse",
-    "parse-names",
-    "insert",
-    "insert-present",
-    "alias",
-    "set",
-    "set-title",
-    "set-date",
-    "biblatex",
-    "bibtex",
-    "entry-biblatex",
-    "entry-bibtex",
-    "verify",
-    "clone",
-];
-
 /// How the call of this name ends, if there is one.
 pub fn call(alloc: Global, name: &str) -> Option<Answer> {
     let answer = match name {
