@@ -275,6 +275,64 @@ THEOREMS = {
     "| one | `a::f` | `one` |\n",
     **SPECS,
 }
+PROMISED = {}
+for shown in [it for them in check.PROMISED.values() for it in them]:
+    file, is_test, text = shown.partition(": ")
+    if is_test:
+        PROMISED[file] = PROMISED.get(file, "") + text + "\n"
+    else:
+        PROMISED["crates/" + file.replace("/", "/must-fail/") + ".edit"] = ""
+KIND = """
+/// Why.
+pub enum Kind {
+    /// First, `or_so`.
+    First,
+    /// Second.
+    Second { place: usize },
+}
+
+impl Kind {
+    /// Whether it is the first.
+    pub fn is_first(&self) -> bool
+        ensures { IsTrue result }
+    {
+        true
+    }
+}
+
+impl fmt::Display for Kind {
+    fn fmt<W: fmt::Write>(&self, f: &mut fmt::Formatter<W>) -> fmt::Result {
+        match self {
+            Kind::First => f.write_str("the first"),
+            Kind::Second { place } => write!(f, "the {place}"),
+        }
+    }
+}
+"""
+GETTERS = """
+impl Entry {
+    /// The title.
+    pub fn title(&self, alloc: Global) -> Result<ChunksRef<'_>, RetrievalError>
+        ensures { GetsChunks self.now (codes "title") result }
+    {
+        self.chunks(alloc, "title")
+    }
+
+    /// Sets the title.
+    pub fn set_title(&mut self, chunks: Chunks) -> Result<Option<Chunks>, SetError>
+        ensures { SetsChunks chunks (codes "title") self.old self.new result }
+    {
+        self.set("title", chunks)
+    }
+}
+"""
+SURFACE = {
+    "tests/surface.txt": "[names]\nenum Kind: First Second .place is_first\n\n[getters]\ntitle title - Chunks\n\n[texts]\nKind::First: the first\n",
+    "crates.txt": "bib_entry:\nbiblatex: bib_entry\n",
+    "crates/biblatex/src/lib.rt": "pub use bib_entry::Kind;\n",
+    "crates/bib_entry/src/lib.rt": KIND + GETTERS,
+    "docs/DIFFERENCES.md": "",
+}
 
 # of each rule: the function, a tree that keeps it, and changes of that tree, each with a text that all errors of it have to contain
 RULES = {
@@ -294,6 +352,28 @@ RULES = {
         ({"crates/a/wrong/INDEX.md": INDEX + "- `none`: `f` is one; `value`\n"}, "it names wrong/none, which isn't there once"),
         ({"crates/a/wrong/INDEX.md": INDEX + "- `g-is-three`: `g` is two; `value`\n"}, "it names wrong/g-is-three, which isn't there once"),
         ({"crates/a/wrong/INDEX.md": INDEX.replace("two; `value`", "two")}, "it doesn't say what it breaks; and which clause"),
+    ]),
+    "wrong bodies that promises name are tried": (check.check_promised, PROMISED, [
+        ({"crates/bib_syntax/must-fail/raw-piece-trimmed.edit": None}, "it lacks raw-piece-trimmed.edit"),
+        ({"tests/rows/contents.stdout": None}, "which shows that it is wrong if empty chunks are dropped"),
+        ({"tests/rows/contents.stdout": "title|a{}b => N<a>N<b>"}, "which shows that it is wrong if empty chunks are dropped"),
+    ]),
+    "comments have names in backticks": (check.check_comments, SPECS, [
+        ({"crates/a/src/more.rt": "// The array_elements of an array.\nfn f() {}\n"}, "line 1 has a name outside of backticks"),
+        ({"crates/a/proofs/Facts.antt": "-- `one_place`, and member_with a name\n"}, "line 1 has a name outside of backticks"),
+    ]),
+    "public names and texts are those of a list": (check.check_surface, SURFACE, [
+        ({"crates/biblatex/src/lib.rt": ""}, "`Kind` is not exported"),
+        ({"crates/bib_entry/src/lib.rt": GETTERS}, "`Kind"),
+        ({"crates/bib_entry/src/lib.rt": KIND.replace("is_first", "is_one") + GETTERS}, "`Kind"),
+        ({"crates/bib_entry/src/lib.rt": KIND.replace("place: usize", "at: usize") + GETTERS}, "`Kind"),
+        ({"crates/bib_entry/src/lib.rt": KIND.replace("the first\"", "a first\"") + GETTERS}, "`Kind::First` prints"),
+        ({"crates/bib_entry/src/lib.rt": KIND + GETTERS.replace("pub fn title", "pub fn heading")}, "`Entry::title` is missing"),
+        ({"crates/bib_entry/src/lib.rt": KIND + GETTERS.replace("pub fn set_title", "pub fn set_heading")}, "`Entry::set_title` is missing"),
+        ({"crates/bib_entry/src/lib.rt": KIND + GETTERS.replace('codes "title"', 'codes "note"')}, "and not `title`"),
+        ({"crates/bib_entry/src/lib.rt": KIND + GETTERS.replace("ChunksRef<'_>", "String")}, "returns `String`, and not `Chunks`"),
+        ({"crates/bib_entry/src/lib.rt": KIND + GETTERS.replace("chunks: Chunks", "chunks: &String")}, "takes `String`, and not `Chunks`"),
+        ({"tests/surface.txt": SURFACE["tests/surface.txt"].replace(" is_first", "")}, "`Kind::is_first` is public, and neither"),
     ]),
     "words of contracts have comments": (check.check_definitions, SPECS, [
         ({"crates/a/specs/Meanings.antt": SPECS["crates/a/specs/Meanings.antt"].replace("-- Whether a number is one.\n", "")}, "it cites IsOne, which has no comment"),
@@ -352,10 +432,12 @@ RULES = {
 
 @contextlib.contextmanager
 def tree(files):
-    """A folder with these files, which check.py takes for the repository; gives its list of errors."""
+    """A folder with these files, except those whose text is None, which check.py takes for the repository; gives its list of errors."""
     with tempfile.TemporaryDirectory() as folder:
         top = pathlib.Path(folder)
         for name, text in files.items():
+            if text is None:
+                continue
             file = top / name
             file.parent.mkdir(parents=True, exist_ok=True)
             file.write_text(text)
