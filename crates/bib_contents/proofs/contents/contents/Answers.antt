@@ -6,7 +6,10 @@ use Rattle.bib_contents.specs.Progress.{left}
 use Rattle.bib_contents.specs.UnitViews.{unit_of}
 use Rattle.bib_contents.specs.declared.growing.OpenChunk.{OpenChunk}
 use Rattle.bib_contents.proofs.ArgumentFacts.{passes_shorter}
-use Rattle.bib_contents.proofs.ReaderFacts.{unit_shorter, stuck_unit, stuck_taken}
+use Rattle.bib_contents.specs.ContentErrors.{ContentFails}
+use Rattle.bib_syntax.specs.declared.raw.ParseErrorKind.TheVariants.{UnexpectedEof}
+use Rattle.bib_contents.proofs.FailFacts.{fails_kind, fails_stuck, fails_taken, fails_unit}
+use Rattle.bib_contents.proofs.ReaderFacts.{unit_shorter}
 use Rattle.bib_contents.proofs.ReadingContents.{Reading, reading_none, reading_plain, reading_unit, reading_all, reading_ends, unit_place}
 use Rattle.bib_contents.proofs.TakingFacts.{stands_at, unit_named}
 use Rattle.bib_contents.proofs.contents.contents.Goals as goal
@@ -31,7 +34,14 @@ pub returns-in_default-clause-refused : goal.returns-in_default-clause-refused
 returns-in_default-clause-refused c =
     let grown : OpenChunk = record { text = c.write_plain.new.text; depth = c.units.growing.depth; start = c.units.growing.start; is_first = c.units.growing.is_first } in
     let run : Reading c.args.is_verbatim c.args.text.now c.args.offset c.args.out.now c.write_plain.new.s grown c.units.out = reading_plain c.units.growing grown c.units.invariant c.in_ok-write_plain.ensures refl refl in
-    inr (c.ended.ensures.kind, stuck_unit run.read c.if-done.ensures c.in_default.ensures.found)
+    let fails = fails_unit run.read (c.in_default.ensures.fails c.if-done.ensures) c.ended.ensures.kind in
+    inr (fails_kind fails, fails_stuck fails)
+
+pub returns-in_default-clause-fails : goal.returns-in_default-clause-fails
+returns-in_default-clause-fails c =
+    let grown : OpenChunk = record { text = c.write_plain.new.text; depth = c.units.growing.depth; start = c.units.growing.start; is_first = c.units.growing.is_first } in
+    let run : Reading c.args.is_verbatim c.args.text.now c.args.offset c.args.out.now c.write_plain.new.s grown c.units.out = reading_plain c.units.growing grown c.units.invariant c.in_ok-write_plain.ensures refl refl in
+    inr (fails_unit run.read (c.in_default.ensures.fails c.if-done.ensures) c.ended.ensures.kind)
 
 pub take-requires : goal.take-requires
 take-requires c =
@@ -68,5 +78,15 @@ returns-in_err-take-clause-refused c =
     let p = err_from_is_err_and c.from_residual-in_err-take.result c.from_residual-in_err-take.ensures.1 in
     rw (p.1, p.2) (elim c.in_err-take.ensures.refused [
       | inl memory ↦ inl memory
-      | inr unread ↦ inr (unread.0, stuck_taken run.read c.in-Some.ensures.found unread.1)
+      | inr untaken ↦ let fails = fails_taken run.read c.in-Some.ensures.found untaken in inr (fails_kind fails, fails_stuck fails)
+    ])
+
+pub returns-in_err-take-clause-fails : goal.returns-in_err-take-clause-fails
+returns-in_err-take-clause-fails c =
+    let grown : OpenChunk = record { text = c.write_plain.new.text; depth = c.units.growing.depth; start = c.units.growing.start; is_first = c.units.growing.is_first } in
+    let run : Reading c.args.is_verbatim c.args.text.now c.args.offset c.args.out.now c.write_plain.new.s grown c.units.out = reading_plain c.units.growing grown c.units.invariant c.in_ok-write_plain.ensures refl refl in
+    let p = err_from_is_err_and c.from_residual-in_err-take.result c.from_residual-in_err-take.ensures.1 in
+    rw (p.1, p.2) (elim c.in_err-take.ensures.refused [
+      | inl memory ↦ inl memory
+      | inr untaken ↦ inr (fails_taken run.read c.in-Some.ensures.found untaken)
     ])
