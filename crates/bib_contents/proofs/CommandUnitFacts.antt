@@ -91,7 +91,7 @@ pub unclosed_fails : (before name middle space after : List ℕ) (spaced : Bool)
     → spaced ≡ false → after ≡ 123 ∷ inside → ((text rest : List ℕ) → inside ≡ text ++ 125 ∷ rest → balances 0 text ≡ true → ⊥) → UnitFails false (92 ∷ before)
 unclosed_fails before name middle [] after spaced inside begins_so named whole then_is spaced_is none is unclosed =
     let tail : middle ≡ 123 ∷ inside = then_is ∙ is in
-    rw (begins_so ∙ ap (λ xs. name ++ xs) tail) (UnitFails.brace named (rw tail at whole) unclosed)
+    rw (begins_so ∙ ap (λ xs. name ++ xs) tail) (UnitFails.brace name inside named (rw tail at whole) unclosed)
 unclosed_fails before name middle (c ∷ cs) after spaced inside begins_so named whole then_is spaced_is none is unclosed = absurd (both_ways spaced none spaced_is)
 
 -- a backslash alone at the end of a text that is not verbatim begins nothing

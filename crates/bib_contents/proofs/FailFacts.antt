@@ -46,14 +46,14 @@ unclosed text takes none (Argument.braced within) rest spells right =
 pub no_unit_fails : {is_verbatim : Bool} {text : List ℕ} → UnitFails is_verbatim text → (u : ContentUnit) (rest : List ℕ) → IsNext is_verbatim u text rest → ⊥
 no_unit_fails (dollar {text = text} none) u rest one = no_formula text (without_dollars text none) u rest one
 no_unit_fails backslash u rest one = no_escape [] false refl refl u rest one
-no_unit_fails (brace {name = name} {text = text} named whole none) u rest one =
+no_unit_fails (brace name text named whole none) u rest one =
     command_none (name ++ 123 ∷ text) name (123 ∷ text) [] (123 ∷ text) (takes_next name []) false refl named whole refl refl no_space refl refl (unclosed text (takes_next name []) none) u rest one
 
 -- a unit that fails has a character
 some_fails : {is_verbatim : Bool} {text : List ℕ} → UnitFails is_verbatim text → text ≡ [] → ⊥
 some_fails (dollar none) nothing = cc
 some_fails backslash nothing = cc
-some_fails (brace named whole none) nothing = cc
+some_fails (brace name text named whole none) nothing = cc
 
 -- contents that fail have no reading
 pub fails_stuck : {is_verbatim : Bool} {depth : ℕ} {text : List ℕ} {kind : ParseErrorKind} → ContentFails is_verbatim depth text kind → (atoms : List Atom) → Reads is_verbatim depth text atoms → ⊥

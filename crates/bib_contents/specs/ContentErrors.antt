@@ -14,7 +14,7 @@ use Rattle.bib_text.specs.Characters as char
 pub data UnitFails : Bool → List ℕ → Type 0 where
   dollar : {text : List ℕ} → list_any (λ c. c == char.dollar) text ≡ false → UnitFails false (char.dollar ∷ text)
   backslash : UnitFails false (char.backslash ∷ [])
-  brace : {name text : List ℕ} → is_name name ≡ true → is_whole_name name (char.open_brace ∷ text) ≡ true
+  brace : (name text : List ℕ) → is_name name ≡ true → is_whole_name name (char.open_brace ∷ text) ≡ true
       → ((inside rest : List ℕ) → text ≡ inside ++ char.close_brace ∷ rest → balances 0 inside ≡ true → ⊥)
       → UnitFails false (char.backslash ∷ (name ++ char.open_brace ∷ text))
 
