@@ -1,17 +1,15 @@
 -- Contents that fail: they have no reading, and one kind of error.
-use Rattle.std.proofs.Common.{◌≡◌, ℕ, ◌+◌, Bool, true, false, not, List, [], ◌∷◌, ◌++◌, refl, sym, ap, ◌∙◌, inl, inr, None, Some, append_assoc}
+use Rattle.std.proofs.Common.{◌≡◌, ℕ, Bool, true, false, not, List, [], ◌∷◌, ◌++◌, refl, sym, ◌∙◌, inl, inr, None, Some, append_assoc}
 use Rattle.std.specs.Prelude.{◌==◌}
 use Rattle.std.specs.List.{list_all, list_any}
 use Rattle.std.proofs.lemmas.Bool.{and_parts, both_ways, or_parts}
 use Rattle.bib_chunks.specs.Styled.{Atom}
-use Rattle.bib_syntax.specs.declared.raw.Token.TheVariants.{ClosingBrace}
 use Rattle.bib_syntax.specs.declared.raw.ParseErrorKind.{ParseErrorKind}
-use Rattle.bib_syntax.specs.declared.raw.ParseErrorKind.TheVariants.{UnexpectedEof, Unexpected}
+use Rattle.bib_syntax.specs.declared.raw.ParseErrorKind.TheVariants.{UnexpectedEof}
 use Rattle.bib_contents.specs.ContentErrors.{UnitFails, ContentFails}
 use Rattle.bib_contents.specs.ContentErrors.UnitFails.{dollar, backslash, brace}
 use Rattle.bib_contents.specs.ContentErrors.ContentFails.{unopened, ended, inside, following}
-use Rattle.bib_contents.specs.Contents.{Argument, ContentUnit, IsNext, IsUnread, Reads, argument_spelling, balances, depth_after, held, is_argument, is_closable, is_space, takes_next}
-use Rattle.bib_contents.specs.Contents.Reads.{end, next}
+use Rattle.bib_contents.specs.Contents.{Argument, ContentUnit, IsNext, IsUnread, Reads, argument_spelling, balances, held, is_argument, is_closable, is_space, takes_next}
 use Rattle.bib_contents.specs.Progress.{IsUntaken}
 use Rattle.bib_contents.proofs.ArgumentFacts.{no_formula}
 use Rattle.bib_contents.proofs.CommandUnitFacts.{command_none, no_escape}

@@ -1,5 +1,5 @@
 -- Facts on reading contents unit by unit.
-use Rattle.std.proofs.Common.{◌≡◌, ℕ, zero, suc, ◌+◌, ◌<◌, ◌≤◌, Bool, true, false, List, [], ◌∷◌, ◌++◌, length, map, refl, sym, ap, ◌∙◌, subst, arith, append_assoc, inl, inr, None, Some, length-append, add-one}
+use Rattle.std.proofs.Common.{◌≡◌, ℕ, zero, suc, ◌+◌, ◌<◌, ◌≤◌, Bool, true, false, List, [], ◌∷◌, ◌++◌, length, map, refl, sym, ap, ◌∙◌, subst, arith, append_assoc, None, Some, length-append, add-one}
 use Rattle.std.specs.Prelude.{string_bytes}
 use Rattle.std.specs.List.{list_all}
 use Rattle.std.specs.Str.{chars}

@@ -6,8 +6,6 @@ use Rattle.bib_contents.specs.Progress.{left}
 use Rattle.bib_contents.specs.UnitViews.{unit_of}
 use Rattle.bib_contents.specs.declared.growing.OpenChunk.{OpenChunk}
 use Rattle.bib_contents.proofs.ArgumentFacts.{passes_shorter}
-use Rattle.bib_contents.specs.ContentErrors.{ContentFails}
-use Rattle.bib_syntax.specs.declared.raw.ParseErrorKind.TheVariants.{UnexpectedEof}
 use Rattle.bib_contents.proofs.FailFacts.{fails_kind, fails_stuck, fails_taken, fails_unit}
 use Rattle.bib_contents.proofs.ReaderFacts.{unit_shorter}
 use Rattle.bib_contents.proofs.ReadingContents.{Reading, reading_none, reading_plain, reading_unit, reading_all, reading_ends, unit_place}
