@@ -232,17 +232,20 @@ read_closing {is_flat} {depth = depth} read one some is =
     read_more [] [] read (goes_unit {inner = []} one (lt-ltb 0 depth (omega (arith, some))) (λ argument holds. absurd (no_argument holds)) is) led_none (written_none is_flat) (sym (append-nil _))
 
 -- an argument fails where its next unit doesn't end
-pub fails_on : {is_flat : Bool} {whole base text : List ℕ} {depth : ℕ} {now : List ℕ} {kind : ParseErrorKind} → IsReadTo is_flat whole base text depth now → UnitFails false text → kind ≡ UnexpectedEof → ContentFails false 0 whole kind
+pub fails_on : {is_flat : Bool} {whole base text : List ℕ} {depth : ℕ} {now : List ℕ} {kind : ParseErrorKind}
+    → IsReadTo is_flat whole base text depth now → UnitFails false text → kind ≡ UnexpectedEof → ContentFails false 0 whole kind
 fails_on read fails is = read.goes.fails _ (rw is (ended fails))
 
 -- it fails where a brace is closed and none is open
-pub fails_closing : {is_flat : Bool} {whole base text rest : List ℕ} {depth : ℕ} {now : List ℕ} {kind : ParseErrorKind} → IsReadTo is_flat whole base text depth now → IsNext false ContentUnit.closing text rest → depth ≡ 0
+pub fails_closing : {is_flat : Bool} {whole base text rest : List ℕ} {depth : ℕ} {now : List ℕ} {kind : ParseErrorKind}
+    → IsReadTo is_flat whole base text depth now → IsNext false ContentUnit.closing text rest → depth ≡ 0
     → kind ≡ Unexpected ClosingBrace → ContentFails false 0 whole kind
 fails_closing {depth = depth} read one none is =
     let closed : is_closable depth ContentUnit.closing ≡ false = rw none refl in
     read.goes.fails _ (rw is (unopened one closed))
 
 -- it fails where the argument of a command in it does
-pub fails_argument : {is_flat : Bool} {whole base text rest : List ℕ} {depth : ℕ} {now name space argument : List ℕ} {kind : ParseErrorKind} → IsReadTo is_flat whole base text depth now → IsNext false (ContentUnit.command name space (Argument.braced argument)) text rest
+pub fails_argument : {is_flat : Bool} {whole base text rest : List ℕ} {depth : ℕ} {now name space argument : List ℕ} {kind : ParseErrorKind}
+    → IsReadTo is_flat whole base text depth now → IsNext false (ContentUnit.command name space (Argument.braced argument)) text rest
     → ContentFails false 0 argument kind → ContentFails false 0 whole kind
 fails_argument read one fails = read.goes.fails _ (inside one refl fails)

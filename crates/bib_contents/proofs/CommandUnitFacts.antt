@@ -87,12 +87,15 @@ command_none before (c ∷ cs) middle space after takes spaced leading_run name_
     no_command c cs space after rest u name_is (rw then_is at whole) white stops (rw (takes_is, spaced_is) at none) (rw (leading_run, then_is) at one)
 
 -- a command fails whose argument isn't closed
-pub unclosed_fails : (before name middle space after : List ℕ) (spaced : Bool) (inside : List ℕ) → before ≡ name ++ middle → is_name name ≡ true → is_whole_name name middle ≡ true → middle ≡ space ++ after → spaced ≡ not (is_empty space)
-    → spaced ≡ false → after ≡ 123 ∷ inside → ((text rest : List ℕ) → inside ≡ text ++ 125 ∷ rest → balances 0 text ≡ true → ⊥) → UnitFails false (92 ∷ before)
+pub unclosed_fails : (before name middle space after : List ℕ) (spaced : Bool) (inside : List ℕ) → before ≡ name ++ middle
+    → is_name name ≡ true → is_whole_name name middle ≡ true → middle ≡ space ++ after → spaced ≡ not (is_empty space)
+    → spaced ≡ false → after ≡ 123 ∷ inside → ((text rest : List ℕ) → inside ≡ text ++ 125 ∷ rest → balances 0 text ≡ true → ⊥)
+    → UnitFails false (92 ∷ before)
 unclosed_fails before name middle [] after spaced inside begins_so named whole then_is spaced_is none is unclosed =
     let tail : middle ≡ 123 ∷ inside = then_is ∙ is in
     rw (begins_so ∙ ap (λ xs. name ++ xs) tail) (UnitFails.brace name inside named (rw tail at whole) unclosed)
-unclosed_fails before name middle (c ∷ cs) after spaced inside begins_so named whole then_is spaced_is none is unclosed = absurd (both_ways spaced none spaced_is)
+unclosed_fails before name middle (c ∷ cs) after spaced inside begins_so named whole then_is spaced_is none is unclosed =
+    absurd (both_ways spaced none spaced_is)
 
 -- a backslash alone at the end of a text that is not verbatim begins nothing
 pub no_escape : (before : List ℕ) (is_verbatim : Bool) → before ≡ [] → is_verbatim ≡ false → (u : ContentUnit) (rest : List ℕ) → IsNext is_verbatim u (92 ∷ before) rest → ⊥

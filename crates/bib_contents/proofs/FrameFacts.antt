@@ -168,10 +168,12 @@ module _ {first_name first_whole first_under : List ℕ} {ends : Ends} {low high
       done_of reading.waiting read.atoms (ended_as read) (wrote ∙ ap (λ cs. encode_utf8_all (reading.under ++ cs)) gives)
 
   -- where an argument fails, the first does
-  pub fails_up : {name whole under : List ℕ} {is_flat : Bool} {frames : List Frame} {kind : ParseErrorKind} → AreWaiting first_name first_whole first_under ends low high name whole is_flat under frames → ContentFails false 0 whole kind
+  pub fails_up : {name whole under : List ℕ} {is_flat : Bool} {frames : List Frame} {kind : ParseErrorKind}
+      → AreWaiting first_name first_whole first_under ends low high name whole is_flat under frames → ContentFails false 0 whole kind
       → ContentFails false 0 first_whole kind
   fails_up {kind = kind} (AreWaiting.none name_is whole_is flat_is under_is) fails = subst (λ t. ContentFails false 0 t kind) whole_is fails
-  fails_up (AreWaiting.above below_name below_whole below_under before space begun known read one flat waiting) fails = fails_up waiting (fails_argument read one fails)
+  fails_up (AreWaiting.above below_name below_whole below_under before space begun known read one flat waiting) fails =
+      fails_up waiting (fails_argument read one fails)
 
   -- the first argument was begun
   pub reading_first : {frame : Frame} {now : List ℕ} → IsBegun frame first_name first_under low high → AreKnown ends frame.s.text → frame.is_flat ≡ false → IsReadTo frame.is_flat first_whole (first_under ++ made_before frame.effect first_name) (left frame.s) frame.depth now

@@ -91,7 +91,8 @@ read_all {is_verbatim} {whole} {text} {start} {now} {depth} read ends =
     (read.atoms, subst (Reads is_verbatim 0 whole) (append-nil read.atoms) (read.goes.onward [] (rw ends end)), read.is)
 
 -- no unit stands where the text goes on
-pub no_unit : {is_verbatim : Bool} {depth : ℕ} {text : List ℕ} {atoms : List Atom} → (text ≡ [] → ⊥) → ((u : ContentUnit) (rest : List ℕ) → IsNext is_verbatim u text rest → ⊥) → Reads is_verbatim depth text atoms → ⊥
+pub no_unit : {is_verbatim : Bool} {depth : ℕ} {text : List ℕ} {atoms : List Atom} → (text ≡ [] → ⊥)
+    → ((u : ContentUnit) (rest : List ℕ) → IsNext is_verbatim u text rest → ⊥) → Reads is_verbatim depth text atoms → ⊥
 no_unit more none end = more refl
 no_unit more none (next {u = u} {rest = rest} one closable argument read) = none u rest one
 

@@ -21,11 +21,14 @@ pub data UnitFails : Bool → List ℕ → Type 0 where
 -- a text fails with this kind of error where so many braces are open: at a closing brace that nothing opened, at a unit that
 -- doesn't end, in the argument of a command, or after a unit that is read
 pub data ContentFails : Bool → ℕ → List ℕ → ParseErrorKind → Type 0 where
-  unopened : {is_verbatim : Bool} {depth : ℕ} {u : ContentUnit} {text rest : List ℕ} → IsNext is_verbatim u text rest → is_closable depth u ≡ false
+  unopened : {is_verbatim : Bool} {depth : ℕ} {u : ContentUnit} {text rest : List ℕ} → IsNext is_verbatim u text rest
+      → is_closable depth u ≡ false
       → ContentFails is_verbatim depth text (Unexpected ClosingBrace)
   ended : {is_verbatim : Bool} {depth : ℕ} {text : List ℕ} → UnitFails is_verbatim text → ContentFails is_verbatim depth text UnexpectedEof
-  inside : {is_verbatim : Bool} {depth : ℕ} {u : ContentUnit} {text rest argument : List ℕ} {kind : ParseErrorKind} → IsNext is_verbatim u text rest
+  inside : {is_verbatim : Bool} {depth : ℕ} {u : ContentUnit} {text rest argument : List ℕ} {kind : ParseErrorKind}
+      → IsNext is_verbatim u text rest
       → held u ≡ Some argument → ContentFails false 0 argument kind → ContentFails is_verbatim depth text kind
-  following : {is_verbatim : Bool} {depth : ℕ} {u : ContentUnit} {text rest : List ℕ} {kind : ParseErrorKind} → IsNext is_verbatim u text rest
+  following : {is_verbatim : Bool} {depth : ℕ} {u : ContentUnit} {text rest : List ℕ} {kind : ParseErrorKind}
+      → IsNext is_verbatim u text rest
       → is_closable depth u ≡ true → ((argument : List ℕ) → held u ≡ Some argument → (atoms : List Atom) × Reads false 0 argument atoms)
       → ContentFails is_verbatim (depth_after depth u) rest kind → ContentFails is_verbatim depth text kind

@@ -65,7 +65,8 @@ pub record Took (u : ContentUnit) (depth : ℕ) (before : List Atom) (next_depth
 -- a unit can't be read here, with this kind of error: it closes a brace and none is open, or its argument fails
 abbrev pub IsUntaken : ContentUnit → ℕ → ParseErrorKind → Type 0
 IsUntaken u depth kind =
-    ((is_closable depth u ≡ false) × (kind ≡ Unexpected ClosingBrace)) ⊎ ((text : List ℕ) × (held u ≡ Some text) × ContentFails false 0 text kind)
+    ((is_closable depth u ≡ false) × (kind ≡ Unexpected ClosingBrace))
+    ⊎ ((text : List ℕ) × (held u ≡ Some text) × ContentFails false 0 text kind)
 
 -- chunks stay placed: where the growing one began before a place, the next one begins before a later place
 abbrev pub StaysPlaced : List (Spanned Chunk) → OpenChunk → ℕ → List (Spanned Chunk) → OpenChunk → ℕ → Type 0

@@ -19,10 +19,14 @@ returns-in_default-clause-found c =
 
 pub returns-in_default-clause-fails : goal.returns-in_default-clause-fails
 returns-in_default-clause-fails c =
-    let spaced : not c.is_empty-is_spaced.result ≡ not (is_empty (chars c.eat_while-space.result.now)) = ap not c.is_empty-is_spaced.ensures ∙ spaced_chars _ c.eat_while-space.utf8 in
+    let name = c.eat_name-name.ensures in
+    let space = chars c.eat_while-space.result.now in
+    let is_spaced = not c.is_empty-is_spaced.result in
+    let spaced : is_spaced ≡ not (is_empty space) = ap not c.is_empty-is_spaced.ensures ∙ spaced_chars _ c.eat_while-space.utf8 in
     let unclosed = c.in_default.ensures.unclosed in
-    unclosed_fails (left c.args.s.now) (chars c.eat_name-name.result.now) (left c.eat_name-name.new.s) (chars c.eat_while-space.result.now) (left c.eat_while-space.new.self) (not c.is_empty-is_spaced.result) unclosed.1.0
-    c.eat_name-name.ensures.passed.left c.eat_name-name.ensures.name c.eat_name-name.ensures.whole c.eat_while-space.ensures.passed.left spaced unclosed.0 unclosed.1.1 unclosed.1.2
+    unclosed_fails (left c.args.s.now) (chars c.eat_name-name.result.now) (left c.eat_name-name.new.s) space (left c.eat_while-space.new.self)
+    is_spaced unclosed.1.0 name.passed.left name.name name.whole c.eat_while-space.ensures.passed.left spaced unclosed.0 unclosed.1.1
+    unclosed.1.2
 
 pub returns-in-Plain-clause-found : goal.returns-in-Plain-clause-found
 returns-in-Plain-clause-found c =

@@ -21,8 +21,9 @@ pub returns-then-not-eat_if-clause-fails : goal.returns-then-not-eat_if-clause-f
 returns-then-not-eat_if-clause-fails c =
     let run = c.eat_while-text.ensures.longest (λ d. not (d == 36)) (λ x r post. search rules) in
     let ended : left c.eat_while-text.new.self ≡ [] = nothing_left (λ d. d == 36) _ run.1 c.if-not-eat_if.ensures.1 in
-    let whole : left c.args.s.now ≡ chars c.eat_while-text.result.now = c.eat_while-text.ensures.passed.left ∙ ap (λ xs. chars c.eat_while-text.result.now ++ xs) ended ∙ append-nil _ in
-    rw whole (UnitFails.dollar (all_none (chars c.eat_while-text.result.now) run.0))
+    let text = chars c.eat_while-text.result.now in
+    let whole : left c.args.s.now ≡ text = c.eat_while-text.ensures.passed.left ∙ ap (λ xs. text ++ xs) ended ∙ append-nil _ in
+    rw whole (UnitFails.dollar (all_none text run.0))
 
 pub returns-clause-found : goal.returns-clause-found
 returns-clause-found c =
