@@ -77,7 +77,7 @@ fn take(
 /// Reads the contents of a text that stands at `offset` in the file, and appends them. A chunk is joined to the one before
 /// it where both are normal or both verbatim. Places are counted in bytes of the file, up to `usize::MAX`.
 ///
-/// Refuses a text that can't be read, with a span in it: with `Unexpected` at a closing brace that nothing opened, and with
+/// Refuses a text that can't be read, with a span in it. The kind is `Unexpected` at a closing brace that nothing opened. It is
 /// `UnexpectedEof` if a dollar sign, an argument's brace or the character after a backslash is missing. Out of memory is the
 /// only other error. The contents before the error stay appended; when out of memory, the last chunk may be lost.
 pub fn contents(

@@ -19,7 +19,7 @@ pub(crate) enum SpecifiedKind {
     YearZeroCE,
 }
 
-// A kind of error where the definition names none: what is missing or wrong in the text.
+// A kind of error that a text may have if the definition names none.
 #[derive(Debug, Clone, Copy, PartialEq, Eq)]
 pub(crate) enum UnspecifiedKind {
     InvalidNumber,

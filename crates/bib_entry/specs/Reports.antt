@@ -162,7 +162,7 @@ is_error (name, fine) = false
 is_error (name, refused kind place) = true
 is_error (name, unread place) = true
 
--- the errors that a verdict allows: if it reports no kind, those of the four kinds for which no rule of dates names a kind
+-- the errors that a verdict allows: if it names no kind, those of the four kinds of `IsUnreadKind`
 abbrev pub Allows : Verdict → TypeError → Type 0
 Allows fine e = ⊥
 Allows (refused kind place) e = (e.kind ≡ kind) × (e.span ≡ place)

@@ -11,8 +11,8 @@ use Rattle.bib_people.specs.declared.person.Person.{Person}
 abbrev pub text_cmp : List ℕ → List ℕ → Ordering
 text_cmp = slice_cmp nat_cmp
 
--- people in the order of the first field in which they differ, of the fields in this order. An optional field that is
--- absent comes before one that is present, and `false` before `true`
+-- the order of two people: the first of these fields in which they differ decides. An absent optional field comes before a
+-- present one, and `false` before `true`
 abbrev pub person_cmp : Person → Person → Ordering
 person_cmp p q =
     ordering_then (text_cmp p.name q.name)

@@ -6,8 +6,8 @@ ghost use Rattle.bib_people.specs.declared.person.Person.{Person as APerson};
 
 use crate::person::Person;
 
-/// People are ordered by the first field in which they differ: the name, the given name, the prefix, the suffix, then the id,
-/// the initials of the prefix and of the given name, and whether the prefix is used. An absent field comes first.
+/// People are ordered by the first field in which they differ. The fields are compared in this order: `name`, `given_name`,
+/// `prefix`, `suffix`, `id`, `prefix_initials`, `given_initials`, `use_prefix`. An absent field comes first.
 pub fn people_are_ordered_by_their_fields()
     ensures { (p q : APerson) → ⟦<Person as Ord>⟧.cmp p q ≡ person_cmp p q }
 {}
