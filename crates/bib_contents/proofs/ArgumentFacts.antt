@@ -84,7 +84,7 @@ no_formula text all u rest one =
     let spelt : text ≡ (inside ++ 36 ∷ []) ++ rest = after_first (one.spells ∙ ap (λ x. unit_spelling x ++ rest) (sym is)) in
     without_dollar inside rest (rw spelt at all)
 
-all_none : (text : List ℕ) → list_all (λ d. not (d == 36)) text ≡ true → list_any (λ c. c == 36) text ≡ false
+pub all_none : (text : List ℕ) → list_all (λ d. not (d == 36)) text ≡ true → list_any (λ c. c == 36) text ≡ false
 all_none [] all = refl
 all_none (c ∷ cs) all =
     let parts = and_parts (not (c == 36)) (list_all (λ d. not (d == 36)) cs) all in

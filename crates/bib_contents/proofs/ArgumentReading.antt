@@ -9,13 +9,17 @@ use Rattle.bib_chunks.specs.Styled.{Atom}
 use Rattle.bib_chunks.specs.Written.{is_grouping, is_reserved}
 use Rattle.bib_contents.specs.Arguments.{IsReadTo, laid, argument_written, unit_written}
 use Rattle.bib_contents.specs.Commands.{command_text}
-use Rattle.bib_contents.specs.Contents.{Argument, ContentUnit, IsNext, Reads, begins, character, dashes, fits, held, is_blank, is_closable, is_empty, is_escapable, is_escaped, is_name, is_name_character, is_ordinary, is_sign, is_space, unit_text}
-use Rattle.bib_contents.specs.Contents.Reads.{end, next}
+use Rattle.bib_contents.specs.ContentErrors.{ContentFails, UnitFails}
+use Rattle.bib_contents.specs.ContentErrors.ContentFails.{ended, inside, unopened}
+use Rattle.bib_contents.specs.Contents.{Argument, ContentUnit, IsNext, begins, character, dashes, fits, held, is_blank, is_closable, is_empty, is_escapable, is_escaped, is_name, is_name_character, is_ordinary, is_sign, is_space, unit_text}
 use Rattle.bib_contents.specs.Effects.{is_unbroken}
-use Rattle.bib_contents.specs.Progress.{Goes, IsStuck}
+use Rattle.bib_syntax.specs.declared.raw.Token.TheVariants.{ClosingBrace}
+use Rattle.bib_syntax.specs.declared.raw.ParseErrorKind.{ParseErrorKind}
+use Rattle.bib_syntax.specs.declared.raw.ParseErrorKind.TheVariants.{UnexpectedEof, Unexpected}
+use Rattle.bib_contents.specs.Progress.{Goes}
 use Rattle.bib_contents.proofs.EffectFacts.{wrote_more}
 use Rattle.bib_contents.proofs.LaidFacts.{IsCapped, IsLed, flowing_plain, plain_append, capped_plain, capped_given, laid_given, alone_plain, led_characters, led_math, is_flat_at, written_append, written_characters, written_math}
-use Rattle.bib_contents.proofs.ReaderFacts.{goes_then, goes_unit, goes_run, no_argument, unit_back}
+use Rattle.bib_contents.proofs.ReaderFacts.{goes_then, goes_unit, goes_run, no_argument}
 use Rattle.bib_contents.proofs.TakingFacts.{text_unit}
 use Rattle.bib_contents.proofs.UnitFacts.{command_parts}
 use Rattle.bib_contents.specs.UnitViews.{text_unit_of}
@@ -227,19 +231,21 @@ pub read_closing : {is_flat : Bool} {whole base text rest : List ℕ} {depth aft
 read_closing {is_flat} {depth = depth} read one some is =
     read_more [] [] read (goes_unit {inner = []} one (lt-ltb 0 depth (omega (arith, some))) (λ argument holds. absurd (no_argument holds)) is) led_none (written_none is_flat) (sym (append-nil _))
 
--- a text whose next unit can't be read is not read
-no_unit : {depth : ℕ} {text : List ℕ} {atoms : List Atom} → (text ≡ [] → ⊥) → ((u : ContentUnit) (rest : List ℕ) → IsNext false u text rest → ⊥) → Reads false depth text atoms → ⊥
-no_unit more none end = more refl
-no_unit more none (next {u = u} {rest = rest} one closable argument read) = none u rest one
+-- an argument fails where its next unit doesn't end
+pub fails_on : {is_flat : Bool} {whole base text : List ℕ} {depth : ℕ} {now : List ℕ} {kind : ParseErrorKind}
+    → IsReadTo is_flat whole base text depth now → UnitFails false text → kind ≡ UnexpectedEof → ContentFails false 0 whole kind
+fails_on read fails is = read.goes.fails _ (rw is (ended fails))
 
-pub stuck_here : {is_flat : Bool} {whole base text : List ℕ} {depth : ℕ} {now : List ℕ} → IsReadTo is_flat whole base text depth now → (text ≡ [] → ⊥) → ((u : ContentUnit) (rest : List ℕ) → IsNext false u text rest → ⊥) → IsStuck false 0 whole
-stuck_here read more none atoms whole = no_unit more none (read.goes.back atoms whole).1
+-- it fails where a brace is closed and none is open
+pub fails_closing : {is_flat : Bool} {whole base text rest : List ℕ} {depth : ℕ} {now : List ℕ} {kind : ParseErrorKind}
+    → IsReadTo is_flat whole base text depth now → IsNext false ContentUnit.closing text rest → depth ≡ 0
+    → kind ≡ Unexpected ClosingBrace → ContentFails false 0 whole kind
+fails_closing {depth = depth} read one none is =
+    let closed : is_closable depth ContentUnit.closing ≡ false = rw none refl in
+    read.goes.fails _ (rw is (unopened one closed))
 
-pub stuck_closing : {is_flat : Bool} {whole base text rest : List ℕ} {depth : ℕ} {now : List ℕ} → IsReadTo is_flat whole base text depth now → IsNext false ContentUnit.closing text rest → depth ≡ 0 → IsStuck false 0 whole
-stuck_closing {depth = depth} read one none atoms whole = both_ways (is_closable depth ContentUnit.closing) (rw none refl) (unit_back one (read.goes.back atoms whole).1).0
-
-pub stuck_argument : {is_flat : Bool} {whole base text rest : List ℕ} {depth : ℕ} {now name space argument : List ℕ} → IsReadTo is_flat whole base text depth now → IsNext false (ContentUnit.command name space (Argument.braced argument)) text rest → IsStuck false 0 argument
-    → IsStuck false 0 whole
-stuck_argument {argument = argument} read one stuck atoms whole =
-    let inside = (unit_back one (read.goes.back atoms whole).1).1 argument refl in
-    stuck inside.0 inside.1
+-- it fails where the argument of a command in it does
+pub fails_argument : {is_flat : Bool} {whole base text rest : List ℕ} {depth : ℕ} {now name space argument : List ℕ} {kind : ParseErrorKind}
+    → IsReadTo is_flat whole base text depth now → IsNext false (ContentUnit.command name space (Argument.braced argument)) text rest
+    → ContentFails false 0 argument kind → ContentFails false 0 whole kind
+fails_argument read one fails = read.goes.fails _ (inside one refl fails)

@@ -8,7 +8,8 @@ use Rattle.std.proofs.lemmas.List.{append_cancel_left}
 use Rattle.std.proofs.lemmas.Str.{encodes-chars, chars-nil}
 use Rattle.bib_text.specs.Places.{Place}
 use Rattle.bib_chunks.specs.Written.{is_grouping}
-use Rattle.bib_contents.specs.Contents.{ContentUnit, is_ordinary, Argument, is_escaped, is_space, is_blank, is_name_character, is_sign, is_mark, is_accent_letter, begins, is_empty, argument_spelling, is_name, is_whole_name, takes_next, is_argument, IsNext}
+use Rattle.bib_contents.specs.ContentErrors.{UnitFails}
+use Rattle.bib_contents.specs.Contents.{ContentUnit, balances, is_ordinary, Argument, is_escaped, is_space, is_blank, is_name_character, is_sign, is_mark, is_accent_letter, begins, is_empty, argument_spelling, is_name, is_whole_name, takes_next, is_argument, IsNext}
 use Rattle.bib_contents.specs.Progress.{left, Passes}
 use Rattle.bib_contents.proofs.UnitFacts.{first_unit, first_argument, command_of, unit_first, escape_first, following, prefix_run, after_run, command_parts}
 use Rattle.bib_contents.proofs.ArgumentFacts.{after_first}
@@ -84,6 +85,17 @@ pub command_none : (before name middle space after : List ℕ) (takes spaced : B
 command_none before [] middle space after takes spaced leading_run name_is whole then_is white stops takes_is spaced_is none u rest one = both_ways false refl name_is
 command_none before (c ∷ cs) middle space after takes spaced leading_run name_is whole then_is white stops takes_is spaced_is none u rest one =
     no_command c cs space after rest u name_is (rw then_is at whole) white stops (rw (takes_is, spaced_is) at none) (rw (leading_run, then_is) at one)
+
+-- a command fails whose argument isn't closed
+pub unclosed_fails : (before name middle space after : List ℕ) (spaced : Bool) (inside : List ℕ) → before ≡ name ++ middle
+    → is_name name ≡ true → is_whole_name name middle ≡ true → middle ≡ space ++ after → spaced ≡ not (is_empty space)
+    → spaced ≡ false → after ≡ 123 ∷ inside → ((text rest : List ℕ) → inside ≡ text ++ 125 ∷ rest → balances 0 text ≡ true → ⊥)
+    → UnitFails false (92 ∷ before)
+unclosed_fails before name middle [] after spaced inside begins_so named whole then_is spaced_is none is unclosed =
+    let tail : middle ≡ 123 ∷ inside = then_is ∙ is in
+    rw (begins_so ∙ ap (λ xs. name ++ xs) tail) (UnitFails.brace name inside named (rw tail at whole) unclosed)
+unclosed_fails before name middle (c ∷ cs) after spaced inside begins_so named whole then_is spaced_is none is unclosed =
+    absurd (both_ways spaced none spaced_is)
 
 -- a backslash alone at the end of a text that is not verbatim begins nothing
 pub no_escape : (before : List ℕ) (is_verbatim : Bool) → before ≡ [] → is_verbatim ≡ false → (u : ContentUnit) (rest : List ℕ) → IsNext is_verbatim u (92 ∷ before) rest → ⊥

@@ -12,10 +12,12 @@ use Rattle.bib_chunks.specs.Styled.{Atom}
 use Rattle.bib_contents.specs.Arguments.{AreKnown, Closes, IsInside, KeepsFrame, IsReadTo, IsShorterThan, StandsRight, laid, argument_written}
 use Rattle.bib_contents.specs.Commands.{command_text}
 use Rattle.bib_contents.specs.Contents.{Argument, ContentUnit, IsNext, Reads, character, unit_spelling, StaysBetween}
+use Rattle.bib_contents.specs.ContentErrors.{ContentFails}
 use Rattle.bib_contents.specs.Contents.Reads.{end}
 use Rattle.bib_contents.specs.Effects.{IsFit, is_unbroken, made, made_before}
 use Rattle.bib_syntax.specs.declared.raw.ParseError.{ParseError}
-use Rattle.bib_contents.specs.Progress.{IsStuck, left}
+use Rattle.bib_syntax.specs.declared.raw.ParseErrorKind.{ParseErrorKind}
+use Rattle.bib_contents.specs.Progress.{left}
 use Rattle.bib_contents.specs.declared.arguments.Frame.{Frame}
 use Rattle.bib_contents.specs.declared.commands.Effect.{Effect}
 use Rattle.bib_contents.specs.declared.arguments.Next.{Next}
@@ -23,7 +25,7 @@ use Rattle.bib_contents.specs.declared.arguments.Next.TheVariants.{Read, Follows
 use Rattle.bib_contents.specs.declared.ends.Ends.{Ends}
 use Rattle.bib_contents.proofs.EffectFacts.{wrote_after}
 use Rattle.bib_contents.proofs.UnitFacts.{command_parts}
-use Rattle.bib_contents.proofs.ArgumentReading.{name_plain, read_more, stuck_argument, written_none}
+use Rattle.bib_contents.proofs.ArgumentReading.{fails_argument, name_plain, read_more, written_none}
 use Rattle.bib_contents.proofs.LaidFacts.{is_flat_at, laid_given, written_characters, led_characters, capped_given}
 use Rattle.bib_contents.proofs.ReaderFacts.{goes_here, goes_unit, unit_shorter}
 use Rattle.bib_contents.proofs.TakingFacts.{held_is}
@@ -165,10 +167,13 @@ module _ {first_name first_whole first_under : List ℕ} {ends : Ends} {low high
       ap (λ e. made e reading.name (argument_written on.is_flat read.atoms)) kept.effect ∙ sym (reading.begun.gives (argument_written on.is_flat read.atoms)) ∙ ap (λ b. command_text reading.name (Some (argument_written b read.atoms))) kept.is_flat in
       done_of reading.waiting read.atoms (ended_as read) (wrote ∙ ap (λ cs. encode_utf8_all (reading.under ++ cs)) gives)
 
-  -- where an argument is not read, the first is not
-  pub stuck_up : {name whole under : List ℕ} {is_flat : Bool} {frames : List Frame} → AreWaiting first_name first_whole first_under ends low high name whole is_flat under frames → IsStuck false 0 whole → IsStuck false 0 first_whole
-  stuck_up (AreWaiting.none name_is whole_is flat_is under_is) stuck = subst (IsStuck false 0) whole_is stuck
-  stuck_up (AreWaiting.above below_name below_whole below_under before space begun known read one flat waiting) stuck = stuck_up waiting (stuck_argument read one stuck)
+  -- where an argument fails, the first does
+  pub fails_up : {name whole under : List ℕ} {is_flat : Bool} {frames : List Frame} {kind : ParseErrorKind}
+      → AreWaiting first_name first_whole first_under ends low high name whole is_flat under frames → ContentFails false 0 whole kind
+      → ContentFails false 0 first_whole kind
+  fails_up {kind = kind} (AreWaiting.none name_is whole_is flat_is under_is) fails = subst (λ t. ContentFails false 0 t kind) whole_is fails
+  fails_up (AreWaiting.above below_name below_whole below_under before space begun known read one flat waiting) fails =
+      fails_up waiting (fails_argument read one fails)
 
   -- the first argument was begun
   pub reading_first : {frame : Frame} {now : List ℕ} → IsBegun frame first_name first_under low high → AreKnown ends frame.s.text → frame.is_flat ≡ false → IsReadTo frame.is_flat first_whole (first_under ++ made_before frame.effect first_name) (left frame.s) frame.depth now

@@ -6,6 +6,7 @@ pub mod CommandUnitFacts
 pub mod ContentFacts
 pub mod EffectFacts
 pub mod EndFacts
+pub mod FailFacts
 pub mod FrameFacts
 pub mod LaidFacts
 pub mod PlainFacts

@@ -1,5 +1,5 @@
 -- Facts on reading contents unit by unit.
-use Rattle.std.proofs.Common.{◌≡◌, ℕ, zero, suc, ◌+◌, ◌<◌, ◌≤◌, Bool, true, false, List, [], ◌∷◌, ◌++◌, length, map, refl, sym, ap, ◌∙◌, subst, arith, append_assoc, inl, inr, None, Some, length-append, add-one}
+use Rattle.std.proofs.Common.{◌≡◌, ℕ, zero, suc, ◌+◌, ◌<◌, ◌≤◌, Bool, true, false, List, [], ◌∷◌, ◌++◌, length, map, refl, sym, ap, ◌∙◌, subst, arith, append_assoc, None, Some, length-append, add-one}
 use Rattle.std.specs.Prelude.{string_bytes}
 use Rattle.std.specs.List.{list_all}
 use Rattle.std.specs.Str.{chars}
@@ -9,21 +9,23 @@ use Rattle.bib_chunks.specs.Styled.{Atom, styled}
 use Rattle.bib_chunks.specs.declared.chunk.Chunk.{Chunk}
 use Rattle.bib_text.specs.declared.spanned.Spanned.{Spanned}
 use Rattle.bib_contents.specs.Contents.{ContentUnit, Argument, Reads, IsNext, fits, unit_spelling, is_ordinary, character, meaning, is_closable, depth_after, held}
+use Rattle.bib_contents.specs.ContentErrors.ContentFails.{following}
 use Rattle.bib_contents.specs.Contents.Reads.{end, next}
 use Rattle.bib_styled.specs.Joined.{ArePlaced}
-use Rattle.bib_contents.specs.Progress.{Goes, IsStuck, IsUntaken, Took, so_far}
+use Rattle.bib_contents.specs.Progress.{Goes, Took, so_far}
 use Rattle.bib_contents.specs.declared.growing.OpenChunk.{OpenChunk}
 use Rattle.std.proofs.lemmas.Str.{chars-nil}
 use Rattle.bib_contents.proofs.ContentFacts.{unit_same, rest_same, no_unit_at_end}
 
 pub goes_here : (is_verbatim : Bool) (depth : ℕ) (text : List ℕ) → Goes is_verbatim depth text [] depth text
-goes_here is_verbatim depth text = record { onward = λ more read. read; back = λ whole read. (whole, read) }
+goes_here is_verbatim depth text = record { onward = λ more read. read; back = λ whole read. (whole, read); fails = λ kind fails. fails }
 
 pub goes_then : {is_verbatim : Bool} {depth after last : ℕ} {text rest tail : List ℕ} {first second : List Atom} → Goes is_verbatim depth text first after rest → Goes is_verbatim after rest second last tail
     → Goes is_verbatim depth text (first ++ second) last tail
 goes_then {is_verbatim} {depth} {after} {last} {text} {rest} {tail} {first} {second} one two = record {
   onward = λ more read. subst (Reads is_verbatim depth text) (sym (append_assoc first second more)) (one.onward (second ++ more) (two.onward more read));
   back = λ whole read. two.back (one.back whole read).0 (one.back whole read).1;
+  fails = λ kind fails. one.fails kind (two.fails kind fails);
 }
 
 -- what stands after the first unit is read, where the whole is
@@ -40,9 +42,10 @@ unit_back {is_verbatim} {depth} {text} {rest} {u} one (next {u = w} {rest = left
 
 pub goes_unit : {is_verbatim : Bool} {depth after : ℕ} {text rest : List ℕ} {u : ContentUnit} {inner : List Atom} → IsNext is_verbatim u text rest → is_closable depth u ≡ true → ((argument : List ℕ) → held u ≡ Some argument → Reads false 0 argument inner) → after ≡ depth_after depth u
     → Goes is_verbatim depth text (meaning depth u inner) after rest
-goes_unit one closable argument deep = record {
+goes_unit {inner = inner} one closable argument deep = record {
   onward = λ more read. next one closable argument (rw (← deep) read);
   back = λ whole read. rw deep (unit_back one read).2;
+  fails = λ kind fails. following one closable (λ text holds. (inner, argument text holds)) (rw (← deep) fails);
 }
 
 pub no_argument : {t : List ℕ} → None ≡ Some t → ⊥
@@ -88,19 +91,10 @@ read_all {is_verbatim} {whole} {text} {start} {now} {depth} read ends =
     (read.atoms, subst (Reads is_verbatim 0 whole) (append-nil read.atoms) (read.goes.onward [] (rw ends end)), read.is)
 
 -- no unit stands where the text goes on
-no_unit : {is_verbatim : Bool} {depth : ℕ} {text : List ℕ} {atoms : List Atom} → (text ≡ [] → ⊥) → ((u : ContentUnit) (rest : List ℕ) → IsNext is_verbatim u text rest → ⊥) → Reads is_verbatim depth text atoms → ⊥
+pub no_unit : {is_verbatim : Bool} {depth : ℕ} {text : List ℕ} {atoms : List Atom} → (text ≡ [] → ⊥)
+    → ((u : ContentUnit) (rest : List ℕ) → IsNext is_verbatim u text rest → ⊥) → Reads is_verbatim depth text atoms → ⊥
 no_unit more none end = more refl
 no_unit more none (next {u = u} {rest = rest} one closable argument read) = none u rest one
-
-pub stuck_unit : {is_verbatim : Bool} {whole text : List ℕ} {start now : List Atom} {depth : ℕ} → ReadSoFar is_verbatim whole start text depth now → (text ≡ [] → ⊥) → ((u : ContentUnit) (rest : List ℕ) → IsNext is_verbatim u text rest → ⊥)
-    → IsStuck is_verbatim 0 whole
-stuck_unit read more none atoms whole = no_unit more none (read.goes.back atoms whole).1
-
-pub stuck_taken : {is_verbatim : Bool} {whole text rest : List ℕ} {u : ContentUnit} {start now : List Atom} {depth : ℕ} → ReadSoFar is_verbatim whole start text depth now → IsNext is_verbatim u text rest → IsUntaken u depth → IsStuck is_verbatim 0 whole
-stuck_taken {u = u} {depth = depth} read one (inl closed) atoms whole = both_ways (is_closable depth u) closed (unit_back one (read.goes.back atoms whole).1).0
-stuck_taken {u = u} {depth = depth} read one (inr held_stuck) atoms whole =
-    let inside = (unit_back one (read.goes.back atoms whole).1).1 held_stuck.0 held_stuck.1 in
-    held_stuck.2 inside.0 inside.1
 
 -- chunks that stand before a place stand before a later one
 pub placed_wider : (low high higher : ℕ) (cs : List (Spanned Chunk)) → ArePlaced low high cs → high ≤ higher → ArePlaced low higher cs

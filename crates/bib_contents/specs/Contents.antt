@@ -226,7 +226,7 @@ IsContent is_verbatim text atoms = Reads is_verbatim 0 text atoms
 abbrev pub IsUnread : ParseErrorKind → Type 0
 IsUnread kind = (kind ≡ UnexpectedEof) ⊎ (kind ≡ Unexpected ClosingBrace)
 
--- the bytes at error lie between two places
+-- the span of an error lies between two places
 abbrev pub LiesBetween : ℕ → ℕ → ParseError → Type 0
 LiesBetween low high e = (low ≤ e.span.start) × (e.span.start ≤ e.span.end) × (e.span.end ≤ high)
 

@@ -1,6 +1,7 @@
 pub mod Arguments
 pub mod Commands
 pub mod Contents
+pub mod ContentErrors
 pub mod Effects
 pub mod Progress
 pub mod UnitViews

@@ -9,6 +9,10 @@ use Rattle.bib_chunks.specs.Styled.{Atom, styled}
 use Rattle.bib_chunks.specs.Writing.{Writes}
 use Rattle.bib_chunks.specs.declared.chunk.Chunk.{Chunk}
 use Rattle.bib_text.specs.declared.spanned.Spanned.{Spanned}
+use Rattle.bib_syntax.specs.declared.raw.Token.TheVariants.{ClosingBrace}
+use Rattle.bib_syntax.specs.declared.raw.ParseErrorKind.{ParseErrorKind}
+use Rattle.bib_syntax.specs.declared.raw.ParseErrorKind.TheVariants.{Unexpected}
+use Rattle.bib_contents.specs.ContentErrors.{ContentFails}
 use Rattle.bib_contents.specs.Contents.{ContentUnit, Reads, begins, is_space, character, meaning, is_closable, depth_after, held}
 use Rattle.bib_styled.specs.Joined.{ArePlaced}
 use Rattle.bib_contents.specs.declared.growing.OpenChunk.{OpenChunk}
@@ -25,10 +29,11 @@ pub record Passes (u : Place) (cs : List ℕ) (v : Place) : Type 0 where
   pub left : left u ≡ cs ++ left v
 
 -- a text begins with these atoms: contents that are read after them are read after them in the whole, and what the
--- whole is read as goes on so
+-- whole is read as goes on so; and the whole fails as the contents after them do
 pub record Goes (is_verbatim : Bool) (depth : ℕ) (text : List ℕ) (atoms : List Atom) (after : ℕ) (rest : List ℕ) : Type 0 where
   pub onward : (more : List Atom) → Reads is_verbatim after rest more → Reads is_verbatim depth text (atoms ++ more)
   pub back : (whole : List Atom) → Reads is_verbatim depth text whole → (more : List Atom) × Reads is_verbatim after rest more
+  pub fails : (kind : ParseErrorKind) → ContentFails is_verbatim after rest kind → ContentFails is_verbatim depth text kind
 
 -- characters were passed from one place to the other, and are read as these, whatever braces are open
 pub record ReadsAs (is_verbatim : Bool) (u : Place) (shown : List ℕ) (v : Place) : Type 0 where
@@ -45,10 +50,6 @@ abbrev pub is_alone : ℕ → List ℕ → Bool
 is_alone c rest =
     (c == char.space && not (begins is_space rest)) || (c == char.hyphen && not (begins (λ d. d == char.hyphen) rest))
 
--- a text is not read
-abbrev pub IsStuck : Bool → ℕ → List ℕ → Type 0
-IsStuck is_verbatim depth text = (atoms : List Atom) → Reads is_verbatim depth text atoms → ⊥
-
 -- what was read so far: finished chunks, and the one that still grows
 abbrev pub so_far : List (Spanned Chunk) → OpenChunk → List Atom
 so_far out growing = styled out ++ map (character growing.depth) (chars (string_bytes growing.text))
@@ -61,9 +62,11 @@ pub record Took (u : ContentUnit) (depth : ℕ) (before : List Atom) (next_depth
   pub deep : next_depth ≡ depth_after depth u
   pub atoms : after ≡ before ++ meaning depth u inner
 
--- a unit cannot be read here: it closes a brace and none is open, or its argument is not read
-abbrev pub IsUntaken : ContentUnit → ℕ → Type 0
-IsUntaken u depth = (is_closable depth u ≡ false) ⊎ ((text : List ℕ) × (held u ≡ Some text) × IsStuck false 0 text)
+-- a unit can't be read here, with this kind of error: it closes a brace and none is open, or its argument fails
+abbrev pub IsUntaken : ContentUnit → ℕ → ParseErrorKind → Type 0
+IsUntaken u depth kind =
+    ((is_closable depth u ≡ false) × (kind ≡ Unexpected ClosingBrace))
+    ⊎ ((text : List ℕ) × (held u ≡ Some text) × ContentFails false 0 text kind)
 
 -- chunks stay placed: where the growing one began before a place, the next one begins before a later place
 abbrev pub StaysPlaced : List (Spanned Chunk) → OpenChunk → ℕ → List (Spanned Chunk) → OpenChunk → ℕ → Type 0

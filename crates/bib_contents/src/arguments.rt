@@ -7,9 +7,10 @@ ghost use Rattle.bib_chunks.specs.Styled.{Atom};
 ghost use Rattle.bib_chunks.specs.Writing.{Writes};
 ghost use Rattle.bib_contents.specs.Arguments.{AreKnown, KeepsFrame, IsReadOn, IsReadTo, IsShorterThan, IsArgumentBetween, StandsRight};
 ghost use Rattle.bib_contents.specs.Commands.{command_text};
-ghost use Rattle.bib_contents.specs.Contents.{IsNext, IsUnread, Reads, is_name, StaysBetween, saturated};
+ghost use Rattle.bib_contents.specs.ContentErrors.{ContentFails};
+ghost use Rattle.bib_contents.specs.Contents.{IsNext, Reads, is_name, StaysBetween, saturated};
 ghost use Rattle.bib_contents.specs.Effects.{IsFit, made, made_before};
-ghost use Rattle.bib_contents.specs.Progress.{IsStuck, left};
+ghost use Rattle.bib_contents.specs.Progress.{left};
 ghost use Rattle.bib_contents.specs.UnitViews.{unit_of};
 ghost use Rattle.bib_syntax.specs.Errors.{out_of_memory};
 
@@ -100,7 +101,7 @@ impl<'s> Frame<'s> {
         ensures refused { (whole base : List ℕ) →
             IsReadTo self.old.is_flat whole base (left self.old.s) self.old.depth
             (string_bytes text.old) →
-            IfErr result (λ e. (e ≡ out_of_memory) ⊎ (IsUnread e.kind × IsStuck false 0 whole)) }
+            IfErr result (λ e. (e ≡ out_of_memory) ⊎ ContentFails false 0 whole e.kind) }
         ensures within { offset + length self.old.s.text < 2 ^ 64 →
             IfErr result (StaysBetween (offset + self.old.s.at) (offset + length self.old.s.text)) }
     {
@@ -143,7 +144,7 @@ impl<'s> Frame<'s> {
         ensures refused { (whole base before : List ℕ) →
             IsNext false (unit_of unit.entry) before (left self.old.s) →
             IsReadTo self.old.is_flat whole base before self.old.depth (string_bytes text.old) →
-            IfErr result (λ e. (e ≡ out_of_memory) ⊎ (IsUnread e.kind × IsStuck false 0 whole)) }
+            IfErr result (λ e. (e ≡ out_of_memory) ⊎ ContentFails false 0 whole e.kind) }
         ensures within { start ≤ end → IfErr result (StaysBetween start end) }
     {
         match unit {
@@ -176,7 +177,7 @@ pub(crate) fn write_applied(
     ensures read { OnOk result ((inner : List Atom) × Reads false 0 (left inside.entry) inner ×
         Writes text.old text.new (command_text (chars name.now) (Some (formatted_atoms false inner)))) }
     ensures refused { IfErr result (λ e. (e ≡ out_of_memory) ⊎
-        (IsUnread e.kind × IsStuck false 0 (left inside.entry))) }
+        ContentFails false 0 (left inside.entry) e.kind) }
     ensures within { offset + length inside.entry.text < 2 ^ 64 →
         IfErr result (StaysBetween (offset + inside.entry.at)
         (offset + length inside.entry.text)) }

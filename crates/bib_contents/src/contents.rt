@@ -4,6 +4,7 @@ ghost use Rattle.std.specs.Prelude.{◌≡◌, ◌++◌, ◌+◌, ◌<◌, ◌^�
 ghost use Rattle.std.specs.Str.{chars};
 ghost use Rattle.bib_chunks.specs.Styled.{Atom, styled};
 ghost use Rattle.bib_contents.specs.Arguments.{HasCommandName, IsArgumentBetween};
+ghost use Rattle.bib_contents.specs.ContentErrors.{ContentFails};
 ghost use Rattle.bib_contents.specs.Contents.{IsContent, IsUnread, unit_spelling, StaysBetween, saturated};
 ghost use Rattle.bib_syntax.specs.Errors.{out_of_memory};
 ghost use Rattle.bib_styled.specs.Joined.{AreJoined, ArePlaced};
@@ -39,7 +40,7 @@ fn take(
     ensures taken { OnOk result (Took (unit_of unit.entry) growing.old.depth
         (so_far out.old growing.old) growing.new.depth (so_far out.new growing.new)) }
     ensures refused { IfErr result (λ e. (e ≡ out_of_memory) ⊎
-        (IsUnread e.kind × IsUntaken (unit_of unit.entry) growing.old.depth)) }
+        IsUntaken (unit_of unit.entry) growing.old.depth e.kind) }
     ensures within { offset + span.end < 2 ^ 64 →
         IfErr result (StaysBetween (offset + span.start) (offset + span.end)) }
     ensures joined { OnOk result (AreJoined out.old → AreJoined out.new) }
@@ -76,8 +77,9 @@ fn take(
 /// Reads the contents of a text that stands at `offset` in the file, and appends them. A chunk is joined to the one before
 /// it where both are normal or both verbatim. Places are counted in bytes of the file, up to `usize::MAX`.
 ///
-/// Refused with `UnexpectedEof` or `Unexpected` where the text can't be read, with a span in it, and when out of memory.
-/// What was read up to there stays appended, and when out of memory the last chunk may be lost.
+/// Refuses a text that can't be read, with a span in it. The kind is `Unexpected` at a closing brace that nothing opened. It is
+/// `UnexpectedEof` if a dollar sign, an argument's brace or the character after a backslash is missing. Out of memory is the
+/// only other error. The contents before the error stay appended; when out of memory, the last chunk may be lost.
 pub fn contents(
     out: &mut Chunks,
     alloc: Global,
@@ -93,6 +95,8 @@ pub fn contents(
     ensures refused { IfErr result (λ e. (e ≡ out_of_memory) ⊎
         (IsUnread e.kind × ((atoms : List Atom) →
         IsContent is_verbatim (chars text.now) atoms → ⊥))) }
+    ensures fails { IfErr result (λ e. (e ≡ out_of_memory) ⊎
+        ContentFails is_verbatim 0 (chars text.now) e.kind) }
     ensures within { offset + length text.now < 2 ^ 64 →
         IfErr result (StaysBetween offset (offset + length text.now)) }
 {

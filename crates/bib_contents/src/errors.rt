@@ -1,13 +1,14 @@
 //! The errors of contents.
 
 ghost use Rattle.std.specs.Prelude.{◌≡◌};
-ghost use Rattle.bib_contents.specs.Contents.{IsUnread};
+ghost use Rattle.bib_syntax.specs.declared.raw.Token.TheVariants.{ClosingBrace};
+ghost use Rattle.bib_syntax.specs.declared.raw.ParseErrorKind.TheVariants.{UnexpectedEof, Unexpected};
 
 use bib_syntax::raw::{ParseError, ParseErrorKind, Token};
 
 // The error of a closing brace that nothing opened.
 pub(crate) fn unopened(start: usize, end: usize) -> ParseError
-    ensures kind { IsUnread result.kind }
+    ensures kind { result.kind ≡ Unexpected ClosingBrace }
     ensures place { result.span ≡ record { start = start; end = end } }
 {
     ParseError {
@@ -18,7 +19,7 @@ pub(crate) fn unopened(start: usize, end: usize) -> ParseError
 
 // The error of a text that ends too soon, at its end.
 pub(crate) fn ended(end: usize) -> ParseError
-    ensures kind { IsUnread result.kind }
+    ensures kind { result.kind ≡ UnexpectedEof }
     ensures place { result.span ≡ record { start = end; end = end } }
 {
     ParseError {

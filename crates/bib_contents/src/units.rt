@@ -1,9 +1,10 @@
 //! Units of contents: what a field's text is cut into.
 
-ghost use Rattle.std.specs.Prelude.{◌≡◌, ℕ, ◌==◌, Bool, true, false, not, List, [], ◌∷◌, ◌++◌, replicate, IfSome, MatchOption, MatchBool};
+ghost use Rattle.std.specs.Prelude.{◌≡◌, ℕ, ◌==◌, Bool, true, false, not, List, [], ◌∷◌, ◌++◌, replicate, IfNone, IfSome, MatchOption, MatchBool};
 ghost use Rattle.std.specs.List.{list_any};
 ghost use Rattle.std.specs.Str.{chars};
 ghost use Rattle.bib_contents.specs.Arguments.{AreKnown, Encloses, IsFoundIn, IsArgumentBetween};
+ghost use Rattle.bib_contents.specs.ContentErrors.{UnitFails};
 ghost use Rattle.bib_contents.specs.Contents as contents;
 ghost use Rattle.bib_contents.specs.Contents.{ContentUnit, IsNext, begins, balances, is_argument, argument_spelling};
 ghost use Rattle.bib_contents.specs.Progress.{left, Passes};
@@ -66,6 +67,7 @@ fn formula<'s>(s: &mut Characters<'s>) -> Option<Unit<'s>>
     ensures found { MatchOption result
         ((u : ContentUnit) (rest : List ℕ) → IsNext false u (36 ∷ left s.old) rest → ⊥)
         (λ u. IsNext false (unit_of u) (36 ∷ left s.old) (left s.new)) }
+    ensures fails { IfNone result (UnitFails false (36 ∷ left s.old)) }
 {
     let text = s.eat_while(|c| c != '$');
     if !s.eat_if('$') {
@@ -134,6 +136,9 @@ fn eat_argument<'s>(
         is_argument takes_next is_spaced a rest ≡ true → ⊥)
         (λ a. (left s.old ≡ argument_spelling (found_of a) ++ left s.new) ×
         (is_argument takes_next is_spaced (found_of a) (left s.new) ≡ true)) }
+    ensures unclosed { IfNone result ((is_spaced ≡ false) × ((inside : List ℕ) ×
+        (left s.old ≡ 123 ∷ inside) × ((text rest : List ℕ) → inside ≡ text ++ 125 ∷ rest →
+        balances 0 text ≡ true → ⊥))) }
     ensures inside { IfSome result
         (λ a. IsFoundIn s.old.text s.old.at a s.new.at) }
 {
@@ -199,6 +204,7 @@ fn command<'s>(s: &mut Characters<'s>, first: char, ends: &Ends) -> Option<Unit<
     ensures found { MatchOption result
         ((u : ContentUnit) (rest : List ℕ) → IsNext false u (92 ∷ left s.old) rest → ⊥)
         (λ u. IsNext false (unit_of u) (92 ∷ left s.old) (left s.new)) }
+    ensures fails { IfNone result (UnitFails false (92 ∷ left s.old)) }
     ensures inside { IfSome result
         (λ u. IsArgumentBetween s.old.text s.old.at u s.new.at) }
 {
@@ -222,6 +228,7 @@ fn escape<'s>(s: &mut Characters<'s>, is_verbatim: bool, ends: &Ends) -> Option<
     ensures found { MatchOption result
         ((u : ContentUnit) (rest : List ℕ) → IsNext is_verbatim u (92 ∷ left s.old) rest → ⊥)
         (λ u. IsNext is_verbatim (unit_of u) (92 ∷ left s.old) (left s.new)) }
+    ensures fails { IfNone result (UnitFails is_verbatim (92 ∷ left s.old)) }
     ensures inside { IfSome result
         (λ u. IsArgumentBetween s.old.text s.old.at u s.new.at) }
 {
@@ -255,6 +262,7 @@ pub(crate) fn eat_unit<'s>(
     ensures found { MatchOption result
         ((u : ContentUnit) (rest : List ℕ) → IsNext is_verbatim u (left s.old) rest → ⊥)
         (λ u. IsNext is_verbatim (unit_of u) (left s.old) (left s.new)) }
+    ensures fails { IfNone result ((left s.old ≡ [] → ⊥) → UnitFails is_verbatim (left s.old)) }
     ensures inside { IfSome result
         (λ u. IsArgumentBetween s.old.text s.old.at u s.new.at) }
 {

@@ -73,7 +73,7 @@ whole_run : (p : ℕ → Bool) (xs rest : List ℕ) → list_all p xs ≡ true �
 whole_run p [] rest h = omega arith
 whole_run p (x ∷ xs) rest h = let q = and_parts (p x) (list_all p xs) h in rw (q.0, whole_run p xs rest q.1) (omega arith)
 
--- the digits in start, and what stands after them
+-- the digits at the start of a text, and the text after them
 run_len : (width n : ℕ) (xs rest : List ℕ) → IsNumber width n xs → Ends rest → prefix_len is_ascii_digit (xs ++ rest) ≡ width
 run_len width n xs rest is ends = let e = whole_run is_ascii_digit xs rest is.digits in let s = is.size in let z = ends.no_digit in omega arith
 

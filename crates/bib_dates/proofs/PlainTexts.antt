@@ -1,4 +1,4 @@
--- Texts of ASCII signs without white space and lowercase letters: trimming and uppercase letters change nothing.
+-- ASCII texts without white space and lowercase letters: trimming and uppercasing change nothing.
 use Rattle.std.proofs.Common.{◌≡◌, ℕ, ◌<◌, Bool, true, false, ◌||◌, ◌==◌, List, [], ◌∷◌, refl, ap, arith}
 use Rattle.std.specs.List.{list_all, All}
 use Rattle.std.specs.Char.{is_whitespace, to_ascii_uppercase}

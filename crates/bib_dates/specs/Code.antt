@@ -1,36 +1,39 @@
 -- Machinery: words of private contracts.
--- What private functions read: a reason that is reported is the error that is promised.
+-- The results of private functions as readings: `Specified` holds the kind of error that the definition names.
 use Rattle.std.specs.Prelude.{ℕ, List, Result, Ok, Err}
 use Rattle.std.specs.Borrow.{Bor}
 use Rattle.bib_enums.specs.declared.type_error.TypeErrorKind.{TypeErrorKind}
 use Rattle.bib_enums.specs.declared.type_error.TypeErrorKind.TheVariants as Kind
-use Rattle.bib_dates.specs.declared.errors.DateErrorKind.{DateErrorKind}
-use Rattle.bib_dates.specs.declared.errors.DateErrorKind.TheVariants.{UndefinedRange, DayOutOfRange, MonthOutOfRange, InvalidNumber, MissingNumber, WrongNumberOfDigits, InvalidFormat, YearZeroCE}
+use Rattle.bib_dates.specs.declared.errors.SpecifiedKind.{SpecifiedKind}
+use Rattle.bib_dates.specs.declared.errors.SpecifiedKind.TheVariants.{UndefinedRange, DayOutOfRange, MonthOutOfRange, InvalidNumber, WrongNumberOfDigits, InvalidFormat, YearZeroCE}
 use Rattle.bib_dates.specs.declared.errors.ReadError.{ReadError}
 use Rattle.bib_dates.specs.declared.errors.ReadError.TheVariants.{Specified, Unspecified}
 use Rattle.bib_dates.specs.Readings.{Reading, Parsed}
 use Rattle.bib_dates.specs.Readings.Reading.{says, error, unread}
 
-abbrev pub error_kind_of : DateErrorKind → TypeErrorKind
+-- the kind of type errors that a specified kind is
+abbrev pub error_kind_of : SpecifiedKind → TypeErrorKind
 error_kind_of UndefinedRange = Kind.UndefinedRange
 error_kind_of DayOutOfRange = Kind.DayOutOfRange
 error_kind_of MonthOutOfRange = Kind.MonthOutOfRange
 error_kind_of InvalidNumber = Kind.InvalidNumber
-error_kind_of MissingNumber = Kind.MissingNumber
 error_kind_of WrongNumberOfDigits = Kind.WrongNumberOfDigits
 error_kind_of InvalidFormat = Kind.InvalidFormat
 error_kind_of YearZeroCE = Kind.YearZeroCE
 
+-- the reading that a result stands for
 abbrev pub reading : {A : Type 0} → Result A ReadError → Reading A
 reading (Ok a) = says a
 reading (Err (Specified reason)) = error (error_kind_of reason)
 reading (Err (Unspecified reason)) = unread
 
+-- the same of a part, with the rest of the text
 abbrev pub parsed : {A : Type 0} → Result (A × Bor (List ℕ)) ReadError → Parsed A
 parsed (Ok p) = says (p.0, p.1.now)
 parsed (Err (Specified reason)) = error (error_kind_of reason)
 parsed (Err (Unspecified reason)) = unread
 
+-- the same of the rest of a text alone
 abbrev pub rest : Result (Bor (List ℕ)) ReadError → Reading (List ℕ)
 rest (Ok text) = says text.now
 rest (Err (Specified reason)) = error (error_kind_of reason)

@@ -160,6 +160,6 @@ marked_date text = do
   value ← date_value (without_mark text)
   says (record { value = value; uncertain = is_uncertain (last text); approximate = is_approximate (last text) })
 
--- what a text is read as, in uppercase letters of ASCII and without the white space at its end
+-- what a text is read as: its ASCII letters are put into uppercase first, and the white space at its end is removed
 abbrev pub date_of : List ℕ → Reading Date
 date_of text = marked_date (trim_end (str_to_ascii_uppercase text))

@@ -36,7 +36,7 @@ shift (Some o) = offset_seconds o
 abbrev pub utc_seconds : Time → ℤ
 utc_seconds t = pos (3600 * t.hour + 60 * t.minute + t.second) -ℤ shift t.offset
 
--- the offset of so many hours ahead of UTC; of a number below zero, after it
+-- the offset of so many hours ahead of UTC; a negative number of hours is behind UTC
 abbrev pub hours_ahead : ℤ → TimeOffset
 hours_ahead hours = Offset (not (is_negative hours)) (unsigned_abs hours) 0
 

@@ -12,7 +12,7 @@ use Rattle.bib_dates.specs.Readings.{Reading, ◌>>=◌, Parsed}
 use Rattle.bib_dates.specs.Readings.Reading.{says, error, unread}
 use Rattle.bib_text.specs.Characters as char
 
--- the run of such bytes at the prefix of a text, and what stands after it
+-- the longest run of such bytes at the start of a text, and the rest of the text
 abbrev pub run : (ℕ → Bool) → List ℕ → List ℕ
 run test text = take (prefix_len test text) text
 

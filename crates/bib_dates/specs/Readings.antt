@@ -5,7 +5,7 @@ use Rattle.std.specs.Prelude.{◌≡◌, ℕ, List, Option, Some, None, ⊤}
 use Rattle.bib_enums.specs.declared.type_error.TypeErrorKind.{TypeErrorKind}
 use Rattle.bib_enums.specs.declared.type_error.TypeErrorKind.TheVariants.{UndefinedRange, DayOutOfRange, MonthOutOfRange, InvalidNumber, MissingNumber, WrongNumberOfDigits, InvalidFormat, YearZeroCE}
 
--- a value, an error of this kind, or an error of a kind that isn't promised
+-- a value, an error of this kind, or an error whose kind isn't promised
 pub data Reading (A : Type 0) : Type 0 where
   says : A → Reading A
   error : TypeErrorKind → Reading A
@@ -18,7 +18,7 @@ says a >>= next = next a
 error kind >>= next = error kind
 unread >>= next = unread
 
--- a part that is read from the prefix of a text, and the text after it
+-- a part that is parsed at the start of a text, with the rest of the text
 abbrev pub Parsed : Type 0 → Type 0
 Parsed A = Reading (A × List ℕ)
 
@@ -28,7 +28,7 @@ readable_value (says a) = Some a
 readable_value (error kind) = None
 readable_value unread = None
 
--- the kinds that dates have: any error of a date is of one of these, out of memory aside
+-- the kinds that dates have: each error of a date is of one of these, except out of memory
 abbrev pub IsDateKind : TypeErrorKind → Type 0
 IsDateKind UndefinedRange = ⊤
 IsDateKind DayOutOfRange = ⊤
@@ -40,8 +40,17 @@ IsDateKind InvalidFormat = ⊤
 IsDateKind YearZeroCE = ⊤
 IsDateKind other = ⊥
 
--- the kinds that a refusal may have, out of memory aside: of those that dates have, the promised one, or any
+-- the kinds that a date's error may have if the definition names none: a number or the format is wrong. The definition always
+-- names the kind for a range open on both sides, and for a month, a day or a year that doesn't exist
+abbrev pub IsUnreadKind : TypeErrorKind → Type 0
+IsUnreadKind InvalidNumber = ⊤
+IsUnreadKind MissingNumber = ⊤
+IsUnreadKind WrongNumberOfDigits = ⊤
+IsUnreadKind InvalidFormat = ⊤
+IsUnreadKind other = ⊥
+
+-- the kinds that a refusal may have, except out of memory: the promised one, or any of four if none is promised
 abbrev pub MayRefuse : {A : Type 0} → Reading A → TypeErrorKind → Type 0
 MayRefuse (says a) kind = ⊥
 MayRefuse (error promised) kind = (kind ≡ promised) × IsDateKind kind
-MayRefuse unread kind = IsDateKind kind
+MayRefuse unread kind = IsUnreadKind kind

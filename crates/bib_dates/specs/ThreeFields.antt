@@ -116,6 +116,7 @@ after_gap text = encode_utf8_all (rest_after is_separator (chars text))
 abbrev pub day_number : List ℕ → Option ℕ
 day_number digits = if lies 1 31 (digits_value 10 digits) then Some (digits_value 10 digits - 1) else None
 
+-- a day, or the error that it is out of range
 abbrev pub reported_day : Option ℕ → Reading (Option ℕ)
 reported_day (Some day) = says (Some day)
 reported_day None = error DayOutOfRange

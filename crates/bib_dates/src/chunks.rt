@@ -19,7 +19,7 @@ ghost use Rattle.bib_dates.specs.Chunks.{
 };
 
 use crate::date::{Date, DateValue, Datetime};
-use crate::errors::{DateErrorKind, ReadError};
+use crate::errors::{ReadError, UnspecifiedKind};
 use crate::fields::{day_after, day_field, day_place, month_field, year_field};
 use crate::read::marked;
 use crate::write;
@@ -110,9 +110,9 @@ fn day_of(alloc: Global, chunks: ChunksRef<'_>) -> Result<Option<u8>, TypeError>
     let text = format_verbatim(alloc, chunks)?;
     let span = whole_span(chunks);
     let reason = if span.start < span.end {
-        DateErrorKind::InvalidNumber
+        UnspecifiedKind::InvalidNumber
     } else {
-        DateErrorKind::MissingNumber
+        UnspecifiedKind::MissingNumber
     };
     found(day_field(text.as_str(), reason), span)
 }

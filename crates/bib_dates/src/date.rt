@@ -64,7 +64,7 @@ pub struct Time {
 pub enum TimeOffset {
     /// UTC.
     Utc,
-    /// Ahead of UTC or after it.
+    /// Ahead of UTC or behind it.
     Offset {
         /// Whether it is ahead.
         positive: bool,
@@ -105,7 +105,7 @@ impl Eq for TimeOffset {
 }
 
 impl TimeOffset {
-    /// The offset of so many hours and minutes ahead of UTC, or after it.
+    /// Returns the offset of `hours` and `minutes`: ahead of UTC if `positive`, else behind UTC.
     pub fn offset(positive: bool, hours: u8, minutes: u8) -> TimeOffset
         ensures { result ≡ Offset positive hours minutes }
     {
@@ -116,7 +116,7 @@ impl TimeOffset {
         }
     }
 
-    /// The offset of so many hours ahead of UTC; of a number below zero, after it.
+    /// Returns the offset of `hour` hours ahead of UTC. A negative `hour` is behind UTC.
     pub fn offset_hour(hour: i32) -> TimeOffset
         requires low { neg_ℤ (pos 255) ≤ℤ hour }
         requires high { hour ≤ℤ pos 255 }

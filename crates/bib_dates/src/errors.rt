@@ -3,46 +3,68 @@
 ghost use Rattle.std.specs.Prelude.{◌≡◌, ◌≢◌};
 ghost use Rattle.bib_enums.specs.declared.type_error.TypeErrorKind.TheVariants.{OutOfMemory};
 ghost use Rattle.bib_dates.specs.Code.{error_kind_of};
-ghost use Rattle.bib_dates.specs.Readings.{IsDateKind};
+ghost use Rattle.bib_dates.specs.Readings.{IsDateKind, IsUnreadKind};
 
 use bib_enums::type_error::TypeErrorKind;
 
-// What is wrong with a text. Out of memory is no error of a text.
+// A kind of error that the definition of dates names. Out of memory is no error of a text.
 #[derive(Debug, Clone, Copy, PartialEq, Eq)]
-pub(crate) enum DateErrorKind {
+pub(crate) enum SpecifiedKind {
     UndefinedRange,
     DayOutOfRange,
     MonthOutOfRange,
     InvalidNumber,
-    MissingNumber,
     WrongNumberOfDigits,
     InvalidFormat,
     YearZeroCE,
 }
 
-// Why a text isn't read: for a reason whose kind is promised, or for another.
+// A kind of error that a text may have if the definition names none.
 #[derive(Debug, Clone, Copy, PartialEq, Eq)]
-pub(crate) enum ReadError {
-    Specified(DateErrorKind),
-    Unspecified(DateErrorKind),
+pub(crate) enum UnspecifiedKind {
+    InvalidNumber,
+    MissingNumber,
+    WrongNumberOfDigits,
+    InvalidFormat,
 }
 
-impl DateErrorKind {
-    // The kind of a refusal for this reason.
+// Why a text isn't read: the definition names the kind of its error, or it doesn't.
+#[derive(Debug, Clone, Copy, PartialEq, Eq)]
+pub(crate) enum ReadError {
+    Specified(SpecifiedKind),
+    Unspecified(UnspecifiedKind),
+}
+
+impl SpecifiedKind {
+    // Returns the kind as a kind of type errors.
     pub(crate) fn kind(self) -> TypeErrorKind
         ensures value { result ≡ error_kind_of self }
         ensures memory { result ≢ OutOfMemory }
         ensures date { IsDateKind result }
     {
         match self {
-            DateErrorKind::UndefinedRange => TypeErrorKind::UndefinedRange,
-            DateErrorKind::DayOutOfRange => TypeErrorKind::DayOutOfRange,
-            DateErrorKind::MonthOutOfRange => TypeErrorKind::MonthOutOfRange,
-            DateErrorKind::InvalidNumber => TypeErrorKind::InvalidNumber,
-            DateErrorKind::MissingNumber => TypeErrorKind::MissingNumber,
-            DateErrorKind::WrongNumberOfDigits => TypeErrorKind::WrongNumberOfDigits,
-            DateErrorKind::InvalidFormat => TypeErrorKind::InvalidFormat,
-            DateErrorKind::YearZeroCE => TypeErrorKind::YearZeroCE,
+            SpecifiedKind::UndefinedRange => TypeErrorKind::UndefinedRange,
+            SpecifiedKind::DayOutOfRange => TypeErrorKind::DayOutOfRange,
+            SpecifiedKind::MonthOutOfRange => TypeErrorKind::MonthOutOfRange,
+            SpecifiedKind::InvalidNumber => TypeErrorKind::InvalidNumber,
+            SpecifiedKind::WrongNumberOfDigits => TypeErrorKind::WrongNumberOfDigits,
+            SpecifiedKind::InvalidFormat => TypeErrorKind::InvalidFormat,
+            SpecifiedKind::YearZeroCE => TypeErrorKind::YearZeroCE,
+        }
+    }
+}
+
+impl UnspecifiedKind {
+    // Returns the kind as a kind of type errors.
+    pub(crate) fn kind(self) -> TypeErrorKind
+        ensures memory { result ≢ OutOfMemory }
+        ensures unread { IsUnreadKind result }
+    {
+        match self {
+            UnspecifiedKind::InvalidNumber => TypeErrorKind::InvalidNumber,
+            UnspecifiedKind::MissingNumber => TypeErrorKind::MissingNumber,
+            UnspecifiedKind::WrongNumberOfDigits => TypeErrorKind::WrongNumberOfDigits,
+            UnspecifiedKind::InvalidFormat => TypeErrorKind::InvalidFormat,
         }
     }
 }

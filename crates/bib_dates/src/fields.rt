@@ -1,4 +1,4 @@
-// The reader of a date in three fields: each function reads a part from the prefix of a text, and gives it with the rest.
+// The parser of a date in three fields: each function parses one part at the start of a text, and returns it with the rest.
 
 ghost use Rattle.std.specs.Prelude.{◌≡◌, ◌<◌, ◌&&◌, ◌==◌, not, nat_lt, length, is_some, IfSome, drop, codes};
 ghost use Rattle.std.specs.List.{prefix_len};
@@ -9,7 +9,7 @@ ghost use Rattle.bib_dates.specs.Parts;
 ghost use Rattle.bib_dates.specs.Readings.Reading.{says};
 ghost use Rattle.bib_dates.specs.ThreeFields as Spec;
 
-use crate::errors::{DateErrorKind, ReadError};
+use crate::errors::{ReadError, SpecifiedKind, UnspecifiedKind};
 use crate::parts::{after, digits, sign, signed, value};
 use bib_chunks::chunk::Span;
 use bib_text::scanner::Scanner;
@@ -59,13 +59,13 @@ fn of_era(has_sign: bool, n: u16, year: i32, following: &str) -> Result<i32, Rea
     ensures { reading result ≡ Spec.of_era has_sign n year following.now }
 {
     if starts_word(following) {
-        return Err(ReadError::Unspecified(DateErrorKind::InvalidFormat));
+        return Err(ReadError::Unspecified(UnspecifiedKind::InvalidFormat));
     }
     if has_sign {
-        return Err(ReadError::Specified(DateErrorKind::InvalidFormat));
+        return Err(ReadError::Specified(SpecifiedKind::InvalidFormat));
     }
     if n == 0 {
-        return Err(ReadError::Specified(DateErrorKind::YearZeroCE));
+        return Err(ReadError::Specified(SpecifiedKind::YearZeroCE));
     }
     Ok(year)
 }
@@ -100,11 +100,11 @@ pub(crate) fn year_field(text: &str) -> Result<i32, ReadError>
     let (is_minus, following) = sign(here);
     let has_sign = following.len() != here.len();
     if has_sign && starts_blank(following) {
-        return Err(ReadError::Specified(DateErrorKind::InvalidFormat));
+        return Err(ReadError::Specified(SpecifiedKind::InvalidFormat));
     }
     let (digits, following) = digits(following);
     if digits.len() < 1 || 4 < digits.len() {
-        return Err(ReadError::Unspecified(DateErrorKind::WrongNumberOfDigits));
+        return Err(ReadError::Unspecified(UnspecifiedKind::WrongNumberOfDigits));
     }
     with_era(has_sign, is_minus, value(digits), following.trim_start())
 }
@@ -187,7 +187,7 @@ pub(crate) fn month_field(text: &str) -> Result<(Option<u8>, &str), ReadError>
     }
     let n = value(digits);
     if n < 1 || 12 < n {
-        return Err(ReadError::Specified(DateErrorKind::MonthOutOfRange));
+        return Err(ReadError::Specified(SpecifiedKind::MonthOutOfRange));
     }
     Ok((Some(n as u8 - 1), following))
 }
@@ -236,10 +236,10 @@ pub(crate) fn day_after(text: &str) -> Result<Option<u8>, ReadError>
     }
     let (digits, _) = digits(here);
     if digits.is_empty() {
-        return Err(ReadError::Unspecified(DateErrorKind::MissingNumber));
+        return Err(ReadError::Unspecified(UnspecifiedKind::MissingNumber));
     }
     let Some(day) = day_number(digits) else {
-        return Err(ReadError::Specified(DateErrorKind::DayOutOfRange));
+        return Err(ReadError::Specified(SpecifiedKind::DayOutOfRange));
     };
     Ok(Some(day))
 }
@@ -254,7 +254,7 @@ fn is_short(digits: &str) -> bool
 
 // A day in digits alone; other texts are refused for this reason.
 #[tactic(auto, unfolding(crate::specs::ThreeFields::only_day))]
-fn only_day(text: &str, reason: DateErrorKind) -> Result<Option<u8>, ReadError>
+fn only_day(text: &str, reason: UnspecifiedKind) -> Result<Option<u8>, ReadError>
     ensures { reading result ≡ Spec.only_day text.now }
 {
     let (digits, following) = digits(text);
@@ -262,14 +262,14 @@ fn only_day(text: &str, reason: DateErrorKind) -> Result<Option<u8>, ReadError>
         return Err(ReadError::Unspecified(reason));
     }
     let Some(day) = day_number(digits) else {
-        return Err(ReadError::Specified(DateErrorKind::DayOutOfRange));
+        return Err(ReadError::Specified(SpecifiedKind::DayOutOfRange));
     };
     Ok(Some(day))
 }
 
 // The day of a field of its own; what is no number is refused for this reason.
 #[tactic(auto, unfolding(crate::specs::ThreeFields::day_field))]
-pub(crate) fn day_field(text: &str, reason: DateErrorKind) -> Result<Option<u8>, ReadError>
+pub(crate) fn day_field(text: &str, reason: UnspecifiedKind) -> Result<Option<u8>, ReadError>
     ensures { reading result ≡ Spec.day_field text.now }
 {
     let here = text.trim();

@@ -1,9 +1,9 @@
 //! Laws of dates and times. These functions do nothing: what they ensure is proved of the definitions alone.
 
-ghost use Rattle.std.specs.Prelude.{◌≡◌, ◌↔◌, ◌≢◌, ◌<ℤ◌, ℕ, List, Option, Some, None, is_some};
+ghost use Rattle.std.specs.Prelude.{◌≡◌, ◌↔◌, ◌≢◌, ◌⊎◌, ◌<ℤ◌, ℕ, List, Option, Some, None, is_some};
 ghost use Rattle.std.specs.declared.cmp.Ordering.TheVariants.{Less, Equal};
 ghost use Rattle.bib_enums.specs.declared.type_error.TypeErrorKind.{TypeErrorKind as AKind};
-ghost use Rattle.bib_dates.specs.Readings.{Reading, IsDateKind, MayRefuse};
+ghost use Rattle.bib_dates.specs.Readings.{Reading, IsDateKind, IsUnreadKind, MayRefuse};
 ghost use Rattle.bib_dates.specs.Readings.Reading.{says, error};
 ghost use Rattle.bib_dates.specs.Dates.{date_of};
 ghost use Rattle.bib_dates.specs.ThreeFields.{three_fields_of};
@@ -22,9 +22,12 @@ pub fn dates_survive()
     ensures written { (d : ADate) → IsKeptDate d → rewritten_date (date_text d) ≡ Some (date_text d) }
 {}
 
-/// Each error of a date, out of memory aside, is of a kind that dates have; so each kind that is promised is one.
+/// Each error of a date, except out of memory, is of a kind that dates have, and so is each kind that is promised. The kind is
+/// the promised one, or one of the four for which `IsUnreadKind` holds.
 pub fn dates_have_few_kinds()
     ensures error { (reading : Reading ADate) (kind : AKind) → MayRefuse reading kind → IsDateKind kind }
+    ensures promised { (reading : Reading ADate) (kind : AKind) → MayRefuse reading kind →
+        (reading ≡ error kind) ⊎ IsUnreadKind kind }
     ensures date { (text : List ℕ) (kind : AKind) → date_of text ≡ error kind → IsDateKind kind }
     ensures three_fields { (year : List ℕ) (month day : Option (List ℕ)) (kind : AKind) →
         three_fields_of year month day ≡ error kind → IsDateKind kind }

@@ -1,4 +1,4 @@
-// The parts of dates: each function reads one from the prefix of a text, and gives it with the rest.
+// The parts of dates: each function parses one at the start of a text, and returns it with the rest of the text.
 
 ghost use Rattle.std.specs.Prelude.{◌≡◌, ◌<◌, ◌≤◌, pos, neg_ℤ, ◌≤ℤ◌, ◌==◌, IfOk, IfSome, is_some, length, drop};
 ghost use Rattle.std.specs.List.{prefix_len};
@@ -8,7 +8,7 @@ ghost use Rattle.jiff_core.specs.Calendar.{IsYear};
 ghost use Rattle.bib_dates.specs.Code.{parsed, rest, error_kind_of};
 ghost use Rattle.bib_dates.specs.Parts as Spec;
 
-use crate::errors::{DateErrorKind, ReadError};
+use crate::errors::{ReadError, SpecifiedKind, UnspecifiedKind};
 
 // What stands after this byte, if it stands at the start.
 pub(crate) fn after(text: &str, byte: u8) -> Option<&str>
@@ -79,7 +79,7 @@ pub(crate) fn value(digits: &str) -> u16
 pub(crate) fn number(
     low: usize,
     high: usize,
-    reason: DateErrorKind,
+    reason: UnspecifiedKind,
     text: &str,
 ) -> Result<(u16, &str), ReadError>
     requires some { 0 < low }
@@ -99,13 +99,13 @@ pub(crate) fn number(
 pub(crate) fn small_number(
     low: u8,
     high: u8,
-    reason: DateErrorKind,
+    reason: SpecifiedKind,
     text: &str,
 ) -> Result<(u8, &str), ReadError>
     ensures value { parsed result ≡ Spec.small_number low high (error_kind_of reason) text.now }
     ensures within { IfOk result (λ p. (low ≤ p.0) × (p.0 ≤ high)) }
 {
-    let (n, following) = number(1, 2, DateErrorKind::InvalidFormat, text)?;
+    let (n, following) = number(1, 2, UnspecifiedKind::InvalidFormat, text)?;
     if n < u16::from(low) || u16::from(high) < n {
         return Err(ReadError::Specified(reason));
     }
@@ -113,7 +113,7 @@ pub(crate) fn small_number(
 }
 
 // What stands after this byte at the start.
-pub(crate) fn after_byte(text: &str, byte: u8, reason: DateErrorKind) -> Result<&str, ReadError>
+pub(crate) fn after_byte(text: &str, byte: u8, reason: UnspecifiedKind) -> Result<&str, ReadError>
     requires some { 0 < byte }
     requires ascii { byte < 128 }
     ensures { rest result ≡ Spec.after_byte byte text.now }
@@ -128,12 +128,12 @@ pub(crate) fn after_byte(text: &str, byte: u8, reason: DateErrorKind) -> Result<
 pub(crate) fn after_colon(text: &str) -> Result<&str, ReadError>
     ensures { rest result ≡ Spec.after_colon text.now }
 {
-    after_byte(text.trim_start(), b':', DateErrorKind::InvalidFormat)
+    after_byte(text.trim_start(), b':', UnspecifiedKind::InvalidFormat)
 }
 
 // What stands after a run of hyphens, with white space before it; without hyphens, it is refused for this reason.
 #[tactic(auto, unfolding(crate::specs::Parts::after_hyphens))]
-pub(crate) fn after_hyphens(text: &str, reason: DateErrorKind) -> Result<&str, ReadError>
+pub(crate) fn after_hyphens(text: &str, reason: UnspecifiedKind) -> Result<&str, ReadError>
     ensures { rest result ≡ Spec.after_hyphens text.now }
 {
     let following = after_byte(text.trim_start(), b'-', reason)?;
@@ -175,7 +175,7 @@ pub(crate) fn year(text: &str) -> Result<(i32, &str), ReadError>
     let (is_minus, following) = sign(text.trim_start());
     let (digits, following) = digits(following.trim_start());
     if digits.len() != 2 && digits.len() != 4 {
-        return Err(ReadError::Unspecified(DateErrorKind::InvalidFormat));
+        return Err(ReadError::Unspecified(UnspecifiedKind::InvalidFormat));
     }
     let year = signed(is_minus, value(digits));
     if digits.len() == 2 {

@@ -9,7 +9,7 @@ ghost use Rattle.bib_dates.specs.Parts;
 ghost use Rattle.bib_dates.specs.Dates as Spec;
 
 use crate::date::{Date, DateValue, Datetime};
-use crate::errors::{DateErrorKind, ReadError};
+use crate::errors::{ReadError, SpecifiedKind, UnspecifiedKind};
 use crate::parts::{after, after_hyphens, byte_run, digits, number, small_number, value, year};
 use crate::times::after_day;
 use jiff::civil;
@@ -38,10 +38,10 @@ fn day(year: i32, month: u8, text: &str) -> Result<(u8, &str), ReadError>
     ensures value { parsed result ≡ Parts.small_number 1 (days_in_month year month) DayOutOfRange text.now }
     ensures some { IfOk result (λ p. 1 ≤ p.0) }
 {
-    let (n, following) = number(1, 2, DateErrorKind::InvalidFormat, text)?;
+    let (n, following) = number(1, 2, UnspecifiedKind::InvalidFormat, text)?;
     let day = n as u8;
     if !day_exists(year, month, day) {
-        return Err(ReadError::Specified(DateErrorKind::DayOutOfRange));
+        return Err(ReadError::Specified(SpecifiedKind::DayOutOfRange));
     }
     Ok((day, following))
 }
@@ -62,7 +62,7 @@ fn after_month(year: i32, month: u8, text: &str) -> Result<Datetime, ReadError>
             time: None,
         });
     }
-    let following = after_hyphens(text, DateErrorKind::InvalidFormat)?;
+    let following = after_hyphens(text, UnspecifiedKind::InvalidFormat)?;
     let (day, following) = day(year, month, following)?;
     let time = after_day(following.trim_start())?;
     Ok(Datetime {
@@ -87,8 +87,8 @@ fn after_year(year: i32, text: &str) -> Result<Datetime, ReadError>
             time: None,
         });
     }
-    let following = after_hyphens(text, DateErrorKind::InvalidFormat)?;
-    let (month, following) = small_number(1, 12, DateErrorKind::MonthOutOfRange, following)?;
+    let following = after_hyphens(text, UnspecifiedKind::InvalidFormat)?;
+    let (month, following) = small_number(1, 12, SpecifiedKind::MonthOutOfRange, following)?;
     after_month(year, month, following.trim_start())
 }
 
@@ -152,10 +152,10 @@ fn all_months(year: u16, text: &str) -> Result<DateValue, ReadError>
     if text.trim_start().is_empty() {
         return Ok(months(year));
     }
-    let following = after_hyphens(text, DateErrorKind::InvalidFormat)?;
+    let following = after_hyphens(text, UnspecifiedKind::InvalidFormat)?;
     let (count, _) = byte_run(following.trim_start(), b'X');
     if count != 2 {
-        return Err(ReadError::Unspecified(DateErrorKind::InvalidFormat));
+        return Err(ReadError::Unspecified(UnspecifiedKind::InvalidFormat));
     }
     Ok(months(year))
 }
@@ -165,14 +165,14 @@ fn all_months(year: u16, text: &str) -> Result<DateValue, ReadError>
 fn all_days(year: u16, text: &str) -> Result<DateValue, ReadError>
     ensures { reading result ≡ Spec.all_days year text.now }
 {
-    let (month, following) = number(2, 2, DateErrorKind::WrongNumberOfDigits, text)?;
+    let (month, following) = number(2, 2, UnspecifiedKind::WrongNumberOfDigits, text)?;
     if month < 1 || 12 < month {
-        return Err(ReadError::Specified(DateErrorKind::MonthOutOfRange));
+        return Err(ReadError::Specified(SpecifiedKind::MonthOutOfRange));
     }
-    let following = after_hyphens(following, DateErrorKind::InvalidFormat)?;
+    let following = after_hyphens(following, UnspecifiedKind::InvalidFormat)?;
     let (count, following) = byte_run(following.trim_start(), b'X');
     if count != 2 || !following.trim_start().is_empty() {
-        return Err(ReadError::Unspecified(DateErrorKind::InvalidFormat));
+        return Err(ReadError::Unspecified(UnspecifiedKind::InvalidFormat));
     }
     Ok(days(year, month as u8 - 1))
 }
@@ -189,7 +189,7 @@ fn unknown_month(year: u16, text: &str) -> Result<DateValue, ReadError>
     if count == 0 {
         return all_days(year, text);
     }
-    Err(ReadError::Unspecified(DateErrorKind::WrongNumberOfDigits))
+    Err(ReadError::Unspecified(UnspecifiedKind::WrongNumberOfDigits))
 }
 
 // The years of a century, after its two digits.
@@ -200,7 +200,7 @@ fn century(n: u16, text: &str) -> Result<DateValue, ReadError>
 {
     let (count, _) = byte_run(text, b'X');
     if count != 2 {
-        return Err(ReadError::Unspecified(DateErrorKind::WrongNumberOfDigits));
+        return Err(ReadError::Unspecified(UnspecifiedKind::WrongNumberOfDigits));
     }
     Ok(years(100 * n, 99))
 }
@@ -213,7 +213,7 @@ fn decade(n: u16, text: &str) -> Result<DateValue, ReadError>
 {
     let (count, _) = byte_run(text, b'X');
     if count != 1 {
-        return Err(ReadError::Unspecified(DateErrorKind::WrongNumberOfDigits));
+        return Err(ReadError::Unspecified(UnspecifiedKind::WrongNumberOfDigits));
     }
     Ok(years(10 * n, 9))
 }
@@ -224,9 +224,9 @@ fn after_four_digits(year: u16, text: &str) -> Result<DateValue, ReadError>
     ensures { reading result ≡ Spec.after_four_digits year text.now }
 {
     if after(text, b'X').is_some() {
-        return Err(ReadError::Specified(DateErrorKind::WrongNumberOfDigits));
+        return Err(ReadError::Specified(SpecifiedKind::WrongNumberOfDigits));
     }
-    let following = after_hyphens(text, DateErrorKind::InvalidFormat)?;
+    let following = after_hyphens(text, UnspecifiedKind::InvalidFormat)?;
     unknown_month(year, following.trim_start())
 }
 
@@ -237,10 +237,10 @@ fn unknown(text: &str) -> Result<DateValue, ReadError>
 {
     let (digits, following) = digits(text.trim_start());
     if digits.len() > 4 {
-        return Err(ReadError::Specified(DateErrorKind::WrongNumberOfDigits));
+        return Err(ReadError::Specified(SpecifiedKind::WrongNumberOfDigits));
     }
     if digits.len() < 2 {
-        return Err(ReadError::Unspecified(DateErrorKind::WrongNumberOfDigits));
+        return Err(ReadError::Unspecified(UnspecifiedKind::WrongNumberOfDigits));
     }
     let n = value(digits);
     if digits.len() == 4 {
@@ -266,7 +266,7 @@ fn range(from: &str, to: &str) -> Result<DateValue, ReadError>
 {
     if is_open(from) {
         if is_open(to) {
-            return Err(ReadError::Specified(DateErrorKind::UndefinedRange));
+            return Err(ReadError::Specified(SpecifiedKind::UndefinedRange));
         }
         let end = side(to)?;
         return Ok(DateValue::Before(end));

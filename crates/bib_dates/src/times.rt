@@ -5,7 +5,7 @@ ghost use Rattle.bib_dates.specs.Code.{reading};
 ghost use Rattle.bib_dates.specs.Times as Spec;
 
 use crate::date::{Time, TimeOffset};
-use crate::errors::{DateErrorKind, ReadError};
+use crate::errors::{ReadError, SpecifiedKind, UnspecifiedKind};
 use crate::parts::{after, after_byte, after_colon, small_number};
 
 // The minutes of an offset, after its hours, if there are any.
@@ -17,7 +17,7 @@ fn offset_minute(text: &str) -> Result<u8, ReadError>
         return Ok(0);
     }
     let following = after_colon(text)?;
-    let (minute, _) = small_number(0, 59, DateErrorKind::InvalidNumber, following)?;
+    let (minute, _) = small_number(0, 59, SpecifiedKind::InvalidNumber, following)?;
     Ok(minute)
 }
 
@@ -26,7 +26,7 @@ fn offset_minute(text: &str) -> Result<u8, ReadError>
 fn signed_offset(positive: bool, text: &str) -> Result<Option<TimeOffset>, ReadError>
     ensures { reading result ≡ Spec.signed_offset positive text.now }
 {
-    let (hours, following) = small_number(0, 23, DateErrorKind::InvalidNumber, text)?;
+    let (hours, following) = small_number(0, 23, SpecifiedKind::InvalidNumber, text)?;
     let minutes = offset_minute(following.trim_start())?;
     Ok(Some(TimeOffset::Offset {
         positive,
@@ -52,7 +52,7 @@ fn offset(text: &str) -> Result<Option<TimeOffset>, ReadError>
     if let Some(following) = after(text, b'-') {
         return signed_offset(false, following);
     }
-    Err(ReadError::Unspecified(DateErrorKind::InvalidFormat))
+    Err(ReadError::Unspecified(UnspecifiedKind::InvalidFormat))
 }
 
 // The time of this hour and minute, and of the second and the offset that may stand after them.
@@ -69,7 +69,7 @@ fn after_minute(hour: u8, minute: u8, text: &str) -> Result<Option<Time>, ReadEr
         }));
     }
     let following = after_colon(text)?;
-    let (second, following) = small_number(0, 59, DateErrorKind::InvalidNumber, following)?;
+    let (second, following) = small_number(0, 59, SpecifiedKind::InvalidNumber, following)?;
     let offset = offset(following.trim_start())?;
     Ok(Some(Time {
         hour,
@@ -93,7 +93,7 @@ fn after_hour(hour: u8, text: &str) -> Result<Option<Time>, ReadError>
         }));
     }
     let following = after_colon(text)?;
-    let (minute, following) = small_number(0, 59, DateErrorKind::InvalidNumber, following)?;
+    let (minute, following) = small_number(0, 59, SpecifiedKind::InvalidNumber, following)?;
     after_minute(hour, minute, following.trim_start())
 }
 
@@ -105,7 +105,7 @@ pub(crate) fn after_day(text: &str) -> Result<Option<Time>, ReadError>
     if text.is_empty() {
         return Ok(None);
     }
-    let following = after_byte(text, b'T', DateErrorKind::InvalidFormat)?;
-    let (hour, following) = small_number(0, 23, DateErrorKind::InvalidNumber, following)?;
+    let following = after_byte(text, b'T', UnspecifiedKind::InvalidFormat)?;
+    let (hour, following) = small_number(0, 23, SpecifiedKind::InvalidNumber, following)?;
     after_hour(hour, following.trim_start())
 }

@@ -21,7 +21,7 @@ use Rattle.bib_values.specs.Ranges.{ranges_read}
 use Rattle.bib_chunks.specs.Styled.{whole_span}
 use Rattle.bib_chunks.specs.Values.{Value}
 use Rattle.bib_dates.specs.Chunks.{three_fields_reading, three_fields_place}
-use Rattle.bib_dates.specs.Readings.{Reading, IsDateKind}
+use Rattle.bib_dates.specs.Readings.{Reading, IsUnreadKind}
 use Rattle.bib_dates.specs.Readings.Reading.{says, error, unread as not_read}
 use Rattle.bib_entry.specs.declared.entry.Entry.{Entry}
 
@@ -162,11 +162,11 @@ is_error (name, fine) = false
 is_error (name, refused kind place) = true
 is_error (name, unread place) = true
 
--- the errors that a verdict allows: where no kind is reported, those of the kinds that dates have
+-- the errors that a verdict allows: if it names no kind, those of the four kinds of `IsUnreadKind`
 abbrev pub Allows : Verdict → TypeError → Type 0
 Allows fine e = ⊥
 Allows (refused kind place) e = (e.kind ≡ kind) × (e.span ≡ place)
-Allows (unread place) e = IsDateKind e.kind × (e.span ≡ place)
+Allows (unread place) e = IsUnreadKind e.kind × (e.span ≡ place)
 
 -- a field's error is the one that a verdict reports
 abbrev pub IsErrorOfField : List ℕ × Verdict → List ℕ × TypeError → Type 0

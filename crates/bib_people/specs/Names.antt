@@ -45,7 +45,7 @@ pub record Cuts : Type 0 where
   pub prefix : ℕ
 
 -- a name without a comma. The capital words at the start are the given name. If all are capital, the last is the name.
--- If a capital one follows in the rest, the name begins at the last run of uppercase letters there: the prefix goes through the
+-- If a capital word follows in the rest, the name begins with the last run of capital words there: the prefix ends with the
 -- last lower word before the last capital one. If none does, the last word is the name
 unfoldable pub whole_name : List Word → Cuts
 whole_name words =

@@ -1,21 +1,32 @@
-//! Laws of typed values: which values are read back from what is written of them, and which kinds errors have. These
-//! functions do nothing: what they ensure is proved of the definitions alone.
+//! Laws of typed values: how each type is read and written, which values are read back from what is written of them, and
+//! which kinds errors have. These functions do nothing: what they ensure is proved of the definitions alone.
 
-ghost use Rattle.std.specs.Prelude.{◌≡◌, ◌⊎◌, ℕ, List, None};
+ghost use Rattle.std.specs.Prelude.{◌≡◌, ◌⊎◌, ℕ, ℤ, List, Some, None, map, string_bytes};
 ghost use Rattle.std.specs.declared.ops.Range.{Range as ARange};
+ghost use Rattle.bib_chunks.specs.Cuts.{and_list};
+ghost use Rattle.bib_chunks.specs.Separated.{parts_written};
+ghost use Rattle.bib_chunks.specs.Values;
 ghost use Rattle.bib_chunks.specs.Values.{Value};
+ghost use Rattle.bib_chunks.specs.declared.chunk.Chunk.TheVariants.{Verbatim};
+ghost use Rattle.bib_dates.specs.Chunks.{date_read, date_written};
 ghost use Rattle.bib_dates.specs.Kept.{IsKeptDate};
 ghost use Rattle.bib_dates.specs.Readings.{IsDateKind};
 ghost use Rattle.bib_dates.specs.declared.date.Date.{Date as ADate};
 ghost use Rattle.bib_people.specs.Kept.{ArePeople};
+ghost use Rattle.bib_people.specs.People.{people_of, people_chunks};
 ghost use Rattle.bib_people.specs.declared.person.Person.{Person as APerson};
 ghost use Rattle.bib_enums.specs.declared.type_error.TypeErrorKind.{TypeErrorKind as AKind};
 ghost use Rattle.bib_enums.specs.declared.type_error.TypeErrorKind.TheVariants.{InvalidNumber, MissingNumber, UnknownGender, UnknownLangId, UnknownPagination};
+ghost use Rattle.bib_enums.specs.declared.types.EditorType.{EditorType as ARole};
+ghost use Rattle.bib_enums.specs.declared.types.Gender.{Gender as AGender};
+ghost use Rattle.bib_enums.specs.declared.types.Pagination.{Pagination as AScheme};
 ghost use Rattle.bib_enums.specs.declared.types.lang.Language.{Language as ALanguage};
-ghost use Rattle.bib_values.specs.Enumerations.{IsNamed};
-ghost use Rattle.bib_values.specs.Lists.{StringsKept};
-ghost use Rattle.bib_values.specs.Permissive.{Permissive, LanguagesKept};
-ghost use Rattle.bib_values.specs.Ranges.{RangesKept};
+ghost use Rattle.bib_values.specs.Enumerations.{IsNamed, pagination_read, pagination_written, gender_read, gender_written, editor_type_read, editor_type_written, language_read, language_written};
+ghost use Rattle.bib_values.specs.Lists.{StringsKept, strings_read, strings_written};
+ghost use Rattle.bib_values.specs.Numbers.{number_read, number_written};
+ghost use Rattle.bib_values.specs.Permissive.{Permissive, LanguagesKept, permissive, permissive_written, languages_read, languages_written};
+ghost use Rattle.bib_values.specs.Ranges.{RangesKept, range_read, range_written, ranges_read, ranges_written};
+ghost use Rattle.bib_typed.specs.Typed.{permissive_meaning};
 ghost use Rattle.bib_typed.specs.declared.typed.PermissiveType.TheVariants.{Typed, Chunks as AsTheyStand};
 
 use crate::typed::{PermissiveType, Type};
@@ -25,6 +36,109 @@ use bib_enums::types::lang::Language;
 use bib_enums::types::{EditorType, Gender, Pagination};
 use bib_people::person::Person;
 use std::ops::Range;
+
+/// A `String` is the formatted text of its chunks, and is written as one verbatim chunk.
+pub fn texts_are_read_and_written(string: &String)
+    ensures meaning { ⟦<String as Type>⟧.meaning string.now ≡ string_bytes string.now }
+    ensures reads { (chunks : Value) → ⟦<String as Type>⟧.reads chunks ≡ Some (Values.text chunks) }
+    ensures writes { (text : List ℕ) → ⟦<String as Type>⟧.writes text ≡ Values.alone (Verbatim text) }
+{}
+
+/// An `i64` is the number that its chunks spell, in digits or as a roman numeral, and is written in digits.
+pub fn numbers_are_read_and_written(number: i64)
+    ensures meaning { ⟦<i64 as Type>⟧.meaning number ≡ number }
+    ensures reads { (chunks : Value) → ⟦<i64 as Type>⟧.reads chunks ≡ number_read chunks }
+    ensures writes { (z : ℤ) → ⟦<i64 as Type>⟧.writes z ≡ number_written z }
+{}
+
+/// A `Pagination` is the scheme that its chunks name, and is written as its name.
+pub fn paginations_are_read_and_written(pagination: Pagination)
+    ensures meaning { ⟦<Pagination as Type>⟧.meaning pagination ≡ pagination }
+    ensures reads { (chunks : Value) → ⟦<Pagination as Type>⟧.reads chunks ≡ pagination_read chunks }
+    ensures writes { (scheme : AScheme) → ⟦<Pagination as Type>⟧.writes scheme ≡ pagination_written scheme }
+{}
+
+/// A `Gender` is the gender whose code its chunks are, and is written as its code.
+pub fn genders_are_read_and_written(gender: Gender)
+    ensures meaning { ⟦<Gender as Type>⟧.meaning gender ≡ gender }
+    ensures reads { (chunks : Value) → ⟦<Gender as Type>⟧.reads chunks ≡ gender_read chunks }
+    ensures writes { (g : AGender) → ⟦<Gender as Type>⟧.writes g ≡ gender_written g }
+{}
+
+/// A `Language` is the language that its chunks name, and is written as the name that it is displayed by.
+pub fn languages_are_read_and_written(language: Language)
+    ensures meaning { ⟦<Language as Type>⟧.meaning language ≡ language }
+    ensures reads { (chunks : Value) → ⟦<Language as Type>⟧.reads chunks ≡ language_read chunks }
+    ensures writes { (l : ALanguage) → ⟦<Language as Type>⟧.writes l ≡ language_written l }
+{}
+
+/// An `EditorType` is the type that its chunks name, or else an unknown one. It is written as its name.
+pub fn editor_types_are_read_and_written(role: &EditorType)
+    ensures meaning { ⟦<EditorType as Type>⟧.meaning role.now ≡ role.now }
+    ensures reads { (chunks : Value) → ⟦<EditorType as Type>⟧.reads chunks ≡ Some (editor_type_read chunks) }
+    ensures writes { (r : ARole) → ⟦<EditorType as Type>⟧.writes r ≡ editor_type_written r }
+{}
+
+/// A `Range<u32>` is the first range of a comma list of ranges, and is written with a hyphen.
+pub fn ranges_are_read_and_written(range: &Range<u32>)
+    ensures meaning { ⟦<Range<u32> as Type>⟧.meaning range.now ≡ range.now }
+    ensures reads { (chunks : Value) → ⟦<Range<u32> as Type>⟧.reads chunks ≡ range_read chunks }
+    ensures writes { (r : ARange ℕ) → ⟦<Range<u32> as Type>⟧.writes r ≡ range_written r }
+{}
+
+/// A `Vec<Range<u32>>` is a comma list of ranges, and is written as one.
+pub fn lists_of_ranges_are_read_and_written(ranges: &Vec<Range<u32>>)
+    ensures meaning { ⟦<Vec<Range<u32>> as Type>⟧.meaning ranges.now ≡ ranges.now.items }
+    ensures reads { (chunks : Value) → ⟦<Vec<Range<u32>> as Type>⟧.reads chunks ≡ ranges_read chunks }
+    ensures writes { (list : List (ARange ℕ)) → ⟦<Vec<Range<u32>> as Type>⟧.writes list ≡ ranges_written list }
+{}
+
+/// A `Vec<String>` is the texts of a comma list, and is written as one.
+pub fn lists_of_texts_are_read_and_written(strings: &Vec<String>)
+    ensures meaning { ⟦<Vec<String> as Type>⟧.meaning strings.now ≡ map (λ s. string_bytes s) strings.now.items }
+    ensures reads { (chunks : Value) → ⟦<Vec<String> as Type>⟧.reads chunks ≡ Some (strings_read chunks) }
+    ensures writes { (list : List (List ℕ)) → ⟦<Vec<String> as Type>⟧.writes list ≡ strings_written list }
+{}
+
+/// A `Vec<Chunks>` is the parts of an `and` list, and is written as one.
+pub fn lists_of_parts_are_read_and_written(parts: &Vec<Chunks>)
+    ensures meaning { ⟦<Vec<Chunks> as Type>⟧.meaning parts.now ≡ parts.now.items }
+    ensures reads { (chunks : Value) → ⟦<Vec<Chunks> as Type>⟧.reads chunks ≡ Some (and_list chunks) }
+    ensures writes { (list : List Value) → ⟦<Vec<Chunks> as Type>⟧.writes list ≡ parts_written list }
+{}
+
+/// A `Vec<PermissiveType<Language>>` is the parts of an `and` list, each a language or else its chunks. It is written as one.
+pub fn lists_of_languages_are_read_and_written(languages: &Vec<PermissiveType<Language>>)
+    ensures meaning { ⟦<Vec<PermissiveType<Language>> as Type>⟧.meaning languages.now ≡
+        map (permissive_meaning (λ language. language)) languages.now.items }
+    ensures reads { (chunks : Value) →
+        ⟦<Vec<PermissiveType<Language>> as Type>⟧.reads chunks ≡ Some (languages_read chunks) }
+    ensures writes { (list : List (Permissive ALanguage)) →
+        ⟦<Vec<PermissiveType<Language>> as Type>⟧.writes list ≡ languages_written list }
+{}
+
+/// A `Vec<Person>` is the people of an `and` list, and is written as one.
+pub fn lists_of_people_are_read_and_written(people: &Vec<Person>)
+    ensures meaning { ⟦<Vec<Person> as Type>⟧.meaning people.now ≡ people.now.items }
+    ensures reads { (chunks : Value) → ⟦<Vec<Person> as Type>⟧.reads chunks ≡ Some (people_of chunks) }
+    ensures writes { (list : List APerson) → ⟦<Vec<Person> as Type>⟧.writes list ≡ people_chunks list }
+{}
+
+/// A `Date` is the date or the range that the text of its chunks is, and is written without times.
+pub fn dates_are_read_and_written(date: Date)
+    ensures meaning { ⟦<Date as Type>⟧.meaning date ≡ date }
+    ensures reads { (chunks : Value) → ⟦<Date as Type>⟧.reads chunks ≡ date_read chunks }
+    ensures writes { (d : ADate) → ⟦<Date as Type>⟧.writes d ≡ date_written d }
+{}
+
+/// A `PermissiveType<T>` is what `T` reads, or else the chunks. It is written as `T` writes it, or as its chunks.
+pub fn permissive_values_are_read_and_written<T: Type + Drop>(value: &PermissiveType<T>)
+    ensures meaning { ⟦<PermissiveType<T> as Type>⟧.meaning value.now ≡ permissive_meaning T.meaning value.now }
+    ensures reads { (chunks : Value) →
+        ⟦<PermissiveType<T> as Type>⟧.reads chunks ≡ Some (permissive (T.Type.reads chunks) chunks) }
+    ensures writes { (m : Permissive T.Meaning) →
+        ⟦<PermissiveType<T> as Type>⟧.writes m ≡ permissive_written T.Type.writes m }
+{}
 
 /// Each text is kept.
 pub fn texts_are_kept(text: &String)

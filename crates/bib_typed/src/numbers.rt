@@ -23,9 +23,9 @@ fn number_error(chunks: ChunksRef<'_>) -> TypeErrorKind
     TypeErrorKind::MissingNumber
 }
 
-/// Read from digits with an optional sign, or from a roman numeral of 1 to 3,999 in uppercase letters or in lowercase letters, with
-/// white space round it. Else refused, with `MissingNumber` where the chunks have no bytes in the file, and with
-/// `InvalidNumber` where they have. Written in digits, as one normal chunk.
+/// Parses digits with an optional sign, or a roman numeral of 1 to 3,999, all in uppercase or all in lowercase; white space
+/// around them is ignored. Other chunks are refused: with `MissingNumber` if they have no bytes in the file, else with
+/// `InvalidNumber`. Written in digits, as one normal chunk.
 impl Type for i64 {
     ghost Meaning = { ℤ };
 

@@ -25,7 +25,7 @@ halts_at : (test : ℕ → Bool) (c : ℕ) (cs : List ℕ) → test c ≡ false 
 unfolding Halts
 halts_at test c cs fails = (cond-false (test c) _ _ fails, cond-false (test c) _ _ fails)
 
--- nor does that of a run of others in start
+-- nor does that of a run of others at the start
 halts_run : (test other : ℕ → Bool) → ((c : ℕ) → other c ≡ true → test c ≡ false) → (run rest : List ℕ) → list_all other run ≡ true → Halts test rest → Halts test (run ++ rest)
 halts_run test other apart [] rest all halts = halts
 halts_run test other apart (c ∷ run) rest all halts = halts_at test c (run ++ rest) (apart c (and_parts (other c) (list_all other run) all).0)
@@ -108,7 +108,7 @@ range_read_of text range is =
     ∙ ap (goes_on_with range.start) (passed is_whitespace is.between is.rest is.gap (end_white range.start range.end is.rest is.end))
     ∙ end_read range.start range.end is.rest is.end
 
--- characters are those in start and those after
+-- characters are those at the start and those after
 prefix_after : (test : ℕ → Bool) (cs : List ℕ) → cs ≡ leading_run test cs ++ rest_after test cs
 prefix_after test [] = refl
 prefix_after test (c ∷ cs) = here (test c) (prefix_after test cs)

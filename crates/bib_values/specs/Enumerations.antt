@@ -15,7 +15,7 @@ use Rattle.bib_enums.specs.EditorType.{editor_type_name, editor_type_of}
 use Rattle.bib_enums.specs.Language.{language_row, language_named}
 use Rattle.bib_chunks.specs.Values.{Value, text, lowered, alone}
 
--- the scheme that chunks name, in uppercase letters or lowercase letters
+-- the scheme that chunks name, in any ASCII case
 unfoldable pub pagination_read : Value → Option Pagination
 pagination_read chunks = pagination_named (lowered chunks)
 
@@ -40,7 +40,7 @@ genders = by_name gender_code (SingularFemale ∷ SingularMale ∷ SingularNeute
 abbrev pub gender_coded : List ℕ → Option Gender
 gender_coded = named genders
 
--- the gender whose code chunks are, in uppercase letters or lowercase letters
+-- the gender whose code chunks are, in any ASCII case
 unfoldable pub gender_read : Value → Option Gender
 gender_read chunks = gender_coded (lowered chunks)
 
@@ -48,7 +48,7 @@ gender_read chunks = gender_coded (lowered chunks)
 abbrev pub gender_written : Gender → Value
 gender_written gender = alone (Normal (gender_code gender))
 
--- the editor's type that chunks name, in uppercase letters or lowercase letters; any other text, in lowercase letters, is an unknown type
+-- the editor's type that chunks name, in any ASCII case; any other text, with `A` to `Z` in lowercase, is an unknown type
 unfoldable pub editor_type_read : Value → EditorType
 editor_type_read chunks = editor_type_of (lowered chunks)
 

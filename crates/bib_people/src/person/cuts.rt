@@ -7,7 +7,7 @@ ghost use Rattle.bib_people.specs.WordKinds.{is_of, cuts_of};
 use super::words::Word;
 use unicode::properties::{is_lowercase, is_uppercase};
 
-// What a word is reported by: a capital or verbatim first letter, none such, or a small or verbatim first letter.
+// A test of words: the first letter is a capital or verbatim, it is neither, or it is small or verbatim.
 #[derive(Clone, Copy, PartialEq, Eq, Drop)]
 pub(crate) enum Kind {
     Capital,

@@ -9,7 +9,7 @@ use Rattle.bib_contents.specs.Progress.{left}
 use Rattle.bib_contents.proofs.ArgumentReading.{name_plain}
 use Rattle.bib_contents.proofs.EffectFacts.{wrote_from}
 use Rattle.bib_contents.proofs.StackFacts.{reversed_push, no_elements}
-use Rattle.bib_contents.proofs.FrameFacts.{weight, begun_here, begun_on, read_begun, reading_first, reading_on, reading_follows, reading_below, reading_done, stays_wider, stuck_up}
+use Rattle.bib_contents.proofs.FrameFacts.{weight, begun_here, begun_on, read_begun, reading_first, reading_on, reading_follows, reading_below, reading_done, stays_wider, fails_up}
 use Rattle.bib_contents.proofs.arguments.write_applied.Goals as goal
 
 pub units-init : goal.units-init
@@ -92,7 +92,7 @@ returns-in_err-next-clause-refused c =
     let p = err_from_is_err_and c.from_residual-in_err-next.result c.from_residual-in_err-next.ensures.1 in
     rw (p.1, p.2) (elim (c.in_err-next.ensures.refused inv.whole (inv.under ++ made_before c.units.frame.effect inv.name) inv.read) [
       | inl memory ↦ inl memory
-      | inr unread ↦ inr (unread.0, stuck_up inv.waiting unread.1)
+      | inr fails ↦ inr (fails_up inv.waiting fails)
     ])
 
 pub returns-in_err-next-clause-within : goal.returns-in_err-next-clause-within

@@ -6,7 +6,8 @@ use Rattle.bib_contents.specs.Progress.{left}
 use Rattle.bib_contents.specs.UnitViews.{unit_of}
 use Rattle.bib_contents.specs.declared.growing.OpenChunk.{OpenChunk}
 use Rattle.bib_contents.proofs.ArgumentFacts.{passes_shorter}
-use Rattle.bib_contents.proofs.ReaderFacts.{unit_shorter, stuck_unit, stuck_taken}
+use Rattle.bib_contents.proofs.FailFacts.{fails_kind, fails_stuck, fails_taken, fails_unit}
+use Rattle.bib_contents.proofs.ReaderFacts.{unit_shorter}
 use Rattle.bib_contents.proofs.ReadingContents.{Reading, reading_none, reading_plain, reading_unit, reading_all, reading_ends, unit_place}
 use Rattle.bib_contents.proofs.TakingFacts.{stands_at, unit_named}
 use Rattle.bib_contents.proofs.contents.contents.Goals as goal
@@ -16,27 +17,44 @@ units-init c = reading_none c.args.is_verbatim c.args.text.now c.args.offset c.a
 
 pub returns-then-done-clause-read : goal.returns-then-done-clause-read
 returns-then-done-clause-read c =
-    let grown : OpenChunk = record { text = c.write_plain.new.text; depth = c.units.growing.depth; start = c.units.growing.start; is_first = c.units.growing.is_first } in
-    let run : Reading c.args.is_verbatim c.args.text.now c.args.offset c.args.out.now c.write_plain.new.s grown c.units.out = reading_plain c.units.growing grown c.units.invariant c.in_ok-write_plain.ensures refl refl in
+    let was = c.units.growing in
+    let grown : OpenChunk = record { text = c.write_plain.new.text; depth = was.depth; start = was.start; is_first = was.is_first } in
+    let run : Reading c.args.is_verbatim c.args.text.now c.args.offset c.args.out.now c.write_plain.new.s grown c.units.out =
+    reading_plain was grown c.units.invariant c.in_ok-write_plain.ensures refl refl in
     reading_all grown _ run c.if-done.ensures c.in_ok-finish.ensures.atoms
 
 pub returns-then-done-clause-placed : goal.returns-then-done-clause-placed
 returns-then-done-clause-placed c low placed =
-    let grown : OpenChunk = record { text = c.write_plain.new.text; depth = c.units.growing.depth; start = c.units.growing.start; is_first = c.units.growing.is_first } in
-    let run : Reading c.args.is_verbatim c.args.text.now c.args.offset c.args.out.now c.write_plain.new.s grown c.units.out = reading_plain c.units.growing grown c.units.invariant c.in_ok-write_plain.ensures refl refl in
+    let was = c.units.growing in
+    let grown : OpenChunk = record { text = c.write_plain.new.text; depth = was.depth; start = was.start; is_first = was.is_first } in
+    let run : Reading c.args.is_verbatim c.args.text.now c.args.offset c.args.out.now c.write_plain.new.s grown c.units.out =
+    reading_plain was grown c.units.invariant c.in_ok-write_plain.ensures refl refl in
     let ends = reading_ends grown run low placed in
     rw c.saturating_add-end.ensures at (c.in_ok-finish.ensures.placed low ends.0 (rw c.saturating_add-end.ensures ends.1))
 
 pub returns-in_default-clause-refused : goal.returns-in_default-clause-refused
 returns-in_default-clause-refused c =
-    let grown : OpenChunk = record { text = c.write_plain.new.text; depth = c.units.growing.depth; start = c.units.growing.start; is_first = c.units.growing.is_first } in
-    let run : Reading c.args.is_verbatim c.args.text.now c.args.offset c.args.out.now c.write_plain.new.s grown c.units.out = reading_plain c.units.growing grown c.units.invariant c.in_ok-write_plain.ensures refl refl in
-    inr (c.ended.ensures.kind, stuck_unit run.read c.if-done.ensures c.in_default.ensures.found)
+    let was = c.units.growing in
+    let grown : OpenChunk = record { text = c.write_plain.new.text; depth = was.depth; start = was.start; is_first = was.is_first } in
+    let run : Reading c.args.is_verbatim c.args.text.now c.args.offset c.args.out.now c.write_plain.new.s grown c.units.out =
+    reading_plain was grown c.units.invariant c.in_ok-write_plain.ensures refl refl in
+    let fails = fails_unit run.read (c.in_default.ensures.fails c.if-done.ensures) c.ended.ensures.kind in
+    inr (fails_kind fails, fails_stuck fails)
+
+pub returns-in_default-clause-fails : goal.returns-in_default-clause-fails
+returns-in_default-clause-fails c =
+    let was = c.units.growing in
+    let grown : OpenChunk = record { text = c.write_plain.new.text; depth = was.depth; start = was.start; is_first = was.is_first } in
+    let run : Reading c.args.is_verbatim c.args.text.now c.args.offset c.args.out.now c.write_plain.new.s grown c.units.out =
+    reading_plain was grown c.units.invariant c.in_ok-write_plain.ensures refl refl in
+    inr (fails_unit run.read (c.in_default.ensures.fails c.if-done.ensures) c.ended.ensures.kind)
 
 pub take-requires : goal.take-requires
 take-requires c =
-    let grown : OpenChunk = record { text = c.write_plain.new.text; depth = c.units.growing.depth; start = c.units.growing.start; is_first = c.units.growing.is_first } in
-    let run : Reading c.args.is_verbatim c.args.text.now c.args.offset c.args.out.now c.write_plain.new.s grown c.units.out = reading_plain c.units.growing grown c.units.invariant c.in_ok-write_plain.ensures refl refl in
+    let was = c.units.growing in
+    let grown : OpenChunk = record { text = c.write_plain.new.text; depth = was.depth; start = was.start; is_first = was.is_first } in
+    let run : Reading c.args.is_verbatim c.args.text.now c.args.offset c.args.out.now c.write_plain.new.s grown c.units.out =
+    reading_plain was grown c.units.invariant c.in_ok-write_plain.ensures refl refl in
     let at : c.cursor-start.result ≡ c.write_plain.new.s.at = c.cursor-start.ensures.place in
     let fits : length c.write_plain.new.s.text < 2 ^ 63 = c.cursor-start.ensures.fits in
     let next = unit_place c.in-Some.ensures.found c.in-Some.ensures.same c.cursor-start.ensures.utf8 c.cursor.ensures.utf8 run.within (rw (← c.cursor.ensures.place) c.cursor.ensures.boundary.0) in
@@ -55,18 +73,34 @@ units-smaller c =
 
 pub units-preserved : goal.units-preserved
 units-preserved c =
-    let grown : OpenChunk = record { text = c.write_plain.new.text; depth = c.units.growing.depth; start = c.units.growing.start; is_first = c.units.growing.is_first } in
-    let run : Reading c.args.is_verbatim c.args.text.now c.args.offset c.args.out.now c.write_plain.new.s grown c.units.out = reading_plain c.units.growing grown c.units.invariant c.in_ok-write_plain.ensures refl refl in
+    let was = c.units.growing in
+    let grown : OpenChunk = record { text = c.write_plain.new.text; depth = was.depth; start = was.start; is_first = was.is_first } in
+    let run : Reading c.args.is_verbatim c.args.text.now c.args.offset c.args.out.now c.write_plain.new.s grown c.units.out =
+    reading_plain was grown c.units.invariant c.in_ok-write_plain.ensures refl refl in
     let within : c.eat_unit.new.s.at ≤ length c.eat_unit.new.s.text = rw (← c.cursor.ensures.place) c.cursor.ensures.boundary.0 in
     let next = unit_place c.in-Some.ensures.found c.in-Some.ensures.same c.cursor-start.ensures.utf8 c.cursor.ensures.utf8 run.within within in
     reading_unit grown c.take.new.growing run c.in-Some.ensures.found c.in-Some.ensures.same next within c.in_ok-take.ensures.taken c.in_ok-take.ensures.joined (rw (c.cursor-start.ensures.place, c.cursor.ensures.place) at c.in_ok-take.ensures.placed)
 
 pub returns-in_err-take-clause-refused : goal.returns-in_err-take-clause-refused
 returns-in_err-take-clause-refused c =
-    let grown : OpenChunk = record { text = c.write_plain.new.text; depth = c.units.growing.depth; start = c.units.growing.start; is_first = c.units.growing.is_first } in
-    let run : Reading c.args.is_verbatim c.args.text.now c.args.offset c.args.out.now c.write_plain.new.s grown c.units.out = reading_plain c.units.growing grown c.units.invariant c.in_ok-write_plain.ensures refl refl in
+    let was = c.units.growing in
+    let grown : OpenChunk = record { text = c.write_plain.new.text; depth = was.depth; start = was.start; is_first = was.is_first } in
+    let run : Reading c.args.is_verbatim c.args.text.now c.args.offset c.args.out.now c.write_plain.new.s grown c.units.out =
+    reading_plain was grown c.units.invariant c.in_ok-write_plain.ensures refl refl in
     let p = err_from_is_err_and c.from_residual-in_err-take.result c.from_residual-in_err-take.ensures.1 in
     rw (p.1, p.2) (elim c.in_err-take.ensures.refused [
       | inl memory ↦ inl memory
-      | inr unread ↦ inr (unread.0, stuck_taken run.read c.in-Some.ensures.found unread.1)
+      | inr untaken ↦ let fails = fails_taken run.read c.in-Some.ensures.found untaken in inr (fails_kind fails, fails_stuck fails)
+    ])
+
+pub returns-in_err-take-clause-fails : goal.returns-in_err-take-clause-fails
+returns-in_err-take-clause-fails c =
+    let was = c.units.growing in
+    let grown : OpenChunk = record { text = c.write_plain.new.text; depth = was.depth; start = was.start; is_first = was.is_first } in
+    let run : Reading c.args.is_verbatim c.args.text.now c.args.offset c.args.out.now c.write_plain.new.s grown c.units.out =
+    reading_plain was grown c.units.invariant c.in_ok-write_plain.ensures refl refl in
+    let p = err_from_is_err_and c.from_residual-in_err-take.result c.from_residual-in_err-take.ensures.1 in
+    rw (p.1, p.2) (elim c.in_err-take.ensures.refused [
+      | inl memory ↦ inl memory
+      | inr untaken ↦ inr (fails_taken run.read c.in-Some.ensures.found untaken)
     ])

@@ -58,5 +58,5 @@ returns-in_err-write_applied-in-Applied-clause-refused c =
     let p = err_from_is_err_and c.from_residual-in_err-write_applied-in-Applied.result c.from_residual-in_err-write_applied-in-Applied.ensures.1 in
     rw (p.1, p.2) (elim c.in_err-write_applied-in-Applied.ensures.refused [
       | inl memory ↦ inl memory
-      | inr unread ↦ inr (unread.0, inr (left c.in-Applied.inside, rw c.in-Applied.is refl, unread.1))
+      | inr fails ↦ inr (inr (left c.in-Applied.inside, rw c.in-Applied.is refl, fails))
     ])

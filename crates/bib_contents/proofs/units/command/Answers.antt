@@ -3,7 +3,7 @@ use Rattle.std.specs.Str.{chars}
 use Rattle.bib_contents.specs.Contents.{Argument, is_space, is_empty}
 use Rattle.bib_contents.specs.UnitViews.{argument_of}
 use Rattle.bib_contents.specs.Progress.{left}
-use Rattle.bib_contents.proofs.CommandUnitFacts.{command_found, command_none, spaced_chars}
+use Rattle.bib_contents.proofs.CommandUnitFacts.{command_found, command_none, spaced_chars, unclosed_fails}
 use Rattle.bib_contents.proofs.units.command.Goals as goal
 
 pub eat_while-space-requires-clause-is_test : goal.eat_while-space-requires-clause-is_test
@@ -16,6 +16,17 @@ returns-in_default-clause-found c =
     let spaced : not c.is_empty-is_spaced.result ≡ not (is_empty space) = ap not c.is_empty-is_spaced.ensures ∙ spaced_chars _ c.eat_while-space.utf8 in
     command_none (left c.args.s.now) (chars c.eat_name-name.result.now) (left c.eat_name-name.new.s) space (left c.eat_while-space.new.self) c.takes_next-takes.result (not c.is_empty-is_spaced.result)
     c.eat_name-name.ensures.passed.left c.eat_name-name.ensures.name c.eat_name-name.ensures.whole c.eat_while-space.ensures.passed.left white.0 white.1 (c.takes_next-takes.ensures space spaced) spaced c.in_default.ensures.found
+
+pub returns-in_default-clause-fails : goal.returns-in_default-clause-fails
+returns-in_default-clause-fails c =
+    let name = c.eat_name-name.ensures in
+    let space = chars c.eat_while-space.result.now in
+    let is_spaced = not c.is_empty-is_spaced.result in
+    let spaced : is_spaced ≡ not (is_empty space) = ap not c.is_empty-is_spaced.ensures ∙ spaced_chars _ c.eat_while-space.utf8 in
+    let unclosed = c.in_default.ensures.unclosed in
+    unclosed_fails (left c.args.s.now) (chars c.eat_name-name.result.now) (left c.eat_name-name.new.s) space (left c.eat_while-space.new.self)
+    is_spaced unclosed.1.0 name.passed.left name.name name.whole c.eat_while-space.ensures.passed.left spaced unclosed.0 unclosed.1.1
+    unclosed.1.2
 
 pub returns-in-Plain-clause-found : goal.returns-in-Plain-clause-found
 returns-in-Plain-clause-found c =

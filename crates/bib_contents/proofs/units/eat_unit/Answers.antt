@@ -1,4 +1,6 @@
-use Rattle.std.proofs.Common.{◌≡◌, ◌∷◌, [], ◌∙◌, ap}
+use Rattle.std.proofs.Common.{◌≡◌, ℕ, List, ◌∷◌, [], ◌∙◌, ap, false, Option, None, Some}
+use Rattle.std.specs.Prelude.{IfNone}
+use Rattle.bib_contents.specs.ContentErrors.{UnitFails}
 use Rattle.bib_contents.specs.Contents.{is_space}
 use Rattle.bib_contents.specs.Progress.{left, Passes}
 use Rattle.bib_contents.proofs.ContentFacts.{no_unit_at_end}
@@ -17,3 +19,20 @@ returns-clause-found c =
     let passed : Passes c.args.s.now (c.in-Some.c ∷ []) c.eat-2.new.self = eaten_first c.eat-2.result c.eat-2.ensures c.in-Some.ensures.1 in
     let here : left c.args.s.now ≡ 36 ∷ left c.eat-2.new.self = passed.left ∙ ap (λ d. d ∷ left c.eat-2.new.self) dollar.1 in
     rw (dollar.0, here) c.formula.ensures.found
+
+-- a text that fails fails where it has a character
+fails_given : {A : Type 0} (text : List ℕ) (found : Option A) → IfNone found (UnitFails false text)
+    → IfNone found ((text ≡ [] → ⊥) → UnitFails false text)
+fails_given text None fails = λ _. fails
+fails_given text (Some a) fact = fact
+
+pub returns-clause-fails : goal.returns-clause-fails
+returns-clause-fails c =
+    let dollar =
+    last_dollar c.args.is_verbatim c.in-Some.c c.if-is_ordinary.ensures c.if-is_space.ensures c.if-c-eq45.false c.if-c-eq92.false
+    c.if-c-eq123.false c.if-c-eq125.false in
+    let passed : Passes c.args.s.now (c.in-Some.c ∷ []) c.eat-2.new.self =
+    eaten_first c.eat-2.result c.eat-2.ensures c.in-Some.ensures.1 in
+    let here : left c.args.s.now ≡ 36 ∷ left c.eat-2.new.self =
+    passed.left ∙ ap (λ d. d ∷ left c.eat-2.new.self) dollar.1 in
+    rw (dollar.0, here) (fails_given (36 ∷ left c.eat-2.new.self) c.formula.result c.formula.ensures.fails)

@@ -7,7 +7,7 @@ use Rattle.bib_contents.specs.Arguments.{IsArgumentBetween}
 use Rattle.bib_contents.specs.Contents.{is_ordinary}
 use Rattle.bib_contents.specs.Progress.{left}
 use Rattle.bib_contents.proofs.ArgumentFacts.{passes_ahead, passes_shorter, passes_within}
-use Rattle.bib_contents.proofs.ArgumentReading.{read_run, stuck_here}
+use Rattle.bib_contents.proofs.ArgumentReading.{fails_on, read_run}
 use Rattle.bib_contents.proofs.FrameFacts.{shorter_wider, stays_wider, unit_ahead}
 use Rattle.bib_contents.proofs.ReadingContents.{unit_place}
 use Rattle.bib_contents.proofs.arguments.Frame.next.Goals as goal
@@ -27,7 +27,7 @@ returns-in_default-clause-refused c whole base read =
     let all = c.eat_while-run.ensures.longest (is_ordinary false) (λ x r post. search rules) in
     let ran = read_run (chars c.eat_while-run.result.now) read c.eat_while-run.ensures.passed.left all.0
     (pushed_chars _ _ _ _ (chars c.eat_while-run.result.now) c.in_ok-push_str.was c.push_str.ensures.bytes (sym (encodes-chars _ c.eat_while-run.utf8))) in
-    inr (c.ended.ensures.kind, stuck_here ran c.if-done.ensures c.in_default.ensures.found)
+    inr (fails_on ran (c.in_default.ensures.fails c.if-done.ensures) c.ended.ensures.kind)
 
 pub returns-clause-kept : goal.returns-clause-kept
 returns-clause-kept c =

@@ -1,7 +1,7 @@
 use Rattle.std.proofs.Common.{refl, inr}
 use Rattle.std.specs.Str.{chars}
 use Rattle.bib_contents.specs.Progress.{left}
-use Rattle.bib_contents.proofs.ArgumentReading.{read_text, read_math, read_opening, read_closing, stuck_closing}
+use Rattle.bib_contents.proofs.ArgumentReading.{fails_closing, read_text, read_math, read_opening, read_closing}
 use Rattle.bib_contents.proofs.FrameFacts.{applied_shorter}
 use Rattle.bib_contents.proofs.ReaderFacts.{unit_shorter}
 use Rattle.bib_contents.proofs.arguments.Frame.take.Goals as goal
@@ -12,7 +12,8 @@ returns-in-Applied-clause-shorter c before low one stands =
     (applied_shorter (chars c.in-Applied.name.now) (chars c.in-Applied.field-1.now) (left c.in-Applied.inside) before (left c.args.self.now.s) (rw c.in-Applied.is at one), rw c.in-Applied.is at stands)
 
 pub returns-then-self-eq0-clause-refused : goal.returns-then-self-eq0-clause-refused
-returns-then-self-eq0-clause-refused c whole base before one read = inr (c.unopened.ensures.kind, stuck_closing read (rw c.in-Closing.is at one) c.if-self-eq0.true)
+returns-then-self-eq0-clause-refused c whole base before one read =
+    inr (fails_closing read (rw c.in-Closing.is at one) c.if-self-eq0.true c.unopened.ensures.kind)
 
 pub returns-clause-read : goal.returns-clause-read
 returns-clause-read c whole base before one read = elim c.match-unit.branch [
