@@ -1,5 +1,5 @@
 -- Meaning: words of public contracts.
--- Which kind of error is reported of contents that can't be read: beside the rules of `Reads` stands how they fail.
+-- Which kind of error contents have that can't be read: how each rule of `Reads` fails.
 use Rattle.std.specs.Prelude.{◌≡◌, ℕ, Bool, true, false, ◌==◌, List, [], ◌∷◌, ◌++◌, Some}
 use Rattle.std.specs.List.{list_any}
 use Rattle.bib_chunks.specs.Styled.{Atom}
@@ -18,7 +18,7 @@ pub data UnitFails : Bool → List ℕ → Type 0 where
       → ((inside rest : List ℕ) → text ≡ inside ++ char.close_brace ∷ rest → balances 0 inside ≡ true → ⊥)
       → UnitFails false (char.backslash ∷ (name ++ char.open_brace ∷ text))
 
--- a text fails with this kind of error if so many braces are open before it. It fails at a closing brace that nothing opened,
+-- a text fails with this kind of error, with `depth` braces open before it. It fails at a closing brace that nothing opened,
 -- or at a unit that doesn't end. Else the argument of its first unit fails, or its first unit is read and the rest fails
 pub data ContentFails : Bool → ℕ → List ℕ → ParseErrorKind → Type 0 where
   unopened : {is_verbatim : Bool} {depth : ℕ} {u : ContentUnit} {text rest : List ℕ} → IsNext is_verbatim u text rest

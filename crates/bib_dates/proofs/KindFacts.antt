@@ -1,5 +1,5 @@
 -- Any error of a date is of a kind that dates have, also where the kind is promised.
-use Rattle.std.proofs.Common.{◌≡◌, ◌⊎◌, ℕ, ◌==◌, Bool, true, false, cond, List, [], ◌∷◌, length, drop, Option, Some, None, subst, sym, ap, inl, inr}
+use Rattle.std.proofs.Common.{◌≡◌, ◌⊎◌, ℕ, ◌==◌, Bool, true, false, cond, List, [], ◌∷◌, length, drop, Option, Some, None, subst, sym, ap, refl, inl, inr}
 use Rattle.std.specs.Prelude.{ℤ, codes}
 use Rattle.std.specs.Str.{trim_start, trim_end, str_to_ascii_uppercase}
 use Rattle.bib_enums.specs.declared.type_error.TypeErrorKind.{TypeErrorKind}
@@ -20,10 +20,10 @@ is_date_kind InvalidFormat is = tt
 is_date_kind _ never = absurd never
 
 -- an error's kind is the promised one, or one of the four
-pub promised_or_unread : {A : Type 0} (r : Reading A) (kind : TypeErrorKind) → MayRefuse r kind → (r ≡ error kind) ⊎ IsUnreadKind kind
+pub promised_or_unread : {A : Type 0} (r : Reading A) (kind : TypeErrorKind) → MayRefuse r kind → (r ≡ error kind) ⊎ ((r ≡ unread) × IsUnreadKind kind)
 promised_or_unread (says a) kind never = absurd never
 promised_or_unread (error promised) kind may = inl (ap (λ k. error k) (sym may.0))
-promised_or_unread unread kind may = inr may
+promised_or_unread unread kind may = inr (refl, may)
 
 -- an error's kind is one that dates have
 pub has_date_kind : {A : Type 0} (r : Reading A) (kind : TypeErrorKind) → MayRefuse r kind → IsDateKind kind

@@ -21,7 +21,7 @@ error_kind_of WrongNumberOfDigits = Kind.WrongNumberOfDigits
 error_kind_of InvalidFormat = Kind.InvalidFormat
 error_kind_of YearZeroCE = Kind.YearZeroCE
 
--- the reading that a result stands for
+-- the result of a private function as a reading
 abbrev pub reading : {A : Type 0} → Result A ReadError → Reading A
 reading (Ok a) = says a
 reading (Err (Specified reason)) = error (error_kind_of reason)

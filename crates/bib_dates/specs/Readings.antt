@@ -40,8 +40,8 @@ IsDateKind InvalidFormat = ⊤
 IsDateKind YearZeroCE = ⊤
 IsDateKind other = ⊥
 
--- the kinds that a date's error may have if the definition names none: a number or the format is wrong. The definition always
--- names the kind for a range open on both sides, and for a month, a day or a year that doesn't exist
+-- the kinds that a date's error may have if the definition names none: a number or the format is wrong. The error is then never
+-- one of the other four: an open range, a month or a day out of range, or the year 0
 abbrev pub IsUnreadKind : TypeErrorKind → Type 0
 IsUnreadKind InvalidNumber = ⊤
 IsUnreadKind MissingNumber = ⊤

@@ -4,7 +4,7 @@ ghost use Rattle.std.specs.Prelude.{◌≡◌, ◌↔◌, ◌≢◌, ◌⊎◌, 
 ghost use Rattle.std.specs.declared.cmp.Ordering.TheVariants.{Less, Equal};
 ghost use Rattle.bib_enums.specs.declared.type_error.TypeErrorKind.{TypeErrorKind as AKind};
 ghost use Rattle.bib_dates.specs.Readings.{Reading, IsDateKind, IsUnreadKind, MayRefuse};
-ghost use Rattle.bib_dates.specs.Readings.Reading.{says, error};
+ghost use Rattle.bib_dates.specs.Readings.Reading.{says, error, unread};
 ghost use Rattle.bib_dates.specs.Dates.{date_of};
 ghost use Rattle.bib_dates.specs.ThreeFields.{three_fields_of};
 ghost use Rattle.bib_dates.specs.Written.{date_text};
@@ -23,11 +23,11 @@ pub fn dates_survive()
 {}
 
 /// Each error of a date, except out of memory, is of a kind that dates have, and so is each kind that is promised. The kind is
-/// the promised one, or one of the four for which `IsUnreadKind` holds.
+/// the promised one or, if none is promised, one of the four for which `IsUnreadKind` holds.
 pub fn dates_have_few_kinds()
     ensures error { (reading : Reading ADate) (kind : AKind) → MayRefuse reading kind → IsDateKind kind }
     ensures promised { (reading : Reading ADate) (kind : AKind) → MayRefuse reading kind →
-        (reading ≡ error kind) ⊎ IsUnreadKind kind }
+        (reading ≡ error kind) ⊎ ((reading ≡ unread) × IsUnreadKind kind) }
     ensures date { (text : List ℕ) (kind : AKind) → date_of text ≡ error kind → IsDateKind kind }
     ensures three_fields { (year : List ℕ) (month day : Option (List ℕ)) (kind : AKind) →
         three_fields_of year month day ≡ error kind → IsDateKind kind }

@@ -1,11 +1,12 @@
 //! Sinks: what takes the texts that are written, and a writer as a sink.
 
-ghost use Rattle.std.specs.Prelude.{◌≡◌, ℕ, Bool, ◌+◌, ◌-◌, ◌^◌, ◌<◌, List, min, IsTrue, MatchBool};
+ghost use Rattle.std.specs.Prelude.{◌≡◌, ℕ, Bool, ◌+◌, ◌-◌, ◌^◌, ◌<◌, List, if◌then◌else◌, min, IsTrue, MatchBool, ◌↔◌};
 ghost use Rattle.std.specs.Bool.{OnTrue, OnFalse};
 ghost use Rattle.std.specs.Io.KnownBytes.{Appends};
 ghost use Rattle.std.specs.declared.option.Option.{Option};
-ghost use Rattle.biblatex.specs.PartlyWritten.{AppendsPart};
+ghost use Rattle.biblatex.specs.PartlyWritten.{AppendsPart, IsRefusal};
 
+use std::io;
 use std::io::{ErrorKind, Write};
 
 /// Takes text, or refuses it.
@@ -29,6 +30,16 @@ pub trait Sink {
         ensures handed { hands_over self.old text.now result self.new };
 }
 
+// Whether a write refused its bytes.
+fn is_refusal(written: &io::Result<usize>) -> bool
+    ensures { IsTrue result ↔ IsRefusal written.now }
+{
+    match written {
+        Ok(count) => *count == 0,
+        Err(error) => error.kind() != ErrorKind::Interrupted,
+    }
+}
+
 // Writes the bytes, each once. Returns false if the writer refuses: it has then taken a first part of them, at most. A write
 // that was interrupted took nothing, and is tried again.
 fn write_once<W: Write>(writer: &mut W, bytes: &[u8]) -> bool
@@ -40,17 +51,19 @@ fn write_once<W: Write>(writer: &mut W, bytes: &[u8]) -> bool
         if rest.is_empty() {
             return true;
         }
-        match writer.write(rest) {
-            Ok(0) => return false,
+        let written = writer.write(rest);
+        if is_refusal(&written) {
+            return false;
+        }
+        match written {
             Ok(count) => rest = &rest[count..],
-            Err(error) if error.kind() == ErrorKind::Interrupted => {}
-            Err(_) => return false,
+            Err(_) => {}
         }
     }
     false
 }
 
-/// A writer as a sink. A text that is taken is written once. Of a text that is refused, the writer has a first part, at most
+/// A writer as a sink. A text that is taken is written once. If a text is refused, the writer has a first part of it, at most
 /// once.
 #[derive(Drop)]
 pub struct Output<W> {
@@ -80,6 +93,19 @@ impl<W> Output<W> {
         } = self;
         writer
     }
+
+    // Counts a text that wasn't taken, and returns whether it was.
+    fn count(&mut self, is_taken: bool) -> bool
+        ensures taken { result ≡ is_taken }
+        ensures counted { self.new.refusals ≡ (if is_taken then self.old.refusals
+            else min (self.old.refusals + 1) (2 ^ 64 - 1)) }
+        ensures writer { self.new.writer ≡ self.old.writer }
+    {
+        if !is_taken {
+            self.refusals = self.refusals.saturating_add(1);
+        }
+        is_taken
+    }
 }
 
 impl<W: Write> Sink for Output<W> {
@@ -87,7 +113,7 @@ impl<W: Write> Sink for Output<W> {
 
     ghost refusals = { λ output. output.refusals };
 
-    // A text that is taken is appended whole, once. Of one that is refused, the writer may have a first part, once, and the
+    // A text that is taken is appended whole, once. If a text is refused, a first part of it may be appended, once, and the
     // refusal is counted.
     ghost hands_over = { λ old text is_taken new. MatchBool is_taken
         (Appends (W.contents old.writer) (W.contents new.writer) text × (new.refusals ≡ old.refusals))
@@ -95,10 +121,7 @@ impl<W: Write> Sink for Output<W> {
         × (new.refusals ≡ min (old.refusals + 1) (2 ^ 64 - 1))) };
 
     fn write_str(&mut self, text: &str) -> bool {
-        if write_once(&mut self.writer, text.as_bytes()) {
-            return true;
-        }
-        self.refusals = self.refusals.saturating_add(1);
-        false
+        let is_taken = write_once(&mut self.writer, text.as_bytes());
+        self.count(is_taken)
     }
 }

@@ -1,2 +1,41 @@
-use Rattle.std.proofs.Common.{◌≡◌, ℕ, ◌-◌, List, [], ◌++◌, length, take, drop, sym, ap, ◌∙◌, subst, append_assoc, append-nil, take-append-drop}
+use Rattle.std.proofs.Common.{◌≡◌, ℕ, ◌-◌, List, [], ◌++◌, length, take, drop, Option, Result, Ok, Err, sym, ap, ◌∙◌, subst, append_assoc, append-nil, take-append-drop}
+use Rattle.std.proofs.Math.Seq.{take-append_seam}
+use Rattle.std.proofs.lemmas.List.{take_rest}
+use Rattle.std.specs.Io.KnownBytes.{Appends, WriteAppends}
+use Rattle.std.proofs.KnownBytes.{Appends-kept, Appends-trans}
+use Rattle.biblatex.specs.PartlyWritten.{AppendsPart}
 use Rattle.biblatex.proofs.sink.write_once.Goals as goal
+
+-- a first part of a text is its first bytes
+part_of : (a b : Option (List ℕ)) (all done rest : List ℕ) → all ≡ done ++ rest → Appends a b done → AppendsPart a b all
+part_of a b all done rest split appended =
+    (length done, subst (Appends a b) (sym (ap (take (length done)) split ∙ take-append_seam done rest)) appended)
+
+split_more : (all done rest : List ℕ) (n : ℕ) → all ≡ done ++ rest → all ≡ (done ++ take n rest) ++ drop n rest
+split_more all done rest n split =
+    split ∙ ap (λ l. done ++ l) (sym (take-append-drop n rest)) ∙ sym (append_assoc done (take n rest) (drop n rest))
+
+moves_front : (all done rest : List ℕ) (n : ℕ) → all ≡ done ++ rest → all ≡ (done ++ take n rest) ++ take (length rest - n) (drop n rest)
+moves_front all done rest n split = split_more all done rest n split ∙ ap (λ l. (done ++ take n rest) ++ l) (sym (take_rest rest n))
+
+-- whatever a write answers, a first part of the text was appended after it
+part_after : {E : Type 0} (a b c : Option (List ℕ)) (all done rest : List ℕ) (r : Result ℕ E) → all ≡ done ++ rest → Appends a b done → WriteAppends b c r rest → AppendsPart a c all
+part_after a b c all done rest (Ok n) split appended more = part_of a c all (done ++ take n rest) (drop n rest) (split_more all done rest n split) (Appends-trans a b c done (take n rest) appended more)
+part_after a b c all done rest (Err e) split appended kept = part_of a c all done rest split (Appends-kept a b c done appended kept)
+
+pub returns-then-is_refusal-clause-part : goal.returns-then-is_refusal-clause-part
+returns-then-is_refusal-clause-part g c =
+    let (done, split, appended) = c.writes.invariant in
+    part_after _ _ _ c.args.bytes.now done c.writes.rest.now c.write.result split appended c.write.ensures.bytes
+
+pub writes-preserved-in-Ok : goal.writes-preserved-in-Ok
+writes-preserved-in-Ok g c =
+    let (done, split, appended) = c.writes.invariant in
+    let rest = c.writes.rest.now in
+    let n = c.in-Ok.count in
+    (done ++ take n rest, moves_front c.args.bytes.now done rest n split, Appends-trans _ _ _ done (take n rest) appended c.in-Ok.ensures.bytes)
+
+pub returns-clause-part : goal.returns-clause-part
+returns-clause-part g c =
+    let (done, split, appended) = c.writes.invariant in
+    part_of _ _ c.args.bytes.now done c.writes.rest.now split appended
