@@ -148,8 +148,7 @@ fields_once {says} one other first second =
 pub bibliography_of : {says : FileReading} → IsAccepted says → (bibliography : Bibliography) × IsLoaded says bibliography
 bibliography_of accepted =
     let own = accepted.own in
-    let found = heirs own (graph_of own) (length-map own _) (graph_in_range (names_of own) own (names_below own)) accepted.no_cycle in
-    (
+    let found = heirs own (graph_of own) (length-map own _) (graph_in_range (names_of own) own (names_below own)) accepted.no_cycle in (
       record { entries = found.0; names = names_of own },
       record { accepted = accepted; keys = found.1.keys; inherits = found.1.inherits; chunks = found.1.chunks; names = refl },
     )
