@@ -318,6 +318,20 @@ impl Entry {
         self.chunks(alloc, "title")
     }
 
+    /// The address, or else the location.
+    pub fn address(&self, alloc: Global) -> Result<ChunksRef<'_>, RetrievalError>
+        ensures { GetsEither self.now (codes "address") (codes "location") result }
+    {
+        self.chunks_of_either(alloc, "address", "location")
+    }
+
+    /// Sets the address.
+    pub fn set_address(&mut self, chunks: Chunks) -> Result<Option<Chunks>, SetError>
+        ensures { SetsChunks chunks (codes "address") self.old self.new result }
+    {
+        self.set("address", chunks)
+    }
+
     /// Sets the title.
     pub fn set_title(&mut self, chunks: Chunks) -> Result<Option<Chunks>, SetError>
         ensures { SetsChunks chunks (codes "title") self.old self.new result }
@@ -327,7 +341,7 @@ impl Entry {
 }
 """
 SURFACE = {
-    "tests/surface.txt": "[names]\nenum Kind: First Second .place is_first\n\n[getters]\ntitle title - Chunks\n\n[texts]\nKind::First: the first\n",
+    "tests/surface.txt": "[names]\nenum Kind: First Second .place is_first\n\n[getters]\ntitle title - Chunks\naddress address location Chunks\n\n[impls]\nKind: Display\n\n[texts]\nKind::First: the first\n",
     "crates.txt": "bib_entry:\nbiblatex: bib_entry\n",
     "crates/biblatex/src/lib.rt": "pub use bib_entry::Kind;\n",
     "crates/bib_entry/src/lib.rt": KIND + GETTERS,
@@ -371,8 +385,10 @@ RULES = {
         ({"crates/bib_entry/src/lib.rt": KIND + GETTERS.replace("pub fn title", "pub fn heading")}, "`Entry::title` is missing"),
         ({"crates/bib_entry/src/lib.rt": KIND + GETTERS.replace("pub fn set_title", "pub fn set_heading")}, "`Entry::set_title` is missing"),
         ({"crates/bib_entry/src/lib.rt": KIND + GETTERS.replace('codes "title"', 'codes "note"')}, "and not `title`"),
+        ({"crates/bib_entry/src/lib.rt": KIND + GETTERS.replace('(codes "address") (codes "location")', '(codes "location") (codes "address")')}, "and then `location`"),
         ({"crates/bib_entry/src/lib.rt": KIND + GETTERS.replace("ChunksRef<'_>", "String")}, "returns `String`, and not `Chunks`"),
-        ({"crates/bib_entry/src/lib.rt": KIND + GETTERS.replace("chunks: Chunks", "chunks: &String")}, "takes `String`, and not `Chunks`"),
+        ({"crates/bib_entry/src/lib.rt": KIND + GETTERS.replace("chunks: Chunks", "chunks: &Chunks")}, "takes `&Chunks`, and not `Chunks`"),
+        ({"crates/bib_entry/src/lib.rt": KIND.replace("impl fmt::Display for Kind", "impl Kind") + GETTERS}, "`Kind"),
         ({"tests/surface.txt": SURFACE["tests/surface.txt"].replace(" is_first", "")}, "`Kind::is_first` is public, and neither"),
     ]),
     "words of contracts have comments": (check.check_definitions, SPECS, [

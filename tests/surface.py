@@ -127,9 +127,12 @@ def printed(name, variant, files):
     return found
 
 
-def check_names(lines, root, sources, differences):
+def check_names(lines, getters, root, sources, differences):
     """Each wanted name is exported with its members, and each other public name is in the differences."""
     wanted, names = wanted_names(lines), exported(root)
+    methods = {it for line in getters for it in (line.split()[0], f"set_{line.split()[0]}")}
+    if "Entry" in wanted:
+        wanted["Entry"] |= methods
     for name, parts in wanted.items():
         if name not in names:
             yield f"`{name}` is not exported"
@@ -144,16 +147,14 @@ def check_names(lines, root, sources, differences):
         if name not in wanted and f"`{name}" not in differences:
             yield f"`{name}` is public, and neither surface.txt nor docs/DIFFERENCES.md names it"
         for part in sorted(has - wanted.get(name, set())):
-            if name != "Entry" and not re.search(rf"`(?:{name}(?:<\w+>)?(?:::|\.))?{part.lstrip('.')}(?:\([^`]*\))?`", differences):
+            if not re.search(rf"`(?:{name}(?:<\w+>)?(?:::|\.))?{part.lstrip('.')}(?:\([^`]*\))?`", differences):
                 yield f"`{name}::{part.lstrip('.')}` is public, and neither surface.txt nor docs/DIFFERENCES.md names it"
 
 
-def check_getters(lines, entry, differences):
-    """Each getter reads its field, or its alias, as its type; its setter writes that field; the entry has no others."""
-    known = set()
+def check_getters(lines, entry):
+    """Each getter reads its field, or its alias if that is missing, as its type. Its setter writes the field."""
     for line in lines:
         getter, field, alias, type_name = line.split(" ", 3)
-        known |= {getter, f"set_{getter}"}
         head = re.search(rf"(?m)^    pub fn {getter}\((.*?)^    }}", entry, re.S)
         setter = re.search(rf"(?m)^    pub fn set_{getter}\((.*?)^    }}", entry, re.S)
         for word, found in ((getter, head), (f"set_{getter}", setter)):
@@ -164,18 +165,17 @@ def check_getters(lines, entry, differences):
         is_date = type_name == "PermissiveType<Date>"
         prefix = field[:-len("date")] if is_date else field
         for word, found in ((getter, head), (f"set_{getter}", setter)):
-            quoted = re.findall(r"codes \"([^\"]*)\"", found[1])
+            quoted = [it for it in re.findall(r"codes \"([^\"]*)\"", found[1]) if it]
             other = [alias] if alias != "-" and word == getter else []
-            if sorted(set(quoted) - {""}) != sorted({prefix} - {""} | set(other)):
-                yield f"`Entry::{word}` is about the fields {quoted}, and not `{field}`" + (f" and `{alias}`" if other else "")
+            if quoted != [it for it in [prefix, *other] if it]:
+                yield f"`Entry::{word}` is about the fields {quoted}, and not `{field}`" + (f" and then `{alias}`" if other else "")
         result = re.search(r"-> Result<([^{]*?), RetrievalError>", head[1])
         said = " ".join(result[1].split()) if result else ""
         if said != ("ChunksRef<'_>" if type_name == "Chunks" else type_name):
             yield f"`Entry::{getter}` returns `{said}`, and not `{type_name}`"
-        value = re.search(rf"\(?&mut self, (?:value|chunks|\w+): &?([^)]*)\)", setter[0])
-        if not value or value[1].rstrip(",").strip() != type_name:
+        value = re.search(r"&mut self,\s*\w+: ([^)]*?),?\s*\)", setter[0])
+        if not value or value[1] != (type_name if type_name == "Chunks" else f"&{type_name}"):
             yield f"`Entry::set_{getter}` takes `{value and value[1]}`, and not `{type_name}`"
-    return known
 
 
 def check_texts(lines, sources):
@@ -186,6 +186,21 @@ def check_texts(lines, sources):
         said = printed(name, variant or None, sources)
         if said != {text}:
             yield f"`{head}` prints {sorted(said)}, and not {text!r}"
+
+
+def check_impls(lines, sources):
+    """Each type has these impls, written out or derived."""
+    for line in lines:
+        name, _, traits = line.partition(": ")
+        has = set()
+        for text in sources:
+            for found in re.finditer(rf"(?m)^impl(?:<[^>]*>)? (?:\w+::)*(\w+)(?:<(.*?)>)? for &?(?:'\w+ )?(?:mut )?{name}\b", text):
+                has.add(f"{found[1]}<{found[2]}>" if found[1] == "From" else found[1])
+            derived = re.search(rf"((?:#\[[^\]]*\]\s*)*)pub (?:struct|enum) {name}\b", text)
+            if derived:
+                has |= set(re.findall(r"\w+", " ".join(re.findall(r"derive\(([^)]*)\)", derived[1]))))
+                has |= {"non_exhaustive"} & set(re.findall(r"\w+", derived[1]))
+        yield from (f"`{name}` has no impl of `{it}`" for it in traits.split() if it not in has)
 
 
 def compare(top):
@@ -199,6 +214,7 @@ def compare(top):
     files = {it: it.read_text() for crate in crates for it in sorted((top / "crates" / crate / "src").glob("**/*.rt"))}
     sources = [plain(text) for text in files.values()]
     fields = "\n".join(text for it, text in files.items() if "bib_entry/src" in str(it))
-    yield from ((path, why) for why in check_names(lists["names"], root, sources, differences))
-    yield from ((path, why) for why in check_getters(lists["getters"], fields, differences))
+    yield from ((path, why) for why in check_names(lists["names"], lists["getters"], root, sources, differences))
+    yield from ((path, why) for why in check_getters(lists["getters"], fields))
+    yield from ((path, why) for why in check_impls(lists["impls"], sources))
     yield from ((path, why) for why in check_texts(lists["texts"], list(files.values())))

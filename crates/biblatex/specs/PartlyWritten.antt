@@ -12,6 +12,6 @@ abbrev pub AppendsPart : Option (List ℕ) → Option (List ℕ) → List ℕ �
 AppendsPart old new bytes = (count : ℕ) × Appends old new (take count bytes)
 
 -- a write refused its bytes: it took none of them, and wasn't interrupted
-abbrev pub IsRefusal : Result ℕ Error → Type 0
-IsRefusal (Ok count) = count ≡ 0
-IsRefusal (Err error) = error_kind error ≢ Interrupted
+abbrev pub IsRefusedWrite : Result ℕ Error → Type 0
+IsRefusedWrite (Ok count) = count ≡ 0
+IsRefusedWrite (Err error) = error_kind error ≢ Interrupted

@@ -4,7 +4,7 @@ ghost use Rattle.std.specs.Prelude.{◌≡◌, ℕ, Bool, ◌+◌, ◌-◌, ◌^
 ghost use Rattle.std.specs.Bool.{OnTrue, OnFalse};
 ghost use Rattle.std.specs.Io.KnownBytes.{Appends};
 ghost use Rattle.std.specs.declared.option.Option.{Option};
-ghost use Rattle.biblatex.specs.PartlyWritten.{AppendsPart, IsRefusal};
+ghost use Rattle.biblatex.specs.PartlyWritten.{AppendsPart, IsRefusedWrite};
 
 use std::io;
 use std::io::{ErrorKind, Write};
@@ -32,7 +32,7 @@ pub trait Sink {
 
 // Whether a write refused its bytes.
 fn is_refusal(written: &io::Result<usize>) -> bool
-    ensures { IsTrue result ↔ IsRefusal written.now }
+    ensures { IsTrue result ↔ IsRefusedWrite written.now }
 {
     match written {
         Ok(count) => *count == 0,

@@ -2,6 +2,7 @@
 
 use bib_commands::run::run;
 use bib_commands::streams::Input;
+use biblatex::Output;
 use std::alloc::{AllocError, Global};
 use std::str;
 
