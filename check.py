@@ -62,7 +62,7 @@ PROMISED = {
     "a shared parent is resolved anew on each use": ["bib_references/shared-parent-resolved-anew"],
     "a raw piece is copied out trimmed": ["bib_syntax/raw-piece-trimmed"],
     "a typed setter keeps the old value": ["bib_fields/setter-keeps-the-old-value"],
-    "a call always answers out of memory": ["tests/src/calls/values.rs: #[test]", "check.py: def check_calls"],
+    "a call always answers out of memory": ["tests/src/calls/values.rs: fn types_and_enumerations", "check.py: def check_calls"],
     "a class of kept values is empty":
         ["bib_typed/empty-kept-class", "bib_typed/no-range-is-kept", "bib_typed/no-ranges-are-kept", "bib_typed/no-text-is-kept",
          "bib_typed/no-texts-are-kept", "bib_typed/no-language-is-kept", "bib_typed/no-languages-are-kept",
