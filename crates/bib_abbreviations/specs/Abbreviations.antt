@@ -2,7 +2,6 @@
 -- Abbreviations: what a field says once each name in it is replaced by its definition. Names and texts are given by
 -- their bytes.
 use Rattle.std.specs.Prelude.{◌≡◌, ◌+◌, ◌<◌, ◌^◌, ℕ, Bool, List, [], ◌∷◌, ◌++◌, length, map, ◌⊎◌, ◌||◌, Option, Some, None, is_some, codes, if◌then◌else◌, bytes_eq}
-use Rattle.std.specs.List.{list_any}
 use Rattle.std.specs.Option.{option_map}
 use Rattle.std.specs.Borrow.{Bor}
 use Rattle.std.specs.Str.{chars}
