@@ -698,7 +698,8 @@ module _ {definitions : Definitions} {is_verbatim : Bool} where
   text_refused piece text e is (inr fails) within =
       let part : Part = record { text = text.now; start = piece.span.start; end = piece.span.end } in
       let stands = stands_in part text.now piece.span.start e refl refl (fails_kind fails) within in
-      inr (λ rest. subst (λ one. IsFirstError definitions is_verbatim [] (one ∷ rest) e) (sym (text_piece piece text is)) (first_error.unread fails stands))
+      inr (λ rest. subst (λ one. IsFirstError definitions is_verbatim [] (one ∷ rest) e) (sym (text_piece piece text is))
+      (first_error.unread fails stands))
 
 -- the chunks of a text whose span is as long as the text
 pub text_placed : (old new : List (Spanned Chunk)) (piece : Spanned RawChunk) (text : Bor (List ℕ)) (p : Part) (low : ℕ) → piece.v ≡ RawText text
