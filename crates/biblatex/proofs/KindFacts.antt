@@ -1,6 +1,6 @@
 -- Which kinds of errors a text can have.
-use Rattle.std.proofs.Common.{◌≡◌, ℕ, Bool, false, IsTrue, List, refl, sym, ap, ◌∙◌, subst, inl, inr}
-use Rattle.std.proofs.lemmas.Bool.{both_ways}
+use Rattle.std.proofs.Common.{◌≡◌, ℕ, Bool, true, IsTrue, List, sym, ap, ◌∙◌, subst, inl, inr}
+use Rattle.std.proofs.lemmas.Bool.{false≢true}
 use Rattle.bib_abbreviations.specs.Abbreviations.{Definitions, IsFirstError}
 use Rattle.bib_abbreviations.specs.Abbreviations.{IsFirstError as of_pieces}
 use Rattle.bib_file_entries.specs.Loaded.{IsFirstErrorOfEntries, IsFirstErrorOfFields}
@@ -44,4 +44,4 @@ file_not_malformed (IsFirstErrorOf.date own none inherits looks earlier error) i
 
 -- nor has one of the grammar
 pub syntax_not_malformed : (kind : ParseErrorKind) → IsTrue (is_syntax kind) → kind ≡ MalformedCommand → ⊥
-syntax_not_malformed kind syntax is = both_ways false refl (subst (λ k. IsTrue (is_syntax k)) is syntax)
+syntax_not_malformed kind syntax is = false≢true (subst (λ k. is_syntax k ≡ true) is syntax)

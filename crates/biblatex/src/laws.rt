@@ -101,7 +101,8 @@ pub fn one_recovered_bibliography()
         (skipped passed : List SkippedBlock) (errors others : List ParseError) →
         IsRecoveredBibliography text one origins skipped errors →
         IsRecoveredBibliography text other indices passed others →
-        IsSameRecovery one other skipped passed errors others }    ensures origins { (text : List ℕ) (one other : Bibliography) (origins indices : List ℕ)
+        IsSameRecovery one other skipped passed errors others }
+    ensures origins { (text : List ℕ) (one other : Bibliography) (origins indices : List ℕ)
         (skipped passed : List SkippedBlock) (errors others : List ParseError) →
         IsRecoveredBibliography text one origins skipped errors →
         IsRecoveredBibliography text other indices passed others → origins ≡ indices }
