@@ -13,6 +13,7 @@ use Rattle.bib_syntax.specs.Views.{piece_of}
 use Rattle.bib_chunks.specs.Styled.{Atom}
 use Rattle.bib_syntax.specs.declared.raw.ParseError.{ParseError}
 use Rattle.bib_contents.specs.Contents.{IsContent}
+use Rattle.bib_contents.proofs.FailFacts.{fails_stuck}
 use Rattle.bib_syntax.specs.Errors.{out_of_memory}
 use Rattle.bib_syntax.specs.Reading.{Part, Piece}
 use Rattle.bib_syntax.specs.Reading.Piece.{literal, abbreviation}
@@ -182,7 +183,7 @@ module _ {definitions : Definitions} {is_verbatim : Bool} {field : List Piece} w
 
   no_error_met : {path : List (List ℕ)} {pieces : List Piece} {e : ParseError} → IsReadable definitions is_verbatim field
       → IsMet definitions is_verbatim field path pieces → IsFirstError definitions is_verbatim path pieces e → ⊥
-  no_error_met can met (first_error.unread {p = p} none kind place) = let x = met.texts p.text (inl refl) in none x.0 x.1
+  no_error_met can met (first_error.unread {p = p} fails lies) = let x = met.texts p.text (inl refl) in fails_stuck fails x.0 x.1
   no_error_met can met (first_error.unknown {p = p} d m is) = unknown_clash definitions p.text (can.known p.text (met.names p.text (inl refl))) d m
   no_error_met can met (first_error.cycle {p = p} on is) = let l = met.on_path p.text on in can.no_cycle p.text l.definition l.reached l.is (l.leads p.text (inl refl))
   no_error_met can met (first_error.inside off d error) = no_error_met can (met_inside can met d) error

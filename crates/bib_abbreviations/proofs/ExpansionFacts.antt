@@ -26,7 +26,9 @@ use Rattle.bib_abbreviations.specs.declared.resolve.definitions.Lookup.{Lookup}
 use Rattle.bib_abbreviations.specs.declared.resolve.definitions.Lookup.TheVariants.{Hashed, Sorted}
 use Rattle.bib_abbreviations.specs.declared.resolve.abbreviations.Progress.{Progress}
 use Rattle.bib_abbreviations.specs.declared.resolve.abbreviations.Progress.TheVariants.{Begun, Done}
+use Rattle.bib_contents.specs.ContentErrors.{ContentFails}
 use Rattle.bib_contents.specs.Contents.{IsContent, IsUnread, LiesBetween, StaysBetween}
+use Rattle.bib_contents.proofs.FailFacts.{fails_kind}
 use Rattle.bib_syntax.specs.declared.raw.ParseErrorKind.TheVariants.{OutOfMemory}
 use Rattle.bib_syntax.specs.Errors.{out_of_memory}
 use Rattle.bib_styled.specs.Joined.{AreJoined, ArePlaced}
@@ -105,14 +107,15 @@ module _ {definitions : Definitions} {is_verbatim : Bool} where
     says = evaluates_as (append-nil _ ∙ sym says) (evaluates.defined value.is value.says evaluates.none);
   }
 
-  -- a text that was not read
+  -- the error of a literal, by its text and its offset
   pub unread_reported : (text : List ℕ) (offset : ℕ) (e : ParseError)
-      → (e ≡ out_of_memory) ⊎ (IsUnread e.kind × ((atoms : List Atom) → IsContent is_verbatim (chars text) atoms → ⊥))
+      → (e ≡ out_of_memory) ⊎ ContentFails is_verbatim 0 (chars text) e.kind
       → (offset + length text < 2 ^ 64 → StaysBetween offset (offset + length text) e)
       → (e ≡ out_of_memory) ⊎ ((p : Part) (path : List (List ℕ)) (rest : List Piece) → p.text ≡ text → p.start ≡ offset → IsFirstError definitions is_verbatim path (literal p ∷ rest) e)
   unread_reported text offset e (inl memory) within = inl memory
-  unread_reported text offset e (inr x) within =
-      inr (λ p path rest same starts. first_error.unread (λ atoms read. x.1 atoms (subst (λ t. IsContent is_verbatim (chars t) atoms) same read)) x.0 (stands_in p text offset e same starts x.0 within))
+  unread_reported text offset e (inr fails) within =
+      inr (λ p path rest same starts. first_error.unread (subst (λ t. ContentFails is_verbatim 0 (chars t) e.kind) (sym same) fails)
+      (stands_in p text offset e same starts (fails_kind fails) within))
 
 -- the names of frames
 abbrev pub names_of : List Frame → List (List ℕ)
@@ -688,13 +691,15 @@ module _ {definitions : Definitions} {is_verbatim : Bool} where
       subst (λ one. Evaluates definitions is_verbatim (one ∷ []) atoms) (sym (text_piece piece text is)) (evaluates_as (append-nil atoms) (evaluates.text read evaluates.none))
 
   pub text_refused : (piece : Spanned RawChunk) (text : Bor (List ℕ)) (e : ParseError) → piece.v ≡ RawText text
-      → (e ≡ out_of_memory) ⊎ (IsUnread e.kind × ((atoms : List Atom) → IsContent is_verbatim (chars text.now) atoms → ⊥))
+      → (e ≡ out_of_memory) ⊎ ContentFails is_verbatim 0 (chars text.now) e.kind
       → (piece.span.start + length text.now < 2 ^ 64 → StaysBetween piece.span.start (piece.span.start + length text.now) e)
       → (e ≡ out_of_memory) ⊎ ((rest : List Piece) → IsFirstError definitions is_verbatim [] (piece_of piece ∷ rest) e)
   text_refused piece text e is (inl memory) within = inl memory
-  text_refused piece text e is (inr x) within =
-      let stands = stands_in (record { text = text.now; start = piece.span.start; end = piece.span.end }) text.now piece.span.start e refl refl x.0 within in
-      inr (λ rest. subst (λ one. IsFirstError definitions is_verbatim [] (one ∷ rest) e) (sym (text_piece piece text is)) (first_error.unread x.1 x.0 stands))
+  text_refused piece text e is (inr fails) within =
+      let part : Part = record { text = text.now; start = piece.span.start; end = piece.span.end } in
+      let stands = stands_in part text.now piece.span.start e refl refl (fails_kind fails) within in
+      inr (λ rest. subst (λ one. IsFirstError definitions is_verbatim [] (one ∷ rest) e) (sym (text_piece piece text is))
+      (first_error.unread fails stands))
 
 -- the chunks of a text whose span is as long as the text
 pub text_placed : (old new : List (Spanned Chunk)) (piece : Spanned RawChunk) (text : Bor (List ℕ)) (p : Part) (low : ℕ) → piece.v ≡ RawText text

@@ -10,6 +10,7 @@ use Rattle.bib_abbreviations.specs.Abbreviations.{Definitions, HoldsName, Reache
 use Rattle.bib_abbreviations.specs.Abbreviations.{Reaches as reaches, Evaluates as evaluates, IsFirstError as first_error}
 use Rattle.bib_abbreviations.proofs.AbbreviationFacts.{readable}
 use Rattle.bib_contents.proofs.ContentFacts.{read_same}
+use Rattle.bib_contents.proofs.FailFacts.{fails_kind, fails_stuck, kind_same}
 
 module _ {definitions : Definitions} {is_verbatim : Bool} where
   -- what pieces say is one styled text
@@ -92,7 +93,7 @@ module _ {definitions : Definitions} {is_verbatim : Bool} where
   -- pieces with an error say nothing
   pub error_not_said : {path : List (List ℕ)} {pieces : List Piece} {e : ParseError} {atoms : List Atom} → IsFirstError definitions is_verbatim path pieces e
       → AllLeadOn definitions path pieces → Evaluates definitions is_verbatim pieces atoms → ⊥
-  error_not_said (first_error.unread none kind place) lead (evaluates.text x rest) = none _ x
+  error_not_said (first_error.unread fails lies) lead (evaluates.text x rest) = fails_stuck fails _ x
   error_not_said (first_error.unknown absent m is) lead (evaluates.defined d x rest) = cc (d, absent)
   error_not_said (first_error.unknown absent m is) lead (evaluates.month_name absent' m' rest) = cc (m, m')
   error_not_said (first_error.cycle on is) lead says = no_cycle_said lead on (said_first says).1
@@ -105,9 +106,9 @@ module _ {definitions : Definitions} {is_verbatim : Bool} where
   -- the first error is one
   error_same : {path : List (List ℕ)} {pieces : List Piece} {e f : ParseError} → AllLeadOn definitions path pieces
       → IsFirstError definitions is_verbatim path pieces e → IsFirstError definitions is_verbatim path pieces f → AreOneError e f
-  error_same lead (first_error.unread none kind place) (first_error.unread none' kind' place') = inr (kind, kind')
-  error_same lead (first_error.unread none kind place) (first_error.following (evaluates.text x rest) error) = absurd (none _ x)
-  error_same lead (first_error.following (evaluates.text x rest) error) (first_error.unread none kind place) = absurd (none _ x)
+  error_same lead (first_error.unread fails lies) (first_error.unread fails' lies') = inr (fails_kind fails, kind_same fails fails')
+  error_same lead (first_error.unread fails lies) (first_error.following (evaluates.text x rest) error) = absurd (fails_stuck fails _ x)
+  error_same lead (first_error.following (evaluates.text x rest) error) (first_error.unread fails lies) = absurd (fails_stuck fails _ x)
   error_same lead (first_error.unknown absent m is) (first_error.unknown absent' m' is') = inl (is ∙ sym is')
   error_same lead (first_error.unknown {p = p} absent m is) (first_error.cycle on is') = let l = lead.on p.text on in absurd (cc (absent, l.is))
   error_same lead (first_error.unknown absent m is) (first_error.inside off d error) = absurd (cc (absent, d))

@@ -2,7 +2,6 @@
 -- Abbreviations: what a field says once each name in it is replaced by its definition. Names and texts are given by
 -- their bytes.
 use Rattle.std.specs.Prelude.{◌≡◌, ◌+◌, ◌<◌, ◌^◌, ℕ, Bool, List, [], ◌∷◌, ◌++◌, length, map, ◌⊎◌, ◌||◌, Option, Some, None, is_some, codes, if◌then◌else◌, bytes_eq}
-use Rattle.std.specs.List.{list_any}
 use Rattle.std.specs.Option.{option_map}
 use Rattle.std.specs.Borrow.{Bor}
 use Rattle.std.specs.Str.{chars}
@@ -16,6 +15,7 @@ use Rattle.bib_syntax.specs.declared.raw.RawChunk.{RawChunk}
 use Rattle.bib_syntax.specs.declared.raw.ParseErrorKind.{ParseErrorKind}
 use Rattle.bib_syntax.specs.declared.raw.ParseErrorKind.TheVariants.{UnknownAbbreviation, AbbreviationCycle}
 use Rattle.bib_syntax.specs.declared.raw.ParseError.{ParseError}
+use Rattle.bib_contents.specs.ContentErrors.{ContentFails}
 use Rattle.bib_contents.specs.Contents.{IsContent, IsUnread, LiesBetween}
 use Rattle.bib_syntax.specs.Grammar.{is_word}
 use Rattle.bib_syntax.specs.Reading.{Part, Piece}
@@ -110,10 +110,11 @@ abbrev pub LiesInPart : Part → ParseError → Type 0
 LiesInPart p e = p.end ≡ p.start + length p.text → p.end < 2 ^ 64 → LiesBetween p.start p.end e
 
 -- the first error of pieces, from left to right and into definitions as they are met, while the names of a path are
--- being expanded: a text that is not read, a name that stands for nothing, or one that is being expanded
+-- being expanded. It is the error of a literal that can't be parsed, of an unknown name or of a name that is being expanded.
+-- The error of a literal has the kind that its text fails with
 pub data IsFirstError (definitions : Definitions) (is_verbatim : Bool) : List (List ℕ) → List Piece → ParseError → Type 0 where
   unread : {path : List (List ℕ)} {p : Part} {rest : List Piece} {e : ParseError}
-      → ((atoms : List Atom) → IsContent is_verbatim (chars p.text) atoms → ⊥) → IsUnread e.kind → LiesInPart p e
+      → ContentFails is_verbatim 0 (chars p.text) e.kind → LiesInPart p e
       → IsFirstError definitions is_verbatim path (literal p ∷ rest) e
   unknown : {path : List (List ℕ)} {p : Part} {rest : List Piece} {e : ParseError} → definitions p.text ≡ None → month p.text ≡ None
       → e ≡ error_at p (UnknownAbbreviation p.text) → IsFirstError definitions is_verbatim path (abbreviation p ∷ rest) e
@@ -126,9 +127,9 @@ pub data IsFirstError (definitions : Definitions) (is_verbatim : Bool) : List (L
       → Evaluates definitions is_verbatim (piece ∷ []) atoms → IsFirstError definitions is_verbatim path rest e
       → IsFirstError definitions is_verbatim path (piece ∷ rest) e
 
--- two errors are one: the same kind at the same place; of a text that is not read the kind and the place stay open
+-- two errors agree: they have the same kind and the same span. For a literal that can't be parsed, only the span is left open
 abbrev pub AreOneError : ParseError → ParseError → Type 0
-AreOneError e f = (e ≡ f) ⊎ (IsUnread e.kind × IsUnread f.kind)
+AreOneError e f = (e ≡ f) ⊎ (IsUnread e.kind × (e.kind ≡ f.kind))
 
 -- the definition of a name among pairs of a name and a field
 abbrev pub definition_among : List (Bor (List ℕ) × Bor (Vec (Spanned RawChunk))) → Definitions

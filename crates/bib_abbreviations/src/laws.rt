@@ -13,8 +13,8 @@ pub fn one_value()
         Evaluates definitions is_verbatim pieces second → first ≡ second }
 {}
 
-/// Elements that say something have no first error, and others have at most one: its kind, and for a name its place. Of a
-/// text that can't be read the kind, one of two, and the place stay open.
+/// Pieces that evaluate to a styled text have no first error, and others have at most one: one kind and, for a name, one
+/// span. For a literal that can't be parsed, only the span is left open.
 pub fn one_error()
     ensures none { (definitions : Definitions) (is_verbatim : Bool) (pieces : List Piece)
         (atoms : List Atom) (e : ParseError) → Evaluates definitions is_verbatim pieces atoms →

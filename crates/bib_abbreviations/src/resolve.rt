@@ -26,9 +26,9 @@ use std::collections::HashMap;
 /// definition says, else the English name of the month that begins with it. Chunks are joined where two neighbours are
 /// both normal or both verbatim.
 ///
-/// Refused with the first error, from left to right and into definitions as they are met: `UnexpectedEof` or
-/// `Unexpected` for a text that can't be read, `UnknownAbbreviation` for a name that is neither defined nor the start of
-/// a month, `AbbreviationCycle` for a name that is met in its own expansion. The latter two have the span of the name,
+/// Refused with the first error, from left to right and into definitions as they are met. A literal that can't be parsed has
+/// the error of `contents`: `Unexpected` or `UnexpectedEof`. A name that is neither defined nor the start of a month has
+/// `UnknownAbbreviation`, and a name that is met in its own expansion has `AbbreviationCycle`. Both have the span of the name,
 /// in bytes of its file.
 pub fn parse_field(
     alloc: Global,

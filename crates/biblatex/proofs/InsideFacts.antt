@@ -63,9 +63,9 @@ part_lies stands e starts ends = (omega arith, omega (arith, stands.size, starts
 
 first_error_lies : {definitions : Definitions} {is_verbatim : Bool} {path : List (List ℕ)} {pieces : List Piece} {e : ParseError} (text : List ℕ) → length text < 2 ^ 64
     → DefinitionsStandIn text definitions → AllByRecursion (PieceStandsIn text) pieces → IsFirstError definitions is_verbatim path pieces e → LiesBetween 0 (length text) e
-first_error_lies text small definitions all (first_error.unread none kind index) =
+first_error_lies text small definitions all (first_error.unread fails inside) =
     let stands = all.0 in
-    let lies = index stands.size (omega (arith, small, stands.within)) in
+    let lies = inside stands.size (omega (arith, small, stands.within)) in
     (omega arith, lies.1, omega (arith, lies.2, stands.within))
 first_error_lies {e = e} text small definitions all (first_error.unknown absent m is) = part_lies all.0 e (ap (λ x. x.span.start) is) (ap (λ x. x.span.end) is)
 first_error_lies {e = e} text small definitions all (first_error.cycle on is) = part_lies all.0 e (ap (λ x. x.span.start) is) (ap (λ x. x.span.end) is)

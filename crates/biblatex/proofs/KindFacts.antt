@@ -5,6 +5,8 @@ use Rattle.bib_abbreviations.specs.Abbreviations.{Definitions, IsFirstError}
 use Rattle.bib_abbreviations.specs.Abbreviations.{IsFirstError as of_pieces}
 use Rattle.bib_file_entries.specs.Loaded.{IsFirstErrorOfEntries, IsFirstErrorOfFields}
 use Rattle.bib_file_entries.specs.Loaded.{IsFirstErrorOfEntries as of_entries, IsFirstErrorOfFields as of_fields}
+use Rattle.bib_contents.proofs.FailFacts.{fails_kind}
+use Rattle.bib_contents.specs.Contents.{IsUnread}
 use Rattle.bib_syntax.specs.Errors.{is_syntax}
 use Rattle.bib_syntax.specs.Reading.{EntryReading, FieldReading, FileReading, Piece}
 use Rattle.bib_syntax.specs.declared.raw.ParseError.{ParseError}
@@ -12,10 +14,14 @@ use Rattle.bib_syntax.specs.declared.raw.ParseErrorKind.{ParseErrorKind}
 use Rattle.bib_syntax.specs.declared.raw.ParseErrorKind.TheVariants.{MalformedCommand}
 use Rattle.biblatex.specs.Resolved.{IsFirstErrorOf}
 
+-- a literal that can't be parsed has another kind of error
+literal_not_malformed : {kind : ParseErrorKind} → IsUnread kind → kind ≡ MalformedCommand → ⊥
+literal_not_malformed (inl ended) is = let clash = sym is ∙ ended in cc
+literal_not_malformed (inr closed) is = let clash = sym is ∙ closed in cc
+
 pieces_not_malformed : {definitions : Definitions} {is_verbatim : Bool} {path : List (List ℕ)} {pieces : List Piece} {e : ParseError}
     → IsFirstError definitions is_verbatim path pieces e → e.kind ≡ MalformedCommand → ⊥
-pieces_not_malformed (of_pieces.unread none (inl ended) lies) is = let clash = sym is ∙ ended in cc
-pieces_not_malformed (of_pieces.unread none (inr closed) lies) is = let clash = sym is ∙ closed in cc
+pieces_not_malformed (of_pieces.unread fails lies) is = literal_not_malformed (fails_kind fails) is
 pieces_not_malformed (of_pieces.unknown undefined no_month same) is = let clash = sym is ∙ ap (λ (x : ParseError). x.kind) same in cc
 pieces_not_malformed (of_pieces.cycle on_path same) is = let clash = sym is ∙ ap (λ (x : ParseError). x.kind) same in cc
 pieces_not_malformed (of_pieces.inside apart defined inner) is = pieces_not_malformed inner is

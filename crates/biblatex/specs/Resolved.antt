@@ -68,7 +68,7 @@ pub record IsOfDate (e : ParseError) : Type 0 where
   pub is : e.kind ≡ ResolutionError kind
   pub of_dates : IsDateKind kind
 
--- two errors of a file agree: they have the same kind and span; for a literal or a date that cannot be parsed, the span and
--- the choice among its kinds are left open
+-- two errors of a file agree: they have the same kind and span. For a literal that cannot be parsed, the span is left open,
+-- and for a date, the span and the choice among its kinds
 abbrev pub AreOneErrorOf : ParseError → ParseError → Type 0
 AreOneErrorOf e f = AreOneError e f ⊎ (IsOfDate e × IsOfDate f)

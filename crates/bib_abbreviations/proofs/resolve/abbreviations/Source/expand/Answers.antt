@@ -6,7 +6,8 @@ use Rattle.bib_abbreviations.proofs.resolve.abbreviations.Source.expand.Goals as
 pub returns-in_err-contents-clause-refused : goal.returns-in_err-contents-clause-refused
 returns-in_err-contents-clause-refused c =
     let p = err_from_is_err_and c.from_residual.result c.from_residual.ensures.1 in
-    rw (p.1, p.2) (text_refused {definitions = known_to c.args.self} c.args.piece.now c.in-Normal.text _ c.in-Normal.is c.in_err-contents.ensures.refused c.in_err-contents.ensures.within)
+    rw (p.1, p.2) (text_refused {definitions = known_to c.args.self} c.args.piece.now c.in-Normal.text _ c.in-Normal.is
+    c.in_err-contents.ensures.fails c.in_err-contents.ensures.within)
 
 pub returns-in-Normal-clause-said : goal.returns-in-Normal-clause-said
 returns-in-Normal-clause-said c =

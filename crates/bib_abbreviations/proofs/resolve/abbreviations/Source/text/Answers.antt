@@ -7,7 +7,8 @@ use Rattle.bib_abbreviations.proofs.resolve.abbreviations.Source.text.Goals as g
 pub returns-in_err-contents-clause-refused : goal.returns-in_err-contents-clause-refused
 returns-in_err-contents-clause-refused c =
     let p = err_from_is_err_and c.from_residual.result c.from_residual.ensures.1 in
-    rw (p.1, p.2) (unread_reported {definitions = known_to c.args.self} c.args.text.now c.args.offset _ c.in_err-contents.ensures.refused c.in_err-contents.ensures.within)
+    rw (p.1, p.2) (unread_reported {definitions = known_to c.args.self} c.args.text.now c.args.offset _
+    c.in_err-contents.ensures.fails c.in_err-contents.ensures.within)
 
 pub returns-clause-said : goal.returns-clause-said
 returns-clause-said c = λ p same.
