@@ -1,10 +1,11 @@
-use Rattle.std.proofs.Common.{◌≡◌, ℕ, ◌-◌, List, [], ◌++◌, length, take, drop, Option, Result, Ok, Err, sym, ap, ◌∙◌, subst, append_assoc, append-nil, take-append-drop}
+use Rattle.std.proofs.Common.{◌≡◌, ℕ, ◌-◌, Bor, List, [], ◌++◌, length, take, drop, Option, Result, Ok, Err, sym, ap, ◌∙◌, subst, append_assoc, append-nil, take-append-drop}
 use Rattle.std.proofs.Math.Seq.{take-append_seam}
 use Rattle.std.proofs.lemmas.List.{take_rest}
 use Rattle.std.specs.Io.KnownBytes.{Appends, WriteAppends}
 use Rattle.std.proofs.KnownBytes.{Appends-kept, Appends-trans}
 use Rattle.biblatex.specs.PartlyWritten.{AppendsPart}
 use Rattle.biblatex.proofs.sink.write_once.Goals as goal
+use Rattle.biblatex.proofs.sink.write_once.Goals.{in-Ok, in-Err}
 
 -- a first part of a text is its first bytes
 part_of : (a b : Option (List ℕ)) (all done rest : List ℕ) → all ≡ done ++ rest → Appends a b done → AppendsPart a b all
@@ -26,14 +27,19 @@ part_after a b c all done rest (Err e) split appended kept = part_of a c all don
 pub returns-then-is_refusal-clause-part : goal.returns-then-is_refusal-clause-part
 returns-then-is_refusal-clause-part g c =
     let (done, split, appended) = c.writes.invariant in
-    part_after _ _ _ c.args.bytes.now done c.writes.rest.now c.write.result split appended c.write.ensures.bytes
+    part_after _ _ _ c.args.bytes.now done c.writes.rest.now c.write-written.result split appended c.write-written.ensures.bytes
 
-pub writes-preserved-in-Ok : goal.writes-preserved-in-Ok
-writes-preserved-in-Ok g c =
+pub writes-preserved : goal.writes-preserved
+writes-preserved g c =
     let (done, split, appended) = c.writes.invariant in
     let rest = c.writes.rest.now in
-    let n = c.in-Ok.count in
-    (done ++ take n rest, moves_front c.args.bytes.now done rest n split, Appends-trans _ _ _ done (take n rest) appended c.in-Ok.ensures.bytes)
+    elim c.match-written.branch [
+      | in-Ok w ↦
+          let n = w.in-Ok.count in
+          let moved = moves_front c.args.bytes.now done rest n split in
+          (done ++ take n rest, moved ∙ ap (λ (r : Bor (List ℕ)). (done ++ take n rest) ++ r.now) (sym w.rest-is), Appends-trans _ _ _ done (take n rest) appended w.in-Ok.ensures.bytes)
+      | in-Err w ↦ (done, split ∙ ap (λ (r : Bor (List ℕ)). done ++ r.now) (sym w.rest-is), Appends-kept _ _ _ done appended w.in-Err.ensures.bytes)
+    ]
 
 pub returns-clause-part : goal.returns-clause-part
 returns-clause-part g c =
