@@ -140,7 +140,7 @@ listed_first f name q rest among below =
       nothing false = refl
     here (Some value) is = ap (λ b. cond b (Some value) (first_named rest q)) (flipped q q ∙ same_bytes q) ∙ sym is where
       same_bytes : (n : List ℕ) → bytes_eq n n ≡ true
-      same_bytes n = elim (bytes_decides n n) [ | inl t ↦ t.0 | inr t ↦ absurd (t.1 refl) ]
+      same_bytes n = elim (bytes_decides n n) [ inl t ↦ t.0 | inr t ↦ absurd (t.1 refl) ]
 
     there : (o : Option Value) → bytes_eq name q ≡ false → first_named (with_first name o rest) q ≡ first_named rest q
     there None apart = refl
@@ -232,8 +232,7 @@ fields_by own given None = (
   λ q. made.field_gathered own.fields given (codes "xdata") q,
 )
 fields_by own given (Some date) =
-    let plain_ones = remove (made.made (reverse (reverse (entries own.fields ++ given)))) (codes "xdata") in
-    (
+    let plain_ones = remove (made.made (reverse (reverse (entries own.fields ++ given)))) (codes "xdata") in (
       insert (remove (remove (remove plain_ones (codes "year")) (codes "month")) (codes "day")) (codes "date") date,
       λ q. made.field_dated plain_ones (codes "year") (codes "month") (codes "day") (codes "date") date q
           ∙ ap (λ o. cond (bytes_eq q (codes "date")) (Some date) (cond (is_one_of date_parts q) None o)) (made.field_gathered own.fields given (codes "xdata") q),
@@ -290,15 +289,14 @@ heir : (own : Entry) (refs : List Entry) → (entry : Entry) × IsHeir own refs 
 heir own refs =
     let given = given_to own refs in
     let date = date_chunks own refs in
-    let made_of = fields_by own given date.0 in
-    (
+    let made_of = fields_by own given date.0 in (
       record own { fields = made_of.0 },
       record {
         key = refl;
         is = made.inherits own.entry_type own.fields made_of.0 (sources_of refs) given date.0 (given_styled own refs) date.1 made_of.1;
         keeps = λ name chunks has.
-            let free : (option_map styled date.0 ≡ None) ⊎ (get own.fields (codes "date") ≡ None) = elim (free_of_date own refs) [ | inl none ↦ inl (date.1 ∙ none) | inr lacks ↦ inr lacks ] in
-            elim (stays_by date.0 own.fields (first_named given) name chunks has free) [ | inl same ↦ inl (made_of.1 name ∙ same) | inr gone ↦ inr (made_of.1 name ∙ gone) ];
+            let free : (option_map styled date.0 ≡ None) ⊎ (get own.fields (codes "date") ≡ None) = elim (free_of_date own refs) [ inl none ↦ inl (date.1 ∙ none) | inr lacks ↦ inr lacks ] in
+            elim (stays_by date.0 own.fields (first_named given) name chunks has free) [ inl same ↦ inl (made_of.1 name ∙ same) | inr gone ↦ inr (made_of.1 name ∙ gone) ];
       },
     )
 
@@ -359,14 +357,17 @@ module _ (own : List Entry) (graph : Graph) (long : length graph ≡ length own)
   key_at entries index = get_or-map (λ (e : Entry). e.key) entries index blank
 
   pub heirs : (entries : List Entry) × AreHeirs own graph entries
-  heirs = (values, record {
-    keys = ext_get_or [] (map (λ (e : Entry). e.key) values) (map (λ (e : Entry). e.key) own)
-        (length-map values _ ∙ long_values ∙ long ∙ sym (length-map own _))
-        (λ index below. key_at values index ∙ (is_heir index (subst (λ n. index < n) (length-map values _ ∙ long_values) below)).key ∙ sym (key_at own index));
-    inherits = record { same_length = length-map values _ ∙ long_values; each = equation };
-    chunks = λ index written entry there here.
-        let within : index < length graph = subst (λ n. index < n) (sym long) (slice_get_within own index written there) in
-        let kept = (is_heir index within).keeps in
-        subst (λ e. KeepsChunks written e) (get_or_from_slice_get values index entry blank here)
-        (subst (λ o. KeepsChunks o (get_or values index blank)) (get_or_from_slice_get own index written blank there) kept);
-  })
+  heirs = (
+    values,
+    record {
+      keys = ext_get_or [] (map (λ (e : Entry). e.key) values) (map (λ (e : Entry). e.key) own)
+          (length-map values _ ∙ long_values ∙ long ∙ sym (length-map own _))
+          (λ index below. key_at values index ∙ (is_heir index (subst (λ n. index < n) (length-map values _ ∙ long_values) below)).key ∙ sym (key_at own index));
+      inherits = record { same_length = length-map values _ ∙ long_values; each = equation };
+      chunks = λ index written entry there here.
+          let within : index < length graph = subst (λ n. index < n) (sym long) (slice_get_within own index written there) in
+          let kept = (is_heir index within).keeps in
+          subst (λ e. KeepsChunks written e) (get_or_from_slice_get values index entry blank here)
+          (subst (λ o. KeepsChunks o (get_or values index blank)) (get_or_from_slice_get own index written blank there) kept);
+    },
+  )

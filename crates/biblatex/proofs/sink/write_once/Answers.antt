@@ -1,7 +1,7 @@
 use Rattle.std.proofs.Common.{◌≡◌, ℕ, ◌-◌, Bor, List, [], ◌++◌, length, take, drop, Option, Result, Ok, Err, sym, ap, ◌∙◌, subst, append_assoc, append-nil, take-append-drop}
 use Rattle.std.proofs.Math.Seq.{take-append_seam}
 use Rattle.std.proofs.lemmas.List.{take_rest}
-use Rattle.std.specs.Io.KnownBytes.{Appends, WriteAppends}
+use Rattle.std.specs.Io.KnownBytes.{Appends, Keeps, WriteAppends}
 use Rattle.std.proofs.KnownBytes.{Appends-kept, Appends-trans}
 use Rattle.biblatex.specs.PartlyWritten.{AppendsPart}
 use Rattle.biblatex.proofs.sink.write_once.Goals as goal
@@ -33,12 +33,18 @@ pub writes-preserved : goal.writes-preserved
 writes-preserved g c =
     let (done, split, appended) = c.writes.invariant in
     let rest = c.writes.rest.now in
+    let start = g.W.Write.contents c.args.writer.now in
+    let mid = g.W.Write.contents c.writes.writer in
+    let end = g.W.Write.contents c.write-written.new.self in
     elim c.match-written.branch [
       | in-Ok w ↦
           let n = w.in-Ok.count in
           let moved = moves_front c.args.bytes.now done rest n split in
-          (done ++ take n rest, moved ∙ ap (λ (r : Bor (List ℕ)). (done ++ take n rest) ++ r.now) (sym w.rest-is), Appends-trans _ _ _ done (take n rest) appended w.in-Ok.ensures.bytes)
-      | in-Err w ↦ (done, split ∙ ap (λ (r : Bor (List ℕ)). done ++ r.now) (sym w.rest-is), Appends-kept _ _ _ done appended w.in-Err.ensures.bytes)
+          let written : Appends mid end (take n rest) = subst (λ r. WriteAppends mid end r rest) w.in-Ok.is c.write-written.ensures.bytes in
+          (done ++ take n rest, moved ∙ ap (λ (r : Bor (List ℕ)). (done ++ take n rest) ++ r.now) (sym w.rest-is), Appends-trans start mid end done (take n rest) appended written)
+      | in-Err w ↦
+          let kept : Keeps mid end = subst (λ r. WriteAppends mid end r rest) w.in-Err.is c.write-written.ensures.bytes in
+          (done, split ∙ ap (λ (r : Bor (List ℕ)). done ++ r.now) (sym w.rest-is), Appends-kept start mid end done appended kept)
     ]
 
 pub returns-clause-part : goal.returns-clause-part
