@@ -69,9 +69,8 @@ pub fn fresh_keys()
     ensures { (says : FileReading) (own : List Entry) → AreOwn says own → HasFreshKeys own }
 {}
 
-/// An accepted file has no error, and any other file at most one first error: one kind and, for names and keys, one span.
-/// For a literal that cannot be parsed, only the span is left open; for a date that cannot be parsed, the span and the kind of
-/// its error.
+/// An accepted file has no error, and any other file at most one first error, with one kind and one span. For a literal that
+/// cannot be parsed, only the span is left open; for a date that cannot be parsed, the span and the kind of its error.
 pub fn one_error()
     ensures none { (says : FileReading) (e : ParseError) → IsAccepted says → IsFirstErrorOf says e → ⊥ }
     ensures one { (says : FileReading) (first second : ParseError) → IsFirstErrorOf says first →

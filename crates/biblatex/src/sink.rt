@@ -4,7 +4,8 @@ ghost use Rattle.std.specs.Prelude.{◌≡◌, ℕ, Bool, ◌+◌, ◌-◌, ◌^
 ghost use Rattle.std.specs.Bool.{OnTrue, OnFalse};
 ghost use Rattle.std.specs.Io.KnownBytes.{Appends};
 ghost use Rattle.std.specs.declared.option.Option.{Option};
-ghost use Rattle.biblatex.specs.PartlyWritten.{AppendsPart, IsRefusedWrite};
+ghost use Rattle.biblatex.specs.PartlyWritten.{AppendsPart};
+ghost use Rattle.biblatex.specs.Writing.{IsRefusedWrite};
 
 use std::io;
 use std::io::{ErrorKind, Write};
@@ -64,7 +65,7 @@ fn write_once<W: Write>(writer: &mut W, bytes: &[u8]) -> bool
 }
 
 /// A writer as a sink. A text that is taken is written once. If a text is refused, the writer has a first part of it, at most
-/// once.
+/// once. The contract says so of a writer whose contents are known; of any other it says that a refusal is counted.
 #[derive(Drop)]
 pub struct Output<W> {
     writer: W,
