@@ -284,6 +284,8 @@ for shown in [it for them in check.PROMISED.values() for it in them]:
         PROMISED["crates/" + file.replace("/", "/must-fail/") + ".edit"] = ""
 KIND = """
 /// Why.
+#[derive(Debug, Clone)]
+#[non_exhaustive]
 pub enum Kind {
     /// First, `or_so`.
     First,
@@ -306,6 +308,12 @@ impl fmt::Display for Kind {
             Kind::First => f.write_str("the first"),
             Kind::Second { place } => write!(f, "the {place}"),
         }
+    }
+}
+
+impl fmt::Display for Vec<Kind> {
+    fn fmt<W: fmt::Write>(&self, f: &mut fmt::Formatter<W>) -> fmt::Result {
+        f.write_str("all")
     }
 }
 """
@@ -341,9 +349,9 @@ impl Entry {
 }
 """
 SURFACE = {
-    "tests/surface.txt": "[names]\nenum Kind: First Second .place is_first\n\n[getters]\ntitle title - Chunks\naddress address location Chunks\n\n[impls]\nKind: Display\n\n[texts]\nKind::First: the first\n",
+    "tests/surface.txt": "[names]\nenum Kind: First Second .place is_first\n\n[root]\nmod laws\n\n[getters]\ntitle title - Chunks\naddress address location Chunks\n\n[impls]\nKind: Display Clone non_exhaustive\nVec<Kind>: Display\n\n[texts]\nKind::First: the first\n",
     "crates.txt": "bib_entry:\nbiblatex: bib_entry\n",
-    "crates/biblatex/src/lib.rt": "pub use bib_entry::Kind;\n",
+    "crates/biblatex/src/lib.rt": "pub mod laws;\nmod other;\n\npub use bib_entry::Kind;\n",
     "crates/bib_entry/src/lib.rt": KIND + GETTERS,
     "docs/DIFFERENCES.md": "",
 }
@@ -377,8 +385,14 @@ RULES = {
         ({"crates/a/proofs/Facts.antt": "-- `one_place`, and member_with a name\n"}, "line 1 has a name outside of backticks"),
     ]),
     "public names and texts are those of a list": (check.check_surface, SURFACE, [
-        ({"crates/biblatex/src/lib.rt": ""}, "`Kind` is not exported"),
-        ({"crates/bib_entry/src/lib.rt": GETTERS}, "`Kind"),
+        ({"crates/biblatex/src/lib.rt": "pub mod laws;\n"}, "`Kind` is not exported"),
+        ({"crates/biblatex/src/lib.rt": "pub use bib_entry::Kind;\n"}, "has no `pub mod laws`"),
+        ({"crates/biblatex/src/lib.rt": "pub mod laws;\npub mod other;\npub use bib_entry::Kind;\n"}, "has `pub mod other`, which surface.txt"),
+        ({"crates/biblatex/src/lib.rt": "pub mod laws;\npub use bib_entry::Kind;\npub fn other() {}\n"}, "has `pub fn other`, which surface.txt"),
+        ({"crates/bib_entry/src/lib.rt": KIND.replace("Debug, Clone", "Debug") + GETTERS}, "`Kind` has no impl of `Clone`"),
+        ({"crates/bib_entry/src/lib.rt": KIND.replace("#[non_exhaustive]\n", "") + GETTERS}, "`Kind` has no impl of `non_exhaustive`"),
+        ({"crates/bib_entry/src/lib.rt": KIND.replace("for Vec<Kind>", "for Vec<Other>") + GETTERS}, "`Vec<Kind>` has no impl of `Display`"),
+        ({"crates/bib_entry/src/lib.rt": GETTERS}, "Kind"),
         ({"crates/bib_entry/src/lib.rt": KIND.replace("is_first", "is_one") + GETTERS}, "`Kind"),
         ({"crates/bib_entry/src/lib.rt": KIND.replace("place: usize", "at: usize") + GETTERS}, "`Kind"),
         ({"crates/bib_entry/src/lib.rt": KIND.replace("the first\"", "a first\"") + GETTERS}, "`Kind::First` prints"),

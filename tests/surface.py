@@ -1,7 +1,8 @@
 """Compares the public surface of the crate `biblatex` with tests/surface.txt.
 
-`compare(top)` yields a path and a message for each public name, getter and printed text of surface.txt that the sources
-lack or have otherwise, and for each public name of the sources that neither surface.txt nor docs/DIFFERENCES.md has.
+`compare(top)` yields a path and a message for each public name, getter, impl and printed text of surface.txt that the sources
+lack or have otherwise, and for each public name of the sources that neither surface.txt nor docs/DIFFERENCES.md has. Of a
+call it compares the name, of a getter also the types: of other calls the compiler checks the types, in the tests that call them.
 """
 import re
 
@@ -151,6 +152,13 @@ def check_names(lines, getters, root, sources, differences):
                 yield f"`{name}::{part.lstrip('.')}` is public, and neither surface.txt nor docs/DIFFERENCES.md names it"
 
 
+def check_root(lines, root):
+    """The root has these public items of its own, and else it only exports those of other modules."""
+    has = set(re.findall(rf"(?m)^ *pub ((?!use\b)\w+ {WORD})", root))
+    yield from (f"the root of `biblatex` has no `pub {it}`" for it in sorted(set(lines) - has))
+    yield from (f"the root of `biblatex` has `pub {it}`, which surface.txt doesn't name" for it in sorted(has - set(lines)))
+
+
 def check_getters(lines, entry):
     """Each getter reads its field, or its alias if that is missing, as its type. Its setter writes the field."""
     for line in lines:
@@ -194,9 +202,9 @@ def check_impls(lines, sources):
         name, _, traits = line.partition(": ")
         has = set()
         for text in sources:
-            for found in re.finditer(rf"(?m)^impl(?:<[^>]*>)? (?:\w+::)*(\w+)(?:<(.*?)>)? for &?(?:'\w+ )?(?:mut )?{name}\b", text):
+            for found in re.finditer(rf"(?m)^impl(?:<[^>]*>)? (?:\w+::)*(\w+)(?:<(.*?)>)? for &?(?:'\w+ )?(?:mut )?{re.escape(name)}(?!\w)", text):
                 has.add(f"{found[1]}<{found[2]}>" if found[1] == "From" else found[1])
-            derived = re.search(rf"((?:#\[[^\]]*\]\s*)*)pub (?:struct|enum) {name}\b", text)
+            derived = re.search(rf"((?:#\[[^\]]*\]\s*)*)pub (?:struct|enum) {re.escape(name)}(?!\w)", text)
             if derived:
                 has |= set(re.findall(r"\w+", " ".join(re.findall(r"derive\(([^)]*)\)", derived[1]))))
                 has |= {"non_exhaustive"} & set(re.findall(r"\w+", derived[1]))
@@ -215,6 +223,7 @@ def compare(top):
     sources = [plain(text) for text in files.values()]
     fields = "\n".join(text for it, text in files.items() if "bib_entry/src" in str(it))
     yield from ((path, why) for why in check_names(lists["names"], lists["getters"], root, sources, differences))
+    yield from ((path, why) for why in check_root(lists["root"], plain(root)))
     yield from ((path, why) for why in check_getters(lists["getters"], fields))
     yield from ((path, why) for why in check_impls(lists["impls"], sources))
     yield from ((path, why) for why in check_texts(lists["texts"], list(files.values())))

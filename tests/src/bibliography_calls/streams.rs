@@ -55,6 +55,46 @@ impl Write for Refusing {
     }
 }
 
+// A writer that takes one byte at a time, and is interrupted before each.
+#[derive(Drop)]
+struct Interrupted {
+    written: Vec<u8>,
+    is_interrupted: bool,
+}
+
+impl Write for Interrupted {
+    fn write(&mut self, buf: &[u8]) -> io::Result<usize> {
+        self.is_interrupted = !self.is_interrupted;
+        if self.is_interrupted {
+            return Err(io::Error::from(ErrorKind::Interrupted));
+        }
+        self.written.write(&buf[..buf.len().min(1)])
+    }
+
+    fn flush(&mut self) -> io::Result<()> {
+        Ok(())
+    }
+}
+
+// A writer that has room for some bytes, and then takes none.
+#[derive(Drop)]
+struct Full {
+    written: Vec<u8>,
+    room: usize,
+}
+
+impl Write for Full {
+    fn write(&mut self, buf: &[u8]) -> io::Result<usize> {
+        let count = buf.len().min(self.room);
+        self.room -= count;
+        self.written.write(&buf[..count])
+    }
+
+    fn flush(&mut self) -> io::Result<()> {
+        Ok(())
+    }
+}
+
 fn words(alloc: Global, texts: &[&str]) -> Result<Vec<String>, Fail> {
     let mut words = Vec::new(alloc);
     for text in texts {
@@ -187,5 +227,35 @@ fn writes_once_where_it_is_refused(rt: HostRuntime) -> Result<(), Fail> {
     let mut output = Output::new(Refusing { writes: 0 });
     assert_eq!(rt; run(rt.alloc(), &words, &mut input, &mut output), 1);
     assert_eq!(rt; output.into_writer().writes, 1);
+    Ok(())
+}
+
+#[test]
+fn writes_each_byte_once_where_it_is_interrupted(rt: HostRuntime) -> Result<(), Fail> {
+    let words = words(rt.alloc(), &["keys"])?;
+    let text: &[u8] = b"@article{test, author={A}} @misc{other,}";
+    let mut input = Input::new(text);
+    let mut output = Output::new(Interrupted {
+        written: Vec::new(rt.alloc()),
+        is_interrupted: false,
+    });
+    assert_eq!(rt; run(rt.alloc(), &words, &mut input, &mut output), 0);
+    let writer = output.into_writer();
+    assert_eq!(rt; str::from_utf8(&writer.written)?, "test\nother\n");
+    Ok(())
+}
+
+#[test]
+fn stops_where_no_byte_is_taken(rt: HostRuntime) -> Result<(), Fail> {
+    let words = words(rt.alloc(), &["keys"])?;
+    let text: &[u8] = b"@article{test, author={A}}";
+    let mut input = Input::new(text);
+    let mut output = Output::new(Full {
+        written: Vec::new(rt.alloc()),
+        room: 2,
+    });
+    assert_eq!(rt; run(rt.alloc(), &words, &mut input, &mut output), 1);
+    let writer = output.into_writer();
+    assert_eq!(rt; str::from_utf8(&writer.written)?, "te");
     Ok(())
 }
