@@ -1,5 +1,5 @@
 #!/usr/bin/env python3
-"""Tests of check.py and out_of_memory.py.
+"""Tests of scripts/check.py and scripts/out_of_memory.py.
 
 Each rule of check.py gets a small tree in a temporary folder that keeps it, and changes of that tree, each of which it has to report.
 out_of_memory.py gets wrong bodies, each of which it has to report, and right ones, of which it may report none.
@@ -12,7 +12,7 @@ import tempfile
 import unittest
 from unittest import mock
 
-sys.path.insert(0, str(pathlib.Path(__file__).resolve().parent.parent))
+sys.path.insert(0, str(pathlib.Path(__file__).resolve().parent.parent / "scripts"))
 import check
 from out_of_memory import built
 
@@ -149,7 +149,7 @@ impl TypeError {
 """,
     "passed on": """
 use std::alloc::{AllocError, Global};
-ghost use Rattle.bib_enums.specs.declared.type_error.TypeErrorKind.TheVariants.{OutOfMemory as Lacking};
+ghost use Rattle.bib_tables.specs.declared.type_error.TypeErrorKind.TheVariants.{OutOfMemory as Lacking};
 
 /// An error. `OutOfMemory` is one.
 pub enum Kind {
@@ -253,8 +253,9 @@ CALLED = {
 ROWS = {"tests/rows/a": "# keys\nkeys|x\nkeys|y", "tests/rows/a.stdout": "# keys\nkeys|x => a\nkeys|y => "}
 EXAMPLE = "use biblatex::Bibliography;\n\nlet it = f(alloc)?;\nprintln!(rt; \"{}\", it)?;\n"
 README = {
-    "README.md": f"# biblatex\n\n```rust\n{EXAMPLE}```\n\nIt prints:\n\n```text\none\n```\n",
-    "tests/src/bibliography_calls/readme.rs": "fn reads() {\n    let it = f(alloc)?;\n    let line = format!(in alloc; \"{}\", it)?;\n    assert!(rt; line == \"one\");\n}\n",
+    "README.md": "# biblatex\n",
+    "docs/LIBRARY.md": f"# The library\n\n```rust\n{EXAMPLE}```\n\nIt prints:\n\n```text\none\n```\n",
+    "tests/src/bibliography_calls/first_example.rs": "fn reads() {\n    let it = f(alloc)?;\n    let line = format!(in alloc; \"{}\", it)?;\n    assert!(rt; line == \"one\");\n}\n",
 }
 DOCUMENTS = {
     "README.md": "See docs/USE.md, `check.py`, tests/ and the crate `bib_a`; each crates/NAME/src/lib.rt.\n",
@@ -263,12 +264,15 @@ DOCUMENTS = {
     "tests/a.py": "",
     "crates/bib_a/src/lib.rt": "",
 }
-ARCHITECTURE = {
-    "docs/ARCHITECTURE.md": "| crate | modules | specs |\n|---|---|---|\n| `a` | `one`, `one::two` | Meanings; Steps |\n",
-    "crates/a/src/lib.rt": "mod one;\n",
-    "crates/a/src/one.rt": "mod two;\n",
-    "crates/a/src/one/two.rt": "",
-    **{name: text for name, text in SPECS.items() if "specs" in name},
+LAYERS = {
+    "crates.txt": "# NAME: the crates that it uses.\n\n# Base\na: memchr\n\n# Library\nb: a\n",
+    "crates/a/src/lib.rt": "//! Texts. They are short.\nuse memchr::find;\n",
+    "crates/b/src/lib.rt": "//! Names\n//! of texts.\n//!\n//! More.\nuse a::one;\n",
+}
+TABLE = {
+    "docs/CONTRIBUTING.md": "# Work\n\n| crate | what it is |\n|---|---|\n| **Base** | |\n| `a` | Texts. |\n"
+    "| **Library** | |\n| `b` | Names of texts. |\n\nMore.\n",
+    **LAYERS,
 }
 THEOREMS = {
     "docs/THEOREMS.md": "| word | meaning | file |\n|---|---|---|\n| `IsOne` | one | a/specs/Meanings.antt |\n\n| promise | call | clause |\n|---|---|---|\n"
@@ -436,11 +440,11 @@ RULES = {
         ({"tests/rows/a.stdout": "# keys\nkeys|x\nkeys|y => "}, "line 2 doesn't begin with the row of a"),
         ({"tests/rows/a.stdout": "# names\nkeys|x => a\nkeys|y => "}, "line 1 doesn't begin with the row of a"),
     ]),
-    "README.md is short, and its example is tested": (check.check_readme, README, [
+    "README.md is short, and the first example is tested": (check.check_readme, README, [
         ({"README.md": README["README.md"] + "\n" * 80}, "and not 80 at most"),
-        ({"README.md": README["README.md"].replace("f(alloc)", "g(alloc)")}, "its example is not the code of"),
-        ({"README.md": README["README.md"].replace("```text\none", "```text\ntwo")}, "what its example prints is not what"),
-        ({"README.md": "# biblatex\n"}, "its example is not the code of"),
+        ({"docs/LIBRARY.md": README["docs/LIBRARY.md"].replace("f(alloc)", "g(alloc)")}, "its first example is not the code of"),
+        ({"docs/LIBRARY.md": README["docs/LIBRARY.md"].replace("```text\none", "```text\ntwo")}, "the output of its first example is not that of"),
+        ({"docs/LIBRARY.md": "# The library\n"}, "its first example is not the code of"),
     ]),
     "documents name what there is": (check.check_documents, DOCUMENTS, [
         ({"README.md": "See docs/NONE.md.\n"}, "it names docs/NONE.md, which isn't there"),
@@ -448,10 +452,15 @@ RULES = {
         ({"docs/USE.md": "See `bib_b::f`.\n"}, "it names the crate bib_b, which isn't there"),
         ({"crates/bib_a/wrong/INDEX.md": "In src/none.rt.\n"}, "it names src/none.rt, which isn't there"),
     ]),
-    "docs/ARCHITECTURE.md names modules and specs": (check.check_architecture, ARCHITECTURE, [
-        ({"crates/a/src/three.rt": ""}, "the row of a doesn't name three"),
-        ({"crates/a/specs/More.antt": "-- Meaning: more.\n"}, "the row of a doesn't name More where it belongs"),
-        ({"crates/a/specs/Steps.antt": "-- Meaning: steps.\n"}, "the row of a doesn't name Steps where it belongs"),
+    "crates.txt is in the order of the layers": (check.check_layers, LAYERS, [
+        ({"crates.txt": LAYERS["crates.txt"].replace("a: memchr", "a: memchr b"), "crates/a/src/lib.rt": "use memchr::find;\nuse b::c;\n"}, "a uses b, which is not above it"),
+        ({"crates/b/src/lib.rt": "//! Names.\n"}, "it names a for b, which doesn't mention it"),
+    ]),
+    "docs/CONTRIBUTING.md has the table of crates": (check.check_crates_table, TABLE, [
+        ({"crates/a/src/lib.rt": "//! Strings.\n"}, "its table of crates is not what"),
+        ({"crates.txt": LAYERS["crates.txt"] + "c: a\n", "crates/c/src/lib.rt": "//! More. use a::b;\n"}, "its table of crates is not what"),
+        ({"docs/CONTRIBUTING.md": TABLE["docs/CONTRIBUTING.md"].replace("\n\nMore", "\n| `c` | |\n\nMore")}, "its table of crates is not what"),
+        ({"docs/CONTRIBUTING.md": "# Work\n"}, "its table of crates is not what"),
     ]),
     "docs/THEOREMS.md names definitions and calls": (check.check_theorems, THEOREMS, [
         ({"docs/THEOREMS.md": THEOREMS["docs/THEOREMS.md"].replace("`IsOne`", "`IsTwo`")}, "IsTwo isn't defined in a/specs/Meanings.antt"),

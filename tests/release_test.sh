@@ -1,7 +1,7 @@
 #!/usr/bin/env bash
 # Unpacks an archive of release.sh in an empty folder, and tries all that is in it: release_test.sh ARCHIVE
-# Runs both programs, compiles and runs the guide's example in C, runs its example in Python, and looks at the sums, the manual
-# page and the completions.
+# Runs both programs, compiles and runs the example in C of docs/LIBRARY.md, runs its example in Python, and checks the sums, the
+# manual page and the completions.
 set -u
 export LC_ALL=C
 archive=$(realpath "$1")
@@ -32,13 +32,13 @@ prints() {
     [ "$found" = "$want"$'\n.' ] || { printf '%s' "$found"; return 1; }
 }
 
-# the first block of a language in a section of the guide: the language, and the section
+# the first block of a language in a section of LIBRARY.md: the language, and the section
 block() {
     awk -v fence="\`\`\`$1" -v section="## $2" '
         $0 == section { inside = 1 }
         inside && $0 == "```" && shown { exit }
         inside && shown { print }
-        inside && $0 == fence { shown = 1 }' share/doc/GUIDE.md
+        inside && $0 == fence { shown = 1 }' share/doc/LIBRARY.md
 }
 
 tar -xzf "$archive"
@@ -68,13 +68,13 @@ holds 'completions of bash' bash -n share/bash-completion/completions/bibkit
 holds 'completions of fish and zsh' test -s share/fish/vendor_completions.d/bibkit.fish -a -s share/zsh/site-functions/_bibkit
 if holds 'a C compiler, gcc' command -v gcc; then
     block c 'From C' > example.c
-    holds 'the guide'\''s example in C' test -s example.c
-    holds 'compiling the guide'\''s example in C' gcc -std=c11 -Wall -Wextra -Werror -Iinclude example.c lib/libbiblatex.a -o example
+    holds 'the example in C of LIBRARY.md' test -s example.c
+    holds 'compiling the example in C of LIBRARY.md' gcc -std=c11 -Wall -Wextra -Werror -Iinclude example.c lib/libbiblatex.a -o example
     holds 'running it' grep -q '"key":"a"' <(./example)
 fi
 if holds 'an interpreter, python3' command -v python3; then
     block python 'From Python' > example.py
-    holds 'the guide'\''s example in Python' test -s example.py
+    holds 'the example in Python of LIBRARY.md' test -s example.py
     holds 'running it' env PYTHONPATH=python python3 example.py
     printf '@book{c, author = {Ann Bell}, title = {T}, date = {2019}}' > works.bib
     holds 'the package'\''s first example' prints $'Bell, Ann\n    2019 T' env PYTHONPATH=python python3 python/examples/authors.py works.bib

@@ -1,14 +1,14 @@
 #!/usr/bin/env bash
-# Runs a built program, and compares what it prints and its status with what is wanted: runs.sh PROGRAM [GUIDE..]
-# With guides: runs each line `$ COMMAND` of their blocks too, and compares what it prints with the lines after it.
+# Runs a built program, and compares what it prints and its status with what is wanted: runs.sh PROGRAM [DOCUMENT..]
+# With documents: runs each line `$ COMMAND` of their blocks too, and compares what it prints with the lines after it.
 set -u
 export LC_ALL=C
 program=$(realpath "$1")
 completions=$(realpath "$(dirname "$0")/../../completions")
 schema=$(realpath "$(dirname "$0")/../../docs/entries.schema.json")
 shift
-guides=()
-for guide in "$@"; do guides+=("$(realpath "$guide")"); done
+documents=()
+for document in "$@"; do documents+=("$(realpath "$document")"); done
 files=$(mktemp -d)
 chmod 755 "$files"
 trap 'rm -rf "$files"' EXIT
@@ -90,7 +90,7 @@ one.bib:1:10: warning: test: missing journaltitle [missing-field]
 one.bib:1:10: warning: test: missing year [missing-field]
 '
 
-# help, versions, usage: as the manual page and the guide say
+# help, versions, usage: as the manual page and docs/BIBKIT.md say
 run 'the version' 0 $'bibkit 0.1.0\n' --version
 run 'the version, in short' 0 $'bibkit 0.1.0\n' -V
 for word in help --help -h; do
@@ -99,14 +99,14 @@ for word in help --help -h; do
         holds "$word names $command" grep -qE "^  $command +[A-Z]" results
     done
 done
-run_start 'help of lint' 0 $'Report what is wrong in files, by place\n\nUsage: bibkit lint [OPTIONS] [FILE]...\n' lint --help
+run_start 'help of lint' 0 $'Report errors and likely mistakes in files\n\nUsage: bibkit lint [OPTIONS] [FILE]...\n' lint --help
 for option in '--only <CODES>' '--ignore <CODES>' '--explain <CODE>' '--format <FORMAT>' '--cited <DOCUMENT>' '--unused' '--color <WHEN>'; do
     holds "help of lint names $option" grep -qE "^      $option +[A-Z]" results
 done
 run_start 'help of keys' 0 $'Print the key of each entry\n\nUsage: bibkit keys [FILE]...\n' keys --help
-run_start 'help of get' 0 $'Print the entries with these keys, as they stand in the files\n\nUsage: bibkit get <KEYS> [FILE]...\n' get --help
-run_start 'help of grep' 0 $'Print the entries in whose field a text stands, as they stand in the files\n\nUsage: bibkit grep <FIELD> <TEXT> [FILE]...\n' grep --help
-run_start 'help of cited' 0 $'Print the entries that a document cites, as they stand in the files\n\nUsage: bibkit cited <DOCUMENT> [FILE]...\n' cited --help
+run_start 'help of get' 0 $'Print the entries with these keys, unchanged\n\nUsage: bibkit get <KEYS> [FILE]...\n' get --help
+run_start 'help of grep' 0 $'Print the entries with a text in a field, unchanged\n\nUsage: bibkit grep <FIELD> <TEXT> [FILE]...\n' grep --help
+run_start 'help of cited' 0 $'Print the entries that a document cites, unchanged\n\nUsage: bibkit cited <DOCUMENT> [FILE]...\n' cited --help
 run_start 'help of stats' 0 $'Count entries by type and year, fields by name, and findings by code\n\nUsage: bibkit stats [FILE]...\n' stats --help
 for command in lint keys get grep cited stats fmt convert resolve set unset rename remove add strings; do
     "$program" $command --help >output
@@ -165,7 +165,7 @@ printf '@misc{a, title={A}}\n' >'a "b" \ c.bib'
 printf '@misc{q"\\, author={B}}\n' >'a "b" \ c.bib'
 "$program" lint --format json 'a "b" \ c.bib' >output
 holds 'quotes and backslashes in JSON' python3 -c 'import json, sys; found = json.load(open("output")); sys.exit(found[0]["file"] != "a \"b\" \\ c.bib")'
-# what codes mean, each with its severity by the guide's table of codes; no file is read
+# what codes mean, each with its severity by the table of codes of docs/BIBKIT.md; no file is read
 for code in unread-bytes syntax unread-field circular-abbreviation duplicate-key circular-reference missing-entry; do
     run_start "the meaning of $code" 0 "$code (error): " lint --explain $code no-file.bib
 done
@@ -1174,14 +1174,14 @@ else
     skip zsh 11
 fi
 
-# the sessions of guides: a block is one session in a folder of its own; `$ COMMAND` and the lines that it prints
+# the sessions of documents: a block is one session in a folder of its own; `$ COMMAND` and the lines that it prints
 cat >sessions.py <<'PY'
 import os, re, shutil, subprocess, sys, tempfile
-program, guide = sys.argv[1:]
+program, document = sys.argv[1:]
 folder = tempfile.mkdtemp()
 os.symlink(program, os.path.join(folder, "bibkit"))
 failed = ran = 0
-for kind, block in re.findall(r"^```(\S*)\n(.*?)^```$", open(guide, encoding="utf-8").read(), re.S | re.M):
+for kind, block in re.findall(r"^```(\S*)\n(.*?)^```$", open(document, encoding="utf-8").read(), re.S | re.M):
     name = re.match(r"(?:bib|tex|toml|json):(\S+)$", kind)
     if name:
         open(os.path.join(folder, name.group(1)), "w", encoding="utf-8").write(block)
@@ -1199,8 +1199,8 @@ shutil.rmtree(folder)
 print(f"sessions: {ran} commands, {failed} failed")
 sys.exit(failed > 0 or ran == 0)
 PY
-for guide in "${guides[@]+"${guides[@]}"}"; do
-    holds "the sessions of $guide" python3 sessions.py "$program" "$guide"
+for document in "${documents[@]+"${documents[@]}"}"; do
+    holds "the sessions of $document" python3 sessions.py "$program" "$document"
 done
 
 echo "runs: $passed passed, $failed failed, $skipped skipped${missing/,/:}"

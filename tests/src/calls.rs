@@ -6,6 +6,7 @@ mod chunks;
 mod contents;
 mod encodings;
 mod maps;
+mod positions;
 mod readings;
 mod scanner;
 mod texts;

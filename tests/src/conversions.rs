@@ -1,20 +1,20 @@
-//! Reads rows, a format and a text in each line, and prints each with the text in that format's types and fields. With `notes` before the
-//! format it prints what is to know of fields that stay: the index of the entry, that of the field, and what.
+//! Reads rows, a dialect and a text in each line, and prints each with the text in that dialect's types and fields. With `notes` before the
+//! dialect it prints what is to know of fields that stay: the index of the entry, that of the field, and what.
 
 use bib_conversion::converting::convert;
 use bib_conversion::notes::{NoteKind, notes};
 use bib_documents::document::RawDocument;
-use bib_entry::write::Format;
+use bib_entry::write::Dialect;
 use std::alloc::{AllocError, Global};
 use crate::support::rows::Calls;
 
 pub struct Conversions;
 
-// The format that a row names.
-fn format_named(name: &str) -> Option<Format> {
+// The dialect that a row names.
+fn dialect_named(name: &str) -> Option<Dialect> {
     match name {
-        "biblatex" => Some(Format::Biblatex),
-        "bibtex" => Some(Format::Bibtex),
+        "biblatex" => Some(Dialect::Biblatex),
+        "bibtex" => Some(Dialect::Bibtex),
         _ => None,
     }
 }
@@ -30,9 +30,13 @@ fn word(kind: NoteKind) -> &'static str {
 }
 
 // The notes on a document, one after another.
-fn noted(alloc: Global, document: &RawDocument<'_>, format: Format) -> Result<String, AllocError> {
+fn noted(
+    alloc: Global,
+    document: &RawDocument<'_>,
+    dialect: Dialect,
+) -> Result<String, AllocError> {
     let mut out = String::new(alloc);
-    for note in &notes(alloc, document, format)? {
+    for note in &notes(alloc, document, dialect)? {
         let line = format!(in alloc; "{}.{} {}; ", note.entry, note.field, word(note.kind))?;
         out.push_str(line.as_str())?;
     }
@@ -45,14 +49,14 @@ impl Calls for Conversions {
             return Ok(Some(String::from_str(alloc, "no bibliography")?));
         };
         if let Some(name) = call.strip_prefix("notes ") {
-            let Some(format) = format_named(name) else {
+            let Some(dialect) = dialect_named(name) else {
                 return Ok(None);
             };
-            return Ok(Some(noted(alloc, &document, format)?));
+            return Ok(Some(noted(alloc, &document, dialect)?));
         }
-        let Some(format) = format_named(call) else {
+        let Some(dialect) = dialect_named(call) else {
             return Ok(None);
         };
-        Ok(Some(convert(alloc, &document, format)?))
+        Ok(Some(convert(alloc, &document, dialect)?))
     }
 }

@@ -1,4 +1,4 @@
-//! The examples of docs/GUIDE.md that the crate `guide` doesn't have, each as a test.
+//! The examples of docs/LIBRARY.md that the crate `guide` doesn't have, each as a test.
 
 use biblatex::{
     Bibliography, BibliographyRecovery, DateValue, Entry, EntryType, ParseError, PermissiveType,

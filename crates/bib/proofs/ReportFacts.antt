@@ -1,4 +1,4 @@
--- Facts on reports.
+-- Lemmas about reports.
 use Rattle.std.proofs.Common.{◌≡◌, ℕ, suc, false, Bor, List, [], ◌∷◌, ◌++◌, ◌+◌, ◌<◌, length, get_or, take, map, Result, Ok, Err, OnOk, refl, sym, ap, ◌∙◌, append_assoc, subst, arith}
 use Rattle.std.specs.Prelude.{◌==◌, if◌then◌else◌, codes}
 use Rattle.std.specs.List.{flat_map}
@@ -8,16 +8,16 @@ use Rattle.biblatex.specs.Syntax.{Entry, Bibliography, TypeError, AreMalformed, 
 use Rattle.bib.specs.Answering.{AddsReport}
 use Rattle.bib.specs.Output.{AreReported, IsReport, Reported, ShowsReports, field_line, malformed_line, report_lines}
 
--- three texts that are appended one after another
+-- appending three texts one after another appends their concatenation
 appended : (old one two new a b c : List ℕ) → one ≡ old ++ a → two ≡ one ++ b → new ≡ two ++ c → new ≡ old ++ (a ++ (b ++ c))
 appended old one two new a b c first second third =
     third ∙ ap (λ text. text ++ c) (second ∙ ap (λ text. text ++ b) first) ∙ append_assoc (old ++ a) b c ∙ append_assoc old a (b ++ c)
 
--- the lines of a report's three parts
+-- the lines of the three parts of a report
 abbrev lines_of : List ℕ → Names → Names → List (List ℕ × TypeError) → List ℕ
 lines_of key missing superfluous errors = flat_map (field_line key (codes "missing")) missing ++ (flat_map (field_line key (codes "superfluous")) superfluous ++ flat_map (malformed_line key) errors)
 
--- the three parts of a report, one after another
+-- appending the three parts of a report appends the report
 pub report_added : {E U : Type 0} (e : Entry) (key : List ℕ) (missing superfluous : Names) (errors listed : List (List ℕ × TypeError)) (old one two new : List ℕ) (r : Result U E)
     → key ≡ e.key → missing ≡ missing_of e → superfluous ≡ superfluous_of e → errors ≡ listed → AreMalformed e listed
     → one ≡ old ++ flat_map (field_line key (codes "missing")) missing → two ≡ one ++ flat_map (field_line key (codes "superfluous")) superfluous
@@ -33,7 +33,7 @@ report_added e key missing superfluous errors listed old one two new (Ok u) same
 )
 report_added e key missing superfluous errors listed old one two new (Err x) same_key lacks forbids same_errors allowed first second third = tt
 
--- the line of one more error
+-- the lines of the errors with one more error
 pub error_next : (key : List ℕ) (errors : List (List ℕ × TypeError)) (i : ℕ) (item : List ℕ × TypeError) (name old mid new : List ℕ) → i < length errors → item ≡ get_or errors i item → name ≡ item.0
     → mid ≡ old ++ flat_map (malformed_line key) (take i errors) → new ≡ mid ++ malformed_line key (name, item.1) → new ≡ old ++ flat_map (malformed_line key) (take (i + 1) errors)
 error_next key errors i item name old mid new within is named before line =
@@ -43,11 +43,11 @@ error_next key errors i item name old mid new within is named before line =
     ∙ ap (λ x. old ++ flat_map (malformed_line key) (take i errors ++ x ∷ [])) is
     ∙ ap (λ listed. old ++ flat_map (malformed_line key) listed) (sym (take_more errors i item within))
 
--- no report on no entry
+-- without entries, the reports are empty
 pub none_reported : AreReported [] []
 none_reported = record { reports = []; listed = refl; allowed = All-nil IsReport; text = refl }
 
--- one more report after others
+-- the reports with one more entry
 pub report_next : (before : List (Bor Entry)) (entry : Bor Entry) (old new : List ℕ) → AreReported (map (λ e. e.now) before) old → AddsReport entry.now old new → AreReported (map (λ e. e.now) (before ++ entry ∷ [])) new
 report_next before entry old new so_far more =
     let report : Reported = (entry.now, more.0) in
@@ -61,7 +61,7 @@ report_next before entry old new so_far more =
 not_suc : (n : ℕ) → false ≡ (suc n == 0)
 not_suc n = grind arith
 
--- the reports, with a status that says whether there is a line
+-- the output of `check`: its status tells whether there is a line
 pub reports_shown : (bibliography : Bibliography) (text : List ℕ) (status : ℕ) → AreReported bibliography.entries text → status ≡ (if length text == 0 then 0 else 4) → ShowsReports bibliography text status
 reports_shown bibliography [] status reported is = subst (ShowsReports bibliography []) (sym is) (ShowsReports.clean reported)
 reports_shown bibliography (b ∷ bs) status reported is =

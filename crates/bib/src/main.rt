@@ -1,4 +1,4 @@
-//! The program `bib`: it reads a bibliography from standard input, and prints what the command asks for.
+//! The program `bib`: reads a bibliography from standard input, and prints the output of a command.
 #![tactic(auto)]
 
 mod reports;

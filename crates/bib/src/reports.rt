@@ -1,4 +1,4 @@
-//! Reports on entries, in lines.
+//! Reports on entries, one problem in each line.
 
 ghost use Rattle.std.specs.Prelude.{◌≡◌, ◌++◌, IfOk, OnOk, codes};
 ghost use Rattle.std.specs.List.{flat_map};
@@ -10,7 +10,7 @@ ghost use Rattle.bib.specs.Answering.{AddsReport};
 use biblatex::{Bibliography, Entry, Text, TypeError};
 use std::alloc::{AllocError, Global};
 
-// Appends a line: the key of an entry, what is wrong with it, and what it is that is wrong.
+// Appends a line: the key of an entry, the kind of the problem, and the field or the details.
 fn push_line(text: &mut String, key: &str, wrong: &str, what: &str) -> Result<(), AllocError>
     ensures { OnOk result (string_bytes text.new ≡ string_bytes text.old ++
         field_line key.now wrong.now what.now) }
@@ -24,7 +24,7 @@ fn push_line(text: &mut String, key: &str, wrong: &str, what: &str) -> Result<()
     Ok(())
 }
 
-// Appends a line for each name of a field.
+// Appends a line for each of these field names.
 fn push_names(
     text: &mut String,
     key: &str,
@@ -40,7 +40,7 @@ fn push_names(
     Ok(())
 }
 
-// Appends the line of a field that is not read: its name, and the kind of its error.
+// Appends the line of a field that can't be parsed: its name, and the kind of its error.
 fn push_error(
     alloc: Global,
     text: &mut String,
@@ -55,7 +55,7 @@ fn push_error(
     push_line(text, key, "malformed", &listed)
 }
 
-// Appends a line for each field that is not read.
+// Appends a line for each field that can't be parsed.
 fn push_errors(
     alloc: Global,
     text: &mut String,
@@ -82,7 +82,7 @@ fn push_report(alloc: Global, text: &mut String, entry: &Entry) -> Result<(), Al
     push_errors(alloc, text, key, &report.malformed)
 }
 
-// The lines of the reports on all entries, in their order.
+// Returns the lines of the reports on all entries, in order.
 pub(crate) fn reports(alloc: Global, bibliography: &Bibliography) -> Result<String, AllocError>
     ensures { IfOk result (λ text. AreReported bibliography.now.entries (string_bytes text)) }
 {

@@ -1,4 +1,4 @@
-//! The engine of the program.
+//! Running a command on an input.
 
 ghost use Rattle.std.specs.Prelude.{◌≡◌, ◌≢◌, ◌==◌, ℕ, ◌-◌, ◌^◌, ◌<◌, if◌then◌else◌, List, [], ◌∷◌, ◌++◌, length, map, codes, IfOk, MatchOption};
 ghost use Rattle.std.specs.Io.KnownBytes.{Appends};
@@ -14,24 +14,24 @@ use biblatex::{Bibliography, ParseError, ParseErrorKind, RawBibliography, Sink, 
 use std::alloc::{AllocError, Global};
 use std::mem;
 
-/// Why an input could not be read.
+/// The error of reading an input.
 #[derive(Debug, Clone, Copy, PartialEq, Eq)]
 pub enum SourceError {
-    /// The input failed.
+    /// Reading the input failed.
     Failed,
-    /// There was no memory for it.
+    /// Out of memory.
     OutOfMemory,
 }
 
-/// What an input is read from.
-pub trait Source {
-    // Whether these may be the bytes that are left.
+/// An input of bytes.
+pub trait InputSource {
+    // Whether these may be the remaining bytes.
     ghost gives: { Self → List ℕ → Type 0 };
 
-    // How many reads failed so far. The count may stop at its greatest value.
+    // The number of failed reads so far. The count may stop at its greatest value.
     ghost failures: { Self → ℕ };
 
-    /// Reads all the bytes that are left.
+    /// Reads all remaining bytes.
     fn read_all(&mut self, alloc: Global) -> Result<Vec<u8>, SourceError>
         ensures given { IfOk result (λ bytes. gives self.old bytes.items) }
         ensures failed { result ≡ Err SourceError.Failed → failures self.old < 2 ^ 64 - 1 →
@@ -39,29 +39,29 @@ pub trait Source {
         ensures same { result ≢ Err SourceError.Failed → failures self.new ≡ failures self.old };
 }
 
-// What is printed, and the status.
+// The output of a command, and the exit status.
 #[derive(Drop)]
 struct Answer {
     text: String,
     status: u8,
 }
 
-/// What the program can be asked for.
+/// The commands of the program.
 #[derive(Clone, Copy)]
 pub enum Command {
-    /// The keys of a file's entries.
+    /// Prints the keys of the entries.
     Keys,
-    /// The bibliography with BibLaTeX's types and fields.
+    /// Prints the bibliography in BibLaTeX's types and fields.
     Biblatex,
-    /// The bibliography with BibTeX's types and fields.
+    /// Prints the bibliography in BibTeX's types and fields.
     Bibtex,
-    /// What is wrong with the bibliography's entries.
+    /// Prints the problems of the entries.
     Check,
-    /// Whether the bibliography is settled.
+    /// Prints whether the bibliography is settled.
     Settled,
 }
 
-// The command that the words name.
+// Returns the command that the only argument names, if there is one.
 fn command_of(words: &[String]) -> Option<Command>
     ensures { MatchOption result (IsCommand (map string_bytes words.now) → ⊥)
         (Name (map string_bytes words.now)) }
@@ -72,7 +72,7 @@ fn command_of(words: &[String]) -> Option<Command>
     }
 }
 
-// The command that a word names.
+// Returns the command with this name, if there is one.
 fn named(word: &str) -> Option<Command>
     ensures { MatchOption result ((command : Command) → word.now ≡ command_name command → ⊥)
         (λ command. word.now ≡ command_name command) }
@@ -87,7 +87,7 @@ fn named(word: &str) -> Option<Command>
     }
 }
 
-// The keys of the entries, each in a line of its own.
+// Returns the keys of the entries, each on a line of its own.
 fn key_lines(alloc: Global, raw: &RawBibliography<'_>) -> Result<String, AllocError>
     ensures { IfOk result (λ text. string_bytes text ≡ key_lines (file_of raw.now)) }
 {
@@ -99,8 +99,8 @@ fn key_lines(alloc: Global, raw: &RawBibliography<'_>) -> Result<String, AllocEr
     Ok(text)
 }
 
-// The answer of the command `keys` for a text. Here and below the memory of what was read isn't given back piece by piece:
-// the program ends after its answer.
+// Runs the command `keys` on a text. Here and in the commands below, the parsed data is not freed, because the program ends
+// after printing.
 fn keys(alloc: Global, text: &str) -> Result<Answer, AllocError>
     ensures { IfOk result (λ answer. IsKeysAnswer text.now
         (string_bytes answer.text) answer.status) }
@@ -114,7 +114,7 @@ fn keys(alloc: Global, text: &str) -> Result<Answer, AllocError>
     Ok(Answer { text, status: 0 })
 }
 
-// The bibliography that a text is, or the answer that it is none.
+// Parses a text as a bibliography, and returns the output for the error if it can't be parsed.
 fn parsed(alloc: Global, text: &str) -> Result<Result<Bibliography, Answer>, AllocError>
     ensures { IfOk result (IsParseAnswer text.now) }
 {
@@ -124,7 +124,7 @@ fn parsed(alloc: Global, text: &str) -> Result<Result<Bibliography, Answer>, All
     }
 }
 
-// The bibliography that a text is, or the answer that it is none. The text's memory is free after it.
+// Parses a text as a bibliography, and returns the output for the error if it can't be parsed. Frees the text.
 fn bibliography(alloc: Global, text: String) -> Result<Result<Bibliography, Answer>, AllocError>
     ensures text { IsUtf8 (string_bytes text) }
     ensures bibliography { IfOk result (IsParseAnswer (string_bytes text)) }
@@ -132,7 +132,7 @@ fn bibliography(alloc: Global, text: String) -> Result<Result<Bibliography, Answ
     parsed(alloc, text.as_str())
 }
 
-// The answer of the command `biblatex` for a text.
+// Runs the command `biblatex` on a text.
 fn biblatex(alloc: Global, text: String) -> Result<Answer, AllocError>
     ensures { IfOk result (λ answer. IsBibliographyAnswer ShowsBiblatex (string_bytes text)
         (string_bytes answer.text) answer.status) }
@@ -146,7 +146,7 @@ fn biblatex(alloc: Global, text: String) -> Result<Answer, AllocError>
     Ok(Answer { text, status: 0 })
 }
 
-// The answer of the command `bibtex` for a text.
+// Runs the command `bibtex` on a text.
 fn bibtex(alloc: Global, text: String) -> Result<Answer, AllocError>
     ensures { IfOk result (λ answer. IsBibliographyAnswer ShowsBibtex (string_bytes text)
         (string_bytes answer.text) answer.status) }
@@ -160,14 +160,14 @@ fn bibtex(alloc: Global, text: String) -> Result<Answer, AllocError>
     Ok(Answer { text, status: 0 })
 }
 
-// The status of reports: 4 where there is a line.
+// Returns the exit status for reports: 4 if there is at least one line, and 0 otherwise.
 fn status_of(lines: &str) -> u8
     ensures { result ≡ (if length lines.now == 0 then 0 else 4) }
 {
     if lines.is_empty() { 0 } else { 4 }
 }
 
-// The answer of the command `check` for a text.
+// Runs the command `check` on a text.
 fn check(alloc: Global, text: String) -> Result<Answer, AllocError>
     ensures { IfOk result (λ answer. IsBibliographyAnswer ShowsReports (string_bytes text)
         (string_bytes answer.text) answer.status) }
@@ -184,7 +184,7 @@ fn check(alloc: Global, text: String) -> Result<Answer, AllocError>
     })
 }
 
-// The answer of the command `settled` for a text.
+// Runs the command `settled` on a text.
 fn settled(alloc: Global, text: String) -> Result<Answer, AllocError>
     ensures { IfOk result (λ answer. IsBibliographyAnswer ShowsSettled (string_bytes text)
         (string_bytes answer.text) answer.status) }
@@ -207,7 +207,7 @@ fn settled(alloc: Global, text: String) -> Result<Answer, AllocError>
     })
 }
 
-// The answer of a command for a text.
+// Runs a command on a text.
 fn answer_text(alloc: Global, command: Command, text: String) -> Result<Answer, AllocError>
     ensures { IfOk result (λ answer. IsCommandAnswer command (string_bytes text)
         (string_bytes answer.text) answer.status) }
@@ -221,7 +221,7 @@ fn answer_text(alloc: Global, command: Command, text: String) -> Result<Answer, 
     }
 }
 
-// The answer of a command for an input.
+// Runs a command on the bytes of an input.
 fn answer_to(alloc: Global, command: Command, bytes: Vec<u8>) -> Result<Answer, AllocError>
     ensures { IfOk result (λ answer. IsCommandAnswer command bytes.items
         (string_bytes answer.text) answer.status) }
@@ -235,7 +235,7 @@ fn answer_to(alloc: Global, command: Command, bytes: Vec<u8>) -> Result<Answer, 
     }
 }
 
-// The answer for an input with an error.
+// Returns the output for an input with an error.
 fn error_answer(alloc: Global, error: &ParseError) -> Result<Answer, AllocError>
     ensures { IfOk result (λ answer. (error.now.kind ≢ OutOfMemory) ×
         ShowsError error.now (string_bytes answer.text) × (answer.status ≡ 1)) }
@@ -259,7 +259,7 @@ fn error_answer(alloc: Global, error: &ParseError) -> Result<Answer, AllocError>
     Ok(Answer { text, status: 1 })
 }
 
-// The line of an error that quotes a name.
+// Returns the line of an error that quotes a name.
 fn quoting_line(alloc: Global, words: &str, name: &str, span: &Span) -> Result<String, AllocError>
     ensures { IfOk result (λ text.
         IsQuotingLine (words.now, name.now) span.now (string_bytes text)) }
@@ -273,7 +273,7 @@ fn quoting_line(alloc: Global, words: &str, name: &str, span: &Span) -> Result<S
     )
 }
 
-// Prints a text, and answers the status: 1 if the text was refused.
+// Writes a text to a sink. Returns `status`, or 1 if the sink refused the text.
 pub(crate) fn print<K: Sink>(output: &mut K, text: &str, status: u8) -> u8
     ensures printed { K.refusals output.old < 2 ^ 64 - 1 →
         K.refusals output.new ≡ K.refusals output.old →
@@ -284,11 +284,16 @@ pub(crate) fn print<K: Sink>(output: &mut K, text: &str, status: u8) -> u8
     if output.write_str(text) { status } else { 1 }
 }
 
-/// Runs the program on its words, and answers the status.
+/// Runs the program with the arguments `words`, and returns its exit status.
 ///
-/// The words are looked at first, and an input is read only for a command that there is. The whole text is made before
-/// any of it is written, and it is written in one call. A refused write gives status 1, and nothing more is written.
-pub fn run<S: Source, K: Sink>(alloc: Global, words: &[String], input: &mut S, output: &mut K) -> u8
+/// The arguments are checked first: `input` is read only if they name a command. The whole output is built before any of it
+/// is written, and it is written in one call. If the sink refuses the text, the status is 1, and nothing more is written.
+pub fn run<S: InputSource, K: Sink>(
+    alloc: Global,
+    words: &[String],
+    input: &mut S,
+    output: &mut K,
+) -> u8
     ensures unread { (IsCommand (map string_bytes words.now) → ⊥) → input.new ≡ input.old }
     ensures printed { K.refusals output.old < 2 ^ 64 - 1 →
         K.refusals output.new ≡ K.refusals output.old →

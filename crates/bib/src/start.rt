@@ -1,4 +1,4 @@
-//! The start of the program, from the arguments as they came.
+//! Starting the program with its command-line arguments.
 
 ghost use Rattle.std.specs.Prelude.{◌≡◌, ◌≢◌, ℕ, ◌-◌, ◌^◌, ◌<◌, List, map, IfOk, OnErr};
 ghost use Rattle.std.specs.Io.KnownBytes.{Appends};
@@ -6,14 +6,14 @@ ghost use Rattle.std.specs.String.{string_bytes};
 ghost use Rattle.bib.specs.Output.{IsAnswered, IsCommand};
 ghost use Rattle.bib.specs.Arguments.{IsStartAnswer, AreArgumentsKnown, IsMemoryLacking, texts_of, program_words};
 
-use crate::run::{Source, print, run};
+use crate::run::{InputSource, print, run};
 use biblatex::Sink;
 use std::alloc::{AllocError, Global};
 use std::env::Args;
 use std::io;
 use std::io::ErrorKind;
 
-// The words after the program's name: none where the arguments aren't all UTF-8.
+// Returns the arguments after the program's name, or none if not all arguments are UTF-8.
 fn words(alloc: Global, arguments: io::Result<Args>) -> Result<Vec<String>, AllocError>
     ensures words { IfOk result
         (λ words. map string_bytes words.items ≡ program_words (texts_of arguments)) }
@@ -27,10 +27,11 @@ fn words(alloc: Global, arguments: io::Result<Args>) -> Result<Vec<String>, Allo
     }
 }
 
-/// Runs the program on its arguments, the first of which is its name, and answers the status.
+/// Runs the program with its arguments, and returns its exit status. The first argument is the program's name.
 ///
-/// Where they aren't all UTF-8, the program has no words. Out of memory for them is reported, with status 3.
-pub fn start<S: Source, K: Sink>(
+/// If not all arguments are UTF-8, the program runs without arguments. If memory runs out while the arguments are read, this
+/// is reported, and the status is 3.
+pub fn start<S: InputSource, K: Sink>(
     alloc: Global,
     arguments: io::Result<Args>,
     input: &mut S,

@@ -1,14 +1,14 @@
-//! Standard input, as what the engine reads.
+//! Readers as inputs.
 
 ghost use Rattle.std.specs.Prelude.{◌≡◌, ◌≢◌, ◌+◌, ◌-◌, ◌^◌, min, IfSome, OnOk, IfErr};
 ghost use Rattle.std.specs.IoError.{error_kind};
 
-use crate::run::{Source, SourceError};
+use crate::run::{InputSource, SourceError};
 use std::alloc::Global;
 use std::io;
 use std::io::{ErrorKind, Read};
 
-/// A reader as an input. What it gives is not known.
+/// A reader as an input.
 #[derive(Drop)]
 pub struct Input<R> {
     reader: R,
@@ -16,7 +16,7 @@ pub struct Input<R> {
 }
 
 impl<R> Input<R> {
-    /// This reader as an input that hasn't failed.
+    /// Returns an input from this reader, without failures.
     pub fn new(reader: R) -> Self
         ensures reader { result.reader ≡ reader }
         ensures failures { result.failures ≡ 0 }
@@ -27,7 +27,7 @@ impl<R> Input<R> {
         }
     }
 
-    /// The reader.
+    /// Returns the reader.
     pub fn into_reader(self) -> R
         ensures { result ≡ self.reader }
     {
@@ -38,7 +38,7 @@ impl<R> Input<R> {
         reader
     }
 
-    // Says what a read gave: these bytes, or why there are none. A failure is counted, and out of memory is not.
+    // Returns the bytes of a read, or its error. Counts a failure, except for out of memory.
     fn count(&mut self, read: io::Result<usize>, bytes: Vec<u8>) -> Result<Vec<u8>, SourceError>
         ensures given { OnOk read (result ≡ Ok bytes) }
         ensures failed { IfErr read (λ error. error_kind error ≢ ErrorKind.OutOfMemory →
@@ -62,7 +62,7 @@ impl<R> Input<R> {
     }
 }
 
-impl<R: Read> Source for Input<R> {
+impl<R: Read> InputSource for Input<R> {
     ghost gives = { λ input bytes. IfSome (R.remaining input.reader) (λ left. bytes ≡ left) };
 
     ghost failures = { λ input. input.failures };

@@ -1,4 +1,4 @@
--- What pieces say, their first errors, and whether they can be read.
+-- Facts about the styled text of pieces, their first errors, and whether they can be parsed.
 use Rattle.std.proofs.Common.{◌≡◌, ℕ, suc, zero, ◌+◌, ◌<◌, ◌≤◌, List, [], ◌∷◌, refl, sym, ap, ◌∙◌, subst, inl, inr, arith, Some, None, Result, Ok, Err}
 use Rattle.std.specs.Prelude.{◌⊎◌, IfOk, IfErr, OnOk}
 use Rattle.std.specs.Prelude.{bytes_eq, if◌then◌else◌, option_map, Bool, true, false, map}
@@ -20,14 +20,14 @@ use Rattle.bib_syntax.specs.Reading.Piece.{literal, abbreviation}
 use Rattle.bib_abbreviations.specs.Abbreviations.{Definitions, month, HoldsName, Reaches, IsKnown, AreRead, IsReadable, Evaluates, IsOnPath, IsFirstError, definition_among, given_by, pairs_in, sorted_in}
 use Rattle.bib_abbreviations.specs.Abbreviations.{Reaches as reaches, Evaluates as evaluates, IsFirstError as first_error}
 
--- how many steps it takes to say what pieces say
+-- the number of steps of an evaluation
 abbrev pub steps : {definitions : Definitions} {is_verbatim : Bool} {pieces : List Piece} {atoms : List Atom} → Evaluates definitions is_verbatim pieces atoms → ℕ
 steps evaluates.none = 0
 steps (evaluates.text x rest) = suc (steps rest)
 steps (evaluates.defined d x rest) = suc (steps x + steps rest)
 steps (evaluates.month_name d m rest) = suc (steps rest)
 
--- a definition that says something, in fewer steps than so many
+-- a name whose definition has a styled text, by fewer than `limit` steps
 pub record SaysWithin (definitions : Definitions) (is_verbatim : Bool) (name : List ℕ) (limit : ℕ) : Type 0 where
   pub definition : List Piece
   pub atoms : List Atom
@@ -35,13 +35,13 @@ pub record SaysWithin (definitions : Definitions) (is_verbatim : Bool) (name : L
   pub says : Evaluates definitions is_verbatim definition atoms
   pub within : steps says < limit
 
--- a name that is not defined, and is the start of a month
+-- a name that isn't defined, and is the first three letters of a month
 pub record IsMonth (definitions : Definitions) (name : List ℕ) : Type 0 where
   pub english : List ℕ
   pub absent : definitions name ≡ None
   pub is : month name ≡ Some english
 
--- a name that stands for something
+-- a name that has a value: a definition with a styled text, by fewer than `limit` steps, or a month
 abbrev pub StandsWithin : Definitions → Bool → List ℕ → ℕ → Type 0
 StandsWithin definitions is_verbatim name limit = SaysWithin definitions is_verbatim name limit ⊎ IsMonth definitions name
 
@@ -50,7 +50,7 @@ module _ {definitions : Definitions} {is_verbatim : Bool} where
   more_steps below (inl x) = inl (record { definition = x.definition; atoms = x.atoms; is = x.is; says = x.says; within = omega arith })
   more_steps below (inr x) = inr x
 
-  -- each name among pieces that say something stands for something, in fewer steps
+  -- each name among pieces with a styled text has a value, by fewer steps
   pub name_stands : {pieces : List Piece} {atoms : List Atom} {name : List ℕ} (x : Evaluates definitions is_verbatim pieces atoms) → HoldsName pieces name
       → StandsWithin definitions is_verbatim name (steps x)
   name_stands evaluates.none held = absurd held
@@ -62,7 +62,7 @@ module _ {definitions : Definitions} {is_verbatim : Bool} where
       inr (record { english = english; absent = ap definitions (sym same) ∙ d; is = ap month (sym same) ∙ m })
   name_stands (evaluates.month_name d m rest) (inr held) = more_steps (omega arith) (name_stands rest held)
 
-  -- each text among pieces that say something is read
+  -- each literal among pieces with a styled text can be parsed
   pub text_read : {pieces : List Piece} {atoms : List Atom} → Evaluates definitions is_verbatim pieces atoms → AreRead is_verbatim pieces
   text_read evaluates.none text held = absurd held
   text_read (evaluates.text {first = first} x rest) text (inl same) = (first, subst (λ t. IsContent is_verbatim (chars t) first) same x)
@@ -77,7 +77,7 @@ module _ {definitions : Definitions} {is_verbatim : Bool} where
       more_steps (omega (arith, x.within)) (name_stands x.says (subst (λ pieces. HoldsName pieces next) same held))
   stands_after (inr x) d held = absurd (cc (d, x.absent))
 
-  -- each name that pieces reach which say something stands for something, in fewer steps
+  -- each name that pieces with a styled text reach has a value, by fewer steps
   pub reached_stands : {pieces : List Piece} {atoms : List Atom} {name : List ℕ} (x : Evaluates definitions is_verbatim pieces atoms) → Reaches definitions pieces name
       → StandsWithin definitions is_verbatim name (steps x)
   reached_stands x (reaches.held held) = name_stands x held
@@ -93,7 +93,7 @@ module _ {definitions : Definitions} {is_verbatim : Bool} where
       next y.definition y.atoms y.says y.is (omega (arith, y.within)) (subst (λ pieces. Reaches definitions pieces name) same reached)
   cycle_step limit d below reached next (inr y) = absurd (cc (d, y.absent))
 
-  -- a name whose definition says something is not reached from its definition
+  -- a name whose definition has a styled text isn't reached from its definition
   pub no_cycle_at : {name : List ℕ} (limit : ℕ) (definition : List Piece) (atoms : List Atom) (x : Evaluates definitions is_verbatim definition atoms)
       → definitions name ≡ Some definition → steps x < limit → Reaches definitions definition name → ⊥
   no_cycle_at zero definition atoms x d below reached = absurd (omega arith)
@@ -115,7 +115,7 @@ module _ {definitions : Definitions} {is_verbatim : Bool} where
       subst (λ pieces. AreRead is_verbatim pieces) same (text_read x.says)
   texts_by d (inr x) = absurd (cc (d, x.absent))
 
-  -- pieces that say something can be read
+  -- pieces with a styled text can be parsed
   pub readable : {field : List Piece} {atoms : List Atom} → Evaluates definitions is_verbatim field atoms → IsReadable definitions is_verbatim field
   readable x = record {
     known = λ name reached. known_by (reached_stands x reached);
@@ -124,20 +124,20 @@ module _ {definitions : Definitions} {is_verbatim : Bool} where
     inner_texts = λ name definition reached d. texts_by d (reached_stands x reached);
   }
 
--- a field reaches a name, and its definition reaches what these pieces hold
+-- a field reaches a defined name, and the definition reaches the names among these pieces
 pub record Leads (definitions : Definitions) (field : List Piece) (name : List ℕ) (pieces : List Piece) : Type 0 where
   pub definition : List Piece
   pub is : definitions name ≡ Some definition
   pub reached : Reaches definitions field name
   pub leads : (next : List ℕ) → HoldsName pieces next → Reaches definitions definition next
 
--- pieces that are met on a path of names, from the pieces of a field that can be read
+-- these pieces occur in the expansion of a field that can be parsed, while the names of `path` are being expanded
 pub record IsMet (definitions : Definitions) (is_verbatim : Bool) (field : List Piece) (path : List (List ℕ)) (pieces : List Piece) : Type 0 where
   pub names : (name : List ℕ) → HoldsName pieces name → Reaches definitions field name
   pub texts : AreRead is_verbatim pieces
   pub on_path : (name : List ℕ) → IsOnPath path name → Leads definitions field name pieces
 
--- a definition of a name that a field reaches leads on to what the definition holds
+-- the definition of a name leads to the names among its pieces
 leads_inside : {definitions : Definitions} {field rest definition : List Piece} (name met : List ℕ) (path : List (List ℕ)) → definitions met ≡ Some definition
     → Reaches definitions field met → ((other : List ℕ) → IsOnPath path other → Leads definitions field other rest) → HoldsName rest met
     → IsOnPath (met ∷ path) name → Leads definitions field name definition
@@ -189,17 +189,17 @@ module _ {definitions : Definitions} {is_verbatim : Bool} {field : List Piece} w
   no_error_met can met (first_error.inside off d error) = no_error_met can (met_inside can met d) error
   no_error_met can met (first_error.following x error) = no_error_met can (met_after met) error
 
-  -- a field with a first error can't be read
+  -- a field with a first error can't be parsed
   pub not_readable : {e : ParseError} → IsFirstError definitions is_verbatim [] field e → IsReadable definitions is_verbatim field → ⊥
   not_readable error can = no_error_met can (record { names = λ name held. reaches.held held; texts = can.texts; on_path = λ name on. absurd on }) error
 
--- what was read can be read
+-- a field whose parsing returned a value can be parsed
 pub read_is_readable : {T E : Type 0} (definitions : Definitions) (is_verbatim same_rule : Bool) (field : List Piece) (said : T → List Atom) (r : Result T E) → is_verbatim ≡ same_rule
     → IfOk r (λ x. Evaluates definitions is_verbatim field (said x)) → OnOk r (IsReadable definitions same_rule field)
 read_is_readable definitions is_verbatim same_rule field said (Ok x) same read = subst (λ v. IsReadable definitions v field) same (readable read)
 read_is_readable definitions is_verbatim same_rule field said (Err e) same read = tt
 
--- what was refused can't be read
+-- a field whose parsing returned another error than out of memory can't be parsed
 pub refused_not_readable : {T : Type 0} (definitions : Definitions) (is_verbatim same_rule : Bool) (field : List Piece) (r : Result T ParseError) → is_verbatim ≡ same_rule
     → IfErr r (λ e. (e ≡ out_of_memory) ⊎ IsFirstError definitions is_verbatim [] field e)
     → IfErr r (λ e. (e ≡ out_of_memory) ⊎ (IsFirstError definitions same_rule [] field e × (IsReadable definitions same_rule field → ⊥)))
@@ -208,7 +208,7 @@ refused_not_readable definitions is_verbatim same_rule field (Err e) same (inl m
 refused_not_readable definitions is_verbatim same_rule field (Err e) same (inr error) =
     let moved = subst (λ v. IsFirstError definitions v [] field e) same error in inr (moved, not_readable moved)
 
--- definitions that are the same at each name
+-- definitions that are equal for each name are equal
 pub definitions_same : {one two : Definitions} → ((name : List ℕ) → one name ≡ two name) → one ≡ two
 definitions_same same = λ i. λ name. same name i
 
@@ -223,16 +223,18 @@ given_among (e ∷ es) name =
       | false ↦ given_among es name
     ]
 
+-- the definitions of a sorted map are those of its pairs
 pub sorted_given : (m : BTreeMap (Bor (List ℕ)) (Bor (Vec (Spanned RawChunk)))) → sorted_in m ≡ given_by (pairs_in m)
 sorted_given m = definitions_same (given_among m.entries)
 
--- what was read with definitions that are the same, by a rule that is the same, and what was refused
+-- a result with equal definitions and an equal flag is the same
 pub read_same_rule : {T E : Type 0} (definitions same_definitions : Definitions) (is_verbatim same_rule : Bool) (field : List Piece) (said : T → List Atom) (r : Result T E)
     → definitions ≡ same_definitions → is_verbatim ≡ same_rule
     → IfOk r (λ x. Evaluates definitions is_verbatim field (said x)) → IfOk r (λ x. Evaluates same_definitions same_rule field (said x))
 read_same_rule definitions same_definitions is_verbatim same_rule field said r same rule read =
     subst (λ v. IfOk r (λ x. Evaluates same_definitions v field (said x))) rule (subst (λ d. IfOk r (λ x. Evaluates d is_verbatim field (said x))) same read)
 
+-- an error with equal definitions is the same
 pub refused_same_rule : {T : Type 0} (definitions same_definitions : Definitions) (is_verbatim : Bool) (field : List Piece) (r : Result T ParseError) → definitions ≡ same_definitions
     → IfErr r (λ e. (e ≡ out_of_memory) ⊎ IsFirstError definitions is_verbatim [] field e)
     → IfErr r (λ e. (e ≡ out_of_memory) ⊎ IsFirstError same_definitions is_verbatim [] field e)

@@ -1,4 +1,4 @@
--- How names are expanded, each once.
+-- The expansion of names, each once.
 use Rattle.std.proofs.Common.{◌≡◌, ℕ, suc, ◌+◌, ◌-◌, ◌<◌, ◌≤◌, Bool, true, false, List, [], ◌∷◌, ◌++◌, map, length, take, drop, refl, sym, ap, ap₂, ◌∙◌, subst, append_assoc, append-nil, inl, inr, arith, Option, Some, None, length-append, length-drop, get_or}
 use Rattle.std.specs.Prelude.{◌⊎◌, if◌then◌else◌, bytes_eq, is_some, min, ◌^◌}
 use Rattle.std.specs.BTreeMap as tree
@@ -20,27 +20,27 @@ use Rattle.bib_chunks.specs.Styled.{Atom, atoms_of, styled}
 use Rattle.bib_syntax.specs.declared.raw.ParseError.{ParseError}
 use Rattle.bib_syntax.specs.declared.raw.RawChunk.{RawChunk}
 use Rattle.bib_syntax.specs.declared.raw.RawChunk.TheVariants.{Normal as RawText}
-use Rattle.bib_abbreviations.specs.declared.resolve.abbreviations.Frame.{Frame}
-use Rattle.bib_abbreviations.specs.declared.resolve.abbreviations.Memo.{Memo}
-use Rattle.bib_abbreviations.specs.declared.resolve.definitions.Lookup.{Lookup}
-use Rattle.bib_abbreviations.specs.declared.resolve.definitions.Lookup.TheVariants.{Hashed, Sorted}
-use Rattle.bib_abbreviations.specs.declared.resolve.abbreviations.Progress.{Progress}
-use Rattle.bib_abbreviations.specs.declared.resolve.abbreviations.Progress.TheVariants.{Begun, Done}
+use Rattle.bib_abbreviations.specs.declared.abbreviations.Frame.{Frame}
+use Rattle.bib_abbreviations.specs.declared.abbreviations.Memo.{Memo}
+use Rattle.bib_abbreviations.specs.declared.definitions.Lookup.{Lookup}
+use Rattle.bib_abbreviations.specs.declared.definitions.Lookup.TheVariants.{Hashed, Sorted}
+use Rattle.bib_abbreviations.specs.declared.abbreviations.Progress.{Progress}
+use Rattle.bib_abbreviations.specs.declared.abbreviations.Progress.TheVariants.{Begun, Done}
 use Rattle.bib_contents.specs.ContentErrors.{ContentFails}
 use Rattle.bib_contents.specs.Contents.{IsContent, IsUnread, LiesBetween, StaysBetween}
 use Rattle.bib_contents.proofs.FailFacts.{fails_kind}
 use Rattle.bib_syntax.specs.declared.raw.ParseErrorKind.TheVariants.{OutOfMemory}
 use Rattle.bib_syntax.specs.Errors.{out_of_memory}
-use Rattle.bib_styled.specs.Joined.{AreJoined, ArePlaced}
+use Rattle.bib_chunks.specs.Joined.{AreJoined, ArePlaced}
 use Rattle.bib_syntax.specs.Reading.{Part, Piece}
 use Rattle.bib_syntax.specs.Reading.Piece.{literal, abbreviation}
 use Rattle.bib_abbreviations.specs.Abbreviations.{Definitions, month, Evaluates, IsOnPath, IsFirstError, LiesInPart, definition_among}
 use Rattle.bib_abbreviations.specs.Abbreviations.{Evaluates as evaluates, IsFirstError as first_error}
 use Rattle.bib_abbreviations.specs.Expanding.{found_in, progress, noted, chunks_between, AreWithin, IsValue, IsSound, Expands, Opens}
 use Rattle.bib_syntax.specs.Views.{piece_of, piece_at}
-use Rattle.bib_styled.proofs.JoinedFacts.{styled-append, placed_up}
+use Rattle.bib_chunks.proofs.JoinedFacts.{styled-append, placed_up}
 
--- a text that can't be read is no out of memory
+-- the error of a text that can't be parsed isn't out of memory
 no_memory : (e : ParseError) → IsUnread e.kind → e ≡ out_of_memory → ⊥
 no_memory e (inl eof) memory = let kind : e.kind ≡ OutOfMemory = ap (λ x. x.kind) memory in cc (eof, kind)
 no_memory e (inr brace) memory = let kind : e.kind ≡ OutOfMemory = ap (λ x. x.kind) memory in cc (brace, kind)
@@ -49,7 +49,7 @@ lies_in : (p : Part) (low high : ℕ) (e : ParseError) → IsUnread e.kind → p
 lies_in p low high e unread starts ends (inl memory) = absurd (no_memory e unread memory)
 lies_in p low high e unread starts ends (inr lies) = (omega (arith, starts, lies.0), lies.1, omega (arith, ends, lies.2))
 
--- the error of a text lies in the text's place
+-- the span of a literal's error lies in that of the literal
 stands_in : (p : Part) (text : List ℕ) (offset : ℕ) (e : ParseError) → p.text ≡ text → p.start ≡ offset → IsUnread e.kind
     → (offset + length text < 2 ^ 64 → StaysBetween offset (offset + length text) e) → LiesInPart p e
 stands_in p text offset e same starts unread within long fits =
@@ -61,7 +61,7 @@ module _ {definitions : Definitions} {is_verbatim : Bool} where
       → Evaluates definitions is_verbatim pieces same
   evaluates_as {pieces} is x = subst (λ a. Evaluates definitions is_verbatim pieces a) is x
 
-  -- pieces say what their parts say
+  -- the styled text of appended pieces
   pub evaluates_append : {first more : List Piece} {a : List Atom} (b : List Atom) → Evaluates definitions is_verbatim first a
       → Evaluates definitions is_verbatim more b → Evaluates definitions is_verbatim (first ++ more) (a ++ b)
   evaluates_append b evaluates.none y = y
@@ -72,7 +72,7 @@ module _ {definitions : Definitions} {is_verbatim : Bool} where
   evaluates_append b (evaluates.month_name {english = english} {more = rest'} d m rest) y =
       evaluates_as (sym (append_assoc (map Atom.normal (chars english)) rest' b)) (evaluates.month_name d m (evaluates_append b rest y))
 
-  -- an error after pieces that say something is the first of all
+  -- the first error after pieces with a styled text is the first of all
   pub error_after : {first more : List Piece} {a : List Atom} {path : List (List ℕ)} {e : ParseError} → Evaluates definitions is_verbatim first a
       → IsFirstError definitions is_verbatim path more e → IsFirstError definitions is_verbatim path (first ++ more) e
   error_after evaluates.none error = error
@@ -80,7 +80,7 @@ module _ {definitions : Definitions} {is_verbatim : Bool} where
   error_after (evaluates.defined d x rest) error = first_error.following (evaluates.defined d x evaluates.none) (error_after rest error)
   error_after (evaluates.month_name d m rest) error = first_error.following (evaluates.month_name d m evaluates.none) (error_after rest error)
 
-  -- a text that was read
+  -- a literal was expanded
   pub expands_text : {old new : List (Spanned Chunk)} {atoms : List Atom} (part : List (Spanned Chunk)) (p : Part) (text : List ℕ) → IsContent is_verbatim (chars text) atoms
       → styled part ≡ atoms → new ≡ old ++ part → p.text ≡ text → Expands definitions is_verbatim old new (literal p ∷ [])
   expands_text {atoms = atoms} part p text read says values same = record {
@@ -89,7 +89,7 @@ module _ {definitions : Definitions} {is_verbatim : Bool} where
     says = evaluates_as (append-nil atoms ∙ sym says) (evaluates.text (subst (λ t. IsContent is_verbatim (chars t) atoms) (sym same) read) evaluates.none);
   }
 
-  -- a month's name
+  -- the name of a month was expanded
   pub expands_month : {old new : List (Spanned Chunk)} {english : List ℕ} (p : Part) (chunk : Spanned Chunk) (text : List ℕ) → definitions p.text ≡ None
       → Some english ≡ month p.text → chunk.v ≡ Normal text → text ≡ english → new ≡ old ++ chunk ∷ [] → Expands definitions is_verbatim old new (abbreviation p ∷ [])
   expands_month {english = english} p chunk text d m is same values = record {
@@ -98,7 +98,7 @@ module _ {definitions : Definitions} {is_verbatim : Bool} where
     says = evaluates_as (ap (λ t. map Atom.normal (chars t) ++ []) (sym same) ∙ ap (λ v. atoms_of v ++ []) (sym is)) (evaluates.month_name d (sym m) evaluates.none);
   }
 
-  -- a name that was expanded before
+  -- a name that was expanded before was expanded again
   pub expands_again : {old new : List (Spanned Chunk)} {start end : ℕ} (more : List (Spanned Chunk)) (p : Part) → IsValue definitions is_verbatim old p.text start end
       → new ≡ old ++ more → styled more ≡ styled (chunks_between start end old) → Expands definitions is_verbatim old new (abbreviation p ∷ [])
   expands_again more p value values says = record {
@@ -122,7 +122,7 @@ abbrev pub names_of : List Frame → List (List ℕ)
 names_of [] = []
 names_of (frame ∷ frames) = frame.name.now ∷ names_of frames
 
--- frames that wait, each for the name of the one above; the topmost waits for a name whose chunks begin at a limit.
+-- frames that wait, each for the name of the one above. The topmost waits for `name`, whose chunks begin at `limit`.
 -- The lowest is the frame of the first name.
 pub data AreWaiting (definitions : Definitions) (is_verbatim : Bool) (chunks : List (Spanned Chunk)) (first : List ℕ) (base : ℕ) : List ℕ → ℕ → List Frame → Type 0 where
   none : {name : List ℕ} {limit : ℕ} → name ≡ first → limit ≡ base → AreWaiting definitions is_verbatim chunks first base name limit []
@@ -133,8 +133,8 @@ pub data AreWaiting (definitions : Definitions) (is_verbatim : Bool) (chunks : L
       → AreWaiting definitions is_verbatim chunks first base frame.name.now frame.start frames
       → AreWaiting definitions is_verbatim chunks first base name limit (frame ∷ frames)
 
--- a name is being expanded, and frames wait for it: the pieces of its definition that stand before those that are left
--- were said
+-- a name is being expanded, and frames wait for it: the pieces of its definition before those that are left were
+-- expanded
 pub record IsExpanding (definitions : Definitions) (is_verbatim : Bool) (base : List (Spanned Chunk)) (first : List ℕ) (memo : Memo) (frame : Frame) (frames : List Frame) : Type 0 where
   pub sound : IsSound definitions is_verbatim memo (frame.name.now ∷ names_of frames)
   pub more : List (Spanned Chunk)
@@ -146,7 +146,7 @@ pub record IsExpanding (definitions : Definitions) (is_verbatim : Bool) (base : 
   pub fresh : IsOnPath (names_of frames) frame.name.now → ⊥
   pub waiting : AreWaiting definitions is_verbatim memo.values.items first (length base) frame.name.now frame.start frames
 
--- chunks that stand before others
+-- chunks between two indices stay the same if more chunks are appended
 between_grows : (start end : ℕ) (chunks more : List (Spanned Chunk)) → start ≤ end → end ≤ length chunks
     → chunks_between start end (chunks ++ more) ≡ chunks_between start end chunks
 between_grows start end chunks more ordered within =
@@ -193,7 +193,7 @@ after_first : {name other : List ℕ} (path : List (List ℕ)) → (name ≡ oth
 after_first path apart (inl same) = absurd (apart same)
 after_first path apart (inr on) = on
 
--- what is noted of a name, where that of one changed
+-- the state of a name after that of one name changed
 abbrev IsNoted : List ℕ → List ℕ → Progress → (List ℕ → Option Progress) → (List ℕ → Option Progress) → Type 0
 IsNoted name other now new old = ((name ≡ other) × (new other ≡ Some now)) ⊎ ((new other ≡ old other) × (name ≡ other → ⊥))
 
@@ -312,7 +312,7 @@ module _ {definitions : Definitions} {is_verbatim : Bool} where
     waiting = AreWaiting.none refl start;
   }
 
-  -- an element was said
+  -- a piece was expanded
   pub expanding_said : {base : List (Spanned Chunk)} {first : List ℕ} {memo : Memo} {frame : Frame} {frames : List Frame} (new : Memo)
       (piece : Spanned RawChunk) (rest : Bor (List (Spanned RawChunk))) → IsExpanding definitions is_verbatim base first memo frame frames
       → frame.rest.now ≡ piece ∷ rest.now → Expands definitions is_verbatim memo.values.items new.values.items (piece_of piece ∷ []) → new.names ≡ memo.names
@@ -333,7 +333,7 @@ module _ {definitions : Definitions} {is_verbatim : Bool} where
     waiting = waiting_grows new.values.items said.more said.values x.start x.waiting;
   }
 
-  -- the expansion of a name begins, and the frame of the one that it was met in waits
+  -- the expansion of a name begins, and the frame in which it occurred waits
   pub expanding_opened : {base : List (Spanned Chunk)} {first : List ℕ} {memo : Memo} {frame : Frame} {frames : List Frame} (new : Memo)
       (piece : Spanned RawChunk) (rest : Bor (List (Spanned RawChunk))) (p : Part) (opened : Frame) → IsExpanding definitions is_verbatim base first memo frame frames
       → frame.rest.now ≡ piece ∷ rest.now → piece_of piece ≡ abbreviation p → Opens definitions memo new p.text opened
@@ -363,12 +363,12 @@ module _ {definitions : Definitions} {is_verbatim : Bool} where
             (subst (λ chunks. AreWaiting definitions is_verbatim chunks first (length base) p.text (length memo.values.items) all) (sym same) waiting));
       }
 
-  -- where no element is left, all were said
+  -- if no piece is left, all were expanded
   said_all : {base : List (Spanned Chunk)} {first : List ℕ} {memo : Memo} {frame : Frame} {frames : List Frame}
       (x : IsExpanding definitions is_verbatim base first memo frame frames) → frame.rest.now ≡ [] → definitions frame.name.now ≡ Some x.said
   said_all x ends = x.is ∙ ap (λ pieces. Some (x.said ++ map piece_of pieces)) ends ∙ ap Some (append-nil x.said)
 
-  -- a name was expanded: its chunks are what its definition says
+  -- a name was expanded: its chunks have the styled text of its definition
   value_of : {base : List (Spanned Chunk)} {first : List ℕ} {memo : Memo} {frame : Frame} {frames : List Frame}
       → IsExpanding definitions is_verbatim base first memo frame frames → frame.rest.now ≡ []
       → IsValue definitions is_verbatim memo.values.items frame.name.now frame.start (length memo.values.items)
@@ -454,7 +454,7 @@ module _ {definitions : Definitions} {is_verbatim : Bool} where
       (error_after says (first_error.inside (λ on. fresh (subst (λ n. IsOnPath path n) same on)) (ap definitions same ∙ defined)
       (subst (λ n. IsFirstError definitions is_verbatim (n ∷ path) definition e) (sym same) error)))
 
-  -- an error of an element is the first error of all
+  -- the error of a piece is the first error of all
   pub expanding_error : {base : List (Spanned Chunk)} {first : List ℕ} {memo : Memo} {frame : Frame} {frames : List Frame} {whole : List Piece} {e : ParseError}
       (piece : Spanned RawChunk) (rest : List (Spanned RawChunk)) → IsExpanding definitions is_verbatim base first memo frame frames
       → frame.rest.now ≡ piece ∷ rest → definitions first ≡ Some whole
@@ -463,13 +463,13 @@ module _ {definitions : Definitions} {is_verbatim : Bool} where
   expanding_error {frame = frame} piece rest x split d error =
       error_first (x.said ++ map piece_of (piece ∷ rest)) d x.waiting (x.is ∙ ap (λ pieces. Some (x.said ++ map piece_of pieces)) split) x.fresh (error_after x.says error)
 
-  -- the chunks of the names that were expanded stand in the memo
+  -- the chunks of expanded names are in the memo
   pub sound_within : {path : List (List ℕ)} {memo : Memo} → IsSound definitions is_verbatim memo path → AreWithin memo
   sound_within sound name start end is = let value = sound.done name start end is in (value.ordered, value.within)
 
 -- ---- how much is left
 
--- the elements that frames have left, and one for each frame
+-- the number of pieces that frames have left, and one for each frame
 abbrev pub weight : List Frame → ℕ
 weight [] = 0
 weight (frame ∷ frames) = suc (length frame.rest.now) + weight frames
@@ -482,22 +482,22 @@ abbrev pub entries_of : Lookup → Entries
 entries_of (Hashed m) = m.now.entries
 entries_of (Sorted m) = m.now.entries
 
--- what is looked up stands among the entries
+-- a look-up finds the definition among the entries
 pub found_among : (l : Lookup) (name : List ℕ) → found_in l name ≡ definition_among (entries_of l) name
 found_among (Hashed m) name = refl
 found_among (Sorted m) name = refl
 
--- a sorted map's query is a test of the bytes
+-- the query of a sorted map is a test of bytes
 pub lookup_sorted : (name : List ℕ) (es : Entries) → lookup (tree.is_at (λ key. slice_cmp nat_cmp name key.now)) es ≡ lookup (λ key. bytes_eq name key.now) es
 lookup_sorted name [] = refl
 lookup_sorted name (e ∷ es) = ap₂ (λ b found. if b then Some e.1 else found) (is_eq-slice_cmp name e.0.now) (lookup_sorted name es)
 
--- the elements of the definitions that were not met, and one for each
+-- the number of pieces in the definitions that don't occur in the memo, and one for each of these
 abbrev pub unmet : (List ℕ → Bool) → Entries → ℕ
 unmet is_met [] = 0
 unmet is_met (e ∷ es) = (if is_met e.0.now then 0 else suc (length e.1.now.items)) + unmet is_met es
 
--- the names that a memo has
+-- whether a name is in the memo
 abbrev pub met_in : Memo → List ℕ → Bool
 met_in memo name = is_some (progress memo name)
 
@@ -507,12 +507,13 @@ one_less false true n keeps = omega arith
 one_less false false n keeps = omega arith
 one_less true false n keeps = absurd (false≢true (keeps refl))
 
+-- the number of pieces left does not rise when more names occur
 pub unmet_falls : (before after : List ℕ → Bool) → ((q : List ℕ) → before q ≡ true → after q ≡ true) → (es : Entries) → unmet after es ≤ unmet before es
 unmet_falls before after keeps [] = omega arith
 unmet_falls before after keeps (e ∷ es) =
     omega (arith, one_less (before e.0.now) (after e.0.now) (suc (length e.1.now.items)) (keeps e.0.now), unmet_falls before after keeps es)
 
--- what a map of definitions gives stands for one of its fields
+-- a found definition is that of a field of the map
 field_of_entry : (found : Option (Bor (Vec (Spanned RawChunk)))) (pieces : List Piece) → option_map (λ f. map piece_of f.now.items) found ≡ Some pieces
     → (field : Bor (Vec (Spanned RawChunk))) × (found ≡ Some field) × (map piece_of field.now.items ≡ pieces)
 field_of_entry None pieces is = absurd (cc is)
@@ -553,14 +554,14 @@ now_met : {name : List ℕ} {now : Progress} (new old : Memo) → IsNoted name n
 now_met new old (inl x) = ap is_some x.1
 now_met new old (inr x) = absurd (x.1 refl)
 
--- an element less is left once it was said
+-- less is left after a piece was expanded
 pub less_said : (l : Lookup) (new old : Memo) (left : List (Spanned RawChunk)) (piece : Spanned RawChunk)
     (rest : List (Spanned RawChunk)) (frames : List Frame) → new.names ≡ old.names → left ≡ piece ∷ rest
     → suc (length rest) + weight frames + unmet (met_in new) (entries_of l) < suc (length left) + weight frames + unmet (met_in old) (entries_of l)
 less_said l new old left piece rest frames names split =
     omega (arith, ap length split, unmet_falls (met_in old) (met_in new) (met_same new old names) (entries_of l))
 
--- less is left once the expansion of a name begins
+-- less is left after the expansion of a name begins
 pub less_opened : (l : Lookup) (new old : Memo) (left : List (Spanned RawChunk)) (piece : Spanned RawChunk)
     (frame opened : Frame) (frames waiting : List Frame) (name : List ℕ) → Opens (found_in l) old new name opened → left ≡ piece ∷ frame.rest.now → waiting ≡ frame ∷ frames
     → suc (length opened.rest.now) + weight waiting + unmet (met_in new) (entries_of l) < suc (length left) + weight frames + unmet (met_in old) (entries_of l)
@@ -575,7 +576,7 @@ less_opened l new old left piece frame opened frames waiting name opens split wa
     = sym (length-map field.0.now.items piece_of) ∙ ap length field.2 ∙ length-map opened.rest.now piece_of in
     omega (arith, ap length split, ap weight waits, less, many)
 
--- less is left once the expansion of a name ends
+-- less is left after the expansion of a name ends
 pub less_closed : (l : Lookup) (new old : Memo) (left : List (Spanned RawChunk))
     (below : Frame) (frames waiting : List Frame) (name : List ℕ) (now : Progress) → waiting ≡ below ∷ frames → ((other : List ℕ) → progress new other ≡ noted name now (progress old) other)
     → suc (length below.rest.now) + weight frames + unmet (met_in new) (entries_of l) < suc (length left) + weight waiting + unmet (met_in old) (entries_of l)
@@ -583,7 +584,7 @@ less_closed l new old left below frames waiting name now waits names =
     let keeps = λ (q : List ℕ) (met : met_in old q ≡ true). met_noted {name = name} {now = now} new old met (noted_cases name q now (progress new) (progress old) names) in
     omega (arith, ap weight waits, unmet_falls (met_in old) (met_in new) keeps (entries_of l))
 
--- an error of an element, or out of memory, is that of the first name
+-- the error of a piece, or out of memory, is the error of the first name
 pub expanding_refused : {definitions : Definitions} {is_verbatim : Bool} {base : List (Spanned Chunk)} {first : List ℕ} {memo : Memo} {frame : Frame} {frames : List Frame}
     {whole : List Piece} (e : ParseError) (piece : Spanned RawChunk) (rest : List (Spanned RawChunk)) → IsExpanding definitions is_verbatim base first memo frame frames
     → frame.rest.now ≡ piece ∷ rest → definitions first ≡ Some whole
@@ -601,13 +602,13 @@ module _ {definitions : Definitions} {is_verbatim : Bool} where
     on_path = λ name on. absurd on;
   }
 
-  -- the frame of a name that a field holds
+  -- the memo is right after the frame of a name in a field was opened
   pub opened_sound : {old : Memo} (new : Memo) (name : List ℕ) (frame : Frame) → IsSound definitions is_verbatim old [] → Opens definitions old new name frame
       → IsSound definitions is_verbatim new (frame.name.now ∷ [])
   opened_sound new name frame sound opens =
       subst (λ n. IsSound definitions is_verbatim new (n ∷ [])) (sym opens.named) (sound_open new name opens.fresh opens.values opens.names sound)
 
-  -- it says what its definition says
+  -- a name has the styled text of its definition
   pub expands_opened : {old : Memo} (mid new : Memo) (p : Part) (frame : Frame) → Opens definitions old mid p.text frame
       → Expands definitions is_verbatim mid.values.items new.values.items (map piece_of frame.rest.now)
       → Expands definitions is_verbatim old.values.items new.values.items (abbreviation p ∷ [])
@@ -617,7 +618,7 @@ module _ {definitions : Definitions} {is_verbatim : Bool} where
     says = evaluates_as (append-nil (styled x.more)) (evaluates.defined opens.is x.says evaluates.none);
   }
 
-  -- what stands after the chunks of before
+  -- the appended chunks are those after the old ones
   pub said_after : {old new : List (Spanned Chunk)} {pieces : List Piece} (x : Expands definitions is_verbatim old new pieces) (start : ℕ) (shown : List (Spanned Chunk))
       → start ≡ length old → shown ≡ new → chunks_between start (length shown) shown ≡ x.more
   said_after {old} x start shown at same = between_all start shown ∙ ap (λ n. drop n shown) at ∙ ap (drop (length old)) (same ∙ x.values) ∙ all_after old x.more
@@ -629,14 +630,16 @@ module _ {definitions : Definitions} {is_verbatim : Bool} where
   error_opened mid p frame e opens (inr error) =
       inr (λ rest. first_error.inside (λ on. on) opens.is (subst (λ n. IsFirstError definitions is_verbatim (n ∷ []) (map piece_of frame.rest.now) e) opens.named error))
 
+-- the frame of an opened name has the pieces of its definition
 pub opened_defined : {definitions : Definitions} {old : Memo} (new : Memo) (name : List ℕ) (frame : Frame) → Opens definitions old new name frame
     → definitions frame.name.now ≡ Some (map piece_of frame.rest.now)
 opened_defined {definitions} new name frame opens = ap definitions opens.named ∙ opens.is
 
+-- the frame of an opened name begins at the end of the chunks
 pub opened_start : {definitions : Definitions} {old : Memo} (new : Memo) (name : List ℕ) (frame : Frame) → Opens definitions old new name frame → frame.start ≡ length new.values.items
 opened_start new name frame opens = opens.start ∙ ap (λ (v : Vec (Spanned Chunk)). length v.items) (sym opens.values)
 
--- what was read of the elements of a field
+-- the pieces of a field were parsed as these chunks
 pub record IsRead (definitions : Definitions) (is_verbatim : Bool) (pieces : List Piece) (out : List (Spanned Chunk)) : Type 0 where
   pub said : Evaluates definitions is_verbatim pieces (styled out)
   pub joined : AreJoined out
@@ -656,7 +659,7 @@ module _ {definitions : Definitions} {is_verbatim : Bool} where
   pub read_none : IsRead definitions is_verbatim [] []
   read_none = record { said = evaluates.none; joined = tt; empty = λ none. refl; placed = λ p is long. absurd (no_pieces p is) }
 
-  -- one element more
+  -- one more piece was parsed
   pub read_more : {pieces : List Piece} {old new : List (Spanned Chunk)} {atoms : List Atom} (piece : Piece) → IsRead definitions is_verbatim pieces old
       → Evaluates definitions is_verbatim (piece ∷ []) atoms → styled new ≡ styled old ++ atoms → (AreJoined old → AreJoined new)
       → ((p : Part) → piece ≡ literal p → p.end ≡ p.start + length p.text → (low : ℕ) → ArePlaced low p.start old → ArePlaced low p.end new)
@@ -670,7 +673,7 @@ module _ {definitions : Definitions} {is_verbatim : Bool} where
         places p one.1 long p.start (subst (λ c. ArePlaced p.start p.start c) (sym (x.empty one.0)) (omega arith));
   }
 
-  -- an error of an element is that of the field
+  -- the error of a piece is that of the field
   pub read_refused : {pieces : List Piece} {out : List (Spanned Chunk)} (whole : List Piece) (piece : Piece) (rest : List Piece) (e : ParseError)
       → IsRead definitions is_verbatim pieces out → whole ≡ pieces ++ piece ∷ rest
       → (e ≡ out_of_memory) ⊎ ((more : List Piece) → IsFirstError definitions is_verbatim [] (piece ∷ more) e)
@@ -679,7 +682,7 @@ module _ {definitions : Definitions} {is_verbatim : Bool} where
   read_refused whole piece rest e x is (inr error) =
       inr (subst (λ pieces. IsFirstError definitions is_verbatim [] pieces e) (sym is) (error_after x.said (error rest)))
 
--- a text of a field
+-- the literal of a piece of a field
 pub text_piece : (piece : Spanned RawChunk) (text : Bor (List ℕ)) → piece.v ≡ RawText text
     → piece_of piece ≡ literal (record { text = text.now; start = piece.span.start; end = piece.span.end })
 text_piece piece text is = ap (piece_at piece.span.start piece.span.end) is
@@ -701,7 +704,7 @@ module _ {definitions : Definitions} {is_verbatim : Bool} where
       inr (λ rest. subst (λ one. IsFirstError definitions is_verbatim [] (one ∷ rest) e) (sym (text_piece piece text is))
       (first_error.unread fails stands))
 
--- the chunks of a text whose span is as long as the text
+-- the chunks of a literal whose span is as long as its text
 pub text_placed : (old new : List (Spanned Chunk)) (piece : Spanned RawChunk) (text : Bor (List ℕ)) (p : Part) (low : ℕ) → piece.v ≡ RawText text
     → piece_of piece ≡ literal p → p.end ≡ p.start + length p.text
     → (ArePlaced low piece.span.start old → ArePlaced low (min (piece.span.start + length text.now) (2 ^ 64 - 1)) new)
@@ -726,7 +729,7 @@ pieces_at items i d within =
     ∙ ap (λ pieces. pieces ++ map piece_of (drop (i + 1) items)) (pieces_more items i d within) ∙ append_assoc before (piece ∷ []) (map piece_of (drop (i + 1) items))
 
 module _ {definitions : Definitions} {is_verbatim : Bool} where
-  -- one element more of a field
+  -- a step of the loop: one more piece was parsed
   pub read_step : {old new : List (Spanned Chunk)} {atoms : List Atom} (items shown : List (Spanned RawChunk)) (i : ℕ) (d : Spanned RawChunk) → shown ≡ items
       → i < length shown → IsRead definitions is_verbatim (map piece_of (take i items)) old
       → Evaluates definitions is_verbatim (piece_of (get_or shown i d) ∷ []) atoms → styled new ≡ styled old ++ atoms → (AreJoined old → AreJoined new)

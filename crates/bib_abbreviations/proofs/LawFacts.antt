@@ -1,4 +1,4 @@
--- Pieces say one styled text at most, and have one first error at most.
+-- Pieces have at most one styled text, and at most one first error.
 use Rattle.std.proofs.Common.{◌≡◌, ℕ, List, [], ◌∷◌, ◌++◌, Bool, refl, sym, ap, ◌∙◌, subst, inl, inr, Some}
 use Rattle.std.specs.Str.{chars}
 use Rattle.std.specs.Prelude.{map}
@@ -13,7 +13,7 @@ use Rattle.bib_contents.proofs.ContentFacts.{read_same}
 use Rattle.bib_contents.proofs.FailFacts.{fails_kind, fails_stuck, kind_same}
 
 module _ {definitions : Definitions} {is_verbatim : Bool} where
-  -- what pieces say is one styled text
+  -- pieces have at most one styled text
   pub evaluates_same : {pieces : List Piece} {a b : List Atom} → Evaluates definitions is_verbatim pieces a → Evaluates definitions is_verbatim pieces b → a ≡ b
   evaluates_same evaluates.none evaluates.none = refl
   evaluates_same (evaluates.text {more = more} x rest) (evaluates.text {first = first} y rest') =
@@ -27,20 +27,20 @@ module _ {definitions : Definitions} {is_verbatim : Bool} where
       let same : english ≡ other = cc (m, m') in
       ap (λ e. map Atom.normal (chars e) ++ more) same ∙ ap (λ l. map Atom.normal (chars other) ++ l) (evaluates_same rest rest')
 
--- a name is defined, and its definition reaches what these pieces hold
+-- a name is defined, and its definition reaches the names among these pieces
 pub record LeadsOn (definitions : Definitions) (name : List ℕ) (pieces : List Piece) : Type 0 where
   pub definition : List Piece
   pub is : definitions name ≡ Some definition
   pub leads : (next : List ℕ) → HoldsName pieces next → Reaches definitions definition next
 
--- so does each name on a path
+-- the same for each name on a path
 pub record AllLeadOn (definitions : Definitions) (path : List (List ℕ)) (pieces : List Piece) : Type 0 where
   pub on : (name : List ℕ) → IsOnPath path name → LeadsOn definitions name pieces
 
 pub none_lead_on : {definitions : Definitions} {pieces : List Piece} → AllLeadOn definitions [] pieces
 none_lead_on = record { on = λ name on. absurd on }
 
--- what a name by itself holds, it holds before others
+-- a name that occurs in one piece occurs in it and others
 held_first : (p : Part) (rest : List Piece) (next : List ℕ) → HoldsName (abbreviation p ∷ []) next → HoldsName (abbreviation p ∷ rest) next
 held_first p rest next (inl same) = inl same
 held_first p rest next (inr held) = absurd held
@@ -64,21 +64,21 @@ module _ {definitions : Definitions} where
       → AllLeadOn definitions path (abbreviation p ∷ rest) → AllLeadOn definitions (p.text ∷ path) definition
   leads_inside d lead = record { on = λ name on. leads_at name d lead on }
 
-  -- a name by itself
+  -- the same for the first piece only
   leads_first : {path : List (List ℕ)} {p : Part} {rest : List Piece} → AllLeadOn definitions path (abbreviation p ∷ rest) → AllLeadOn definitions path (abbreviation p ∷ [])
   leads_first {p = p} {rest = rest} lead = record {
     on = λ name on. let l = lead.on name on in record { definition = l.definition; is = l.is; leads = λ next held. l.leads next (held_first p rest next held) };
   }
 
 module _ {definitions : Definitions} {is_verbatim : Bool} where
-  -- a name that is being expanded says nothing
+  -- a name that is being expanded has no styled text
   no_cycle_said : {path : List (List ℕ)} {p : Part} {rest : List Piece} {atoms : List Atom} → AllLeadOn definitions path (abbreviation p ∷ rest) → IsOnPath path p.text
       → Evaluates definitions is_verbatim (abbreviation p ∷ []) atoms → ⊥
   no_cycle_said {p = p} lead on x =
       let l = lead.on p.text on in
       (readable x).no_cycle p.text l.definition (reaches.held (inl refl)) l.is (l.leads p.text (inl refl))
 
-  -- what the first of some pieces says
+  -- the first of pieces with a styled text has one
   said_first : {p : Part} {rest : List Piece} {atoms : List Atom} → Evaluates definitions is_verbatim (abbreviation p ∷ rest) atoms
       → (first : List Atom) × Evaluates definitions is_verbatim (abbreviation p ∷ []) first
   said_first (evaluates.defined d x rest) = (_, evaluates.defined d x evaluates.none)
@@ -90,7 +90,7 @@ module _ {definitions : Definitions} {is_verbatim : Bool} where
   said_rest (evaluates.defined d x rest) = (_, rest)
   said_rest (evaluates.month_name absent m rest) = (_, rest)
 
-  -- pieces with an error say nothing
+  -- pieces with a first error have no styled text
   pub error_not_said : {path : List (List ℕ)} {pieces : List Piece} {e : ParseError} {atoms : List Atom} → IsFirstError definitions is_verbatim path pieces e
       → AllLeadOn definitions path pieces → Evaluates definitions is_verbatim pieces atoms → ⊥
   error_not_said (first_error.unread fails lies) lead (evaluates.text x rest) = fails_stuck fails _ x
@@ -103,7 +103,7 @@ module _ {definitions : Definitions} {is_verbatim : Bool} where
   error_not_said (first_error.inside off d error) lead (evaluates.month_name absent m rest) = cc (d, absent)
   error_not_said (first_error.following {piece = piece} x error) lead says = error_not_said error (leads_after piece lead) (said_rest says).1
 
-  -- the first error is one
+  -- pieces have at most one first error
   error_same : {path : List (List ℕ)} {pieces : List Piece} {e f : ParseError} → AllLeadOn definitions path pieces
       → IsFirstError definitions is_verbatim path pieces e → IsFirstError definitions is_verbatim path pieces f → AreOneError e f
   error_same lead (first_error.unread fails lies) (first_error.unread fails' lies') = inr (fails_kind fails, kind_same fails fails')

@@ -1,6 +1,6 @@
 -- Meaning: words of public contracts.
--- Abbreviations: what a field says once each name in it is replaced by its definition. Names and texts are given by
--- their bytes.
+-- Abbreviations: the styled text of a field in which each name is replaced by its definition. Names and texts are lists
+-- of their bytes.
 use Rattle.std.specs.Prelude.{◌≡◌, ◌+◌, ◌<◌, ◌^◌, ℕ, Bool, List, [], ◌∷◌, ◌++◌, length, map, ◌⊎◌, ◌||◌, Option, Some, None, is_some, codes, if◌then◌else◌, bytes_eq}
 use Rattle.std.specs.Option.{option_map}
 use Rattle.std.specs.Borrow.{Bor}
@@ -43,38 +43,38 @@ month name =
     else if is_word name (codes "dec") then Some (codes "December")
     else None
 
--- a name stands among these pieces
+-- a name occurs among these pieces
 abbrev pub HoldsName : List Piece → List ℕ → Type 0
 HoldsName [] name = ⊥
 HoldsName (literal p ∷ rest) name = HoldsName rest name
 HoldsName (abbreviation p ∷ rest) name = (p.text ≡ name) ⊎ HoldsName rest name
 
--- a text stands among these pieces
+-- a text is that of a literal among these pieces
 abbrev pub HoldsText : List Piece → List ℕ → Type 0
 HoldsText [] text = ⊥
 HoldsText (literal p ∷ rest) text = (p.text ≡ text) ⊎ HoldsText rest text
 HoldsText (abbreviation p ∷ rest) text = HoldsText rest text
 
--- a field reaches the names in it, and those that the definitions of reached names hold
+-- a field reaches the names in it, and those in the definitions of reached names
 pub data Reaches (definitions : Definitions) (field : List Piece) : List ℕ → Type 0 where
   held : {name : List ℕ} → HoldsName field name → Reaches definitions field name
   through : {name next : List ℕ} {definition : List Piece} → Reaches definitions field name
       → definitions name ≡ Some definition → HoldsName definition next → Reaches definitions field next
 
--- a name stands for something: it is defined, or the start of a month
+-- a name is defined, or the first three letters of a month
 abbrev pub IsKnown : Definitions → List ℕ → Type 0
 IsKnown definitions name = ((definition : List Piece) × (definitions name ≡ Some definition)) ⊎ ((english : List ℕ) × (month name ≡ Some english))
 
--- whether a name stands for something
+-- whether a name is defined, or the first three letters of a month
 abbrev pub is_known : Definitions → List ℕ → Bool
 is_known definitions name = is_some (definitions name) || is_some (month name)
 
--- each text among these pieces is read
+-- the text of each literal among these pieces can be parsed
 abbrev pub AreRead : Bool → List Piece → Type 0
 AreRead is_verbatim pieces = (text : List ℕ) → HoldsText pieces text → (atoms : List Atom) × IsContent is_verbatim (chars text) atoms
 
--- a field can be read: each name that it reaches is known, none reaches itself, and each text in it and in the
--- definitions of the names that it reaches is read
+-- a field can be parsed. Each name that it reaches is known, and none of them reaches itself. The literals in the field
+-- and in the definitions of the names that it reaches can be parsed.
 pub record IsReadable (definitions : Definitions) (is_verbatim : Bool) (field : List Piece) : Type 0 where
   pub known : (name : List ℕ) → Reaches definitions field name → IsKnown definitions name
   pub no_cycle : (name : List ℕ) (definition : List Piece) → Reaches definitions field name → definitions name ≡ Some definition
@@ -83,8 +83,8 @@ pub record IsReadable (definitions : Definitions) (is_verbatim : Bool) (field : 
   pub inner_texts : (name : List ℕ) (definition : List Piece) → Reaches definitions field name → definitions name ≡ Some definition
       → AreRead is_verbatim definition
 
--- what pieces say: a text what is read in it by itself, a name what its definition says, and where it has none, the
--- month's name
+-- the styled text of pieces. A literal has the contents of its text. A name has the styled text of its definition or,
+-- if it has none, the name of a month as normal text.
 pub data Evaluates (definitions : Definitions) (is_verbatim : Bool) : List Piece → List Atom → Type 0 where
   none : Evaluates definitions is_verbatim [] []
   text : {p : Part} {rest : List Piece} {first more : List Atom} → IsContent is_verbatim (chars p.text) first
@@ -96,22 +96,22 @@ pub data Evaluates (definitions : Definitions) (is_verbatim : Bool) : List Piece
       → Evaluates definitions is_verbatim rest more
       → Evaluates definitions is_verbatim (abbreviation p ∷ rest) (map Atom.normal (chars english) ++ more)
 
--- the name is among those that are being expanded
+-- a name is among those that are being expanded
 abbrev pub IsOnPath : List (List ℕ) → List ℕ → Type 0
 IsOnPath [] name = ⊥
 IsOnPath (one ∷ path) name = (one ≡ name) ⊎ IsOnPath path name
 
--- the error with this kind, at the place of a name
+-- the error with this kind and the span of a piece
 abbrev pub error_at : Part → ParseErrorKind → ParseError
 error_at p kind = record { span = record { start = p.start; end = p.end }; kind = kind }
 
--- an error of a text lies in the text's place, where that is as long as the text (and places are numbers of 64 bits)
+-- the span of an error lies in that of a literal, if this is as long as its text and its end is below 2^64
 abbrev pub LiesInPart : Part → ParseError → Type 0
 LiesInPart p e = p.end ≡ p.start + length p.text → p.end < 2 ^ 64 → LiesBetween p.start p.end e
 
--- the first error of pieces, from left to right and into definitions as they are met, while the names of a path are
--- being expanded. It is the error of a literal that can't be parsed, of an unknown name or of a name that is being expanded.
--- The error of a literal has the kind that its text fails with
+-- the first error of pieces, from left to right and into definitions where their names occur; `path` is the names that
+-- are being expanded. It is the error of a literal that can't be parsed, of an unknown name or of a name in `path`. The
+-- error of a literal has the kind with which its text fails.
 pub data IsFirstError (definitions : Definitions) (is_verbatim : Bool) : List (List ℕ) → List Piece → ParseError → Type 0 where
   unread : {path : List (List ℕ)} {p : Part} {rest : List Piece} {e : ParseError}
       → ContentFails is_verbatim 0 (chars p.text) e.kind → LiesInPart p e
@@ -127,25 +127,26 @@ pub data IsFirstError (definitions : Definitions) (is_verbatim : Bool) : List (L
       → Evaluates definitions is_verbatim (piece ∷ []) atoms → IsFirstError definitions is_verbatim path rest e
       → IsFirstError definitions is_verbatim path (piece ∷ rest) e
 
--- two errors agree: they have the same kind and the same span. For a literal that can't be parsed, only the span is left open
+-- two errors agree: they are equal, or both are of a literal that can't be parsed and have the same kind
 abbrev pub AreOneError : ParseError → ParseError → Type 0
 AreOneError e f = (e ≡ f) ⊎ (IsUnread e.kind × (e.kind ≡ f.kind))
 
--- the definition of a name among pairs of a name and a field
+-- the definition of a name among pairs of a name and a field: that of the first pair with the name
 abbrev pub definition_among : List (Bor (List ℕ) × Bor (Vec (Spanned RawChunk))) → Definitions
 definition_among pairs name = option_map (λ field. map piece_of field.now.items) (lookup (λ key. bytes_eq name key.now) pairs)
 
--- the definitions that a map holds, and those that a sorted one holds
+-- the definitions in a hash map
 abbrev pub defined_in : {S : Type 0} → HashMap (Bor (List ℕ)) (Bor (Vec (Spanned RawChunk))) S → Definitions
 defined_in m = definition_among m.entries
 
+-- the definitions in a sorted map
 abbrev pub sorted_in : BTreeMap (Bor (List ℕ)) (Bor (Vec (Spanned RawChunk))) → Definitions
 sorted_in m = definition_among m.entries
 
--- the names that a sorted map defines, with what stands for them
+-- the names in a sorted map, with their definitions
 abbrev pub pairs_in : BTreeMap (Bor (List ℕ)) (Bor (Vec (Spanned RawChunk))) → List (List ℕ × List Piece)
 pairs_in m = map (λ e. (e.0.now, map piece_of e.1.now.items)) m.entries
 
--- the definitions that these pairs give
+-- the definitions in these pairs: that of the first pair with a name
 abbrev pub given_by : List (List ℕ × List Piece) → Definitions
 given_by pairs name = lookup (bytes_eq name) pairs

@@ -1,4 +1,5 @@
-//! Laws of abbreviations. These functions do nothing: what they ensure is proved of the definitions alone.
+//! Laws of abbreviations. The functions have empty bodies: each contract is a theorem about the definitions that it
+//! names.
 
 ghost use Rattle.std.specs.Prelude.{◌≡◌, Bool, List, []};
 ghost use Rattle.bib_chunks.specs.Styled.{Atom};
@@ -6,15 +7,15 @@ ghost use Rattle.bib_abbreviations.specs.Abbreviations.{AreOneError, Definitions
 ghost use Rattle.bib_syntax.specs.Reading.{Piece};
 ghost use Rattle.bib_syntax.specs.declared.raw.ParseError.{ParseError};
 
-/// Elements say at most one styled text, whatever the abbreviations in them.
+/// States that pieces have at most one styled text, whatever the abbreviations in them.
 pub fn one_value()
     ensures { (definitions : Definitions) (is_verbatim : Bool) (pieces : List Piece)
         (first second : List Atom) → Evaluates definitions is_verbatim pieces first →
         Evaluates definitions is_verbatim pieces second → first ≡ second }
 {}
 
-/// Pieces that evaluate to a styled text have no first error, and others have at most one: one kind and, for a name, one
-/// span. For a literal that can't be parsed, only the span is left open.
+/// States that pieces with a styled text have no first error, and that other pieces have at most one. It is one in its
+/// kind and, for a name, in its span. For a literal that can't be parsed, only the kind is determined.
 pub fn one_error()
     ensures none { (definitions : Definitions) (is_verbatim : Bool) (pieces : List Piece)
         (atoms : List Atom) (e : ParseError) → Evaluates definitions is_verbatim pieces atoms →

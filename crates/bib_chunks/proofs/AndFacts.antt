@@ -1,4 +1,4 @@
--- Facts on the word `and` in a text.
+-- Facts about the word `and` in a text.
 use Rattle.std.proofs.Common.{◌≡◌, ℕ, ◌+◌, ◌-◌, ◌<◌, Bool, true, false, ◌&&◌, cond, List, [], ◌∷◌, ◌++◌, length, get_or, take, drop, refl, sym, ap, ◌∙◌, arith, append_assoc, nat_eq, length-drop, ⊎_elim}
 use Rattle.std.specs.Prelude.{◌==◌, codes, encode_utf8_all}
 use lib.Utf8.{encode}
@@ -14,11 +14,12 @@ use Rattle.bib_chunks.specs.Cuts.{begins_with_space, is_and, prepend, between_an
 use Rattle.bib_chunks.specs.Cutting.{IsAnd, NoAnd, IsFirstAnd}
 use Rattle.bib_text.proofs.TextFacts.{Passed, passed_char, passed_append, chars_past, chars_whole}
 
--- whether the word stands at the start of these characters, with white space round it
+-- whether the word is at the start of these characters, with white space after it and, by the flag, before it
 abbrev pub word_here : Bool → List ℕ → Bool
 word_here space (a ∷ n ∷ d ∷ rest) = space && is_and a n d && begins_with_space rest
 word_here space rest = false
 
+-- if the word is here, the characters are its letters and then white space
 pub word_letters : (space : Bool) (cs : List ℕ) → word_here space cs ≡ true → (rest : List ℕ) × (cs ≡ 97 ∷ 110 ∷ 100 ∷ rest) × (begins_with_space rest ≡ true)
 word_letters space [] here = absurd (false≢true here)
 word_letters space (a ∷ []) here = absurd (false≢true here)
@@ -51,10 +52,11 @@ never (a ∷ []) = refl
 never (a ∷ n ∷ []) = refl
 never (a ∷ n ∷ d ∷ rest) = refl
 
--- no such word stands where no white space stands before it
+-- without white space before the characters the word isn't there
 pub not_spaced : (space : Bool) (cs : List ℕ) → space ≡ false → word_here space cs ≡ false
 not_spaced space cs none = rw none (never cs)
 
+-- a text that does not begin with the word and white space does not have the word at its start
 pub no_word : (space : Bool) (bs : List ℕ) → IsUtf8 bs → NoAnd bs → word_here space (chars bs) ≡ false
 no_word space bs utf8 no_and = false_from_ne_true (word_here space (chars bs)) (λ here.
     let (rest, letters, spaced) = word_letters space (chars bs) here in
@@ -62,8 +64,8 @@ no_word space bs utf8 no_and = false_from_ne_true (word_here space (chars bs)) (
     let same : chars (encode_utf8_all rest) ≡ rest = append_cancel_left (97 ∷ 110 ∷ 100 ∷ []) _ _ (sym (and_chars bs (encode_utf8_all rest) utf8 word).0 ∙ letters) in
     no_and (encode_utf8_all rest) (record { word = word; space = ap begins_with_space same ∙ spaced }))
 
--- where no word stands, a character goes into the first text
-between_other : (space : Bool) (c : ℕ) (cs : List ℕ) → word_here space (c ∷ cs) ≡ false → between_ands space (c ∷ cs) ≡ prepend (c ∷ []) (between_ands (is_whitespace c) cs)
+-- if the word isn't there, the character belongs to the first text
+pub between_other : (space : Bool) (c : ℕ) (cs : List ℕ) → word_here space (c ∷ cs) ≡ false → between_ands space (c ∷ cs) ≡ prepend (c ∷ []) (between_ands (is_whitespace c) cs)
 between_other space c [] here = refl
 between_other space c (n ∷ []) here = refl
 between_other space c (n ∷ d ∷ rest) here = cond-false (space && is_and c n d && begins_with_space rest) _ _ here
@@ -80,6 +82,7 @@ cond_some : (here : Bool) (cut : List (List ℕ)) (a : ℕ) (texts : List (List 
 cond_some true cut a texts some = ([], cut, refl)
 cond_some false cut a texts some = ((a ∷ []) ++ some.0, some.1, ap (prepend (a ∷ [])) some.2)
 
+-- there is at least one text between words `and`
 pub ands_some : (space : Bool) (cs : List ℕ) → (text : List ℕ) × (texts : List (List ℕ)) × (between_ands space cs ≡ text ∷ texts)
 ands_some space [] = ([], [], refl)
 ands_some space (a ∷ []) = (_, _, refl)
@@ -91,12 +94,14 @@ ands_some space (a ∷ n ∷ d ∷ rest) =
 prepend_none : (space : Bool) (cs : List ℕ) → prepend [] (between_ands space cs) ≡ between_ands space cs
 prepend_none space cs = let some = ands_some space cs in rw some.2 refl
 
--- what was passed before a place, in which no such word was found
+-- the characters `cs` before the position `at` contain no such word; `space` says whether white space comes right
+-- before it
 pub record Searched (text : List ℕ) (at : ℕ) (space : Bool) : Type 0 where
   pub cs : List ℕ
   pub passed : Passed (place text 0) cs (place text at)
   pub texts : between_ands false (chars text) ≡ prepend cs (between_ands space (chars (drop at text)))
 
+-- at the start of a text no character was passed
 pub searched_none : (text : List ℕ) → IsUtf8 text → Searched text 0 false
 searched_none text utf8 = record {
   cs = [];
@@ -104,7 +109,7 @@ searched_none text utf8 = record {
   texts = sym (prepend_none false (chars text));
 }
 
--- a character was passed where no such word stands
+-- the search goes on after a character at which no such word begins
 pub searched_char : (text : List ℕ) (at next c : ℕ) (space : Bool) → Searched text at space → CharAt (place text at) c (place text next) → word_here space (chars (drop at text)) ≡ false → Searched text next (is_whitespace c)
 searched_char text at next c space so_far char none =
     let one : Passed (place text at) (c ∷ []) (place text next) = passed_char char so_far.passed.utf8 in
@@ -115,13 +120,13 @@ searched_char text at next c space so_far char none =
       texts = so_far.texts ∙ ap (λ xs. prepend so_far.cs (between_ands space xs)) one.spelt ∙ ap (prepend so_far.cs) (between_other space c (chars (drop next text)) here) ∙ prepend_prepend so_far.cs (c ∷ []) _;
     }
 
--- the bytes before a place
+-- the text before a position is that of the passed characters
 before_place : (text : List ℕ) (at : ℕ) (cs : List ℕ) → Passed (place text 0) cs (place text at) → take at text ≡ encode_utf8_all cs
 before_place text at cs passed =
     let next : at ≡ 0 + length (encode_utf8_all cs) = passed.next in
     ap (take at) passed.here ∙ take_at (encode_utf8_all cs) (drop at text) at (omega arith)
 
--- such a word stands there
+-- the word at a position is the first one
 pub searched_word : (text : List ℕ) (at : ℕ) (before following : List ℕ) → Searched text at true → before ≡ take at text → IsUtf8 before → IsAnd (drop at text) following → IsFirstAnd text before following
 searched_word text at before following so_far leading_run prefix_utf8 word =
     let letters = and_chars (drop at text) following so_far.passed.utf8 word.word in
@@ -136,7 +141,7 @@ searched_word text at before following so_far leading_run prefix_utf8 word =
       utf8 = letters.1;
     }
 
--- no such word stands in the text
+-- at the end of the text the search has found no such word
 pub searched_all : (text : List ℕ) (at : ℕ) (space : Bool) → Searched text at space → drop at text ≡ [] → between_ands false (chars text) ≡ chars text ∷ []
 searched_all text at space so_far nothing =
     let left : chars (drop at text) ≡ [] = ap chars nothing ∙ chars-nil in
@@ -154,7 +159,7 @@ same_test m n more = ⊎_elim
     (λ some. ne_eqb m 1 (λ one. some (omega (arith, one))) ∙ sym (ne_eqb n 0 some))
     (cases_eq n 0)
 
--- one chunk was copied, the last one just where nothing follows
+-- a step of the loop: a trimmed chunk is added, the last one exactly if no chunk follows
 pub trimmed_step : (first last : Bool) (x : Spanned Chunk) (chunks : List (Spanned Chunk)) (i : ℕ) → i < length chunks → x ≡ get_or chunks i x → last ≡ nat_eq (length chunks - i) 1
     → trimmed_from first (drop i chunks) ≡ trimmed first last x.v x.span ∷ trimmed_from false (drop (i + 1) chunks)
 trimmed_step first last x chunks i within is is_last =

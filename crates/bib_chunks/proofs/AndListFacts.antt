@@ -1,4 +1,4 @@
--- A list of verbatim chunks with `and` between them is cut into them.
+-- A list of verbatim chunks with `and` between them is cut into these chunks.
 use Rattle.std.proofs.Common.{◌≡◌, ℕ, ◌-◌, ◌^◌, Bool, true, false, List, [], ◌∷◌, ◌++◌, map, refl, ap, ◌∙◌}
 use Rattle.std.specs.Prelude.{codes}
 use Rattle.std.specs.Char.{encode_utf8}
@@ -11,6 +11,7 @@ use Rattle.bib_chunks.specs.Values.{Value, nowhere, alone}
 use Rattle.bib_chunks.specs.Separated.{after_separator, parts_written}
 use Rattle.bib_chunks.proofs.SeparatedFacts.{IsSeparator, AreWhole, separated_formats}
 
+-- the chunk ` and ` is cut into two empty chunks
 pub and_separates : IsSeparator 3 (between_ands false) (codes " and ")
 unfolding chars encode_utf8 trim_start trim_end
 and_separates = record {
@@ -23,7 +24,7 @@ and_separates = record {
 abbrev after_ands : List (List ℕ) → Value
 after_ands texts = flat_map (after_separator (codes " and ")) (map (λ t. alone (Verbatim t)) texts)
 
--- such a list has nothing to trim
+-- such a list is unchanged by trimming
 untrimmed : (first : Bool) (t : List ℕ) (rest : List (List ℕ)) → trimmed_from first (alone (Verbatim t) ++ after_ands rest) ≡ alone (Verbatim t) ++ after_ands rest
 untrimmed first t [] = refl
 untrimmed first t (u ∷ rest) = ap (λ xs. nowhere (Verbatim t) ∷ nowhere (Normal (codes " and ")) ∷ xs) (untrimmed false u rest)
@@ -33,7 +34,7 @@ verbatim_whole : (texts : List (List ℕ)) → AreWhole 3 (between_ands false) (
 verbatim_whole [] = tt
 verbatim_whole (t ∷ rest) = (record { one = refl; says = refl }, verbatim_whole rest)
 
--- the parts of a list are formatted to its texts
+-- the parts of such a list format to its texts
 pub parts_format : (t : List ℕ) (rest : List (List ℕ)) → map formatted (and_list (parts_written (map (λ x. alone (Verbatim x)) (t ∷ rest)))) ≡ map chars (t ∷ rest)
 parts_format t rest =
     ap (λ chunks. map formatted (list_parts 3 (between_ands false) chunks)) (untrimmed true t rest)

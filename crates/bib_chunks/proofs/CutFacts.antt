@@ -1,4 +1,4 @@
--- Facts on lists and their parts.
+-- Facts about lists and their parts.
 use Rattle.std.proofs.Common.{◌≡◌, ℕ, ◌+◌, ◌-◌, ◌<◌, ◌≤◌, Bool, true, false, List, [], ◌∷◌, ◌++◌, length, get_or, take, drop, refl, sym, ap, ◌∙◌, append_assoc, length-append, arith, Option, Some, None, ⊎_elim}
 use Rattle.std.specs.Prelude.{◌==◌, codes, encode_utf8_all, MatchOption, option_map, if◌then◌else◌}
 use Rattle.std.specs.Char.{len_utf8}
@@ -26,12 +26,13 @@ onto_onto : (xs ys : List (Spanned Chunk)) (parts : List (List (Spanned Chunk)))
 onto_onto xs ys [] = refl
 onto_onto xs ys (part ∷ parts) = ap (λ p. p ∷ parts) (sym (append_assoc xs ys part))
 
--- nothing before the first part changes nothing
+-- prepending nothing to the first part changes nothing
 onto_nothing : (pieces : List (Spanned Chunk)) (parts : List (List (Spanned Chunk))) → onto [] parts ≡ parts → onto [] (joined_parts pieces parts) ≡ joined_parts pieces parts
 onto_nothing [] parts some = some
 onto_nothing (p ∷ []) parts some = onto_onto [] (p ∷ []) parts
 onto_nothing (p ∷ q ∷ more) parts some = refl
 
+-- prepending nothing to the parts of a list changes nothing
 pub onto_parts : (w : ℕ) (cut : List ℕ → List (List ℕ)) (chunks : List (Spanned Chunk)) → onto [] (list_parts w cut chunks) ≡ list_parts w cut chunks
 onto_parts w cut [] = refl
 onto_parts w cut (c ∷ rest) = onto_nothing (pieces w cut c.v c.span) (list_parts w cut rest) (onto_parts w cut rest)
@@ -40,14 +41,14 @@ onto_some : (next : Spanned Chunk) (more : List (Spanned Chunk)) (parts : List (
 onto_some next [] parts = onto_onto [] (next ∷ []) parts
 onto_some next (q ∷ more) parts = refl
 
--- one chunk was added
+-- a chunk was added to the current part
 pub read_one : (old new : Parts) (piece : Spanned Chunk) → new ≡ record { done = old.done; last = old.last ++ piece ∷ [] } → ReadsPieces old new (piece ∷ [])
 read_one old new piece is following = ap (λ p. all_parts p following) is ∙ ap (λ ps. old.done ++ ps) (sym (onto_onto old.last (piece ∷ []) following))
 
 ended : Parts → Parts
 ended parts = record { done = parts.done ++ parts.last ∷ []; last = [] }
 
--- a piece was added, and its part ended
+-- a piece was added, and its part was finished
 read_end : (old middle new : Parts) (piece next : Spanned Chunk) (more : List (Spanned Chunk)) → middle ≡ record { done = old.done; last = old.last ++ piece ∷ [] } → new ≡ record { done = middle.done ++ middle.last ∷ []; last = [] }
     → (following : List (List (Spanned Chunk))) → all_parts new (joined_parts (next ∷ more) following) ≡ all_parts old (joined_parts (piece ∷ next ∷ more) following)
 unfolding ended
@@ -57,16 +58,17 @@ read_end old middle new piece next more added closed following =
     ∙ append_assoc old.done ((old.last ++ piece ∷ []) ∷ []) _
     ∙ ap (λ ps. old.done ++ (old.last ++ piece ∷ []) ∷ ps) (onto_some next more following)
 
--- a place that is counted in two steps
+-- two additions to a position are one
 further_twice : (at n m : ℕ) → further at (further n m) ≡ further at (n + m)
 further_twice at n m = omega arith
 
+-- the span of a part is the same if its position is saturated first
 pub part_further : (whole text : List ℕ) (span : Range ℕ) (at skipped : ℕ) → chunk_part whole span (further at skipped) text ≡ chunk_part whole span (at + skipped) text
 part_further whole text span at skipped =
     ap (λ n. if length text == length whole then placed (Normal text) span.start span.end else placed (Normal text) n (further n (length text)))
     (further_twice span.start at skipped)
 
--- where a text is cut at a character
+-- `before` and `after` are the texts before and after the first `c` of a text, both UTF-8
 pub record IsCharCut (c : ℕ) (text before after : List ℕ) : Type 0 where
   pub free : NonePass (λ d. d == c) (chars before)
   pub cut : chars text ≡ chars before ++ c ∷ chars after
@@ -74,7 +76,7 @@ pub record IsCharCut (c : ℕ) (text before after : List ℕ) : Type 0 where
   pub utf8 : IsUtf8 after
   pub size : length text ≡ length before + (len_utf8 c + length after)
 
--- `split_once` cuts there
+-- the texts that `split_once` returns are these
 pub char_cut : (c : ℕ) (text : List ℕ) (before after : Bor (List ℕ)) → IsUtf8 text → IsSplitOnceResult c text (Some (before, after)) → IsCharCut c text before.now after.now
 char_cut c text before after utf8 (i, j, found, leading_run, back, ordered, size, rest_size) =
     let spelt : encode_utf8_all found.0.0 ≡ take i text = found.0.1 in
@@ -92,10 +94,11 @@ char_cut c text before after utf8 (i, j, found, leading_run, back, ordered, size
       size = omega (arith, found.1.ends, size, rest_size, ap length leading_run, ap length back);
     })
 
--- where it finds none, no character of the text is that one
+-- if `split_once` returns `None`, no character of the text is that one
 pub char_free : (c : ℕ) (text : List ℕ) → IsUtf8 text → IsSplitOnceResult c text None → NonePass (λ d. d == c) (chars text)
 char_free c text utf8 none = rw (chars_whole none.0 text utf8 (sym none.1)) none.2
 
+-- a list without separators is split into itself
 pub split_none : (test : ℕ → Bool) (cs : List ℕ) → NonePass test cs → slice_split test cs ≡ cs ∷ []
 split_none test [] free = refl
 split_none test (c ∷ cs) free = slice_split-cons_no test c cs free.0 ∙ ap (onto_first c) (split_none test cs free.1)
@@ -104,7 +107,7 @@ split_here : (test : ℕ → Bool) (cs : List ℕ) (c : ℕ) (rest : List ℕ) �
 split_here test [] c rest free here = slice_split-cons_yes test c rest here
 split_here test (d ∷ cs) c rest free here = slice_split-cons_no test d (cs ++ c ∷ rest) free.0 ∙ ap (onto_first d) (split_here test cs c rest free.1 here)
 
--- the first comma of a text
+-- a result of `split_once` at a comma is the first cut of a comma list
 pub first_comma : (text : List ℕ) (r : Option (Bor (List ℕ) × Bor (List ℕ))) → IsUtf8 text → IsSplitOnceResult 44 text r
     → MatchOption r (between_cuts Comma (chars text) ≡ chars text ∷ []) (λ both. IsFirstCut Comma text both.0.now both.1.now)
 first_comma text None utf8 none = split_none (λ c. c == 44) (chars text) (char_free 44 text utf8 none)
@@ -117,7 +120,7 @@ first_comma text (Some both) utf8 found =
       size = is.size;
     }
 
--- the first word `and`
+-- a result of the search for `and` is the first cut of an `and` list
 pub first_word : (text : List ℕ) (r : Option (Bor (List ℕ) × Bor (List ℕ)))
     → MatchOption r (between_ands false (chars text) ≡ chars text ∷ []) (λ both. IsFirstAnd text both.0.now both.1.now)
     → MatchOption r (between_cuts And (chars text) ≡ chars text ∷ []) (λ both. IsFirstCut And text both.0.now both.1.now)
@@ -129,7 +132,7 @@ first_word text (Some both) first = record {
   size = ap length first.word ∙ length-append both.0.now (codes "and" ++ both.1.now) ∙ ap (λ n. length both.0.now + n) (length-append (codes "and") both.1.now);
 }
 
--- a text has a first piece
+-- there is at least one text between commas
 commas_some : (cs : List ℕ) → (text : List ℕ) × (more : List (List ℕ)) × (between_commas cs ≡ text ∷ more)
 commas_some [] = ([], [], refl)
 commas_some (c ∷ cs) =
@@ -142,6 +145,7 @@ between_some : (separator : Separator) (cs : List ℕ) → (text : List ℕ) × 
 between_some Comma cs = commas_some cs
 between_some And cs = ands_some false cs
 
+-- a chunk that is cut has at least one piece
 pub pieces_some : (w : ℕ) (whole : List ℕ) (span : Range ℕ) (at : ℕ) (following : Bool) (text : List ℕ) (more : List (List ℕ))
     → (x : Spanned Chunk) × (xs : List (Spanned Chunk)) × (pieces_between w whole span at following (text ∷ more) ≡ x ∷ xs)
 pieces_some w whole span at following text [] = (_, _, refl)
@@ -185,7 +189,7 @@ read_chunk w cut old new total chunks i x within is reads so_far =
     let split : drop i chunks ≡ x ∷ drop (i + 1) chunks = drop_more chunks i x within ∙ ap (λ y. y ∷ drop (i + 1) chunks) (sym is) in
     reads (list_parts w cut (drop (i + 1) chunks)) ∙ ap (λ cs. all_parts old (list_parts w cut cs)) (sym split) ∙ so_far
 
--- characters that are cut in two
+-- without the character there is no cut
 cut_free : (c : ℕ) (cs : List ℕ) → NonePass (λ d. d == c) cs → cut_characters c cs ≡ None
 cut_free c [] free = refl
 cut_free c (d ∷ cs) free = cond-false (d == c) _ _ free.0 ∙ ap (option_map (λ both. (d ∷ both.0, both.1))) (cut_free c cs free.1)
@@ -194,11 +198,11 @@ cut_here : (c : ℕ) (cs rest : List ℕ) → NonePass (λ d. d == c) cs → cut
 cut_here c [] rest free = cond-true (c == c) _ _ (eq-eqb c c refl)
 cut_here c (d ∷ cs) rest free = cond-false (d == c) _ _ free.0 ∙ ap (option_map (λ both. (d ∷ both.0, both.1))) (cut_here c cs rest free.1)
 
--- a chunk without that character
+-- a chunk without the character has no halves
 pub no_halves : (c : ℕ) (text : List ℕ) (span : Range ℕ) → IsUtf8 text → IsSplitOnceResult c text None → None ≡ halves (Normal text) span c
 no_halves c text span utf8 none = sym (ap (option_map (both_pieces (len_utf8 c) text span)) (cut_free c (chars text) (char_free c text utf8 none)))
 
--- its two pieces
+-- the two pieces at the character are the halves
 pub two_halves : (c : ℕ) (text : List ℕ) (span : Range ℕ) (before after : Bor (List ℕ)) (first second : Spanned Chunk) (at : ℕ)
     → IsUtf8 text → IsSplitOnceResult c text (Some (before, after)) → at ≡ length text - length after.now
     → first ≡ piece text span 0 false true before.now → second ≡ piece text span at true false after.now → Some (first, second) ≡ halves (Normal text) span c

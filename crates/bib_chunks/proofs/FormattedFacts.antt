@@ -1,4 +1,4 @@
--- Facts on formatted texts.
+-- Facts about formatted texts.
 use Rattle.std.proofs.Common.{◌≡◌, ℕ, ◌+◌, ◌<◌, Bool, true, false, cond, not, List, [], ◌∷◌, ◌++◌, length, get_or, drop, refl, sym, ap, ◌∙◌, arith, Option, None, Some}
 use Rattle.std.specs.Prelude.{encode_utf8, encode_utf8_all, option_to_list}
 use Rattle.std.specs.Char.{is_whitespace}
@@ -15,30 +15,32 @@ use Rattle.bib_text.specs.Places.{Place, CharAt, Run, Longest, AtEnd, between}
 use Rattle.bib_chunks.specs.Formatted.{is_break, ends_in_space, unbroken, flowing, space_after, formatted_chunk, formatted_after, cased, sentence_case, sentence_after}
 use Rattle.bib_text.proofs.TextFacts.{ahead, Passed, passed_char, passed_run, passed_between, written_more, written_all, chars_at_end, chars_past, chars_whole}
 
--- a character that does not break the line
+-- a character that isn't a line break
 abbrev pub goes_on : ℕ → Bool
 goes_on c = not (is_break c)
 
--- what a line break becomes
+-- the replacement of a line break
 abbrev pub gap : Bool → List ℕ
 gap space = cond space [] (32 ∷ [])
 
+-- whether appended texts end in white space
 pub ends-append : (empty : Bool) (xs ys : List ℕ) → ends_in_space empty (xs ++ ys) ≡ ends_in_space (ends_in_space empty xs) ys
 ends-append empty [] ys = refl
 ends-append empty (x ∷ xs) ys = ends-append (is_whitespace x) xs ys
 
--- the last character says how a text ends
+-- the last character decides whether a text ends in white space
 pub ends_at_char : (empty answer : Bool) (bs leading_run : List ℕ) (c : ℕ) → IsUtf8 bs → IsUtf8 leading_run → bs ≡ leading_run ++ encode_utf8 c → answer ≡ is_whitespace c → answer ≡ ends_in_space empty (chars bs)
 ends_at_char empty answer bs leading_run c utf8 prefix_utf8 ends decides =
     let past = chars_past (chars leading_run) bs (encode_utf8 c) utf8 (ends ∙ ap (λ xs. xs ++ encode_utf8 c) (sym (encodes-chars leading_run prefix_utf8))) in
     let one : chars (encode_utf8 c) ≡ c ∷ [] = chars_past_char (encode_utf8 c) [] c past.1 (sym (append-nil _)) ∙ ap (λ xs. c ∷ xs) chars-nil in
     decides ∙ sym (ap (ends_in_space empty) (past.0 ∙ ap (λ xs. chars leading_run ++ xs) one) ∙ ends-append empty (chars leading_run) (c ∷ []))
 
+-- whether a text without bytes ends in white space is the default
 pub ends_of_none : (empty : Bool) (bs : List ℕ) → length bs ≡ 0 → empty ≡ ends_in_space empty (chars bs)
 ends_of_none empty [] none = sym (ap (ends_in_space empty) chars-nil)
 ends_of_none empty (b ∷ bs) none = absurd (omega arith)
 
--- a run without line breaks stays
+-- a run without line breaks is unchanged
 pub flowing_run : (space : Bool) (cs rest : List ℕ) → list_all goes_on cs ≡ true → flowing space (cs ++ rest) ≡ cs ++ flowing (ends_in_space space cs) rest
 flowing_run space [] rest all = refl
 flowing_run space (c ∷ cs) rest all =
@@ -50,7 +52,7 @@ gap_ends : (space : Bool) → ends_in_space space (gap space) ≡ true
 gap_ends true = refl
 gap_ends false = refl
 
--- a line break becomes a gap, after which white space stands
+-- a line break is replaced, and the character before the next one is white space
 pub flowing_break : (space : Bool) (c : ℕ) (rest : List ℕ) → is_break c ≡ true → flowing space (c ∷ rest) ≡ gap space ++ flowing true rest
 flowing_break space c rest breaks =
     let becomes : unbroken space c ≡ gap space = cond-true (is_break c) _ _ breaks in
@@ -73,7 +75,7 @@ run_written out one total run {u} {w} space after ends runs utf8 run_utf8 is_run
       ap (λ b. ends_in_space b (flowing after (chars (ahead w)))) state ∙ sym (ends-append space cs (flowing after (chars (ahead w)))) ∙ ap (ends_in_space space) (sym cut) ∙ before_ends,
     )
 
--- a run was written, and then what a line break becomes
+-- a run was written, and then the replacement of a line break
 pub flowing_step : (out one two total run : List ℕ) {u w x : Place} {c : ℕ} (space after ends : Bool) → Longest goes_on u w → IsUtf8 (ahead u) → IsUtf8 run → run ≡ between u w → CharAt w c x
     → one ≡ out ++ run → after ≡ ends_in_space space (chars run) → two ≡ one ++ encode_utf8_all (gap after)
     → out ++ encode_utf8_all (flowing space (chars (ahead u))) ≡ total → ends_in_space space (flowing space (chars (ahead u))) ≡ ends
@@ -115,12 +117,12 @@ formatted_part space following chunks i x out more total within is written decid
     let cut : formatted_after space (drop i chunks) ≡ part ++ formatted_after following (drop (i + 1) chunks) = ap (formatted_after space) split ∙ ap (λ b. part ++ formatted_after b (drop (i + 1) chunks)) (sym decides) in
     written_more out more total part _ _ written cut before
 
--- after its first character a sentence goes on in lower case
+-- after its first character a text in sentence case goes on in lower case
 goes_lower : (cs : List ℕ) → flat_map to_lowercase cs ≡ sentence_case false cs
 goes_lower [] = refl
 goes_lower (c ∷ cs) = refl
 
--- a character was passed, which became nothing
+-- a character was consumed that is replaced by nothing
 pub sentence_skip : (out total : List ℕ) {u x : Place} {c : ℕ} (first space ends : Bool) (r : Option ℕ) → CharAt u c x → IsUtf8 (ahead u) → r ≡ None → option_to_list r ≡ unbroken space c
     → out ++ encode_utf8_all (sentence_case first (flowing space (chars (ahead u)))) ≡ total → ends_in_space space (flowing space (chars (ahead u))) ≡ ends
     → (x.text ≡ u.text) × IsUtf8 (ahead x) × (out ++ encode_utf8_all (sentence_case first (flowing space (chars (ahead x)))) ≡ total) × (ends_in_space space (flowing space (chars (ahead x))) ≡ ends)
@@ -135,7 +137,7 @@ sentence_skip out total {u} {x} {c} first space ends r char utf8 none becomes be
       ap (ends_in_space space) (sym same) ∙ before_ends,
     )
 
--- a character was passed, and what it became was written
+-- a character was consumed, and its replacement was written
 pub sentence_step : (out more total : List ℕ) {u x : Place} {c : ℕ} (d : ℕ) (first space after ends : Bool) (r : Option ℕ) → CharAt u c x → IsUtf8 (ahead u) → r ≡ Some d → option_to_list r ≡ unbroken space c
     → more ≡ out ++ encode_utf8_all (cased first d) → after ≡ is_whitespace d
     → out ++ encode_utf8_all (sentence_case first (flowing space (chars (ahead u)))) ≡ total → ends_in_space space (flowing space (chars (ahead u))) ≡ ends

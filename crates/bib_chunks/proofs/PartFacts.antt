@@ -1,11 +1,11 @@
--- Facts on what no part of a list holds.
+-- Facts about characters that no part of a list contains.
 use Rattle.std.proofs.Common.{◌≡◌, ℕ, ◌+◌, Bool, true, false, List, [], ◌∷◌, ◌++◌, length, map, refl, sym, ap, subst, ◌∙◌, ⊎_elim}
 use Rattle.std.specs.Prelude.{◌==◌, ◌||◌, encode_utf8_all}
 use Rattle.std.specs.List.{list_any, onto_first, AllByRecursion}
 use Rattle.std.specs.Str.{IsUtf8, chars}
 use Rattle.std.specs.declared.ops.Range.{Range}
 use Rattle.std.proofs.Math.Utf8.{scalars}
-use Rattle.std.proofs.lemmas.Bool.{cases_Bool, false≢true}
+use Rattle.std.proofs.lemmas.Bool.{cases_Bool, false≢true, or_parts}
 use Rattle.std.proofs.lemmas.List.Splits.{slice_split-cons_yes, slice_split-cons_no}
 use Rattle.std.proofs.lemmas.Str.{scalars-chars, chars-encodes}
 use Rattle.bib_chunks.specs.declared.chunk.Chunk.{Chunk}
@@ -21,7 +21,7 @@ all-append : {A : Type 0} (P : A → Type 0) (xs ys : List A) → AllByRecursion
 all-append P [] ys one two = two
 all-append P (x ∷ xs) ys one two = (one.0, all-append P xs ys one.1 two)
 
--- every text between separators is a text
+-- each text between separators consists of valid characters if the whole text does
 texts_valid : (separator : List ℕ) (texts : List (List ℕ)) → scalars (rejoined separator texts) ≡ true → AllByRecursion (λ t. scalars t ≡ true) texts
 texts_valid separator [] valid = tt
 texts_valid separator (text ∷ []) valid = (valid, tt)
@@ -30,7 +30,7 @@ texts_valid separator (text ∷ after ∷ more) valid =
     let rest = scalars_parts separator _ parts.1 in
     (parts.0, texts_valid separator (after ∷ more) rest.1)
 
--- what holds of each piece, holds of each chunk of each part
+-- what holds for each piece, holds for each chunk of each part
 module _ (P : Spanned Chunk → Type 0) where
   onto_hold : (leading_run : List (Spanned Chunk)) (parts : List (List (Spanned Chunk))) → AllByRecursion P leading_run → AllByRecursion (AllByRecursion P) parts → AllByRecursion (AllByRecursion P) (onto leading_run parts)
   onto_hold leading_run [] one hold = (one, tt)
@@ -45,7 +45,7 @@ module _ (P : Spanned Chunk → Type 0) where
   list_hold w cut [] hold = (tt, tt)
   list_hold w cut (c ∷ rest) hold = joined_hold (pieces w cut c.v c.span) (list_parts w cut rest) hold.0 (list_hold w cut rest hold.1)
 
--- what holds of texts, holds of what is left of them, and then of the chunk of that
+-- if a property of texts is kept by trimming and gives one of chunks, all pieces have the latter
 module _ (R : List ℕ → Type 0) (P : Chunk → Type 0)
     (left_holds : (first last : Bool) (text left : List ℕ) → IsTrimmed first last text left → R text → R left)
     (chunk_holds : (text : List ℕ) → scalars text ≡ true → R text → P (Normal (encode_utf8_all text))) where
@@ -76,23 +76,19 @@ module _ (R : List ℕ → Type 0) (P : Chunk → Type 0)
     pub parts_hold : (chunks : List (Spanned Chunk)) → AreTexts chunks → AllByRecursion (AllByRecursion (λ x. P x.v)) (list_parts w cut chunks)
     parts_hold chunks texts = list_hold (λ x. P x.v) w cut chunks (all_pieces_hold chunks texts)
 
-neither : (a b : Bool) → (a || b) ≡ false → (a ≡ false) × (b ≡ false)
-neither true b none = absurd (false≢true (sym none))
-neither false b none = (refl, none)
-
--- tests that no element of two lists passes
+-- a test that no element of two lists passes, no element of the appended lists passes
 any-append : {A : Type 0} (test : A → Bool) (xs ys : List A) → list_any test xs ≡ false → list_any test ys ≡ false → list_any test (xs ++ ys) ≡ false
 any-append test [] ys one two = two
-any-append test (x ∷ xs) ys one two = let both = neither (test x) (list_any test xs) one in ap (λ b. b || list_any test (xs ++ ys)) both.0 ∙ any-append test xs ys both.1 two
+any-append test (x ∷ xs) ys one two = let both = or_parts (test x) (list_any test xs) one in ap (λ b. b || list_any test (xs ++ ys)) both.0 ∙ any-append test xs ys both.1 two
 
 any-parts : {A : Type 0} (test : A → Bool) (xs ys : List A) → list_any test (xs ++ ys) ≡ false → (list_any test xs ≡ false) × (list_any test ys ≡ false)
 any-parts test [] ys none = (refl, none)
 any-parts test (x ∷ xs) ys none =
-    let both = neither (test x) (list_any test (xs ++ ys)) none in
+    let both = or_parts (test x) (list_any test (xs ++ ys)) none in
     let rest = any-parts test xs ys both.1 in
     (ap (λ b. b || list_any test xs) both.0 ∙ rest.0, rest.1)
 
--- commas
+-- characters without a comma
 abbrev pub HasNoComma : List ℕ → Type 0
 HasNoComma text = list_any (λ c. c == 44) text ≡ false
 

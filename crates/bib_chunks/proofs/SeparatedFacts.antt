@@ -1,4 +1,4 @@
--- A list of single chunks with a separator between them is cut into them.
+-- A list of single chunks with a separator between them is cut into these chunks.
 use Rattle.std.proofs.Common.{◌≡◌, ℕ, ◌-◌, ◌^◌, Bool, false, List, [], ◌∷◌, ◌++◌, map, ap, ◌∙◌, append-nil, refl}
 use Rattle.std.specs.List.{flat_map, AllByRecursion}
 use Rattle.std.specs.Str.{chars}
@@ -11,7 +11,7 @@ use Rattle.bib_chunks.specs.Cuts.{placed, pieces, joined_parts, list_parts}
 use Rattle.bib_chunks.specs.Values.{Value, nowhere, alone}
 use Rattle.bib_chunks.specs.Separated.{after_separator, joined_by}
 
--- the bytes of a chunk that stands nowhere
+-- the detached span
 abbrev pub no_place : Range ℕ
 no_place = record { start = 2 ^ 64 - 1; end = 2 ^ 64 - 1 }
 
@@ -31,11 +31,11 @@ pub record IsWhole (width : ℕ) (between : List ℕ → List (List ℕ)) (chunk
   pub says : formatted_chunk (λ cs. cs) false chunk ≡ characters
 
 module _ (width : ℕ) (between : List ℕ → List (List ℕ)) (chunk : List ℕ → Chunk) where
-  -- each of the chunks of some texts is
+  -- each of the chunks of these texts is such a chunk
   abbrev pub AreWhole : List (List ℕ) → Type 0
   AreWhole = AllByRecursion (λ t. IsWhole width between (chunk t) (chars t))
 
-  -- a text's chunk and a blank one after it
+  -- a text's chunk, followed by chunks that format to nothing, formats to the text
   whole_formats : (t : List ℕ) (following : Value) → IsWhole width between (chunk t) (chars t) → ((space : Bool) → formatted_after space following ≡ []) → formatted (nowhere (chunk t) ∷ following) ≡ chars t
   whole_formats t following whole none =
       ap (λ xs. formatted_chunk (λ cs. cs) false (chunk t) ++ xs) (none (space_after false (chunk t))) ∙ append-nil (formatted_chunk (λ cs. cs) false (chunk t)) ∙ whole.says
@@ -49,7 +49,7 @@ module _ (width : ℕ) (between : List ℕ → List (List ℕ)) (chunk : List �
     abbrev after_separators : List (List ℕ) → Value
     after_separators texts = flat_map (after_separator separator) (map (λ t. alone (chunk t)) texts)
 
-    -- how they are cut: a first part, which is blank, and the others
+    -- these chunks are cut into a first part that formats to nothing, and the others, which format to the texts
     record Cut (texts : List (List ℕ)) : Type 0 where
       pub first : Value
       pub others : List Value
@@ -74,7 +74,7 @@ module _ (width : ℕ) (between : List ℕ → List (List ℕ)) (chunk : List �
               ∙ ap (λ xs. chars t ∷ xs) more.formats;
         }
 
-    -- the parts of a list are formatted to its texts
+    -- the parts of a list format to its texts
     pub separated_formats : (t : List ℕ) (rest : List (List ℕ)) → AreWhole (t ∷ rest)
         → map formatted (list_parts width between (joined_by separator (map (λ u. alone (chunk u)) (t ∷ rest)))) ≡ map chars (t ∷ rest)
     separated_formats t rest whole =

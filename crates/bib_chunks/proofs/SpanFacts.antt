@@ -1,4 +1,4 @@
--- Facts on the spans of lists of chunks.
+-- Facts about the spans of chunks.
 use Rattle.std.proofs.Common.{◌≡◌, ℕ, ◌-◌, List, [], ◌∷◌, length, sym, ap, ◌∙◌, Some, arith}
 use Rattle.std.specs.Prelude.{slice_get}
 use Rattle.std.specs.declared.ops.Range.{Range}
@@ -16,6 +16,7 @@ last_end_is c (d ∷ rest) last is = last_end_is d rest last is
 range : ℕ → ℕ → Range ℕ
 range start end = record { start = start; end = end }
 
+-- the span from the start of the first chunk to the end of the last one
 pub whole_span_is : (chunks : List (Spanned Chunk)) (first last : Spanned Chunk) → Some first ≡ slice_get chunks 0 → Some last ≡ slice_get chunks (length chunks - 1)
     → ◌≡◌ {A = Range ℕ} (record { start = first.span.start; end = last.span.end }) (whole_span chunks)
 unfolding range

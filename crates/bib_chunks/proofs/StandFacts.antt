@@ -1,4 +1,4 @@
--- Facts on where the pieces of a list stand.
+-- Facts about the positions of the pieces of a list.
 use Rattle.std.proofs.Common.{◌≡◌, ℕ, suc, ◌+◌, Bool, true, false, List, [], ◌∷◌, ◌++◌, length, refl, sym, ap, subst, ◌∙◌, append-nil, append_assoc, length-append, arith}
 use Rattle.std.specs.Prelude.{◌==◌, encode_utf8_all, if◌then◌else◌}
 use Rattle.std.specs.List.{AllByRecursion, Contains}
@@ -19,11 +19,11 @@ use Rattle.bib_chunks.proofs.PartFacts.{list_hold}
 use Rattle.bib_chunks.proofs.WholeFacts.{rejoined, commas_whole}
 use Rattle.bib_chunks.proofs.WordFacts.{letters, ands_whole, trimmed_texts}
 
--- a chunk stands in itself
+-- a chunk is in itself
 stands_whole : (c : Spanned Chunk) → IsAsLong c → StandsInChunk c c
 stands_whole c long = record { before = []; following = []; is = sym (append-nil (text_of c.v)); start = omega arith; end = long.0 }
 
--- what stands in a chunk that stands in another one
+-- a piece of a piece of a chunk is a piece of the chunk
 stands_twice : (c d here : Spanned Chunk) → StandsInChunk c d → StandsInChunk d here → StandsInChunk c here
 stands_twice c d here outer inner = record {
   before = outer.before ++ inner.before;
@@ -36,7 +36,7 @@ stands_twice c d here outer inner = record {
   end = inner.end;
 }
 
--- its bytes are as many as those of its text
+-- the span of such a piece is as long as its text
 stands_long : (c here : Spanned Chunk) → IsAsLong c → StandsInChunk c here → IsAsLong here
 stands_long c here long stands =
     let size : length (text_of c.v) ≡ length stands.before + (length (text_of here.v) + length stands.following) =
@@ -97,7 +97,7 @@ module _ (separator : List ℕ) (w : ℕ) (width : w ≡ length (encode_utf8_all
   pieces_stand (Verbatim text) span utf8 long = (stands_whole (record { v = Verbatim text; span = span }) long, tt)
   pieces_stand (Math text) span utf8 long = (stands_whole (record { v = Math text; span = span }) long, tt)
 
-  -- the pieces of chunks that stand in others
+  -- the pieces of chunks that are in others are in these
   pieces_in : (all chunks : List (Spanned Chunk)) → AreTexts chunks → AllByRecursion IsAsLong chunks → AllByRecursion (StandsInOne all) chunks → AllByRecursion (λ c. AllByRecursion (StandsInOne all) (pieces w cut c.v c.span)) chunks
   pieces_in all [] texts long stand = tt
   pieces_in all (c ∷ rest) texts long stand = (
@@ -108,7 +108,7 @@ module _ (separator : List ℕ) (w : ℕ) (width : w ≡ length (encode_utf8_all
   pub list_stands : (all chunks : List (Spanned Chunk)) → AreTexts chunks → AllByRecursion IsAsLong chunks → AllByRecursion (StandsInOne all) chunks → AllByRecursion (AllByRecursion (StandsInOne all)) (list_parts w cut chunks)
   list_stands all chunks texts long stand = list_hold (StandsInOne all) w cut chunks (pieces_in all chunks texts long stand)
 
--- chunks of a list are in it
+-- a chunk of the rest of a list is in the list
 later : (c : Spanned Chunk) (rest : List (Spanned Chunk)) (x : Spanned Chunk) → Contains rest x → Contains (c ∷ rest) x
 later c rest x (k, within, is) = (suc k, omega (arith, within), is)
 
@@ -120,7 +120,7 @@ stand_all : (all chunks : List (Spanned Chunk)) → AllByRecursion IsAsLong chun
 stand_all all [] long inside = tt
 stand_all all (c ∷ rest) long inside = ((c, inside.0, stands_whole c long.0), stand_all all rest long.1 inside.1)
 
--- the bytes of the separators
+-- the lengths of the separators in bytes
 comma_width : 1 ≡ length (encode_utf8_all (44 ∷ []))
 unfolding encode
 comma_width = refl
@@ -132,7 +132,7 @@ and_width = refl
 pub comma_list_stands : (chunks : List (Spanned Chunk)) → AreTexts chunks → AllByRecursion IsAsLong chunks → AllByRecursion (AllByRecursion (StandsInOne chunks)) (comma_list chunks)
 comma_list_stands chunks texts long = list_stands (44 ∷ []) 1 comma_width between_commas commas_whole chunks chunks texts long (stand_all chunks chunks long (contains_all chunks))
 
--- a trimmed chunk stands in its chunk
+-- a trimmed chunk is in its chunk
 trimmed_stands : (first last : Bool) (v : Chunk) (span : Range ℕ) → IsUtf8 (text_of v) → IsAsLong (record { v = v; span = span }) → StandsInChunk (record { v = v; span = span }) (trimmed first last v span)
 trimmed_stands first last (Normal text) span utf8 long =
     subst (λ bs. StandsInChunk (record { v = Normal text; span = span }) (piece text span 0 first last bs)) (encodes-chars text utf8)

@@ -1,4 +1,4 @@
--- Facts on texts without the white space at their ends.
+-- Facts about texts without the white space at their ends.
 use Rattle.std.proofs.Common.{◌≡◌, ℕ, Bool, true, false, cond, ◌&&◌, List, [], ◌∷◌, ◌++◌, length, map, refl, sym, ap, ◌∙◌, append-nil, ◌+◌, ◌-◌, arith, length-append}
 use Rattle.std.specs.Prelude.{◌==◌, encode_utf8_all, if◌then◌else◌}
 use Rattle.std.specs.Char.{is_whitespace}
@@ -15,7 +15,7 @@ use Rattle.bib_text.specs.declared.spanned.Spanned.{Spanned}
 use Rattle.bib_chunks.specs.Styled.{Atom, atoms_of}
 use Rattle.bib_chunks.specs.Cuts.{further, placed, trimmed_start, trimmed_end, chunk_part, piece}
 
--- white space before what is left, and after it
+-- a text is white space and the text that is left without it
 skipped : (cs : List ℕ) → (lead : List ℕ) × (cs ≡ lead ++ skip_leading_whitespace cs) × (list_all is_whitespace lead ≡ true)
 skipped [] = ([], refl, refl)
 skipped (c ∷ cs) =
@@ -39,7 +39,8 @@ dropped (c ∷ cs) =
       | false ↦ λ other. (rest.0, ap (λ l. c ∷ l) rest.1, rest.2)
     ] refl
 
--- a text, by characters, is what is left of it between white space that was left out
+-- a text, by characters, is `left` between white space that was removed: at the start only if `first`, at the end only
+-- if `last`
 pub record IsTrimmed (first last : Bool) (text left : List ℕ) : Type 0 where
   pub lead : List ℕ
   pub trail : List ℕ
@@ -49,6 +50,7 @@ pub record IsTrimmed (first last : Bool) (text left : List ℕ) : Type 0 where
   pub begins : first ≡ false → lead ≡ []
   pub ends : last ≡ false → trail ≡ []
 
+-- both parts of appended valid characters are valid
 pub scalars_parts : (xs ys : List ℕ) → scalars (xs ++ ys) ≡ true → (scalars xs ≡ true) × (scalars ys ≡ true)
 scalars_parts [] ys valid = (refl, valid)
 scalars_parts (x ∷ xs) ys valid =
@@ -56,7 +58,7 @@ scalars_parts (x ∷ xs) ys valid =
     let rest = scalars_parts xs ys both.1 in
     (ap (λ b. b && scalars xs) both.0 ∙ rest.0, rest.1)
 
--- the characters that are left at the start of a text, and at its end
+-- the characters that are left after trimming the start
 start_left : Bool → List ℕ → List ℕ
 start_left true text = skip_leading_whitespace text
 start_left false text = text
@@ -85,7 +87,7 @@ unfolding end_left
 end_parts true text = let cut = dropped text in (cut.0, cut.1, cut.2, λ no. absurd (false≢true (sym no)))
 end_parts false text = ([], sym (append-nil text), refl, λ _. refl)
 
--- the chunk of a part
+-- a part of a chunk is a normal chunk with the part's text
 part_chunk : (whole : List ℕ) (span : Range ℕ) (at : ℕ) (text : List ℕ) → (chunk_part whole span at text).v ≡ Normal text
 part_chunk whole span at text =
     elim (length text == length whole) as (λ b. (if b then placed (Normal text) span.start span.end else placed (Normal text) (further span.start at) (further (further span.start at) (length text))).v ≡ Normal text) [
@@ -93,7 +95,7 @@ part_chunk whole span at text =
       | false ↦ refl
     ]
 
--- a piece, by what is left of its text
+-- a piece is the part of the chunk that is left of its text
 pub record IsPiece (whole : List ℕ) (span : Range ℕ) (at : ℕ) (first last : Bool) (text : List ℕ) (here : Spanned Chunk) : Type 0 where
   pub left : List ℕ
   pub trimmed : IsTrimmed first last text left
@@ -120,7 +122,7 @@ piece_is whole span at first last text valid =
       is = ap (λ n. chunk_part whole span (at + n) (trimmed_end last (trimmed_start first (encode_utf8_all text)))) skipped_bytes ∙ ap (chunk_part whole span (at + length (encode_utf8_all start.0))) bytes;
     }
 
--- what a piece says
+-- a piece is a normal chunk with the text that is left
 pub record SaysPiece (first last : Bool) (text : List ℕ) (here : Spanned Chunk) : Type 0 where
   pub left : List ℕ
   pub trimmed : IsTrimmed first last text left

@@ -1,4 +1,4 @@
--- Chunks that are their texts.
+-- Facts about single chunks and their texts.
 use Rattle.std.proofs.Common.{◌≡◌, ℕ, Bool, true, false, ◌&&◌, List, [], ◌∷◌, refl, sym, ap, ◌∙◌, arith, append-nil, nat_lt, zero, suc}
 use Rattle.std.specs.Prelude.{encode_utf8_all, Some}
 use Rattle.std.specs.List.{list_all}
@@ -11,11 +11,11 @@ use Rattle.bib_chunks.specs.Formatted.{flowing}
 use Rattle.bib_chunks.proofs.FormattedFacts.{goes_on, flowing_run}
 use Rattle.bib_chunks.specs.Values.{text, alone}
 
--- a verbatim chunk is its text
+-- a verbatim chunk formats to its text
 pub verbatim_text : (t : List ℕ) → IsUtf8 t → text (alone (Verbatim t)) ≡ t
 verbatim_text t utf8 = ap encode_utf8_all (append-nil (chars t)) ∙ encodes-chars t utf8
 
--- a byte of ASCII that does not break a line
+-- an ASCII byte that isn't a line break
 abbrev pub is_simple : ℕ → Bool
 is_simple b = nat_lt b 128 && goes_on b
 
@@ -34,17 +34,17 @@ simple_goes (b ∷ t) all =
     let both = and_parts (nat_lt b 128) (goes_on b) parts.0 in
     rw both.1 (simple_goes t parts.1)
 
--- characters that break no line flow as they stand
+-- a text without line breaks is unchanged on one line
 pub flowing_whole : (space : Bool) (cs : List ℕ) → list_all goes_on cs ≡ true → flowing space cs ≡ cs
 flowing_whole space cs all = ap (flowing space) (sym (append-nil cs)) ∙ flowing_run space cs [] all ∙ append-nil cs
 
--- a normal chunk of such bytes is its text
+-- a normal chunk of such bytes formats to its text
 pub simple_text : (t : List ℕ) → list_all is_simple t ≡ true → text (alone (Normal t)) ≡ t
 simple_text t all =
     let ascii : IsAscii t = simple_ascii t all in
     let whole : chars t ≡ t = chars-IsAscii t ascii in
     ap encode_utf8_all (append-nil (flowing false (chars t)) ∙ ap (flowing false) whole ∙ flowing_whole false t (simple_goes t all)) ∙ encodes-IsAscii t ascii
 
--- a text is read from its verbatim chunk
+-- a text parses from its verbatim chunk
 pub string_survives : (t : List ℕ) → IsUtf8 t → Some (text (alone (Verbatim t))) ≡ Some t
 string_survives t utf8 = ap (λ x. Some x) (verbatim_text t utf8)

@@ -1,4 +1,4 @@
--- Facts on what the parts of a list say together.
+-- Facts about the styled text of all parts of a list.
 use Rattle.std.proofs.Common.{◌≡◌, ℕ, ◌+◌, Bool, true, false, ◌&&◌, List, [], ◌∷◌, ◌++◌, length, map, refl, sym, ap, subst, ◌∙◌, append-nil, append_assoc}
 use Rattle.std.specs.Prelude.{encode_utf8_all}
 use Rattle.std.specs.Char.{is_whitespace}
@@ -18,6 +18,7 @@ use Rattle.bib_chunks.specs.Parted.{AreTexts, IsList, is_normal_space, comma_tex
 use Rattle.bib_chunks.specs.Parted.IsList.{last, next}
 use Rattle.bib_chunks.proofs.CutFacts.{pieces_some}
 use Rattle.bib_chunks.proofs.TrimFacts.{scalars_parts, piece_says, SaysPiece}
+use Rattle.bib_chunks.proofs.JoinedFacts.{styled-append}
 
 -- normal characters as atoms
 abbrev pub normal : List ℕ → List Atom
@@ -34,10 +35,7 @@ same_space (c ∷ cs) = ap (λ b. is_whitespace c && b) (same_space cs)
 pub normal_space : (cs : List ℕ) → list_all is_whitespace cs ≡ true → list_all is_normal_space (normal cs) ≡ true
 normal_space cs white = same_space cs ∙ white
 
-styled-append : (xs ys : List (Spanned Chunk)) → styled (xs ++ ys) ≡ styled xs ++ styled ys
-styled-append xs ys = flat_map-append (λ (c : Spanned Chunk). atoms_of c.v) xs ys
-
--- parts, the first of which begins with these atoms
+-- parts with these atoms prepended to the first one
 abbrev pub longer : List Atom → List (List Atom) → List (List Atom)
 longer leading_run [] = []
 longer leading_run (part ∷ parts) = (leading_run ++ part) ∷ parts
@@ -62,11 +60,12 @@ rejoined separator [] = []
 rejoined separator (text ∷ []) = text
 rejoined separator (text ∷ after ∷ more) = text ++ (separator ++ rejoined separator (after ∷ more))
 
--- one chunk at the start
+-- the styled text of one chunk
 one_styled : (c : Spanned Chunk) (text : List Atom) → styled (c ∷ []) ++ text ≡ atoms_of c.v ++ text
 one_styled c text = ap (λ l. l ++ text) (append-nil (atoms_of c.v))
 
--- the pieces of a chunk, and the parts after it
+-- the styled text `rest` of the pieces of a chunk, followed by `text`, is a list of `parts`; `rest` is `whole` without
+-- white space after a separator before it
 pub record ListFrom (separator : List ℕ) (following : Bool) (whole : List ℕ) (parts : List (List (Spanned Chunk))) (text : List Atom) : Type 0 where
   pub lead : List ℕ
   pub rest : List ℕ
@@ -83,6 +82,7 @@ spread : (left trail separator lead rest : List ℕ) (text : List Atom)
 spread left trail separator lead rest text =
     sym (normal-append left (trail ++ (separator ++ (lead ++ rest))) text ∙ ap (λ l. normal left ++ l) (normal-append trail (separator ++ (lead ++ rest)) text ∙ ap (λ l. normal trail ++ l) (normal-append separator (lead ++ rest) text ∙ ap (λ l. normal separator ++ l) (normal-append lead rest text))))
 
+-- the pieces of a chunk, with the parts after it, are a list of the whole text
 pub pieces_list : (separator : List ℕ) (w : ℕ) (whole : List ℕ) (span : Range ℕ) (at : ℕ) (following : Bool) (texts : List (List ℕ)) (parts : List (List (Spanned Chunk))) (text : List Atom)
     → scalars (rejoined separator texts) ≡ true → IsList (normal separator) (map styled parts) text
     → ListFrom separator following (rejoined separator texts) (joined_parts (pieces_between w whole span at following texts) parts) text
@@ -142,6 +142,7 @@ same_join c [] = refl
 same_join c (text ∷ []) = refl
 same_join c (text ∷ after ∷ more) = ap (λ l. text ++ (c ∷ l)) (same_join c (after ∷ more))
 
+-- the texts between commas, joined by commas, are the whole text
 pub commas_whole : (cs : List ℕ) → rejoined (44 ∷ []) (between_commas cs) ≡ cs
 commas_whole cs = same_join 44 (between_commas cs) ∙ join_with_byte-slice_split 44 cs
 

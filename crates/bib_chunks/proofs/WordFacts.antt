@@ -1,4 +1,4 @@
--- Facts on the words `and` of a list and its parts.
+-- Facts about the words `and` of a list and its parts.
 use Rattle.std.proofs.Common.{◌≡◌, ℕ, Bool, true, false, cond, ◌&&◌, List, [], ◌∷◌, ◌++◌, map, refl, sym, ap, subst, ◌∙◌, append-nil, append_assoc}
 use Rattle.std.specs.Prelude.{◌||◌, encode_utf8_all}
 use Rattle.std.specs.Char.{is_whitespace}
@@ -31,7 +31,7 @@ prepend_rejoined a text (after ∷ more) = refl
 cut_rejoined : (text : List ℕ) (more : List (List ℕ)) → rejoined letters ([] ∷ text ∷ more) ≡ 97 ∷ 110 ∷ 100 ∷ rejoined letters (text ∷ more)
 cut_rejoined text more = refl
 
--- the word, given that it stands there
+-- if the word is at the start of these characters, they begin with its letters
 same_letters : (a n d : ℕ) (rest : List ℕ) → word_here true (a ∷ n ∷ d ∷ rest) ≡ true → 97 ∷ 110 ∷ 100 ∷ rest ≡ a ∷ n ∷ d ∷ rest
 same_letters a n d rest here = let (others, is, spaced) = word_letters true (a ∷ n ∷ d ∷ rest) here in cc
 
@@ -50,7 +50,7 @@ one_rejoined false space a n d rest here cut on =
     let (text, more, some) = ands_some (is_whitespace a) (n ∷ d ∷ rest) in
     ap (λ ts. rejoined letters (prepend (a ∷ []) ts)) some ∙ prepend_rejoined a text more ∙ ap (λ ts. a ∷ rejoined letters ts) (sym some) ∙ ap (λ l. a ∷ l) on
 
--- the texts between the words, with the words again
+-- the texts between the words, joined by the word, are the whole text
 pub ands_whole : (space : Bool) (cs : List ℕ) → rejoined letters (between_ands space cs) ≡ cs
 ands_whole space [] = refl
 ands_whole space (a ∷ []) = refl
@@ -58,12 +58,12 @@ ands_whole space (a ∷ n ∷ []) = refl
 ands_whole space (a ∷ n ∷ d ∷ rest) =
     one_rejoined (word_here space (a ∷ n ∷ d ∷ rest)) space a n d rest refl (ands_whole false rest) (ands_whole (is_whitespace a) (n ∷ d ∷ rest))
 
--- whether a word stands in characters, after white space or not
+-- whether characters contain a word; the flag says whether white space comes before them
 abbrev pub holds_and : Bool → List ℕ → Bool
 holds_and space [] = false
 holds_and space (c ∷ cs) = word_here space (c ∷ cs) || holds_and (is_whitespace c) cs
 
--- no word stands in texts, the first of which stands after white space or not
+-- no text contains a word; the flag says whether white space comes before the first text
 abbrev pub AreFree : Bool → List (List ℕ) → Type 0
 AreFree space [] = Unit {0}
 AreFree space (text ∷ more) = (holds_and space text ≡ false) × AllByRecursion (λ t. holds_and false t ≡ false) more
@@ -72,7 +72,7 @@ all_free : (texts : List (List ℕ)) → AreFree false texts → AllByRecursion 
 all_free [] free = tt
 all_free (text ∷ more) free = (free.0, free.1)
 
--- a word that stands at the start of characters stands at the start of longer ones
+-- a word at the start of characters is at the start of longer ones
 word_longer : (space : Bool) (cs tail : List ℕ) → word_here space cs ≡ true → word_here space (cs ++ tail) ≡ true
 word_longer space [] tail here = absurd (false≢true here)
 word_longer space (a ∷ []) tail here = absurd (false≢true here)
@@ -80,7 +80,7 @@ word_longer space (a ∷ n ∷ []) tail here = absurd (false≢true here)
 word_longer space (a ∷ n ∷ d ∷ []) tail here = absurd (false≢true (and_parts (space && is_and a n d) false here).1)
 word_longer space (a ∷ n ∷ d ∷ e ∷ rest) tail here = here
 
--- the first text is what its characters begin with
+-- the joined text begins with the first text
 rejoined_first : (text : List ℕ) (more : List (List ℕ)) → (tail : List ℕ) × (rejoined letters (text ∷ more) ≡ text ++ tail)
 rejoined_first text [] = ([], sym (append-nil text))
 rejoined_first text (after ∷ more) = (_, refl)
@@ -134,7 +134,7 @@ left_no_and first last text left cut none before following s t white blank is =
 chunk_no_and : (text : List ℕ) → scalars text ≡ true → HasNoAnd text → IsWithoutAnd (Normal (encode_utf8_all text))
 chunk_no_and text valid none = subst HasNoAnd (sym (chars-encodes text valid)) none
 
--- what a trimmed chunk says
+-- a trimmed normal chunk has the trimmed text
 pub trimmed_says : (first last : Bool) (text : List ℕ) (span : Range ℕ) → IsUtf8 text → SaysPiece first last (chars text) (trimmed first last (Normal text) span)
 trimmed_says first last text span utf8 =
     subst (λ bs. SaysPiece first last (chars text) (piece text span 0 first last bs)) (encodes-chars text utf8) (piece_says text span 0 first last (chars text) (scalars-chars text utf8))
@@ -146,6 +146,7 @@ trimmed_text first last (Normal text) span utf8 =
 trimmed_text first last (Verbatim text) span utf8 = utf8
 trimmed_text first last (Math text) span utf8 = utf8
 
+-- the texts of trimmed chunks are UTF-8
 pub trimmed_texts : (first : Bool) (chunks : List (Spanned Chunk)) → AreTexts chunks → AreTexts (trimmed_from first chunks)
 trimmed_texts first [] texts = tt
 trimmed_texts first (c ∷ []) texts = (trimmed_text first true c.v c.span texts.0, tt)
@@ -184,7 +185,7 @@ chunk_spaced first last (Normal text) span utf8 =
 chunk_spaced first last (Verbatim text) span utf8 = same_spaced first last (Verbatim text) _ refl
 chunk_spaced first last (Math text) span utf8 = same_spaced first last (Math text) _ refl
 
--- the same of chunks
+-- the same for chunks
 record AreSpaced (first : Bool) (chunks : List (Spanned Chunk)) : Type 0 where
   lead : List ℕ
   trail : List ℕ

@@ -1,4 +1,4 @@
--- Facts on written texts.
+-- Facts about written texts.
 use Rattle.std.proofs.Common.{◌≡◌, ℕ, ◌+◌, ◌<◌, Bool, true, false, cond, ◌||◌, List, [], ◌∷◌, ◌++◌, length, get_or, drop, refl, sym, ap, ◌∙◌, not}
 use Rattle.std.specs.Prelude.{encode_utf8_all, codes, nat_eq}
 use Rattle.std.specs.Str.{chars, IsUtf8}
@@ -38,7 +38,7 @@ pub spelled_other : (v : Bool) (c : ℕ) → is_grouping c ≡ false → v ≡ f
 unfolding spelled
 spelled_other v c other normal free no_tilde no_circumflex = rw (other, normal, free, ne_eqb c 126 no_tilde, ne_eqb c 94 no_circumflex) refl
 
--- a bare character stands for itself
+-- a bare character is written unchanged
 bare_cases : (v grouping reserved tilde circumflex : Bool) (c : ℕ) → cond grouping false (cond v true (not (reserved || tilde || circumflex))) ≡ true
     → cond grouping (92 ∷ c ∷ []) (cond v (c ∷ []) (cond reserved (92 ∷ c ∷ []) (cond tilde (codes "\\textasciitilde{}") (cond circumflex (codes "\\textasciicircum{}") (c ∷ []))))) ≡ c ∷ []
 bare_cases v true reserved tilde circumflex c bare = absurd (false≢true bare)
@@ -86,11 +86,11 @@ written_run_end out one total {u} {w} v run utf8 end first before =
     let after : one ++ encode_utf8_all (spelling v (chars (ahead w))) ≡ total = written_more out one total cs _ _ (first ∙ ap (λ bs. out ++ bs) (passed_between passed)) cut before in
     written_all one total (spelling v (chars (ahead w))) (ap (spelling v) (chars_at_end w end)) after
 
--- a chunk's text of bytes is the bytes of its characters
+-- math outside verbatim fields is written as its characters
 pub written_math : (v : Bool) (chunk : Chunk) (text bytes : List ℕ) → v ≡ false → chunk ≡ Math text → bytes ≡ text → written_chunk chunk v ≡ chars bytes
 written_math v chunk text bytes normal is same = ap (λ b. written_chunk chunk b) normal ∙ ap (λ x. written_chunk x false) is ∙ ap chars (sym same)
 
--- what stands before and after a chunk is ASCII
+-- the texts before and after a chunk are ASCII
 pub lead_bytes : (o : Bool) (chunk : Chunk) → lead o chunk ≡ encode_utf8_all (lead o chunk)
 unfolding encode
 lead_bytes true (Normal text) = refl

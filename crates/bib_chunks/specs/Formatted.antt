@@ -1,5 +1,5 @@
 -- Meaning: words of public contracts.
--- Chunks as plain text. A formatted text is given by its characters.
+-- Chunks as plain text. A formatted text is a list of its characters.
 use Rattle.std.specs.Prelude.{ℕ, Bool, true, false, ◌==◌, ◌||◌, if◌then◌else◌, List, [], ◌∷◌, ◌++◌}
 use Rattle.std.specs.Char.{is_whitespace}
 use Rattle.std.specs.List.{flat_map}
@@ -16,70 +16,72 @@ use Rattle.bib_text.specs.Characters as char
 abbrev pub is_break : ℕ → Bool
 is_break c = c == char.line_feed || c == char.carriage_return
 
--- whether a text ends in white space, with the answer for an empty one
+-- whether a text ends in white space; for an empty text it is `empty`
 abbrev pub ends_in_space : Bool → List ℕ → Bool
 ends_in_space empty [] = empty
 ends_in_space empty (c ∷ cs) = ends_in_space (is_whitespace c) cs
 
--- what a character of a normal text becomes: one that breaks the line a space, or nothing where the character written
--- before it is white space, which the flag says; any other stays
+-- what replaces a character of a normal text. A line break is replaced by a space, or by nothing if the last character
+-- written before it is white space, which the flag says. Any other character is kept.
 abbrev pub unbroken : Bool → ℕ → List ℕ
 unbroken space c = if is_break c then (if space then [] else char.space ∷ []) else c ∷ []
 
--- a normal text on one line; the flag says whether white space stands before it
+-- a normal text on one line; the flag says whether the last character written before it is white space
 abbrev pub flowing : Bool → List ℕ → List ℕ
 flowing space [] = []
 flowing space (c ∷ cs) = unbroken space c ++ flowing (ends_in_space space (unbroken space c)) cs
 
--- whether the character written last before the end of a chunk is white space: math is passed over, and an empty
--- verbatim chunk counts as none
+-- whether the last character written is white space after a chunk, given the same before it. Math leaves it unchanged,
+-- and after an empty verbatim chunk it is false.
 abbrev pub space_after : Bool → Chunk → Bool
 space_after space (Normal text) = ends_in_space space (flowing space (chars text))
 space_after space (Verbatim text) = ends_in_space false (chars text)
 space_after space (Math text) = space
 
--- one chunk, formatted: normal text on one line and in the case that is wanted, verbatim text as it is, math
--- between dollar signs
+-- one chunk, formatted: normal text on one line and recased, verbatim text unchanged, and math between dollar signs;
+-- the flag says whether the last character written before it is white space
 abbrev pub formatted_chunk : (List ℕ → List ℕ) → Bool → Chunk → List ℕ
 formatted_chunk recased space (Normal text) = recased (flowing space (chars text))
 formatted_chunk recased space (Verbatim text) = chars text
 formatted_chunk recased space (Math text) = char.dollar ∷ (chars text ++ char.dollar ∷ [])
 
--- chunks formatted verbatim, after white space or not
+-- chunks formatted without change of case; the flag says whether the last character written before them is white space
 abbrev pub formatted_after : Bool → List (Spanned Chunk) → List ℕ
 formatted_after space [] = []
 formatted_after space (c ∷ rest) = formatted_chunk (λ cs. cs) space c.v ++ formatted_after (space_after space c.v) rest
 
--- chunks formatted verbatim
+-- chunks formatted without change of case
 abbrev pub formatted : List (Spanned Chunk) → List ℕ
 formatted = formatted_after false
 
--- a styled text, formatted: normal characters on one line, math between dollar signs; the flag says whether white space
--- stands before it
+-- a styled text, formatted: normal characters on one line, verbatim ones unchanged, and math between dollar signs; the
+-- flag says whether the last character written before it is white space
 abbrev pub formatted_atoms : Bool → List Atom → List ℕ
 formatted_atoms space [] = []
 formatted_atoms space (Atom.normal c ∷ rest) = unbroken space c ++ formatted_atoms (ends_in_space space (unbroken space c)) rest
 formatted_atoms space (Atom.verbatim c ∷ rest) = c ∷ formatted_atoms (is_whitespace c) rest
 formatted_atoms space (Atom.math text ∷ rest) = char.dollar ∷ (text ++ char.dollar ∷ formatted_atoms space rest)
 
--- a character in lower case, or in upper case where it begins a sentence; by Unicode's mappings, in which a character
--- of ASCII becomes one of ASCII
+-- a character in upper case if it begins a sentence, otherwise in lower case; by Unicode's mappings, which map ASCII
+-- characters to ASCII characters
 abbrev pub cased : Bool → ℕ → List ℕ
 cased true c = to_uppercase c
 cased false c = to_lowercase c
 
--- a text in lower case, character by character; the first one in upper case where the text begins a sentence
+-- a text in lower case, character by character, except that the first character is in upper case if the text begins a
+-- sentence
 abbrev pub sentence_case : Bool → List ℕ → List ℕ
 sentence_case begins [] = []
 sentence_case begins (c ∷ cs) = cased begins c ++ flat_map to_lowercase cs
 
--- chunks formatted as a sentence, after the first one or from it on
+-- chunks formatted in sentence case. The first flag says whether the first of them begins the sentence, the second one
+-- whether the last character written before them is white space.
 abbrev pub sentence_after : Bool → Bool → List (Spanned Chunk) → List ℕ
 sentence_after begins space [] = []
 sentence_after begins space (c ∷ rest) =
     formatted_chunk (sentence_case begins) space c.v ++ sentence_after false (space_after space c.v) rest
 
--- chunks formatted as a sentence: as verbatim, with the characters of normal chunks in lower case, and in upper case
--- where the character is the first of the first chunk
+-- chunks formatted in sentence case: normal text is in lower case. If the first chunk is normal, its first character is
+-- in upper case.
 abbrev pub sentence : List (Spanned Chunk) → List ℕ
 sentence = sentence_after true false

@@ -8,3 +8,8 @@ pub mod Styled
 pub mod Values
 pub mod Writing
 pub mod Written
+pub mod Joined
+pub mod Joining
+pub mod Lists
+pub mod Settled
+pub mod Settling

@@ -1,5 +1,5 @@
 -- Meaning: words of public contracts.
--- What the parts of a list say: words of laws.
+-- The contents of the parts of a list: words of laws.
 use Rattle.std.specs.Prelude.{◌≡◌, ℕ, ◌==◌, Bool, true, false, List, [], ◌∷◌, ◌++◌, ◌+◌, ◌<◌, ◌^◌, length}
 use Rattle.std.specs.Char.{is_whitespace}
 use Rattle.std.specs.List.{list_all, list_any, AllByRecursion, Contains}
@@ -14,11 +14,12 @@ use Rattle.bib_text.specs.Characters as char
 abbrev pub AreTexts : List (Spanned Chunk) → Type 0
 AreTexts = AllByRecursion (λ c. IsUtf8 (text_of c.v))
 
--- a chunk's bytes are as many as those of its text, below the highest number
+-- a chunk's span is as long as its text and ends below 2^64
 abbrev pub IsAsLong : Spanned Chunk → Type 0
 IsAsLong c = (c.span.end ≡ c.span.start + length (text_of c.v)) × (c.span.end < 2 ^ 64)
 
--- a piece stands in the bytes of a chunk where its text stands in the chunk's text
+-- the text of the piece `here` occurs in the text of the chunk `c`. Its span is as long as its text, and at the same
+-- offset in the span of `c`.
 pub record StandsInChunk (c here : Spanned Chunk) : Type 0 where
   pub before : List ℕ
   pub following : List ℕ
@@ -26,7 +27,7 @@ pub record StandsInChunk (c here : Spanned Chunk) : Type 0 where
   pub start : here.span.start ≡ c.span.start + length before
   pub end : here.span.end ≡ here.span.start + length (text_of here.v)
 
--- it does in one of these
+-- a piece is in one of these chunks in this way
 abbrev pub StandsInOne : List (Spanned Chunk) → Spanned Chunk → Type 0
 StandsInOne chunks here = (c : Spanned Chunk) × Contains chunks c × StandsInChunk c here
 
@@ -36,8 +37,7 @@ is_normal_space (Atom.normal c) = is_whitespace c
 is_normal_space (Atom.verbatim c) = false
 is_normal_space (Atom.math text) = false
 
--- a styled text is these parts, with a separator between each two, and with nothing else but normal white space next to
--- separators
+-- a styled text consists of these parts with a separator between each two, and of normal white space next to separators
 pub data IsList (separator : List Atom) : List (List Atom) → List Atom → Type 0 where
   last : {part : List Atom} → IsList separator (part ∷ []) part
   next : {part rest : List Atom} {parts : List (List Atom)} (left right : List Atom)
@@ -58,25 +58,25 @@ is_normal_comma (Atom.normal c) = c == char.comma
 is_normal_comma (Atom.verbatim c) = false
 is_normal_comma (Atom.math text) = false
 
--- chunks hold no normal comma
+-- chunks contain no normal comma
 abbrev pub HoldsNoComma : List (Spanned Chunk) → Type 0
 HoldsNoComma part = list_any is_normal_comma (styled part) ≡ false
 
--- characters hold no word `and` between white space
+-- characters contain no word `and` with white space right before and after it
 abbrev pub HasNoAnd : List ℕ → Type 0
 HasNoAnd text = (before following : List ℕ) (s t : ℕ) → is_whitespace s ≡ true → is_whitespace t ≡ true → text ≡ before ++ (s ∷ char.letter_a ∷ char.letter_n ∷ char.letter_d ∷ t ∷ following) → ⊥
 
--- a normal chunk holds no such word
+-- a chunk isn't normal or contains no such word
 abbrev pub IsWithoutAnd : Chunk → Type 0
 IsWithoutAnd (Normal text) = HasNoAnd (chars text)
 IsWithoutAnd (Verbatim text) = Unit {0}
 IsWithoutAnd (Math text) = Unit {0}
 
--- none of the chunks does
+-- no normal chunk of these contains such a word
 abbrev pub HoldsNoAnd : List (Spanned Chunk) → Type 0
 HoldsNoAnd = AllByRecursion (λ c. IsWithoutAnd c.v)
 
--- a styled text is another one with normal white space before and after it
+-- `whole` is `inside` with normal white space before and after it
 pub record IsSpaced (inside whole : List Atom) : Type 0 where
   pub left : List Atom
   pub right : List Atom

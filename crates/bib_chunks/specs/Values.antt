@@ -1,6 +1,6 @@
 -- Meaning: words of public contracts.
--- Chunks as values: the text from which one is read, and the chunks that are written of one. A chunk that is written and
--- not read from a file stands nowhere: at the highest number of 64 bits, as in the Rust crate `biblatex`.
+-- Chunks as values: the formatted text of chunks, and chunks that weren't parsed from a file. These have a detached
+-- span: both ends are the greatest 64-bit number, as in the Rust crate `biblatex`.
 use Rattle.std.specs.Prelude.{ℕ, ◌-◌, ◌^◌, List, [], ◌∷◌, encode_utf8_all}
 use Rattle.std.specs.Str.{str_to_ascii_lowercase}
 use Rattle.bib_chunks.specs.declared.chunk.Chunk.{Chunk}
@@ -16,14 +16,14 @@ Value = List (Spanned Chunk)
 abbrev pub text : Value → List ℕ
 text chunks = encode_utf8_all (formatted chunks)
 
--- the same, with `A` to `Z` in lowercase letters
+-- the formatted text of chunks in bytes, with `A` to `Z` in lower case
 abbrev pub lowered : Value → List ℕ
 lowered chunks = str_to_ascii_lowercase (text chunks)
 
--- a chunk that stands nowhere
+-- a chunk with a detached span
 abbrev pub nowhere : Chunk → Spanned Chunk
 nowhere chunk = placed chunk (2 ^ 64 - 1) (2 ^ 64 - 1)
 
--- one chunk that stands nowhere
+-- a value of one chunk with a detached span
 abbrev pub alone : Chunk → Value
 alone chunk = nowhere chunk ∷ []

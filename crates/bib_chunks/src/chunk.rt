@@ -1,4 +1,4 @@
-//! Text that knows what is normal, verbatim and math.
+//! Text in chunks that are normal, verbatim or math.
 
 ghost use Rattle.std.specs.Prelude.{◌≡◌, IfOk, string_bytes, encode_utf8_all};
 ghost use Rattle.std.specs.Borrow.{sem};
@@ -21,22 +21,22 @@ pub use writing::{value_text, write_value};
 /// A part of a field's value.
 #[derive(Debug, PartialEq, Eq, Drop)]
 pub enum Chunk {
-    /// Text that a style may put into another case.
+    /// Text whose case a style may change.
     Normal(Text),
-    /// Text in braces of its own, which stays as it is.
+    /// Text in braces, whose case is kept.
     Verbatim(Text),
     /// Text between dollar signs.
     Math(Text),
 }
 
-/// The chunks of a value, each with its place.
+/// The chunks of a value, each with its span.
 pub type Chunks = Items<Spanned<Chunk>>;
 
 /// Borrowed chunks.
 pub type ChunksRef<'a> = &'a [Spanned<Chunk>];
 
 impl Chunk {
-    /// The text of the chunk.
+    /// Returns the text of the chunk.
     pub fn get(&self) -> &str
         ensures { result.now ≡ text_of self.now }
     {
@@ -45,7 +45,7 @@ impl Chunk {
         }
     }
 
-    /// The text of the chunk, to be changed.
+    /// Returns the text of the chunk as a mutable reference.
     pub fn get_mut(&mut self) -> &mut Text
         ensures* writes_back { sem 𝓛 (LendsText self.entry result) }
         ensures value { result.now ≡ text_of self.old }
@@ -57,11 +57,15 @@ impl Chunk {
         }
     }
 
-    /// Writes the text of the chunk with escapes, without braces and dollar signs around it. A command that the reader does
-    /// not know is plain text: `\emph{x}` is written `\\emph\{x\}`, and outside verbatim fields `~` is written
-    /// `\textasciitilde{}`. The edits and `convert` of `bibkit` keep a file's own text.
+    /// Returns the text of the chunk as a file has it, without braces and dollar signs around it. `is_verbatim` says
+    /// whether the field is a verbatim one.
     ///
-    /// `is_verbatim` says whether the field is a verbatim one. The only error is out of memory.
+    /// Special characters are escaped, except in a math chunk outside verbatim fields. A command that the parser does
+    /// not know is plain text: `\emph{x}` is written `\\emph\{x\}`. Outside verbatim fields `~` is written
+    /// `\textasciitilde{}` and `^` is written `\textasciicircum{}`. The edits and `convert` of `bibkit` keep a file's
+    /// own text.
+    ///
+    /// The only error is out of memory.
     pub fn to_biblatex_string(&self, alloc: Global, is_verbatim: bool) -> Result<String, AllocError>
         ensures { IfOk result (λ text. string_bytes text ≡
             encode_utf8_all (written_chunk self.now is_verbatim)) }
@@ -82,7 +86,8 @@ impl Clone for Chunk {
     }
 }
 
-/// From the start of the first chunk to the end of the last, in bytes; `0..0` where there is none.
+/// Returns the span from the start of the first chunk to the end of the last one, in bytes; `0..0` if there are no
+/// chunks.
 pub fn whole_span(chunks: ChunksRef<'_>) -> Span
     ensures { result ≡ whole_span chunks.now }
 {

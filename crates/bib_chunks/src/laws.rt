@@ -1,4 +1,4 @@
-//! Laws of lists. These functions do nothing: what they ensure is proved of the definitions alone.
+//! Laws of lists. The functions have empty bodies: each contract is a theorem about the definitions that it names.
 
 ghost use Rattle.std.specs.Prelude.{◌≡◌, List, map};
 ghost use Rattle.std.specs.List.{AllByRecursion};
@@ -8,33 +8,35 @@ ghost use Rattle.bib_chunks.specs.Cuts.{comma_list, and_list};
 ghost use Rattle.bib_chunks.specs.Parted.{AreTexts, HoldsNoAnd, HoldsNoComma, IsAsLong, IsList, IsSpaced, StandsInOne, and_word, comma_text};
 ghost use Rattle.bib_chunks.specs.Styled.{Atom, styled};
 
-/// The parts of a comma list with commas between them are its styled text again, but for white space next to the commas.
+/// States that the parts of a comma list with commas between them are its styled text, except for normal white space
+/// next to the commas.
 pub fn comma_list_is_whole()
     ensures { (chunks : List (APlaced AChunk)) → AreTexts chunks →
         IsList comma_text (map styled (comma_list chunks)) (styled chunks) }
 {}
 
-/// No part of a comma list holds a normal comma.
+/// States that no part of a comma list contains a normal comma.
 pub fn no_comma_in_parts()
     ensures { (chunks : List (APlaced AChunk)) → AreTexts chunks →
         AllByRecursion HoldsNoComma (comma_list chunks) }
 {}
 
-/// The parts of an `and` list with the word `and` between them are its styled text again, but for white space next to the
-/// words and at both ends.
+/// States that the parts of an `and` list with the word `and` between them are its styled text, except for normal white
+/// space next to the words and at both ends.
 pub fn and_list_is_whole()
     ensures { (chunks : List (APlaced AChunk)) → AreTexts chunks → (inside : List Atom) ×
         IsSpaced inside (styled chunks) × IsList and_word (map styled (and_list chunks)) inside }
 {}
 
-/// No normal chunk in a part of an `and` list holds a word `and` between white space.
+/// States that no normal chunk in a part of an `and` list contains the word `and` between two white space characters.
 pub fn no_and_in_parts()
     ensures { (chunks : List (APlaced AChunk)) → AreTexts chunks →
         AllByRecursion HoldsNoAnd (and_list chunks) }
 {}
 
-/// In a list of chunks whose bytes are as many as those of their texts, each piece of a part stands in the bytes of one
-/// of the chunks where its text stands in the text of that chunk.
+/// States where the pieces of a list are. Suppose that the span of each chunk is as long as its text and ends below
+/// 2^64. Then each piece of a part lies in the span of one of the chunks. Its offset there is the offset of its text in
+/// the text of that chunk.
 pub fn pieces_stand_where_their_texts_do()
     ensures commas { (chunks : List (APlaced AChunk)) → AreTexts chunks →
         AllByRecursion IsAsLong chunks →

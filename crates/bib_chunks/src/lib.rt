@@ -1,5 +1,11 @@
-//! Chunks of text that are normal, verbatim or math.
+//! Chunks of normal text, verbatim text and math, and the styled text that they form.
+//!
+//! `chunk` formats, cuts and writes chunks. `joining` appends chunks and merges neighbours of one kind. `lists` splits
+//! a comma list into its parts. `settling` decides whether written chunks parse back to the same styled text.
 #![tactic(auto)]
 
 pub mod chunk;
+pub mod joining;
 pub mod laws;
+pub mod lists;
+pub mod settling;

@@ -1,4 +1,4 @@
--- Facts on the units that a cursor takes.
+-- Facts about the units that a cursor consumes.
 use Rattle.std.proofs.Common.{◌≡◌, ℕ, suc, ◌+◌, ◌-◌, ◌<◌, ◌≤◌, Bool, true, false, not, ◌&&◌, if◌then◌else◌, List, [], ◌∷◌, ◌++◌, length, drop, replicate, refl, sym, ap, ◌∙◌, subst, arith, append_assoc, length-append, length-drop, take, ◌^◌, inl, inr, add-one, Option, None, Some, MatchOption}
 use Rattle.std.specs.Prelude.{◌==◌, nat_lt, encode_utf8_all}
 use Rattle.std.specs.List.{list_all, list_any}
@@ -16,7 +16,7 @@ use Rattle.bib_contents.specs.Progress.{left, Passes}
 use Rattle.bib_contents.proofs.UnitFacts.{prefix, first_unit, unit_first}
 use Rattle.bib_contents.proofs.ProgressFacts.{passes_then, passes_none}
 
--- a place after what was passed is in the text
+-- a place after the passed characters is in the text
 pub passes_within : {u v : Place} {cs : List ℕ} → Passes u cs v → u.at ≤ length u.text → v.at ≤ length v.text
 passes_within {u} {v} {cs} passed within =
     let sizes : length u.text - u.at ≡ length (encode_utf8_all cs) + length (drop v.at v.text) = sym (length-drop u.at u.text) ∙ ap length passed.here ∙ length-append (encode_utf8_all cs) _ in
@@ -24,6 +24,7 @@ passes_within {u} {v} {cs} passed within =
     let next : v.at ≡ u.at + length (encode_utf8_all cs) = passed.next in
     omega arith
 
+-- a place after passed characters is not earlier
 pub passes_ahead : {u v : Place} {cs : List ℕ} → Passes u cs v → u.at ≤ v.at
 passes_ahead {u} {v} {cs} passed =
     let next : v.at ≡ u.at + length (encode_utf8_all cs) = passed.next in
@@ -41,7 +42,7 @@ passes_one {u} {v} {c} passed =
     let width : 1 ≤ len_utf8 c = (len_utf8_bounds c).0 in
     omega arith
 
--- the text between the places
+-- the text between two places consists of the passed characters
 pub passes_text : {u v : Place} {cs : List ℕ} (start : ℕ) (bs : List ℕ) → Passes u cs v → start ≡ u.at → IsUtf8 bs → bs ≡ between (place v.text start) v → chars bs ≡ cs
 passes_text {u} {v} {cs} start bs passed is utf8 taken =
     let next : v.at ≡ u.at + length (encode_utf8_all cs) = passed.next in
@@ -50,7 +51,7 @@ passes_text {u} {v} {cs} start bs passed is utf8 taken =
     ap (λ n. take (v.at - n) (drop n v.text)) is ∙ ap (λ t. take (v.at - u.at) (drop u.at t)) passed.same ∙ ap (take (v.at - u.at)) passed.here ∙ take_at (encode_utf8_all cs) (drop v.at v.text) (v.at - u.at) size in
     chars_whole cs bs utf8 (taken ∙ cut)
 
--- hyphens are their bytes
+-- hyphens are encoded as themselves
 pub all_hyphens : (cs : List ℕ) → list_all (λ c. c == 45) cs ≡ true → (cs ≡ replicate (length cs) 45) × (encode_utf8_all cs ≡ cs)
 unfolding lib.Utf8.encode
 all_hyphens [] all = (refl, refl)
@@ -64,12 +65,12 @@ hyphens_bytes bs utf8 all =
     let both = all_hyphens (chars bs) all in
     both.0 ∙ ap (λ n. replicate n 45) (ap length (sym both.1 ∙ encodes-chars bs utf8))
 
--- where neither a character that passes nor one that fails is left, nothing is
+-- if the first character neither passes the test nor fails it, there is none
 pub nothing_left : (test : ℕ → Bool) (xs : List ℕ) → begins (λ c. not (test c)) xs ≡ false → begins test xs ≡ false → xs ≡ []
 nothing_left test [] one two = refl
 nothing_left test (c ∷ cs) one two = absurd (both_ways (not (test c)) one (rw two refl))
 
--- a text without dollar signs doesn't end a formula
+-- a text that contains the end of a formula contains a dollar sign
 without_dollar : (text rest : List ℕ) → list_all (λ c. not (c == 36)) ((text ++ 36 ∷ []) ++ rest) ≡ true → ⊥
 without_dollar [] rest all = both_ways false refl all
 without_dollar (c ∷ cs) rest all = without_dollar cs rest (and_parts (not (c == 36)) _ all).1
@@ -77,6 +78,7 @@ without_dollar (c ∷ cs) rest all = without_dollar cs rest (and_parts (not (c =
 pub after_first : {c d : ℕ} {xs ys : List ℕ} → c ∷ xs ≡ d ∷ ys → xs ≡ ys
 after_first same = ap (drop 1) same
 
+-- a dollar sign without a second one begins no unit
 pub no_formula : (text : List ℕ) → list_all (λ c. not (c == 36)) text ≡ true → (u : ContentUnit) (rest : List ℕ) → IsNext false u (36 ∷ text) rest → ⊥
 no_formula text all u rest one =
     let is : ContentUnit.formula (prefix (λ d. not (d == 36)) text) ≡ u = ap (first_unit false) one.spells ∙ unit_first false u rest one.fits in
@@ -90,13 +92,14 @@ all_none (c ∷ cs) all =
     let parts = and_parts (not (c == 36)) (list_all (λ d. not (d == 36)) cs) all in
     rw (not-true (c == 36) parts.0) (all_none cs parts.1)
 
+-- math up to the second dollar sign is the first unit
 pub formula_found : (before text after : List ℕ) → list_all (λ d. not (d == 36)) text ≡ true → before ≡ text ++ 36 ∷ after → IsNext false (ContentUnit.formula text) (36 ∷ before) after
 formula_found before text after all is = record {
   fits = rw (all_none text all) refl;
   spells = ap (λ xs. 36 ∷ xs) (is ∙ sym (append_assoc text (36 ∷ []) after));
 }
 
--- whether a brace of the text closes so many open ones and one more
+-- whether a brace of the text closes `depth` open ones and one more
 abbrev pub closes : ℕ → List ℕ → Bool
 closes depth [] = false
 closes depth (c ∷ cs) =
@@ -104,7 +107,7 @@ closes depth (c ∷ cs) =
     else if c == 125 then (if nat_lt 0 depth then closes (depth - 1) cs else true)
     else closes depth cs
 
--- a character that is no brace
+-- a character that isn't a brace
 abbrev pub is_no_brace : ℕ → Bool
 is_no_brace c = not (c == 123) && not (c == 125)
 
@@ -122,6 +125,7 @@ closes_run depth (c ∷ cs) tail all =
     let plain = and_parts (not (c == 123)) (not (c == 125)) parts.0 in
     rw (not-true (c == 123) plain.0, not-true (c == 125) plain.1) (closes_run depth cs tail parts.1)
 
+-- the brace after a balanced text closes
 pub closes_balanced : (depth : ℕ) (text rest : List ℕ) → balances depth text ≡ true → closes depth (text ++ 125 ∷ rest) ≡ true
 closes_balanced depth [] rest balanced = rw (eqb-true depth 0 balanced) refl
 closes_balanced depth (c ∷ cs) rest balanced =
@@ -136,17 +140,18 @@ closes_balanced depth (c ∷ cs) rest balanced =
           ]
     ]
 
--- an argument was read so far: these characters were passed, and so many braces are open
+-- an argument was parsed from `u` to `s`, where `depth` braces are open
 pub record BracedRead (u : Place) (depth : ℕ) (s : Place) : Type 0 where
   pub characters : List ℕ
   pub passed : Passes u characters s
   pub balanced : (tail : List ℕ) → balances 0 (characters ++ tail) ≡ balances depth tail
   pub closed : closes 0 (left u) ≡ closes depth (left s)
 
+-- at the start of an argument no character was passed
 pub braced_none : (u : Place) → BracedRead u 0 u
 braced_none u = record { characters = []; passed = passes_none u; balanced = λ tail. refl; closed = refl }
 
--- characters that are no braces
+-- a run of characters without braces keeps the depth
 braced_run : {u s t : Place} {depth : ℕ} {run : List ℕ} → BracedRead u depth s → Passes s run t → list_all is_no_brace run ≡ true → BracedRead u depth t
 braced_run {u} {s} {t} {depth} {run} read passed plain = record {
   characters = read.characters ++ run;
@@ -155,7 +160,7 @@ braced_run {u} {s} {t} {depth} {run} read passed plain = record {
   closed = read.closed ∙ ap (closes depth) passed.left ∙ closes_run depth run (left t) plain;
 }
 
--- an opening brace
+-- an opening brace increases the depth
 braced_open : {u s t : Place} {depth : ℕ} → BracedRead u depth s → Passes s (123 ∷ []) t → BracedRead u (depth + 1) t
 braced_open {u} {s} {t} {depth} read passed = record {
   characters = read.characters ++ 123 ∷ [];
@@ -164,7 +169,7 @@ braced_open {u} {s} {t} {depth} read passed = record {
   closed = read.closed ∙ ap (closes depth) passed.left ∙ ap (λ n. closes n (left t)) (sym (add-one depth));
 }
 
--- a closing brace of one that is open
+-- a closing brace of an open one decreases the depth
 braced_close : {u s t : Place} {depth : ℕ} → BracedRead u depth s → nat_lt 0 depth ≡ true → Passes s (125 ∷ []) t → BracedRead u (depth - 1) t
 braced_close {u} {s} {t} {depth} read within passed = record {
   characters = read.characters ++ 125 ∷ [];
@@ -173,14 +178,14 @@ braced_close {u} {s} {t} {depth} read within passed = record {
   closed = read.closed ∙ ap (closes depth) passed.left ∙ rw within refl;
 }
 
--- where a run of other characters ends, the next one is a brace
+-- the character after the longest run without braces is a brace
 pub next_brace : (c : ℕ) (xs rest : List ℕ) → begins is_no_brace xs ≡ false → xs ≡ c ∷ rest → is_no_brace c ≡ false
 next_brace c xs rest ends is = rw is at ends
 
 pub braced_opens : {u s t w : Place} {depth : ℕ} {run : List ℕ} → BracedRead u depth s → Passes s run t → list_all is_no_brace run ≡ true → Passes t (123 ∷ []) w → BracedRead u (depth + 1) w
 braced_opens read passed plain brace = braced_open (braced_run read passed plain) brace
 
--- the brace is one that closes
+-- a brace that isn't an opening one is a closing one
 pub is_closing : (c : ℕ) → is_no_brace c ≡ false → (c ≡ 123 → ⊥) → c ≡ 125
 is_closing c brace differs = grind arith
 
@@ -190,7 +195,7 @@ braced_closes {u} {s} {t} {w} {depth} {run} {c} read passed plain ends brace dif
     let is : c ≡ 125 = is_closing c (next_brace c (left t) (left w) ends brace.left) differs in
     braced_close (braced_run read passed plain) within (subst (λ x. Passes t (x ∷ []) w) is brace)
 
--- the argument ends
+-- at depth 0 a closing brace ends the argument
 pub braced_found : {u s t w : Place} {run : List ℕ} {c : ℕ} → BracedRead u 0 s → Passes s run t → list_all is_no_brace run ≡ true → begins is_no_brace (left t) ≡ false → Passes t (c ∷ []) w → (c ≡ 123 → ⊥)
     → (cs : List ℕ) × Passes u cs t × (left u ≡ cs ++ 125 ∷ left w) × (balances 0 cs ≡ true)
 braced_found {u} {s} {t} {w} {run} {c} read passed plain ends brace differs =
@@ -203,14 +208,14 @@ braced_found {u} {s} {t} {w} {run} {c} read passed plain ends brace differs =
       ap (balances 0) (sym (append-nil whole.characters)) ∙ whole.balanced [],
     )
 
--- the text ends, and no brace closes the argument
+-- if the text ends first, no brace closes the argument
 pub braced_never : {u s t : Place} {depth : ℕ} {run : List ℕ} → BracedRead u depth s → Passes s run t → list_all is_no_brace run ≡ true → left t ≡ []
     → (text rest : List ℕ) → left u ≡ text ++ 125 ∷ rest → balances 0 text ≡ true → ⊥
 braced_never {u} {s} {t} {depth} {run} read passed plain ended text rest is balanced =
     let whole = braced_run read passed plain in
     both_ways (closes 0 (left u)) (whole.closed ∙ ap (closes depth) ended) (ap (closes 0) is ∙ closes_balanced 0 text rest balanced)
 
--- one more brace is open
+-- a step of the loop: an opening brace
 pub braced_opened : {u s t w : Place} {depth : ℕ} {run : List ℕ} {c : ℕ} → BracedRead u depth s → depth ≤ s.at → Passes s run t → list_all is_no_brace run ≡ true → Passes t (c ∷ []) w → c ≡ 123
     → BracedRead u (depth + 1) w × (depth + 1 ≤ w.at)
 braced_opened {u} {s} {t} {w} {depth} {run} {c} read bound passed plain brace is = (
@@ -218,7 +223,7 @@ braced_opened {u} {s} {t} {w} {depth} {run} {c} read bound passed plain brace is
   (let one : t.at + 1 ≤ w.at = passes_one brace in let run' : s.at ≤ t.at = passes_ahead passed in omega arith),
 )
 
--- one less
+-- a step of the loop: a closing brace
 pub braced_closed : {u s t w : Place} {depth : ℕ} {run : List ℕ} {c : ℕ} → BracedRead u depth s → depth ≤ s.at → Passes s run t → list_all is_no_brace run ≡ true → begins is_no_brace (left t) ≡ false → Passes t (c ∷ []) w → (c ≡ 123 → ⊥) → (depth ≡ 0 → ⊥)
     → BracedRead u (depth - 1) w × (depth - 1 ≤ w.at)
 braced_closed {u} {s} {t} {w} {depth} {run} {c} read bound passed plain ends brace differs some =
@@ -227,7 +232,7 @@ braced_closed {u} {s} {t} {w} {depth} {run} {c} read bound passed plain ends bra
       (let one : t.at + 1 ≤ w.at = passes_one brace in let run' : s.at ≤ t.at = passes_ahead passed in omega arith),
     )
 
--- an argument was passed, and the brace that closes it
+-- an argument and its closing brace were passed
 pub encloses : {u t w inside : Place} {cs : List ℕ} (start : ℕ) → Passes u cs t → balances 0 cs ≡ true → Passes t (125 ∷ []) w → inside ≡ place (take t.at t.text) start → start ≡ u.at → IsUtf8 (drop inside.at inside.text) → t.at ≤ length t.text → Encloses u inside w
 encloses {u} {t} {w} {inside} {cs} start passed balanced brace is here utf8 within =
     let size : length (take t.at t.text) ≡ t.at = length-take-le t.at t.text within in
@@ -257,7 +262,7 @@ braced_encloses {u} {s} {t} {w} {inside} {depth} {run} {c} start read none passe
     let closing : c ≡ 125 = is_closing c (next_brace c (left t) (left w) ends brace.left) differs in
     encloses start found.1 found.3 (subst (λ x. Passes t (x ∷ []) w) closing brace) is here utf8 within
 
--- the characters after a brace
+-- the characters after a closing brace
 chars_brace : (bs rest : List ℕ) → IsUtf8 bs → bs ≡ 125 ∷ rest → chars bs ≡ 125 ∷ chars rest
 unfolding lib.Utf8.encode
 chars_brace bs rest utf8 is = (chars_past (125 ∷ []) bs rest utf8 is).0
@@ -266,7 +271,7 @@ brace_eaten : {t w : Place} {rest : List ℕ} (found : Option ℕ) → MatchOpti
 brace_eaten None eaten ahead = absurd (cc (eaten.0, ahead))
 brace_eaten {t} {w} (Some c) eaten ahead = let is : c ≡ 125 = cc (eaten.left, ahead) in subst (λ x. Passes t (x ∷ []) w) is eaten
 
--- an argument whose end is known
+-- an argument whose end is known, and its closing brace
 pub known_encloses : {u t w inside : Place} (start end : ℕ) (found : Option ℕ) → Closes u.text start end → start ≡ u.at → t ≡ place u.text end → IsUtf8 (drop u.at u.text) → end < length u.text → MatchOption found ((left t ≡ []) × (w ≡ t)) (λ c. Passes t (c ∷ []) w)
     → inside ≡ place (take t.at t.text) start → IsUtf8 (drop inside.at inside.text) → Encloses u inside w
 known_encloses {u} {t} {w} {inside} start end found closes here there utf8 within eaten is inside_utf8 =
@@ -282,11 +287,12 @@ known_encloses {u} {t} {w} {inside} start end found closes here there utf8 withi
     ap (λ p. chars (drop p.at p.text)) there ∙ chars_brace (drop end u.text) (drop (end + 1) u.text) past.1 closes.brace in
     encloses start passed closes.balanced (brace_eaten found eaten ahead) is here inside_utf8 (omega (arith, ap (λ p. p.at) there, within, ap (λ p. length p.text) there))
 
--- a place before a brace is one between characters
+-- the end of an argument is at a character boundary
 pub closes_boundary : {text : List ℕ} {start end : ℕ} → Closes text start end → IsUtf8 (drop start text) → end < length text → IsCharBoundary text end
 closes_boundary {text} {start} {end} closes utf8 within =
     IsCharBoundary-from_drop text end (omega (arith, within)) (chars_past closes.inside (drop start text) (drop end text) utf8 closes.spelt).1
 
+-- the depth of an argument is below 2^63
 pub braced_bound : {u s : Place} {depth : ℕ} → BracedRead u depth s → u.at ≤ length u.text → length u.text < 2 ^ 63 → depth ≤ s.at → depth < 2 ^ 63
 braced_bound {u} {s} {depth} read within fits bound =
     let inside : s.at ≤ length s.text = passes_within read.passed within in

@@ -1,4 +1,4 @@
--- Arguments are read unit by unit: what is read and what is written.
+-- Arguments are parsed and written unit by unit.
 use Rattle.std.proofs.Common.{◌≡◌, ℕ, zero, suc, ◌+◌, ◌-◌, Bool, true, false, not, ◌&&◌, if◌then◌else◌, List, [], ◌∷◌, ◌++◌, map, replicate, refl, sym, ap, subst, ◌∙◌, append_assoc, append-nil, add-one, arith, inl, inr, Some, None}
 use Rattle.std.specs.Prelude.{◌==◌, ◌/◌, ◌%◌, encode_utf8_all}
 use Rattle.std.specs.Char.{is_whitespace}
@@ -27,7 +27,7 @@ use Rattle.bib_contents.specs.declared.units.Argument.TheVariants as given_as
 use Rattle.bib_contents.specs.declared.units.TextUnit.{TextUnit}
 use Rattle.bib_contents.specs.declared.units.TextUnit.TheVariants as shown
 
--- white space takes in the breaks
+-- a line break is white space
 break_space : (c : ℕ) → is_break c ≡ true → is_whitespace c ≡ true
 break_space c breaks = elim (cases_Bool (c == 10)) [
   | inl feed ↦ rw (eqb-true c 10 feed) refl
@@ -59,7 +59,7 @@ ordinary_all (c ∷ cs) all =
     let parts = and_parts (is_ordinary false c) (list_all (is_ordinary false) cs) all in
     and_from _ _ (ordinary_plain c parts.0) (ordinary_all cs parts.1)
 
--- a command's name has no breaks
+-- a line break can't begin a command's name
 blank_break : (c : ℕ) → is_break c ≡ true → is_blank c ≡ true
 unfolding is_blank
 blank_break c breaks = rw (break_space c breaks) refl
@@ -131,7 +131,7 @@ laid_copied true c = elim (cases_Bool (is_break c)) [
   | inr plain ↦ rw plain refl
 ]
 
--- what a unit is written as, and that it begins with no break
+-- the text of a unit as it is written doesn't begin with a line break
 pub record IsUnitWritten (is_flat : Bool) (u : ContentUnit) : Type 0 where
   pub laid_is : laid is_flat (unit_text u []) ≡ unit_written is_flat u
   pub first : begins is_break (unit_text u []) ≡ false
@@ -139,6 +139,7 @@ pub record IsUnitWritten (is_flat : Bool) (u : ContentUnit) : Type 0 where
 written_plain : (is_flat : Bool) (u : ContentUnit) → unit_written is_flat u ≡ unit_text u [] → list_all is_unbroken (unit_text u []) ≡ true → IsUnitWritten is_flat u
 written_plain is_flat u same all = record { laid_is = laid_plain is_flat (unit_text u []) all ∙ sym same; first = (capped_plain (unit_text u []) all).first }
 
+-- a unit without an argument in braces is written as its text, put on one line
 pub unit_laid : (is_flat : Bool) (u : ContentUnit) (rest : List ℕ) → fits false u rest ≡ true → held u ≡ None → IsUnitWritten is_flat u
 unit_laid is_flat (ContentUnit.hyphens n) rest right none = written_plain is_flat (ContentUnit.hyphens n) refl (dashes_plain n)
 unit_laid is_flat (ContentUnit.spaces cs) rest right none = written_plain is_flat (ContentUnit.spaces cs) refl refl
@@ -165,7 +166,7 @@ unit_laid is_flat (ContentUnit.command name space (Argument.single c)) rest righ
 unit_laid is_flat (ContentUnit.command name space (Argument.braced text)) rest right none = absurd (no_argument (sym none))
 unit_laid is_flat (ContentUnit.other c) rest right none = written_plain is_flat (ContentUnit.other c) refl (and_from _ _ (ordinary_plain c right) refl)
 
--- atoms after those that were read, and what they are written as
+-- more atoms were parsed, and their text was written
 pub read_more : {is_flat : Bool} {whole base text rest : List ℕ} {depth after : ℕ} {now more : List ℕ} (atoms : List Atom) (cs : List ℕ) → IsReadTo is_flat whole base text depth now → Goes false depth text atoms after rest → IsLed atoms → argument_written is_flat atoms ≡ cs
     → more ≡ now ++ encode_utf8_all cs → IsReadTo is_flat whole base rest after more
 read_more {is_flat} {whole} {base} {text} {rest} {depth} {after} {now} {more} atoms cs read goes led is grew = record {
@@ -176,7 +177,7 @@ read_more {is_flat} {whole} {base} {text} {rest} {depth} {after} {now} {more} at
       ∙ ap encode_utf8_all (append_assoc base (argument_written is_flat read.atoms) cs ∙ ap (λ xs. base ++ xs) (ap (λ xs. argument_written is_flat read.atoms ++ xs) (sym is) ∙ sym (written_append is_flat read.atoms atoms led)));
 }
 
--- a run of ordinary characters
+-- a run of ordinary characters was parsed
 pub read_run : {is_flat : Bool} {whole base text rest : List ℕ} {depth : ℕ} {now more : List ℕ} (run : List ℕ) → IsReadTo is_flat whole base text depth now → text ≡ run ++ rest → list_all (is_ordinary false) run ≡ true → more ≡ now ++ encode_utf8_all run
     → IsReadTo is_flat whole base rest depth more
 read_run {is_flat} {whole} {base} {text} {rest} {depth} run read leading_run all grew =
@@ -198,7 +199,7 @@ held_none (shown.Other c) = refl
 pub holds_none : (u : ContentUnit) {A : Type 0} (argument : List ℕ) → held u ≡ None → held u ≡ Some argument → A
 holds_none u argument none holds = absurd (no_argument (sym none ∙ holds))
 
--- a unit of text
+-- a unit of text was parsed
 pub read_text : {is_flat : Bool} {whole base text rest : List ℕ} {depth : ℕ} {now more : List ℕ} (unit : TextUnit) → IsReadTo is_flat whole base text depth now → IsNext false (text_unit_of unit) text rest
     → more ≡ now ++ encode_utf8_all (unit_written (is_flat_at is_flat depth) (text_unit_of unit)) → IsReadTo is_flat whole base rest depth more
 read_text {is_flat} {whole} {base} {text} {rest} {depth} unit read one grew =
@@ -209,7 +210,7 @@ read_text {is_flat} {whole} {base} {text} {rest} {depth} unit read one grew =
     (subst (λ atoms. Goes false depth text atoms depth rest) (is.means []) (goes_unit {inner = []} one is.closable (λ argument holds. holds_none (text_unit_of unit) argument (held_none unit) holds) is.deep))
     (led_characters depth (unit_text u []) wrote.first) (written_characters is_flat depth (unit_text u []) ∙ wrote.laid_is) grew
 
--- math
+-- math was parsed
 pub read_math : {is_flat : Bool} {whole base text rest : List ℕ} {depth : ℕ} {now more : List ℕ} (math : List ℕ) → IsReadTo is_flat whole base text depth now → IsNext false (ContentUnit.formula math) text rest
     → more ≡ now ++ encode_utf8_all (36 ∷ (laid is_flat math ++ 36 ∷ [])) → IsReadTo is_flat whole base rest depth more
 read_math {is_flat} math read one grew =
@@ -222,21 +223,22 @@ pub written_none : (is_flat : Bool) → argument_written is_flat [] ≡ []
 written_none true = refl
 written_none false = refl
 
--- a brace
+-- an opening brace was parsed
 pub read_opening : {is_flat : Bool} {whole base text rest : List ℕ} {depth after : ℕ} {now : List ℕ} → IsReadTo is_flat whole base text depth now → IsNext false ContentUnit.opening text rest → after ≡ depth + 1 → IsReadTo is_flat whole base rest after now
 read_opening {is_flat} {depth = depth} read one is =
     read_more [] [] read (goes_unit {inner = []} one refl (λ argument holds. absurd (no_argument holds)) (is ∙ add-one depth)) led_none (written_none is_flat) (sym (append-nil _))
 
+-- a closing brace was parsed
 pub read_closing : {is_flat : Bool} {whole base text rest : List ℕ} {depth after : ℕ} {now : List ℕ} → IsReadTo is_flat whole base text depth now → IsNext false ContentUnit.closing text rest → (depth ≡ 0 → ⊥) → after ≡ depth - 1 → IsReadTo is_flat whole base rest after now
 read_closing {is_flat} {depth = depth} read one some is =
     read_more [] [] read (goes_unit {inner = []} one (lt-ltb 0 depth (omega (arith, some))) (λ argument holds. absurd (no_argument holds)) is) led_none (written_none is_flat) (sym (append-nil _))
 
--- an argument fails where its next unit doesn't end
+-- an argument fails if its next unit doesn't end
 pub fails_on : {is_flat : Bool} {whole base text : List ℕ} {depth : ℕ} {now : List ℕ} {kind : ParseErrorKind}
     → IsReadTo is_flat whole base text depth now → UnitFails false text → kind ≡ UnexpectedEof → ContentFails false 0 whole kind
 fails_on read fails is = read.goes.fails _ (rw is (ended fails))
 
--- it fails where a brace is closed and none is open
+-- it fails if a closing brace has no opening one
 pub fails_closing : {is_flat : Bool} {whole base text rest : List ℕ} {depth : ℕ} {now : List ℕ} {kind : ParseErrorKind}
     → IsReadTo is_flat whole base text depth now → IsNext false ContentUnit.closing text rest → depth ≡ 0
     → kind ≡ Unexpected ClosingBrace → ContentFails false 0 whole kind
@@ -244,7 +246,7 @@ fails_closing {depth = depth} read one none is =
     let closed : is_closable depth ContentUnit.closing ≡ false = rw none refl in
     read.goes.fails _ (rw is (unopened one closed))
 
--- it fails where the argument of a command in it does
+-- it fails if the argument of a command in it does
 pub fails_argument : {is_flat : Bool} {whole base text rest : List ℕ} {depth : ℕ} {now name space argument : List ℕ} {kind : ParseErrorKind}
     → IsReadTo is_flat whole base text depth now → IsNext false (ContentUnit.command name space (Argument.braced argument)) text rest
     → ContentFails false 0 argument kind → ContentFails false 0 whole kind

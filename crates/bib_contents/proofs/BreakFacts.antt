@@ -1,4 +1,4 @@
--- No composed letter breaks the line.
+-- No composed letter is a line break.
 use Rattle.std.proofs.Common.{◌≡◌, ℕ, zero, suc, ◌+◌, ◌-◌, ◌/◌, ◌%◌, ◌<◌, true, ◌==◌, List, [], ◌∷◌, length, flat_map, Some, refl, sym, ap, ◌∙◌, arith, inl, inr, ne_eqb, length-append}
 use Rattle.std.specs.List.{list_all}
 use Rattle.std.proofs.lemmas.Bool.{cases_Bool, cases_eq, and_parts, and_from, eqb-true}
@@ -31,7 +31,7 @@ plain_from c differs = elim (cases_Bool (is_break c)) [
   | inr plain ↦ rw plain refl
 ]
 
--- no mapping has a break
+-- no canonical mapping has a line break
 mapping_plain : (c : ℕ) → list_all is_unbroken (canonical_mapping c) ≡ true
 unfolding tables values_ok decomposition_stepped
 mapping_plain = Stepped-at_values decomposition decomposition_stepped (λ entry. list_all is_unbroken (if_canonical entry)) refl
@@ -72,7 +72,7 @@ plain_decompose c plain =
       | inr other ↦ rw other (plain_itself c (canonical_decomposition c) plain (plain_table c))
     ]
 
--- an ASCII character is composed of nothing
+-- no two characters compose to an ASCII character
 composite_wide : (a b c : ℕ) → primary_composite a b ≡ Some c → c < 128 → ⊥
 composite_wide a b c made ascii =
     elim (primary_composite-some a b c made) [
@@ -91,11 +91,11 @@ break_ascii c breaks = elim (cases_Bool (c == 10)) [
 plain_composite : (a b c : ℕ) → is_unbroken a ≡ true → is_unbroken b ≡ true → primary_composite a b ≡ Some c → is_unbroken c ≡ true
 plain_composite a b c first second made = plain_from c (λ breaks. composite_wide a b c made (break_ascii c breaks))
 
--- composed characters break no line where the characters before don't
+-- composition adds no line break
 pub plain_nfc : (cs : List ℕ) → list_all is_unbroken cs ≡ true → list_all is_unbroken (nfc cs) ≡ true
 plain_nfc cs all = list_all-normalize Nfc is_unbroken plain_decompose plain_composite cs all
 
--- a character is composed to something
+-- the composition of a non-empty text isn't empty
 pub nfc_some : (c : ℕ) (cs : List ℕ) → nfc (c ∷ cs) ≡ [] → ⊥
 unfolding decomposed
 nfc_some c cs none =

@@ -1,4 +1,4 @@
--- Facts on what commands stand for: the code's table is the definition's, and how a mark is put on a letter.
+-- Facts about the text of commands: the table of the program is that of the definition, and a mark is put on a letter.
 use Rattle.std.proofs.Common.{append_assoc, ◌≡◌, ℕ, ◌<◌, Bool, true, false, cond, eqb, List, [], ◌∷◌, ◌++◌, length, map, Option, None, Some, refl, sym, ap, ◌∙◌, arith, bytes_eq, encode_utf8_all}
 use Rattle.std.specs.Prelude.{codes}
 use Rattle.std.specs.Char.{encode_utf8}
@@ -22,16 +22,16 @@ use Rattle.unicode_normalization.proofs.Computing.{unicode_normalization}
 use Rattle.unicode_normalization.proofs.ComposeLemmas.{joined-free, joined-none, is_blocked-nil, compose-starter, compose_after-nil, compose_after-joined, compose_after-starter, compose_after-kept, is_starter-true, is_starter-false}
 use Rattle.unicode_normalization.proofs.FormsLemmas.{decomposed-passing, is_final-Nfd, class-latin, quick_check-ascii, nfc-by_nfd, normalize-Nfd, is_in_form-true}
 
--- a command's name, in ASCII
+-- the name of the command `copyright`
 abbrev pub copyright : List ℕ
 copyright = codes "copyright"
 
--- row for row
+-- the tables of symbols are equal, row by row
 pub symbols_are : map {B = List ℕ × List ℕ} (λ row. (row.0.now, row.1.now)) SYMBOLS ≡ map {B = List ℕ × List ℕ} (λ row. (encode_utf8_all row.0, encode_utf8_all row.1)) symbols
 unfolding encode_utf8 symbols
 symbols_are = refl
 
--- a name in UTF-8 is a name
+-- names are equal exactly if their UTF-8 encodings are
 same_name : (name bytes : List ℕ) → IsUtf8 bytes → bytes_eq (encode_utf8_all name) bytes ≡ bytes_eq name (chars bytes)
 same_name name bytes utf8 =
     let by_bytes = bytes_eq-Decides (encode_utf8_all name) bytes in
@@ -40,7 +40,7 @@ same_name name bytes utf8 =
     (λ h. encodes_same name (chars bytes) (by_bytes.0 h ∙ sym (encodes-chars bytes utf8)), λ e. by_bytes.1 (ap encode_utf8_all e ∙ encodes-chars bytes utf8))
     by_chars
 
--- a table of texts in UTF-8
+-- a look-up in an encoded table is the encoded look-up
 pub named_encoded : (rows : List (List ℕ × List ℕ)) (bytes : List ℕ) → IsUtf8 bytes → named (map (λ row. (encode_utf8_all row.0, encode_utf8_all row.1)) rows) bytes ≡ option_map encode_utf8_all (named rows (chars bytes))
 named_encoded [] bytes utf8 = refl
 named_encoded (row ∷ rows) bytes utf8 =
@@ -53,7 +53,7 @@ named_encoded (row ∷ rows) bytes utf8 =
     here false true first all this same following = cc
     here false false first all this same following = following
 
--- a text longer than each name of a table
+-- a text of two or more characters isn't in a table of one-character names
 pub named_longer : {A : Type 0} (rows : List (List ℕ × A)) (c d : ℕ) (cs : List ℕ) → list_all (λ row. eqb (length row.0) 1) rows ≡ true → named rows (c ∷ d ∷ cs) ≡ None
 named_longer [] c d cs short = refl
 named_longer (row ∷ rows) c d cs short =
@@ -81,7 +81,7 @@ pub stroke_stays : is_in_form Nfd (stroke ∷ []) ≡ true
 unfolding unicode_normalization
 stroke_stays = refl
 
--- what holds of each value of a table
+-- a test that each value of a table passes, each found value passes
 pub named_passes : {A : Type 0} (test : A → Bool) (rows : List (List ℕ × A)) (name : List ℕ) (value : A) → list_all (λ row. test row.1) rows ≡ true → named rows name ≡ Some value → test value ≡ true
 named_passes {A = A} test [] name value all found = cc
 named_passes {A = A} test (row ∷ rows) name value all found =
@@ -95,7 +95,7 @@ named_passes {A = A} test (row ∷ rows) name value all found =
 pub mark_stays : (name : List ℕ) (mark : ℕ) → named accents name ≡ Some mark → is_in_form Nfd (mark ∷ []) ≡ true
 mark_stays name mark found = named_passes (λ m. is_in_form Nfd (m ∷ [])) accents name mark marks_stay found
 
--- a letter of ASCII and a mark that does not decompose
+-- an ASCII letter and a mark that doesn't decompose are decomposed as they are
 decomposed_pair : (c mark : ℕ) → c < 128 → is_in_form Nfd (mark ∷ []) ≡ true → nfd (c ∷ mark ∷ []) ≡ c ∷ mark ∷ []
 decomposed_pair c mark ascii stays =
     let starter = class-latin c (omega arith) in
@@ -106,12 +106,14 @@ decomposed_pair c mark ascii stays =
 composed_pair : (c mark : ℕ) → c < 128 → is_in_form Nfd (mark ∷ []) ≡ true → nfc (c ∷ mark ∷ []) ≡ compose (c ∷ mark ∷ [])
 composed_pair c mark ascii stays = nfc-by_nfd (c ∷ mark ∷ []) ∙ ap compose (decomposed_pair c mark ascii stays)
 
+-- an ASCII letter and a mark that compose are composed
 pub composes : (c mark whole : ℕ) → c < 128 → is_in_form Nfd (mark ∷ []) ≡ true → primary_composite c mark ≡ Some whole → nfc (c ∷ mark ∷ []) ≡ whole ∷ []
 composes c mark whole ascii stays one =
     let starter = class-latin c (omega arith) in
     composed_pair c mark ascii stays ∙ compose-starter c (mark ∷ []) (omega arith)
     ∙ compose_after-joined c [] mark whole [] (joined-free c [] mark (is_blocked-nil mark) ∙ one) ∙ compose_after-nil whole []
 
+-- an ASCII letter and a mark that do not compose stay two characters
 pub stays_apart : (c mark : ℕ) → c < 128 → is_in_form Nfd (mark ∷ []) ≡ true → primary_composite c mark ≡ None → nfc (c ∷ mark ∷ []) ≡ c ∷ mark ∷ []
 stays_apart c mark ascii stays none =
     let starter = class-latin c (omega arith) in
@@ -121,23 +123,23 @@ stays_apart c mark ascii stays none =
     following true is = compose_after-starter c [] mark [] (joined-none c [] mark none) (is_starter-true mark is) ∙ ap (λ cs. c ∷ cs) (compose_after-nil mark [])
     following false is = compose_after-kept c [] mark [] (joined-none c [] mark none) (is_starter-false mark is) ∙ compose_after-nil c (mark ∷ [])
 
--- a mark goes on the last character
+-- a mark is put on the last character
 pub with_mark-push : (mark : ℕ) (leading_run : List ℕ) (c : ℕ) → with_mark mark (leading_run ++ c ∷ []) ≡ leading_run ++ nfc (letter c ∷ mark ∷ [])
 with_mark-push mark [] c = refl
 with_mark-push mark (d ∷ []) c = refl
 with_mark-push mark (d ∷ e ∷ leading_run) c = ap (λ cs. d ∷ cs) (with_mark-push mark (e ∷ leading_run) c)
 
--- one character's text
+-- the characters of the text of one character
 pub chars_one : (bytes : List ℕ) (c : ℕ) → IsUtf8 bytes → bytes ≡ encode_utf8 c → chars bytes ≡ c ∷ []
 chars_one bytes c utf8 spells = chars_past_char bytes [] c utf8 (spells ∙ sym (append-nil _)) ∙ ap (λ cs. c ∷ cs) chars-nil
 
--- a text and its last character
+-- the characters of a text with a last character
 pub chars_last : (bytes leading_run : List ℕ) (c : ℕ) → IsUtf8 bytes → IsUtf8 leading_run → bytes ≡ leading_run ++ encode_utf8 c → chars bytes ≡ chars leading_run ++ c ∷ []
 chars_last bytes leading_run c utf8 prefix_utf8 ends =
     let past = chars_past (chars leading_run) bytes (encode_utf8 c) utf8 (ends ∙ ap (λ bs. bs ++ encode_utf8 c) (sym (encodes-chars leading_run prefix_utf8))) in
     past.0 ∙ ap (λ cs. chars leading_run ++ cs) (chars_one (encode_utf8 c) c past.1 refl)
 
--- another text than a name
+-- a text that isn't a name in bytes isn't it in characters
 pub not_named : (bytes name : List ℕ) → IsUtf8 bytes → (bytes ≡ encode_utf8_all name → ⊥) → bytes_eq (chars bytes) name ≡ false
 not_named bytes name utf8 differs = reported (bytes_eq (chars bytes) name) (λ h. differs (sym (encodes-chars bytes utf8) ∙ ap encode_utf8_all ((bytes_eq-Decides _ _).0 h)))
   where
@@ -145,12 +147,13 @@ not_named bytes name utf8 differs = reported (bytes_eq (chars bytes) name) (λ h
     reported true wrong = absurd (wrong refl)
     reported false wrong = refl
 
--- no accent has an empty name, or one of several characters
+-- no accent has an empty name
 pub accents_empty : (bytes : List ℕ) → length bytes ≡ 0 → None ≡ named accents (chars bytes)
 unfolding accents chars
 accents_empty [] none = refl
 accents_empty (b ∷ bytes) none = absurd (omega arith)
 
+-- no accent has a name of two or more characters
 pub accents_longer : (bytes rest : List ℕ) (c : ℕ) → IsUtf8 bytes → bytes ≡ encode_utf8 c ++ rest → eqb (length rest) 0 ≡ false → None ≡ named accents (chars bytes)
 accents_longer bytes rest c utf8 spells more =
     sym (ap (named accents) (chars_past_char bytes rest c utf8 spells) ∙ longer (chars rest) (encodes-chars rest (IsUtf8-past_char bytes rest c utf8 spells)))
@@ -167,7 +170,7 @@ pub chars_none : (bytes : List ℕ) → length bytes ≡ 0 → chars bytes ≡ [
 chars_none [] none = chars-nil
 chars_none (b ∷ bytes) none = absurd (omega arith)
 
--- the two commands that ask for an argument, by their names in UTF-8
+-- the text of `o` without an argument
 pub other_o : (name : List ℕ) → name ≡ 111 ∷ [] → other (chars name) None ≡ 248 ∷ []
 unfolding chars
 other_o name is = ap (λ bs. other (chars bs) None) is
@@ -184,7 +187,7 @@ pub other_copyright_with : (name argument : List ℕ) → name ≡ copyright →
 unfolding chars
 other_copyright_with name argument is = ap (λ bs. other (chars bs) (Some argument)) is
 
--- a command that is not known
+-- the text of an unknown command without an argument
 pub other_unknown : (name : List ℕ) → IsUtf8 name → (name ≡ 111 ∷ [] → ⊥) → (name ≡ copyright → ⊥) → other (chars name) None ≡ 92 ∷ (chars name ++ 32 ∷ [])
 unfolding encode_utf8
 other_unknown name utf8 not_o not_copyright = rw (not_named name (111 ∷ []) utf8 not_o, not_named name copyright utf8 not_copyright)
@@ -193,7 +196,7 @@ pub other_unknown_with : (name argument : List ℕ) → IsUtf8 name → (name �
 unfolding encode_utf8
 other_unknown_with name argument utf8 not_o not_copyright = rw (not_named name (111 ∷ []) utf8 not_o, not_named name copyright utf8 not_copyright)
 
--- which table has a name
+-- the text of a command that is an accent
 pub given_accent : (name : List ℕ) (argument : Option (List ℕ)) (mark : ℕ) → named accents name ≡ Some mark → command_text name argument ≡ accented mark argument
 unfolding command_text
 given_accent name argument mark is = rw is
@@ -206,7 +209,7 @@ pub given_other : (name : List ℕ) (argument : Option (List ℕ)) → named acc
 unfolding command_text
 given_other name argument none absent = rw (none, absent)
 
--- what is found of a text in UTF-8
+-- a found text in UTF-8 is the encoding of a found text
 pub symbol_text : (found : Option (List ℕ)) (bytes : List ℕ) → Some bytes ≡ option_map encode_utf8_all found → (text : List ℕ) × (found ≡ Some text) × (bytes ≡ encode_utf8_all text)
 symbol_text None bytes is = absurd (cc)
 symbol_text (Some text) bytes is = (text, refl, cc)
@@ -215,7 +218,7 @@ pub symbol_none : (found : Option (List ℕ)) → None ≡ option_map encode_utf
 symbol_none None is = refl
 symbol_none (Some text) is = absurd (cc)
 
--- the symbols' texts are texts
+-- the texts of symbols consist of valid characters
 symbols_scalars : list_all (λ row. scalars row.1) symbols ≡ true
 unfolding symbols
 symbols_scalars = refl
@@ -226,6 +229,6 @@ symbol_utf8 name text bytes found is = rw is (text, (named_passes scalars symbol
 pub symbol_chars : (name text bytes : List ℕ) → named symbols name ≡ Some text → bytes ≡ encode_utf8_all text → chars bytes ≡ text
 symbol_chars name text bytes found is = chars_whole text bytes (symbol_utf8 name text bytes found is) is
 
--- a command that is not known, and its argument
+-- the text of an unknown command with its argument, regrouped
 pub unknown_shape : (name argument : List ℕ) → codes "\\" ++ name ++ codes "{" ++ argument ++ codes "}" ≡ 92 ∷ (name ++ 123 ∷ (argument ++ 125 ∷ []))
 unknown_shape name argument = simp append_assoc

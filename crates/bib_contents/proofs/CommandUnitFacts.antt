@@ -1,4 +1,4 @@
--- Facts on the commands that a cursor takes.
+-- Facts about the commands that a cursor consumes.
 use Rattle.std.proofs.Common.{◌≡◌, ℕ, Bool, true, false, not, ◌&&◌, ◌||◌, List, [], ◌∷◌, ◌++◌, length, refl, sym, ap, ◌∙◌, subst, arith, append_assoc, Option, None, Some, MatchOption}
 use Rattle.std.specs.Prelude.{◌==◌, encode_utf8_all}
 use Rattle.std.specs.List.{list_all}
@@ -17,7 +17,7 @@ use Rattle.bib_contents.proofs.ArgumentFacts.{after_first}
 first_same : {c d : ℕ} {xs ys : List ℕ} → c ∷ xs ≡ d ∷ ys → c ≡ d
 first_same same = cc
 
--- the character that stands first is eaten
+-- the first of the characters left is consumed
 pub eaten_first : {u v : Place} {c : ℕ} {rest : List ℕ} (found : Option ℕ) → MatchOption found ((left u ≡ []) × (v ≡ u)) (λ d. Passes u (d ∷ []) v) → left u ≡ c ∷ rest → Passes u (c ∷ []) v
 eaten_first {u} None ended is = absurd (both_ways (is_empty (left u)) (ap is_empty is) (ap is_empty ended.0))
 eaten_first {u} {v} {c} {rest} (Some d) passed is = subst (λ x. Passes u (x ∷ []) v) (first_same (sym passed.left ∙ is)) passed
@@ -26,7 +26,7 @@ eaten_first {u} {v} {c} {rest} (Some d) passed is = subst (λ x. Passes u (x ∷
 pub sign_name : (c : ℕ) → is_escaped false c ≡ false → is_blank c ≡ false → is_sign c ≡ true → is_name (c ∷ []) ≡ true
 sign_name c escaped blank sign = rw (escaped, blank, sign) refl
 
--- any other character and those that go on in a name are one
+-- another character and the name characters after it are a name
 pub other_name : (c : ℕ) (cs : List ℕ) → is_escaped false c ≡ false → is_blank c ≡ false → is_sign c ≡ false → list_all is_name_character cs ≡ true → is_name (c ∷ cs) ≡ true
 other_name c cs escaped blank sign named = rw (escaped, blank, sign, named) refl
 
@@ -40,12 +40,12 @@ spaced_more : (b : ℕ) (bs cs : List ℕ) → encode_utf8_all cs ≡ b ∷ bs �
 spaced_more b bs [] is = cc
 spaced_more b bs (c ∷ cs) is = rw (ne_eqb (length (b ∷ bs)) 0 (λ same. omega (arith, same))) refl
 
--- a text without bytes has no characters
+-- a text has characters exactly if it has bytes
 pub spaced_chars : (bs : List ℕ) → IsUtf8 bs → not (length bs == 0) ≡ not (is_empty (chars bs))
 spaced_chars [] utf8 = rw chars-nil refl
 spaced_chars (b ∷ bs) utf8 = spaced_more b bs (chars (b ∷ bs)) (encodes-chars (b ∷ bs) utf8)
 
--- a command is the unit that was taken
+-- the consumed command is the first unit
 pub command_found : (before name middle space after rest : List ℕ) (takes spaced : Bool) (argument : Argument) → before ≡ name ++ middle → is_name name ≡ true → is_whole_name name middle ≡ true
     → middle ≡ space ++ after → list_all is_space space ≡ true → begins is_space after ≡ false → takes ≡ takes_next name space → spaced ≡ not (is_empty space)
     → after ≡ argument_spelling argument ++ rest → is_argument takes spaced argument rest ≡ true
@@ -64,7 +64,7 @@ command_found before name middle space after rest takes spaced argument leading_
       );
 }
 
--- a name without the argument that it wants is no command
+-- a name without the argument that it requires is no command
 no_command : (c : ℕ) (cs space after rest : List ℕ) (u : ContentUnit) → is_name (c ∷ cs) ≡ true → is_whole_name (c ∷ cs) (space ++ after) ≡ true → list_all is_space space ≡ true → begins is_space after ≡ false
     → ((a : Argument) (rest : List ℕ) → after ≡ argument_spelling a ++ rest → is_argument (takes_next (c ∷ cs) space) (not (is_empty space)) a rest ≡ true → ⊥)
     → IsNext false u (92 ∷ ((c ∷ cs) ++ (space ++ after))) rest → ⊥
@@ -86,7 +86,7 @@ command_none before [] middle space after takes spaced leading_run name_is whole
 command_none before (c ∷ cs) middle space after takes spaced leading_run name_is whole then_is white stops takes_is spaced_is none u rest one =
     no_command c cs space after rest u name_is (rw then_is at whole) white stops (rw (takes_is, spaced_is) at none) (rw (leading_run, then_is) at one)
 
--- a command fails whose argument isn't closed
+-- a command fails if its argument isn't closed
 pub unclosed_fails : (before name middle space after : List ℕ) (spaced : Bool) (inside : List ℕ) → before ≡ name ++ middle
     → is_name name ≡ true → is_whole_name name middle ≡ true → middle ≡ space ++ after → spaced ≡ not (is_empty space)
     → spaced ≡ false → after ≡ 123 ∷ inside → ((text rest : List ℕ) → inside ≡ text ++ 125 ∷ rest → balances 0 text ≡ true → ⊥)
@@ -97,7 +97,7 @@ unclosed_fails before name middle [] after spaced inside begins_so named whole t
 unclosed_fails before name middle (c ∷ cs) after spaced inside begins_so named whole then_is spaced_is none is unclosed =
     absurd (both_ways spaced none spaced_is)
 
--- a backslash alone at the end of a text that is not verbatim begins nothing
+-- a backslash at the end of a text that isn't verbatim begins no unit
 pub no_escape : (before : List ℕ) (is_verbatim : Bool) → before ≡ [] → is_verbatim ≡ false → (u : ContentUnit) (rest : List ℕ) → IsNext is_verbatim u (92 ∷ before) rest → ⊥
 no_escape before is_verbatim nothing plain u rest one =
     let this : IsNext false u (92 ∷ []) rest = rw (nothing, plain) at one in
@@ -105,10 +105,11 @@ no_escape before is_verbatim nothing plain u rest one =
     let that : IsNext false ContentUnit.backslash (92 ∷ []) rest = rw is this in
     both_ways false refl that.fits
 
--- a name of one character, and any other
+-- whether a name of one character takes the next character
 pub takes_one : (cs rest space : List ℕ) (c : ℕ) → cs ≡ c ∷ rest → rest ≡ [] → takes_next cs space ≡ (is_mark c || (is_accent_letter c && not (is_empty space)))
 takes_one cs rest space c is ends = rw (is, ends) refl
 
+-- a name of two or more characters does not take the next character
 pub takes_none : (cs rest space : List ℕ) (c : ℕ) → cs ≡ c ∷ rest → (rest ≡ [] → ⊥) → false ≡ takes_next cs space
 takes_none cs [] space c is more = absurd (more refl)
 takes_none cs (d ∷ ds) space c is more = rw is refl
@@ -116,7 +117,7 @@ takes_none cs (d ∷ ds) space c is more = rw is refl
 pub takes_nothing : (cs space : List ℕ) → cs ≡ [] → false ≡ takes_next cs space
 takes_nothing cs space is = rw is refl
 
--- the character that is left when all else is ruled out
+-- a character that begins no other unit is a dollar sign, and the field isn't verbatim
 pub last_dollar : (is_verbatim : Bool) (c : ℕ) → false ≡ is_ordinary is_verbatim c → false ≡ is_space c → (c ≡ 45 → ⊥) → (c ≡ 92 → ⊥) → (c ≡ 123 → ⊥) → (c ≡ 125 → ⊥) → (is_verbatim ≡ false) × (c ≡ 36)
 unfolding is_ordinary is_grouping
 last_dollar is_verbatim c special space hyphen backslash opens closes =

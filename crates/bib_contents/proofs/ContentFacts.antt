@@ -1,4 +1,4 @@
--- Contents are read in one way.
+-- Contents have at most one parse.
 use Rattle.std.proofs.Common.{◌≡◌, ℕ, zero, suc, Bool, true, false, List, [], ◌∷◌, ◌++◌, refl, sym, ap, ◌∙◌, Some}
 use Rattle.std.proofs.lemmas.Bool.{both_ways}
 use Rattle.std.proofs.lemmas.List.{append_cancel_left}
@@ -7,16 +7,17 @@ use Rattle.bib_contents.specs.Contents.{ContentUnit, Argument, unit_spelling, fi
 use Rattle.bib_contents.specs.Contents.Reads.{end, next}
 use Rattle.bib_contents.proofs.UnitFacts.{first_unit, unit_first}
 
--- a text begins with one unit at most
+-- a text begins with at most one unit
 pub unit_same : {is_verbatim : Bool} {u w : ContentUnit} {text rest more : List ℕ} → IsNext is_verbatim u text rest → IsNext is_verbatim w text more → u ≡ w
 unit_same {is_verbatim} {u} {w} {text} {rest} {more} one two =
     sym (unit_first is_verbatim u rest one.fits) ∙ ap (first_unit is_verbatim) (sym one.spells ∙ two.spells) ∙ unit_first is_verbatim w more two.fits
 
+-- the text after the first unit is the same
 pub rest_same : {is_verbatim : Bool} {u w : ContentUnit} {text rest more : List ℕ} → IsNext is_verbatim u text rest → IsNext is_verbatim w text more → rest ≡ more
 rest_same {is_verbatim} {u} {w} {text} {rest} {more} one two =
     append_cancel_left (unit_spelling u) rest more (sym one.spells ∙ two.spells ∙ ap (λ x. unit_spelling x ++ more) (sym (unit_same one two)))
 
--- a unit is spelt by at least one character
+-- a unit has at least one character
 no_unit_of_nothing : (is_verbatim : Bool) (u : ContentUnit) (rest : List ℕ) → fits is_verbatim u rest ≡ true → [] ≡ unit_spelling u ++ rest → ⊥
 no_unit_of_nothing is_verbatim (ContentUnit.hyphens zero) rest right spells = both_ways false refl right
 no_unit_of_nothing is_verbatim (ContentUnit.hyphens (suc n)) rest right spells = cc
@@ -31,10 +32,11 @@ no_unit_of_nothing is_verbatim (ContentUnit.formula text) rest right spells = cc
 no_unit_of_nothing is_verbatim (ContentUnit.command name space argument) rest right spells = cc
 no_unit_of_nothing is_verbatim (ContentUnit.other c) rest right spells = cc
 
+-- an empty text begins with no unit
 pub no_unit_at_end : {is_verbatim : Bool} {u : ContentUnit} {rest : List ℕ} → IsNext is_verbatim u [] rest → ⊥
 no_unit_at_end {is_verbatim} {u} {rest} one = no_unit_of_nothing is_verbatim u rest one.fits one.spells
 
--- what a unit stands for depends on its argument in braces alone
+-- the atoms of a unit depend only on its argument in braces
 meaning_same : (depth : ℕ) (u : ContentUnit) (inner more : List Atom) → ((text : List ℕ) → held u ≡ Some text → inner ≡ more) → meaning depth u inner ≡ meaning depth u more
 meaning_same depth (ContentUnit.hyphens n) inner more same = refl
 meaning_same depth (ContentUnit.spaces cs) inner more same = refl
@@ -50,7 +52,7 @@ meaning_same depth (ContentUnit.command name space (Argument.single c)) inner mo
 meaning_same depth (ContentUnit.command name space (Argument.braced text)) inner more same = ap (meaning depth (ContentUnit.command name space (Argument.braced text))) (same text refl)
 meaning_same depth (ContentUnit.other c) inner more same = refl
 
--- contents have one reading at most
+-- contents have at most one parse
 pub read_same : {is_verbatim : Bool} {depth : ℕ} {text : List ℕ} {first second : List Atom} → Reads is_verbatim depth text first → Reads is_verbatim depth text second → first ≡ second
 read_same end end = refl
 read_same end (next one closable argument rest) = absurd (no_unit_at_end one)

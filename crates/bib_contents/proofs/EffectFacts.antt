@@ -1,4 +1,4 @@
--- What a command makes of the end of a text.
+-- The effect of a command on the end of a text.
 use Rattle.std.proofs.Common.{◌≡◌, ℕ, ◌+◌, ◌<◌, ◌≤◌, List, [], ◌∷◌, ◌++◌, length, take, refl, sym, ap, subst, ◌∙◌, arith, append_assoc, append-nil, length-append}
 use Rattle.std.specs.Prelude.{encode_utf8, encode_utf8_all}
 use Rattle.std.specs.Str.{chars, IsUtf8, IsCharBoundary}
@@ -10,7 +10,7 @@ use Rattle.bib_contents.proofs.CommandFacts.{with_mark-push, chars_last}
 use Rattle.bib_contents.proofs.LaidFacts.{last_of}
 use Rattle.unicode_normalization.specs.Forms.{nfc}
 
--- characters written after others
+-- characters appended to others
 pub wrote_more : (now more before cs : List ℕ) → now ≡ encode_utf8_all before → more ≡ now ++ encode_utf8_all cs → more ≡ encode_utf8_all (before ++ cs)
 wrote_more now more before cs was grew = grew ∙ ap (λ bs. bs ++ encode_utf8_all cs) was ∙ sym (encodes-append before cs)
 
@@ -18,13 +18,14 @@ no_characters : (cs : List ℕ) → length cs ≤ 0 → cs ≡ []
 no_characters [] none = refl
 no_characters (c ∷ cs) none = absurd (omega (arith, none))
 
--- a text that ends where its last part begins
+-- a last part that adds no bytes is empty
 pub nothing_after : (base inside : List ℕ) → length (encode_utf8_all (base ++ inside)) ≤ length (encode_utf8_all base) → inside ≡ []
 nothing_after base inside short =
     let size : length (encode_utf8_all (base ++ inside)) ≡ length (encode_utf8_all base) + length (encode_utf8_all inside) = ap length (encodes-append base inside) ∙ length-append (encode_utf8_all base) _ in
     let wide : length inside ≤ length (encode_utf8_all inside) = length-le-encodes inside in
     no_characters inside (omega (arith, short, size, wide))
 
+-- a mark is written by itself if the text before it is empty
 pub marked_none : (base inside : List ℕ) (mark : ℕ) (sign old new : List ℕ) {start : ℕ} → length (encode_utf8_all base) ≡ start → old ≡ encode_utf8_all (base ++ inside) → length old ≤ start → sign ≡ bare mark → new ≡ old ++ encode_utf8_all sign
     → new ≡ encode_utf8_all (base ++ with_mark mark inside)
 marked_none base inside mark sign old new {start} size is short bare_is grew =
@@ -32,7 +33,7 @@ marked_none base inside mark sign old new {start} size is short bare_is grew =
     wrote_more old new (base ++ inside) sign is grew ∙ ap (λ cs. encode_utf8_all ((base ++ cs) ++ sign)) none ∙ ap (λ cs. encode_utf8_all (cs ++ sign)) (append-nil base)
     ∙ ap (λ cs. encode_utf8_all (base ++ cs)) bare_is ∙ ap (λ cs. encode_utf8_all (base ++ with_mark mark cs)) (sym none)
 
--- texts with one character more are equal part by part
+-- texts with one more character each are equal part by part
 pub last_same : (xs ys : List ℕ) (c d : ℕ) → xs ++ c ∷ [] ≡ ys ++ d ∷ [] → (xs ≡ ys) × (c ≡ d)
 last_same [] [] c d is = (refl, cc)
 last_same [] (y ∷ []) c d is = absurd (cc)
@@ -44,6 +45,7 @@ last_same (x ∷ xs) (y ∷ ys) c d is =
     let first : x ≡ y = cc in
     (ap (λ z. z ∷ xs) first ∙ ap (λ zs. y ∷ zs) rest.0, rest.1)
 
+-- a mark is put on the last character of a text
 pub marked_some : (base : List ℕ) (c : ℕ) (cs : List ℕ) (mark last : ℕ) (old leading_run new : List ℕ) → IsUtf8 old → IsUtf8 leading_run → old ≡ encode_utf8_all (base ++ c ∷ cs) → old ≡ leading_run ++ encode_utf8 last
     → new ≡ leading_run ++ encode_utf8_all (nfc (letter last ∷ mark ∷ [])) → new ≡ encode_utf8_all (base ++ with_mark mark (c ∷ cs))
 marked_some base c cs mark last old leading_run new utf8 prefix_utf8 is popped grew =
@@ -61,35 +63,36 @@ marked_after base [] mark last old leading_run new size more utf8 prefix_utf8 is
     absurd (omega (arith, size, more, same))
 marked_after base (c ∷ cs) mark last old leading_run new size more utf8 prefix_utf8 is popped grew = marked_some base c cs mark last old leading_run new utf8 prefix_utf8 is popped grew
 
--- a text is cut back to where its last part began
+-- a text truncated to the start of its last part
 pub cut_back : (base inside now cut : List ℕ) {start : ℕ} → length (encode_utf8_all base) ≡ start → now ≡ encode_utf8_all (base ++ inside) → cut ≡ take start now → cut ≡ encode_utf8_all base
 cut_back base inside now cut {start} size is taken =
     taken ∙ ap (take start) (is ∙ encodes-append base inside) ∙ take_at (encode_utf8_all base) (encode_utf8_all inside) start size
 
--- a text can be cut between characters
+-- the start of a text's last part is a character boundary
 pub boundary_at : (base inside bs : List ℕ) {start : ℕ} → length (encode_utf8_all base) ≡ start → bs ≡ encode_utf8_all (base ++ inside) → IsUtf8 bs → IsCharBoundary bs start
 boundary_at base inside bs {start} size is utf8 =
     let parts : bs ≡ encode_utf8_all base ++ encode_utf8_all inside = is ∙ encodes-append base inside in
     subst (IsCharBoundary bs) size (IsCharBoundary-at_seam bs (encode_utf8_all base) (encode_utf8_all inside) parts (chars_past base bs (encode_utf8_all inside) utf8 parts).1)
 
--- a symbol in the place of an argument
+-- a symbol replaces an argument
 pub symbol_end : (base inside now cut new text : List ℕ) {start : ℕ} → length (encode_utf8_all (base ++ [])) ≡ start → now ≡ encode_utf8_all ((base ++ []) ++ inside) → cut ≡ take start now → new ≡ cut ++ text → IsUtf8 text
     → new ≡ encode_utf8_all (base ++ chars text)
 symbol_end base inside now cut new text {start} size is taken grew utf8 =
     let back : cut ≡ encode_utf8_all base = cut_back (base ++ []) inside now cut size is taken ∙ ap encode_utf8_all (append-nil base) in
     wrote_more cut new base (chars text) back (grew ∙ ap (λ bs. cut ++ bs) (sym (encodes-chars text utf8)))
 
--- the end of a command that is not known
+-- the end of an unknown command
 pub unknown_end : (base name inside now new : List ℕ) → now ≡ encode_utf8_all ((base ++ 92 ∷ (name ++ 123 ∷ [])) ++ inside) → new ≡ now ++ encode_utf8_all (125 ∷ []) → new ≡ encode_utf8_all (base ++ 92 ∷ (name ++ 123 ∷ (inside ++ 125 ∷ [])))
 unknown_end base name inside now new is grew = wrote_more now new _ (125 ∷ []) is grew ∙ ap encode_utf8_all (regrouped base name inside)
   where
     regrouped : (base name inside : List ℕ) → ((base ++ 92 ∷ (name ++ 123 ∷ [])) ++ inside) ++ 125 ∷ [] ≡ base ++ 92 ∷ (name ++ 123 ∷ (inside ++ 125 ∷ []))
     regrouped base name inside = simp append_assoc
 
--- a text that was written before, and more
+-- characters appended to a text
 pub wrote_after : (old new cs : List ℕ) → IsUtf8 old → new ≡ old ++ encode_utf8_all cs → new ≡ encode_utf8_all (chars old ++ cs)
 wrote_after old new cs utf8 grew = wrote_more old new (chars old) cs (sym (encodes-chars old utf8)) grew
 
+-- a longer text is the old one with characters appended
 pub wrote_from : (old new cs : List ℕ) → IsUtf8 old → new ≡ encode_utf8_all (chars old ++ cs) → new ≡ old ++ encode_utf8_all cs
 wrote_from old new cs utf8 is = is ∙ encodes-append (chars old) cs ∙ ap (λ bs. bs ++ encode_utf8_all cs) (encodes-chars old utf8)
 

@@ -1,4 +1,4 @@
--- Where braces close: each that was met is noted at the brace that it closes.
+-- The positions of closing braces: each one is stored at its opening brace.
 use Rattle.std.proofs.Common.{◌≡◌, ℕ, zero, suc, ◌+◌, ◌-◌, ◌<◌, ◌≤◌, true, false, List, [], ◌∷◌, ◌++◌, length, drop, refl, sym, ap, subst, ◌∙◌, arith, inl, inr, reverse, replicate}
 use Rattle.std.specs.Prelude.{encode_utf8_all, slice_index, nat_lt}
 use Rattle.std.specs.List.{list_all}
@@ -12,19 +12,19 @@ use Rattle.bib_contents.specs.Contents.{begins}
 use Rattle.bib_contents.specs.Progress.{left, Passes}
 use Rattle.bib_contents.proofs.ArgumentFacts.{BracedRead, braced_none, braced_opens, braced_closes, braced_found, is_no_brace, is_closing, next_brace, passes_ahead, passes_within}
 
--- places after opening braces that are open, the last one first: so many braces are open after each
+-- the positions after open braces, the last one first; `depth` is the number of braces open after the first of them
 pub data AreOpen (text : List ℕ) (start : ℕ) (s : Place) : ℕ → List ℕ → Type 0 where
   nothing : {depth : ℕ} → AreOpen text start s depth []
   following : {depth begin : ℕ} {opened : List ℕ} → BracedRead (place text begin) depth s → start ≤ begin → begin ≤ s.at → AreOpen text start s (depth + 1) opened → AreOpen text start s depth (begin ∷ opened)
 
--- a brace was opened
+-- an opening brace was read
 pub open_opened : {text : List ℕ} {start : ℕ} {s t w : Place} {run : List ℕ} {depth : ℕ} {opened : List ℕ} → AreOpen text start s depth opened → Passes s run t → list_all is_no_brace run ≡ true → Passes t (123 ∷ []) w
     → AreOpen text start w (depth + 1) opened
 open_opened AreOpen.nothing passed plain brace = AreOpen.nothing
 open_opened (AreOpen.following read ahead before rest) passed plain brace =
     AreOpen.following (braced_opens read passed plain brace) ahead (let a = passes_ahead passed in let b = passes_ahead brace in omega (arith, before, a, b)) (open_opened rest passed plain brace)
 
--- a brace was closed, and more are open
+-- a closing brace was read, and other braces are open
 pub open_closed : {text : List ℕ} {start : ℕ} {s t w : Place} {run : List ℕ} {c : ℕ} {opened : List ℕ} (depth before : ℕ) → AreOpen text start s depth opened → depth ≡ before + 1 → Passes s run t → list_all is_no_brace run ≡ true → begins is_no_brace (left t) ≡ false → Passes t (c ∷ []) w → (c ≡ 123 → ⊥)
     → AreOpen text start w before opened
 open_closed depth before AreOpen.nothing is passed plain ends brace differs = AreOpen.nothing
@@ -34,7 +34,7 @@ open_closed {text} {start} {s} {t} {w} depth before (AreOpen.following {begin = 
     AreOpen.following (subst (λ n. BracedRead (place text begin) n w) same (braced_closes read passed plain ends brace differs some)) after
     (let a = passes_ahead passed in let b = passes_ahead brace in omega (arith, ahead, a, b)) (open_closed (depth + 1) (before + 1) rest (omega (arith, is)) passed plain ends brace differs)
 
--- a place in its text
+-- a place is its position in its text
 pub place_here : {u : Place} (text : List ℕ) → u.text ≡ text → place text u.at ≡ u
 place_here {u} text same = λ i. record { text = sym same i; at = u.at }
 
@@ -56,11 +56,11 @@ closes_here {text} {s} {t} {w} {begin} {c} {run} read passed plain ends brace di
       brace = ap (drop t.at) (sym whole) ∙ closing.here ∙ ap (λ bs. 125 ∷ drop w.at bs) same ∙ ap (λ n. 125 ∷ drop n text) next;
     }
 
--- the ends that were noted, by the places of the braces from a start on
+-- each stored end belongs to the brace at its index
 abbrev pub AreNoted : ℕ → List ℕ → List ℕ → Type 0
 AreNoted start places text = (index : ℕ) → 0 < slice_index places index → slice_index places index < length text → Closes text (start + index) (slice_index places index)
 
--- one more is noted
+-- one more end is stored
 pub noted_more : (start begin end : ℕ) (places text : List ℕ) → AreNoted start places text → Closes text begin end → start ≤ begin → begin - start < length places → AreNoted start (set places (begin - start) end) text
 noted_more start begin end places text noted closes after within index some inside = elim (cases_eq index (begin - start)) [
   | inl same ↦
@@ -72,7 +72,7 @@ noted_more start begin end places text noted closes after within index some insi
       rw is (noted index (rw is at some) (rw is at inside))
 ]
 
--- braces were read so far: those that are open, and those that were noted
+-- braces were read up to `s`: the ends of the closed ones are in `places`, the open ones in `waits`
 pub record AreReadTo (text : List ℕ) (start : ℕ) (s : Place) (places waits : List ℕ) : Type 0 where
   pub same : s.text ≡ text
   pub following : start ≤ s.at
@@ -81,6 +81,7 @@ pub record AreReadTo (text : List ℕ) (start : ℕ) (s : Place) (places waits :
   pub noted : AreNoted start places text
   pub opened : AreOpen text start s 0 (reverse waits)
 
+-- a step of the loop: an opening brace
 pub read_opened : {text : List ℕ} {start c : ℕ} {s t w : Place} {run places waits more : List ℕ} → AreReadTo text start s places waits → Passes s run t → list_all is_no_brace run ≡ true → Passes t (c ∷ []) w → c ≡ 123 → reverse more ≡ w.at ∷ reverse waits
     → AreReadTo text start w places more
 read_opened {text} {start} {c} {s} {t} {w} {run} {places} {waits} {more} read passed plain brace is pushed =
@@ -96,6 +97,7 @@ read_opened {text} {start} {c} {s} {t} {w} {run} {places} {waits} {more} read pa
       opened = subst (AreOpen text start w 0) (sym pushed) (AreOpen.following (subst (λ u. BracedRead u 0 w) (sym (place_here text same)) (braced_none w)) after (omega arith) (open_opened read.opened passed plain opening));
     }
 
+-- a step of the loop: the closing brace of an open one
 pub read_closed : {text : List ℕ} {start c begin : ℕ} {s t w : Place} {run places waits rest : List ℕ} → AreReadTo text start s places waits → Passes s run t → list_all is_no_brace run ≡ true → begins is_no_brace (left t) ≡ false → Passes t (c ∷ []) w → (c ≡ 123 → ⊥) → reverse waits ≡ begin ∷ reverse rest
     → (start ≤ begin) × (begin ≤ s.at) × (begin - start < length places → AreReadTo text start w (set places (begin - start) t.at) rest)
 read_closed {text} {start} {c} {begin} {s} {t} {w} {run} {places} {waits} {rest} read passed plain ends brace differs popped = popped_one (reverse waits) read.opened popped
@@ -123,7 +125,7 @@ zeros zero index = refl
 zeros (suc n) zero = refl
 zeros (suc n) (suc index) = zeros n index
 
--- at the start none was noted
+-- at the start no end is stored
 pub read_none : {text places waits : List ℕ} {start : ℕ} {s : Place} → s.text ≡ text → start ≡ s.at → s.at ≤ length text → places ≡ replicate (length text - start) 0 → waits ≡ [] → AreReadTo text start s places waits
 read_none {text} {places} {waits} {start} {s} same here within empty alone = record {
   same = same;
@@ -134,7 +136,7 @@ read_none {text} {places} {waits} {start} {s} same here within empty alone = rec
   opened = rw alone AreOpen.nothing;
 }
 
--- a brace was closed that none opened
+-- a closing brace without an opening one changes nothing
 pub read_alone : {text : List ℕ} {start c : ℕ} {s t w : Place} {run places waits more : List ℕ} → AreReadTo text start s places waits → Passes s run t → Passes t (c ∷ []) w → more ≡ [] → AreReadTo text start w places more
 read_alone {text} {start} {c} {s} {t} {w} read passed brace alone = record {
   same = brace.same ∙ passed.same ∙ read.same;

@@ -1,4 +1,4 @@
--- Contents that fail: they have no reading, and one kind of error.
+-- Contents that fail have no parse, and one kind of error.
 use Rattle.std.proofs.Common.{◌≡◌, ℕ, Bool, true, false, not, List, [], ◌∷◌, ◌++◌, refl, sym, ◌∙◌, inl, inr, None, Some, append_assoc}
 use Rattle.std.specs.Prelude.{◌==◌}
 use Rattle.std.specs.List.{list_all, list_any}
@@ -16,19 +16,19 @@ use Rattle.bib_contents.proofs.CommandUnitFacts.{command_none, no_escape}
 use Rattle.bib_contents.proofs.ContentFacts.{rest_same, unit_same}
 use Rattle.bib_contents.proofs.ReaderFacts.{ReadSoFar, no_argument, no_unit, unit_back}
 
--- a text without dollar signs
+-- a text without dollar signs, stated by two tests
 without_dollars : (text : List ℕ) → list_any (λ c. c == 36) text ≡ false → list_all (λ c. not (c == 36)) text ≡ true
 without_dollars [] none = refl
 without_dollars (c ∷ cs) none =
     let parts = or_parts (c == 36) (list_any (λ c. c == 36) cs) none in
     rw parts.0 (without_dollars cs parts.1)
 
--- a brace is no white space
+-- an opening brace isn't white space
 no_space : is_space 123 ≡ false
 unfolding is_space
 no_space = refl
 
--- a command whose argument isn't closed has no argument before the rest of a text
+-- a command whose argument isn't closed has no argument
 unclosed : (text : List ℕ) (takes : Bool) → ((inside rest : List ℕ) → text ≡ inside ++ 125 ∷ rest → balances 0 inside ≡ true → ⊥)
     → (a : Argument) (rest : List ℕ) → 123 ∷ text ≡ argument_spelling a ++ rest → is_argument takes false a rest ≡ true → ⊥
 unclosed text takes none Argument.without rest spells right = both_ways false refl (rw (sym spells) at right)
@@ -40,7 +40,7 @@ unclosed text takes none (Argument.braced within) rest spells right =
     let same : text ≡ (within ++ 125 ∷ []) ++ rest = cc in
     none within rest (same ∙ append_assoc within (125 ∷ []) rest) (and_parts true (balances 0 within) right).1
 
--- no unit stands where one fails
+-- a text whose first unit fails begins with no unit
 pub no_unit_fails : {is_verbatim : Bool} {text : List ℕ} → UnitFails is_verbatim text → (u : ContentUnit) (rest : List ℕ)
     → IsNext is_verbatim u text rest → ⊥
 no_unit_fails (dollar {text = text} none) u rest one = no_formula text (without_dollars text none) u rest one
@@ -50,13 +50,13 @@ no_unit_fails (brace name text named whole none) u rest one =
     let after = 123 ∷ text in
     command_none (name ++ after) name after [] after takes false refl named whole refl refl no_space refl refl (unclosed text takes none) u rest one
 
--- a unit that fails has a character
+-- a text whose first unit fails isn't empty
 some_fails : {is_verbatim : Bool} {text : List ℕ} → UnitFails is_verbatim text → text ≡ [] → ⊥
 some_fails (dollar none) nothing = cc
 some_fails backslash nothing = cc
 some_fails (brace name text named whole none) nothing = cc
 
--- contents that fail have no reading
+-- contents that fail have no parse
 pub fails_stuck : {is_verbatim : Bool} {depth : ℕ} {text : List ℕ} {kind : ParseErrorKind} → ContentFails is_verbatim depth text kind
     → (atoms : List Atom) → Reads is_verbatim depth text atoms → ⊥
 fails_stuck (unopened {depth = depth} {u = u} one closed) atoms read = both_ways (is_closable depth u) closed (unit_back one read).0
@@ -76,13 +76,13 @@ fails_kind (ended fails) = inl refl
 fails_kind (inside one holds fails) = fails_kind fails
 fails_kind (following one closable argument fails) = fails_kind fails
 
--- a text fails where its next unit doesn't end
+-- a text fails if its next unit doesn't end
 pub fails_unit : {is_verbatim : Bool} {whole text : List ℕ} {start now : List Atom} {depth : ℕ} {kind : ParseErrorKind}
     → ReadSoFar is_verbatim whole start text depth now → UnitFails is_verbatim text → kind ≡ UnexpectedEof
     → ContentFails is_verbatim 0 whole kind
 fails_unit read fails is = read.goes.fails _ (rw is (ended fails))
 
--- a text fails where its next unit isn't taken
+-- a text fails if its next unit does
 pub fails_here : {is_verbatim : Bool} {depth : ℕ} {u : ContentUnit} {text rest : List ℕ} {kind : ParseErrorKind}
     → IsNext is_verbatim u text rest → IsUntaken u depth kind → ContentFails is_verbatim depth text kind
 fails_here one (inl closed) = rw (closed.1) (unopened one closed.0)
@@ -93,7 +93,7 @@ pub fails_taken : {is_verbatim : Bool} {whole text rest : List ℕ} {u : Content
     → ContentFails is_verbatim 0 whole kind
 fails_taken read one untaken = read.goes.fails _ (fails_here one untaken)
 
--- a unit that isn't closable holds no argument
+-- a closing brace has no argument
 closed_none : (depth : ℕ) (u : ContentUnit) → is_closable depth u ≡ false → held u ≡ None
 closed_none depth ContentUnit.closing closed = refl
 closed_none depth _ closed = absurd (both_ways true closed refl)

@@ -1,4 +1,4 @@
--- Arguments that stand in one another: what each was read as, and what one text says of all.
+-- Nested arguments: what each was parsed as, and the output for all of them.
 use Rattle.std.proofs.Common.{◌≡◌, ℕ, suc, ◌+◌, ◌-◌, ◌<◌, ◌≤◌, Bool, true, false, List, [], ◌∷◌, ◌++◌, length, map, refl, sym, ap, subst, ◌∙◌, append-nil, arith, inl, inr, Some, take, drop, length-append}
 use Rattle.std.specs.Prelude.{encode_utf8_all, slice_index}
 use Rattle.std.specs.List.{list_all}
@@ -31,7 +31,8 @@ use Rattle.bib_contents.proofs.ReaderFacts.{goes_here, goes_unit, unit_shorter}
 use Rattle.bib_contents.proofs.TakingFacts.{held_is}
 use Rattle.bib_contents.proofs.WholeFacts.{whole_reads, whole_capped}
 
--- the argument of a command was begun, after what stood under it
+-- `frame` is that of the command `name`, and its text begins after `under` and the text before the argument; it lies
+-- between `low` and `high`
 pub record IsBegun (frame : Frame) (name under : List ℕ) (low high : ℕ) : Type 0 where
   pub gives : (argument : List ℕ) → command_text name (Some argument) ≡ made frame.effect name argument
   pub fit : IsFit frame.effect
@@ -41,8 +42,8 @@ pub record IsBegun (frame : Frame) (name under : List ℕ) (low high : ℕ) : Ty
   pub within : length frame.s.text ≤ high
   pub right : StandsRight frame
 
--- frames that wait, each for the argument of the one above; the topmost waits for an argument of this command with
--- this text, and under it stands this text. The lowest is the first argument.
+-- frames that wait, each for the argument of the one above. The topmost waits for the argument `whole` of the command
+-- `name`, before which the output is `under`. The lowest argument is the first one.
 pub data AreWaiting (first_name first_whole first_under : List ℕ) (ends : Ends) (low high : ℕ) : List ℕ → List ℕ → Bool → List ℕ → List Frame → Type 0 where
   none : {name whole under : List ℕ} {is_flat : Bool} → name ≡ first_name → whole ≡ first_whole → is_flat ≡ false → under ≡ first_under → AreWaiting first_name first_whole first_under ends low high name whole is_flat under []
   above : {name whole under : List ℕ} {is_flat : Bool} {frame : Frame} {frames : List Frame} (below_name below_whole below_under before space : List ℕ) → IsBegun frame below_name below_under low high → AreKnown ends frame.s.text
@@ -51,7 +52,7 @@ pub data AreWaiting (first_name first_whole first_under : List ℕ) (ends : Ends
       → AreWaiting first_name first_whole first_under ends low high below_name below_whole frame.is_flat below_under frames
       → AreWaiting first_name first_whole first_under ends low high name whole is_flat under (frame ∷ frames)
 
--- an argument is being read, and frames wait for it
+-- an argument is being parsed, and frames wait for it
 pub record IsReading (first_name first_whole first_under : List ℕ) (ends : Ends) (low high : ℕ) (frame : Frame) (frames : List Frame) (now : List ℕ) : Type 0 where
   pub name : List ℕ
   pub whole : List ℕ
@@ -61,12 +62,12 @@ pub record IsReading (first_name first_whole first_under : List ℕ) (ends : End
   pub read : IsReadTo frame.is_flat whole (under ++ made_before frame.effect name) (left frame.s) frame.depth now
   pub waiting : AreWaiting first_name first_whole first_under ends low high name whole frame.is_flat under frames
 
--- what is left in frames
+-- the number of characters left in frames, and one for each frame
 abbrev pub weight : List Frame → ℕ
 weight [] = 0
 weight (frame ∷ frames) = length (left frame.s) + 1 + weight frames
 
--- a frame that was read on
+-- a frame whose parsing went on
 pub begun_on : {frame on : Frame} {name under : List ℕ} {low high : ℕ} → IsBegun frame name under low high → KeepsFrame frame on → StandsRight on → IsBegun on name under low high
 begun_on {frame} {on} {name} {under} {low} {high} begun kept right = record {
   gives = λ argument. begun.gives argument ∙ ap (λ e. made e name argument) (sym kept.effect);
@@ -81,7 +82,7 @@ begun_on {frame} {on} {name} {under} {low} {high} begun kept right = record {
 based_on : (old new : Effect) {flat : Bool} {whole rest now : List ℕ} {depth : ℕ} (under name : List ℕ) → new ≡ old → IsReadTo flat whole (under ++ made_before old name) rest depth now → IsReadTo flat whole (under ++ made_before new name) rest depth now
 based_on old new {flat} {whole} {rest} {now} {depth} under name same read = subst (λ e. IsReadTo flat whole (under ++ made_before e name) rest depth now) (sym same) read
 
--- what an argument was read as at its end
+-- the parse of an argument at its end
 ended_as : {flat : Bool} {whole base now : List ℕ} {depth : ℕ} (read : IsReadTo flat whole base [] depth now) → Reads false 0 whole read.atoms
 ended_as {whole = whole} read = subst (Reads false 0 whole) (append-nil read.atoms) (read.goes.onward [] end)
 
@@ -90,7 +91,7 @@ module _ {first_name first_whole first_under : List ℕ} {ends : Ends} {low high
       → AreWaiting first_name first_whole first_under ends low high name whole new under frames
   waiting_on old new {name} {whole} {under} {frames} same waiting = subst (λ flat. AreWaiting first_name first_whole first_under ends low high name whole flat under frames) (sym same) waiting
 
-  -- a unit was read
+  -- a unit was parsed
   pub reading_on : {frame on : Frame} {frames : List Frame} {now more : List ℕ} (reading : IsReading first_name first_whole first_under ends low high frame frames now) → KeepsFrame frame on → StandsRight on
       → IsReadTo on.is_flat reading.whole (reading.under ++ made_before frame.effect reading.name) (left on.s) on.depth more → IsReading first_name first_whole first_under ends low high on frames more
   reading_on {frame} {on} reading kept right read = record {
@@ -103,7 +104,7 @@ module _ {first_name first_whole first_under : List ℕ} {ends : Ends} {low high
     waiting = waiting_on frame.is_flat on.is_flat kept.is_flat reading.waiting;
   }
 
-  -- the argument of a command in it was begun
+  -- the argument of a command in the argument was begun
   pub reading_above : {frame on above : Frame} {frames : List Frame} {now more most name : List ℕ} (before space inside : List ℕ) (reading : IsReading first_name first_whole first_under ends low high frame frames now) → KeepsFrame frame on → StandsRight on
       → IsReadTo on.is_flat reading.whole (reading.under ++ made_before frame.effect reading.name) before on.depth (encode_utf8_all more) → IsNext false (ContentUnit.command name space (Argument.braced inside)) before (left on.s)
       → IsBegun above name more low high → AreKnown ends above.s.text → above.is_flat ≡ is_flat_at on.is_flat on.depth → IsReadTo above.is_flat inside (more ++ made_before above.effect name) (left above.s) above.depth most
@@ -167,7 +168,7 @@ module _ {first_name first_whole first_under : List ℕ} {ends : Ends} {low high
       ap (λ e. made e reading.name (argument_written on.is_flat read.atoms)) kept.effect ∙ sym (reading.begun.gives (argument_written on.is_flat read.atoms)) ∙ ap (λ b. command_text reading.name (Some (argument_written b read.atoms))) kept.is_flat in
       done_of reading.waiting read.atoms (ended_as read) (wrote ∙ ap (λ cs. encode_utf8_all (reading.under ++ cs)) gives)
 
-  -- where an argument fails, the first does
+  -- if a nested argument fails, the first one does
   pub fails_up : {name whole under : List ℕ} {is_flat : Bool} {frames : List Frame} {kind : ParseErrorKind}
       → AreWaiting first_name first_whole first_under ends low high name whole is_flat under frames → ContentFails false 0 whole kind
       → ContentFails false 0 first_whole kind
@@ -188,7 +189,7 @@ module _ {first_name first_whole first_under : List ℕ} {ends : Ends} {low high
     waiting = AreWaiting.none refl refl flat refl;
   }
 
--- an argument that begins was read up to its start
+-- an argument that begins was parsed up to its start
 pub read_start : {is_flat : Bool} {whole base rest now : List ℕ} {depth : ℕ} → rest ≡ whole → depth ≡ 0 → now ≡ encode_utf8_all base → IsReadTo is_flat whole base rest depth now
 read_start {is_flat} {whole} {base} {rest} {now} {depth} same shallow wrote = record {
   atoms = [];
@@ -196,7 +197,7 @@ read_start {is_flat} {whole} {base} {rest} {now} {depth} same shallow wrote = re
   wrote = wrote ∙ ap encode_utf8_all (sym (append-nil base)) ∙ ap (λ cs. encode_utf8_all (base ++ cs)) (sym (written_none is_flat));
 }
 
--- a shorter text
+-- a text with `n` first bytes has at least `n` bytes
 take_shorter : (n : ℕ) (bs : List ℕ) → length (take n bs) ≡ n → n ≤ length bs
 take_shorter n bs is = omega (arith, length-take n bs, is)
 
@@ -226,7 +227,7 @@ known_inside ends {text} {low} {high} {inside} known stands index some within =
     let end = slice_index ends.places.items index in
     subst (λ bs. Closes bs (ends.start + index) end) (sym stands.cut) (closes_in (length inside.text) (known index some (omega (arith, within, long))) (omega (arith, within)))
 
--- less is left than more
+-- fewer characters are left than a larger size
 pub shorter_wider : (next : Next) (size wide low lower : ℕ) (text same : List ℕ) (s : Place) → IsShorterThan size text low s next → size ≤ wide → lower ≤ low → text ≡ same → IsShorterThan wide same lower s next
 shorter_wider Read size wide low lower text same s shorter wider following is = omega (arith, shorter, wider)
 shorter_wider (Follows name inside) size wide low lower text same s shorter wider following is = (
@@ -235,7 +236,7 @@ shorter_wider (Follows name inside) size wide low lower text same s shorter wide
 )
 shorter_wider End size wide low lower text same s shorter wider following is = omega (arith, shorter, wider)
 
--- a unit takes one byte at least
+-- a unit has at least one byte
 pub unit_ahead : (u : ContentUnit) (s t : Place) → IsNext false u (left s) (left t) → t.at ≡ s.at + length (encode_utf8_all (unit_spelling u)) → s.at + 1 ≤ t.at
 unit_ahead u s t one next =
     let shorter : length (left t) < length (left s) = (unit_shorter one).0 in
@@ -243,7 +244,7 @@ unit_ahead u s t one next =
     let wide : length (unit_spelling u) ≤ length (encode_utf8_all (unit_spelling u)) = length-le-encodes (unit_spelling u) in
     omega arith
 
--- a command and its argument are longer than the argument
+-- the text after a command and its argument are together shorter than the text before it
 pub applied_shorter : (name space argument before rest : List ℕ) → IsNext false (ContentUnit.command name space (Argument.braced argument)) before rest → length rest + length argument + 1 < length before
 applied_shorter name space argument before rest one =
     let size : length before ≡ length (unit_spelling (ContentUnit.command name space (Argument.braced argument))) + length rest = ap length one.spells ∙ length-append (unit_spelling (ContentUnit.command name space (Argument.braced argument))) rest in
@@ -252,7 +253,7 @@ applied_shorter name space argument before rest one =
     let named : length (name ++ (space ++ 123 ∷ (argument ++ 125 ∷ []))) ≡ length name + length (space ++ 123 ∷ (argument ++ 125 ∷ [])) = length-append name _ in
     omega arith
 
--- an argument that was begun
+-- an argument was begun
 pub begun_here : {frame : Frame} {name old now : List ℕ} {inside : Place} {low high : ℕ} → frame.s ≡ inside → frame.depth ≡ 0 → ((argument : List ℕ) → command_text name (Some argument) ≡ made frame.effect name argument) → IsFit frame.effect → list_all is_unbroken name ≡ true
     → now ≡ old ++ encode_utf8_all (made_before frame.effect name) → frame.start ≡ length now → IsUtf8 old → low ≤ inside.at → length inside.text ≤ high → inside.at ≤ length inside.text → IsBegun frame name (chars old) low high
 begun_here {frame} {name} {old} {now} {inside} {low} {high} same shallow gives fit plain wrote start utf8 following within stands = record {
@@ -265,13 +266,13 @@ begun_here {frame} {name} {old} {now} {inside} {low} {high} same shallow gives f
   right = record { within = rw same stands; deep = rw shallow (omega arith) };
 }
 
--- and nothing of it was read
+-- at the start of an argument nothing was parsed
 pub read_begun : (frame : Frame) {flat : Bool} (name old now : List ℕ) {inside : Place} → frame.s ≡ inside → frame.depth ≡ 0 → now ≡ old ++ encode_utf8_all (made_before frame.effect name) → IsUtf8 old
     → IsReadTo flat (left inside) (chars old ++ made_before frame.effect name) (left frame.s) frame.depth now
 read_begun frame name old now same shallow wrote utf8 = read_start (ap left same) shallow (wrote_after old now (made_before frame.effect name) utf8 wrote)
 
 module _ {first_name first_whole first_under : List ℕ} {ends : Ends} {low high : ℕ} where
-  -- a command with an argument in braces stands next, and the argument was begun
+  -- a command with an argument in braces comes next, and the argument was begun
   pub reading_follows : {frame on above : Frame} {frames : List Frame} {now more most name : List ℕ} {inside : Place} (reading : IsReading first_name first_whole first_under ends low high frame frames now) → KeepsFrame frame on → StandsRight on → IsUtf8 more
       → (before space : List ℕ) → IsReadTo on.is_flat reading.whole (reading.under ++ made_before frame.effect reading.name) before on.depth more → IsNext false (ContentUnit.command name space (Argument.braced (left inside))) before (left on.s)
       → IsInside frame.s.text frame.s.at inside on.s.at → above.s ≡ inside → above.depth ≡ 0 → above.is_flat ≡ is_flat_at on.is_flat on.depth → ((argument : List ℕ) → command_text name (Some argument) ≡ made above.effect name argument) → IsFit above.effect
@@ -285,7 +286,7 @@ module _ {first_name first_whole first_under : List ℕ} {ends : Ends} {low high
       (subst (λ bs. IsReadTo on.is_flat reading.whole (reading.under ++ made_before frame.effect reading.name) before on.depth bs) (sym (encodes-chars more utf8)) read) one
       (begun_here same shallow gives fit named wrote start utf8 following within stands.within) (subst (λ u. AreKnown ends u.text) (sym same) (known_inside ends reading.known stands)) flat (read_begun above name more most same shallow wrote utf8)
 
--- an error between two places is one between wider ones
+-- an error between two positions is between wider ones
 pub stays_wider : {low high lower higher : ℕ} {e : ParseError} → StaysBetween low high e → lower ≤ low → high ≤ higher → StaysBetween lower higher e
 stays_wider (inl memory) lows highs = inl memory
 stays_wider (inr lies) lows highs = inr (omega (arith, lies.0, lows), lies.1, omega (arith, lies.2, highs))

@@ -1,4 +1,4 @@
--- What an argument is written as: its units one after another, and what commands make of it.
+-- The text of an argument: its units one after another, and the effects of commands on it.
 use Rattle.std.proofs.Common.{inl, inr, ◌≡◌, ℕ, zero, suc, Bool, true, false, ◌||◌, List, [], ◌∷◌, ◌++◌, map, refl, sym, ap, subst, ◌∙◌, append_assoc, append-nil, arith, ne_eqb, Option, Some, None}
 use Rattle.std.specs.Prelude.{◌==◌, codes, bytes_eq}
 use Rattle.std.specs.Char.{is_whitespace}
@@ -15,18 +15,18 @@ use Rattle.bib_contents.proofs.BreakFacts.{plain_nfc, nfc_some}
 use Rattle.bib_contents.proofs.CommandFacts.{with_mark-push, named_passes, given_accent, given_symbol, given_other, unknown_shape}
 use Rattle.unicode_normalization.specs.Forms.{nfc}
 
--- whether a text ends in a break
+-- whether a text ends with a line break
 abbrev pub ends_in_break : List ℕ → Bool
 ends_in_break [] = false
 ends_in_break (c ∷ []) = is_break c
 ends_in_break (c ∷ d ∷ cs) = ends_in_break (d ∷ cs)
 
--- a text that neither begins nor ends in a break
+-- a text that neither begins nor ends with a line break
 pub record IsCapped (cs : List ℕ) : Type 0 where
   pub first : begins is_break cs ≡ false
   pub last : ends_in_break cs ≡ false
 
--- what was written before shows only before a break
+-- the character written before a text matters only if the text begins with a line break
 pub flowing_any : (space : Bool) (cs : List ℕ) → begins is_break cs ≡ false → flowing space cs ≡ flowing false cs
 flowing_any space [] plain = refl
 flowing_any space (c ∷ cs) plain = rw plain refl
@@ -36,18 +36,19 @@ flowing_append space [] ys plain = flowing_any space ys plain
 flowing_append space (c ∷ xs) ys plain =
     ap (λ cs. unbroken space c ++ cs) (flowing_append (ends_in_space space (unbroken space c)) xs ys plain) ∙ sym (append_assoc (unbroken space c) _ _)
 
--- a text without breaks stays as it is
+-- a text without line breaks is unchanged on one line
 pub flowing_plain : (space : Bool) (cs : List ℕ) → list_all is_unbroken cs ≡ true → flowing space cs ≡ cs
 flowing_plain space [] all = refl
 flowing_plain space (c ∷ cs) all =
     let parts = and_parts (is_unbroken c) (list_all is_unbroken cs) all in
     rw (not-true (is_break c) parts.0) (ap (λ xs. c ∷ xs) (flowing_plain (is_whitespace c) cs parts.1))
 
--- a text on one line has no breaks
+-- a line break leaves no line break on one line
 lined_break : (space : Bool) (c : ℕ) (cs : List ℕ) → is_break c ≡ true → list_all is_unbroken (flowing true cs) ≡ true → list_all is_unbroken (flowing space (c ∷ cs)) ≡ true
 lined_break true c cs breaks rest = rw breaks rest
 lined_break false c cs breaks rest = rw breaks rest
 
+-- a text on one line has no line breaks
 pub flowing_lined : (space : Bool) (cs : List ℕ) → list_all is_unbroken (flowing space cs) ≡ true
 flowing_lined space [] = refl
 flowing_lined space (c ∷ cs) = elim (cases_Bool (is_break c)) [
@@ -61,7 +62,7 @@ plain_append (x ∷ xs) ys first second =
     let parts = and_parts (is_unbroken x) (list_all is_unbroken xs) first in
     and_from _ _ parts.0 (plain_append xs ys parts.1 second)
 
--- a text without breaks is capped
+-- a text without line breaks neither begins nor ends with one
 pub capped_plain : (cs : List ℕ) → list_all is_unbroken cs ≡ true → IsCapped cs
 capped_plain cs all = record { first = first cs all; last = last cs all }
   where
@@ -74,7 +75,7 @@ capped_plain cs all = record { first = first cs all; last = last cs all }
     last (c ∷ []) all = not-true (is_break c) (and_parts (is_unbroken c) true all).0
     last (c ∷ d ∷ cs) all = last (d ∷ cs) (and_parts (is_unbroken c) (list_all is_unbroken (d ∷ cs)) all).1
 
--- texts one after another
+-- appended texts don't begin with a line break if neither does
 pub begins_append : (xs ys : List ℕ) → begins is_break xs ≡ false → begins is_break ys ≡ false → begins is_break (xs ++ ys) ≡ false
 begins_append [] ys first second = second
 begins_append (x ∷ xs) ys first second = first
@@ -92,7 +93,7 @@ pub capped_append : (xs ys : List ℕ) → IsCapped xs → IsCapped ys → IsCap
 capped_append xs [] one two = rw (append-nil xs) one
 capped_append xs (y ∷ ys) one two = record { first = begins_append xs (y ∷ ys) one.first two.first; last = ends_append xs y ys two.last }
 
--- the last character of a text
+-- a non-empty text has a last character
 pub last_of : (c : ℕ) (cs : List ℕ) → (leading_run : List ℕ) × (d : ℕ) × (c ∷ cs ≡ leading_run ++ d ∷ [])
 last_of c [] = ([], c, refl)
 last_of c (e ∷ cs) = let rest = last_of e cs in (c ∷ rest.0, rest.1, ap (λ xs. c ∷ xs) rest.2)
@@ -111,7 +112,7 @@ letter_plain c plain = elim (cases_Bool (c == 0x131)) [
   ]
 ]
 
--- a letter with a mark on it
+-- a letter with a mark on it has no line break
 marked_letter : (c mark : ℕ) → is_break c ≡ false → is_unbroken mark ≡ true → list_all is_unbroken (nfc (letter c ∷ mark ∷ [])) ≡ true
 marked_letter c mark plain mark_plain = plain_nfc (letter c ∷ mark ∷ []) (and_from _ _ (letter_plain c plain) (and_from _ _ mark_plain refl))
 
@@ -124,7 +125,7 @@ bare_plain mark plain = elim (cases_Bool (mark == 0x302)) [
   ]
 ]
 
--- a mark on the last character of a text on one line
+-- putting a mark on the last character and putting a text on one line can be exchanged
 pub flowing_marked : (mark : ℕ) (cs : List ℕ) → is_unbroken mark ≡ true → ends_in_break cs ≡ false → flowing false (with_mark mark cs) ≡ with_mark mark (flowing false cs)
 flowing_marked mark [] plain last = flowing_plain false (bare mark) (bare_plain mark plain)
 flowing_marked mark (c ∷ cs) plain last =
@@ -152,7 +153,8 @@ capped_marked mark (c ∷ cs) plain capped =
     prefix_plain [] tail other first second = second
     prefix_plain (x ∷ leading_run) tail other first second = first
 
--- what a command makes of its argument: a mark goes on it, a text stands in its place, or it stays between other texts
+-- the effect of a command on its argument: a mark is put on it, a text replaces it, the copyright sign comes before it,
+-- or it is kept in the command
 data Kind (name : List ℕ) : Type 0 where
   marks : (m : ℕ) → is_unbroken m ≡ true → ((cs : List ℕ) → command_text name (Some cs) ≡ with_mark m cs) → Kind name
   stands : (xs : List ℕ) → list_all is_unbroken xs ≡ true → ((cs : List ℕ) → command_text name (Some cs) ≡ xs) → Kind name
@@ -191,7 +193,7 @@ capped_kind {name} (Kind.precedes is) cs named capped = subst IsCapped (sym (is 
 capped_kind {name} (Kind.stays is) cs named capped =
     subst IsCapped (sym (is cs)) record { first = refl; last = ends_append (92 ∷ name) 123 (cs ++ 125 ∷ []) (ends_append (123 ∷ cs) 125 [] refl) }
 
--- what a command makes of a capped text is capped
+-- the effect on a text that neither begins nor ends with a line break is such a text
 pub capped_given : (name cs : List ℕ) → list_all is_unbroken name ≡ true → IsCapped cs → IsCapped (command_text name (Some cs))
 capped_given name cs named capped = capped_kind (kind_of name) cs named capped
 
@@ -206,12 +208,12 @@ flowing_kind {name} (Kind.stays is) cs named capped =
     ∙ ap (λ xs. xs ++ flowing false (123 ∷ (cs ++ 125 ∷ []))) (flowing_plain false (92 ∷ name) (and_from (is_unbroken 92) _ refl named))
     ∙ ap (λ xs. (92 ∷ name) ++ xs) opened ∙ sym (is (flowing false cs))
 
--- what a command makes of a text on one line is what it makes of the text, on one line
+-- applying a command and putting its argument on one line can be exchanged
 pub laid_given : (is_flat : Bool) (name cs : List ℕ) → list_all is_unbroken name ≡ true → IsCapped cs → laid is_flat (command_text name (Some cs)) ≡ command_text name (Some (laid is_flat cs))
 laid_given true name cs named capped = flowing_kind (kind_of name) cs named capped
 laid_given false name cs named capped = refl
 
--- a command without an argument
+-- the text of a command without an argument has no line break
 alone_other : (name : List ℕ) → list_all is_unbroken name ≡ true → list_all is_unbroken (other name None) ≡ true
 alone_other name all = elim (cases_Bool (bytes_eq name (codes "o"))) [
   | inl is_o ↦ rw is_o refl
@@ -229,7 +231,7 @@ alone_found name None None accent_is symbol_is all = ap (list_all is_unbroken) (
 pub alone_plain : (name : List ℕ) → list_all is_unbroken name ≡ true → list_all is_unbroken (command_text name None) ≡ true
 alone_plain name all = alone_found name (named accents name) (named symbols name) refl refl all
 
--- whether white space was written last, after these atoms
+-- whether the last character written is white space, after these atoms
 abbrev pub space_after : Bool → List Atom → Bool
 space_after space [] = space
 space_after space (Atom.normal c ∷ rest) = space_after (ends_in_space space (unbroken space c)) rest
@@ -244,7 +246,7 @@ formatted_append space (Atom.verbatim c ∷ xs) ys = ap (λ cs. c ∷ cs) (forma
 formatted_append space (Atom.math text ∷ xs) ys =
     ap (λ cs. 36 ∷ (text ++ 36 ∷ cs)) (formatted_append space xs ys) ∙ ap (λ cs. 36 ∷ cs) (sym (append_assoc text _ _))
 
--- characters outside braces, and in braces
+-- characters outside braces are formatted on one line
 pub formatted_normal : (space : Bool) (cs : List ℕ) → formatted_atoms space (map (character zero) cs) ≡ flowing space cs
 formatted_normal space [] = refl
 formatted_normal space (c ∷ cs) = ap (λ xs. unbroken space c ++ xs) (formatted_normal (ends_in_space space (unbroken space c)) cs)
@@ -253,11 +255,12 @@ pub formatted_verbatim : (space : Bool) (depth : ℕ) (cs : List ℕ) → format
 formatted_verbatim space depth [] = refl
 formatted_verbatim space depth (c ∷ cs) = ap (λ xs. c ∷ xs) (formatted_verbatim (is_whitespace c) depth cs)
 
--- atoms whose first character is no break
+-- atoms whose text doesn't begin with a line break
 pub record IsLed (atoms : List Atom) : Type 0 where
   pub any : (space : Bool) → formatted_atoms space atoms ≡ formatted_atoms false atoms
   pub first : begins is_break (formatted_atoms false atoms) ≡ false
 
+-- the text of appended atoms, if the second ones do not begin with a line break
 pub written_append : (is_flat : Bool) (xs ys : List Atom) → IsLed ys → argument_written is_flat (xs ++ ys) ≡ argument_written is_flat xs ++ argument_written is_flat ys
 written_append false xs ys led = formatted_append false xs ys ∙ ap (λ cs. formatted_atoms false xs ++ cs) (led.any (space_after false xs))
 written_append true xs ys led =
@@ -281,7 +284,7 @@ led_characters (suc depth) cs plain = record {
 pub led_math : (text : List ℕ) → IsLed (Atom.math text ∷ [])
 led_math text = record { any = λ space. refl; first = refl }
 
--- characters, by whether they are put on one line where they stand
+-- whether characters at this depth are put on one line
 abbrev pub is_flat_at : Bool → ℕ → Bool
 is_flat_at is_flat depth = is_flat || depth == 0
 

@@ -1,4 +1,4 @@
--- Facts on the characters that a cursor passes.
+-- Facts about the characters that a cursor passes.
 use Rattle.std.proofs.Common.{◌≡◌, ℕ, ◌+◌, Bool, true, false, List, [], ◌∷◌, ◌++◌, length, refl, sym, ap, ◌∙◌, subst, arith, append_assoc, length-append, Option, None, Some, MatchOption, MatchBool}
 use Rattle.std.specs.Prelude.{◌==◌, encode_utf8_all}
 use Rattle.std.specs.List.{list_all}
@@ -30,11 +30,11 @@ passes_then {u} {v} {w} {cs} {ds} first second =
 pub passes_none : (u : Place) → Passes u [] u
 passes_none u = record { same = refl; here = refl; next = omega arith; left = refl }
 
--- where a list of characters is left, its first character stands
+-- the first of the characters left is at the cursor
 pub stands : (u : Place) (c : ℕ) (rest : List ℕ) → IsUtf8 (ahead u) → left u ≡ c ∷ rest → (v : Place) × CharAt u c v
 stands u c rest utf8 is = (_, char_here u.text (encode_utf8_all rest) u.at c (sym (encodes-chars (ahead u) utf8) ∙ ap encode_utf8_all is))
 
--- what is left where a character stands
+-- the characters left are the one at the cursor and those after it
 pub stands_left : {u v : Place} {c : ℕ} → CharAt u c v → IsUtf8 (ahead u) → left u ≡ c ∷ left v
 stands_left char utf8 = (passed_char char utf8).spelt
 
@@ -54,7 +54,7 @@ pub taken_utf8 : (u v : Place) (found : Option ℕ) → IsUtf8 (ahead u) → Mat
 taken_utf8 u v None utf8 end = rw end.1 utf8
 taken_utf8 u v (Some c) utf8 char = (passed_char char utf8).utf8
 
--- no character that passes the test is left first, where none stands
+-- if the cursor stops at a test, the first of the characters left doesn't pass it
 pub begins_not : (test : ℕ → Bool) (u : Place) (cs : List ℕ) → IsUtf8 (ahead u) → left u ≡ cs → Stops test u → begins test cs ≡ false
 begins_not test u [] utf8 is stops = refl
 begins_not test u (c ∷ cs) utf8 is stops = let here = stands u c cs utf8 is in stops c here.0 here.1
@@ -72,7 +72,7 @@ pub taken_if_utf8 : (u v : Place) (c : ℕ) (found : Bool) → IsUtf8 (ahead u) 
 taken_if_utf8 u v c true utf8 char = (passed_char char utf8).utf8
 taken_if_utf8 u v c false utf8 none = rw none.0 utf8
 
--- a longest run of characters that pass the test
+-- the longest run of characters that pass a test
 pub taken_while : (test : ℕ → Bool) (u v : Place) (eaten : List ℕ) → IsUtf8 (ahead u) → IsUtf8 eaten → Longest test u v → eaten ≡ between u v
     → Passes u (chars eaten) v × (list_all test (chars eaten) ≡ true) × (begins test (left v) ≡ false)
 taken_while test u v eaten utf8 text longest is =
@@ -83,6 +83,6 @@ taken_while test u v eaten utf8 text longest is =
 pub taken_while_utf8 : (test : ℕ → Bool) (u v : Place) → IsUtf8 (ahead u) → Longest test u v → IsUtf8 (ahead v)
 taken_while_utf8 test u v utf8 longest = (passed_run longest.run utf8).1.utf8
 
--- what was passed is the text between the places
+-- the passed characters are the text between the places
 pub passes_between : {u v : Place} {cs : List ℕ} → Passes u cs v → IsUtf8 (between u v) → between u v ≡ encode_utf8_all cs → chars (between u v) ≡ cs
 passes_between {u} {v} {cs} passed utf8 is = chars_whole cs (between u v) utf8 is

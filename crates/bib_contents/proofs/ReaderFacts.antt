@@ -1,4 +1,4 @@
--- Facts on reading contents unit by unit.
+-- Facts about parsing contents unit by unit.
 use Rattle.std.proofs.Common.{◌≡◌, ℕ, zero, suc, ◌+◌, ◌<◌, ◌≤◌, Bool, true, false, List, [], ◌∷◌, ◌++◌, length, map, refl, sym, ap, ◌∙◌, subst, arith, append_assoc, None, Some, length-append, add-one}
 use Rattle.std.specs.Prelude.{string_bytes}
 use Rattle.std.specs.List.{list_all}
@@ -11,15 +11,17 @@ use Rattle.bib_text.specs.declared.spanned.Spanned.{Spanned}
 use Rattle.bib_contents.specs.Contents.{ContentUnit, Argument, Reads, IsNext, fits, unit_spelling, is_ordinary, character, meaning, is_closable, depth_after, held}
 use Rattle.bib_contents.specs.ContentErrors.ContentFails.{following}
 use Rattle.bib_contents.specs.Contents.Reads.{end, next}
-use Rattle.bib_styled.specs.Joined.{ArePlaced}
+use Rattle.bib_chunks.specs.Joined.{ArePlaced}
 use Rattle.bib_contents.specs.Progress.{Goes, Took, so_far}
 use Rattle.bib_contents.specs.declared.growing.OpenChunk.{OpenChunk}
 use Rattle.std.proofs.lemmas.Str.{chars-nil}
 use Rattle.bib_contents.proofs.ContentFacts.{unit_same, rest_same, no_unit_at_end}
 
+-- nothing was parsed
 pub goes_here : (is_verbatim : Bool) (depth : ℕ) (text : List ℕ) → Goes is_verbatim depth text [] depth text
 goes_here is_verbatim depth text = record { onward = λ more read. read; back = λ whole read. (whole, read); fails = λ kind fails. fails }
 
+-- two parts were parsed, one after the other
 pub goes_then : {is_verbatim : Bool} {depth after last : ℕ} {text rest tail : List ℕ} {first second : List Atom} → Goes is_verbatim depth text first after rest → Goes is_verbatim after rest second last tail
     → Goes is_verbatim depth text (first ++ second) last tail
 goes_then {is_verbatim} {depth} {after} {last} {text} {rest} {tail} {first} {second} one two = record {
@@ -28,7 +30,7 @@ goes_then {is_verbatim} {depth} {after} {last} {text} {rest} {tail} {first} {sec
   fails = λ kind fails. one.fails kind (two.fails kind fails);
 }
 
--- what stands after the first unit is read, where the whole is
+-- if a text can be parsed, so can the argument of its first unit and the text after the unit
 pub unit_back : {is_verbatim : Bool} {depth : ℕ} {text rest : List ℕ} {u : ContentUnit} {whole : List Atom} → IsNext is_verbatim u text rest → Reads is_verbatim depth text whole
     → (is_closable depth u ≡ true) × ((argument : List ℕ) → held u ≡ Some argument → (inner : List Atom) × Reads false 0 argument inner) × ((more : List Atom) × Reads is_verbatim (depth_after depth u) rest more)
 unit_back one end = absurd (no_unit_at_end one)
@@ -40,6 +42,7 @@ unit_back {is_verbatim} {depth} {text} {rest} {u} one (next {u = w} {rest = left
       (atoms, rw (← same, ← tail) read),
     )
 
+-- a unit was parsed
 pub goes_unit : {is_verbatim : Bool} {depth after : ℕ} {text rest : List ℕ} {u : ContentUnit} {inner : List Atom} → IsNext is_verbatim u text rest → is_closable depth u ≡ true → ((argument : List ℕ) → held u ≡ Some argument → Reads false 0 argument inner) → after ≡ depth_after depth u
     → Goes is_verbatim depth text (meaning depth u inner) after rest
 goes_unit {inner = inner} one closable argument deep = record {
@@ -51,7 +54,7 @@ goes_unit {inner = inner} one closable argument deep = record {
 pub no_argument : {t : List ℕ} → None ≡ Some t → ⊥
 no_argument same = cc
 
--- ordinary characters stand for themselves
+-- ordinary characters are parsed as themselves
 pub goes_run : (is_verbatim : Bool) (depth : ℕ) (run rest : List ℕ) → list_all (is_ordinary is_verbatim) run ≡ true → Goes is_verbatim depth (run ++ rest) (map (character depth) run) depth rest
 goes_run is_verbatim depth [] rest all = goes_here is_verbatim depth rest
 goes_run is_verbatim depth (c ∷ cs) rest all =
@@ -59,7 +62,7 @@ goes_run is_verbatim depth (c ∷ cs) rest all =
     let one : IsNext is_verbatim (ContentUnit.other c) (c ∷ (cs ++ rest)) (cs ++ rest) = record { fits = parts.0; spells = refl } in
     goes_then (goes_unit {u = ContentUnit.other c} {inner = []} one refl (λ argument holds. absurd (no_argument holds)) refl) (goes_run is_verbatim depth cs rest parts.1)
 
--- a text was read so far: after these atoms, up to here
+-- a text was parsed up to `rest`, and its atoms were added to `start`
 pub record ReadSoFar (is_verbatim : Bool) (whole : List ℕ) (start : List Atom) (rest : List ℕ) (depth : ℕ) (now : List Atom) : Type 0 where
   pub atoms : List Atom
   pub goes : Goes is_verbatim 0 whole atoms depth rest
@@ -84,24 +87,24 @@ read_unit {is_verbatim} {whole} {text} {rest} {u} {start} {now} {more} {depth} {
   is = took.atoms ∙ ap (λ xs. xs ++ meaning depth u took.inner) read.is ∙ append_assoc start read.atoms (meaning depth u took.inner);
 }
 
--- the text ends
+-- at the end of the text its atoms are those of the contents
 pub read_all : {is_verbatim : Bool} {whole text : List ℕ} {start now : List Atom} {depth : ℕ} → ReadSoFar is_verbatim whole start text depth now → text ≡ []
     → (atoms : List Atom) × Reads is_verbatim 0 whole atoms × (now ≡ start ++ atoms)
 read_all {is_verbatim} {whole} {text} {start} {now} {depth} read ends =
     (read.atoms, subst (Reads is_verbatim 0 whole) (append-nil read.atoms) (read.goes.onward [] (rw ends end)), read.is)
 
--- no unit stands where the text goes on
+-- a non-empty text that begins with no unit can't be parsed
 pub no_unit : {is_verbatim : Bool} {depth : ℕ} {text : List ℕ} {atoms : List Atom} → (text ≡ [] → ⊥)
     → ((u : ContentUnit) (rest : List ℕ) → IsNext is_verbatim u text rest → ⊥) → Reads is_verbatim depth text atoms → ⊥
 no_unit more none end = more refl
 no_unit more none (next {u = u} {rest = rest} one closable argument read) = none u rest one
 
--- chunks that stand before a place stand before a later one
+-- chunks that are placed up to a position are placed up to a later one
 pub placed_wider : (low high higher : ℕ) (cs : List (Spanned Chunk)) → ArePlaced low high cs → high ≤ higher → ArePlaced low higher cs
 placed_wider low high higher [] placed wider = omega (arith, placed, wider)
 placed_wider low high higher (c ∷ rest) placed wider = (placed.0, placed.1, placed_wider _ high higher rest placed.2 wider)
 
--- how many characters an argument in braces has
+-- the length of a unit's argument in braces, in characters
 abbrev pub held_length : ContentUnit → ℕ
 held_length (ContentUnit.command name space (Argument.braced text)) = length text
 held_length u = 0
@@ -121,7 +124,7 @@ held_length_is (ContentUnit.copied c) text is = absurd (no_argument is)
 held_length_is (ContentUnit.formula math) text is = absurd (no_argument is)
 held_length_is (ContentUnit.other c) text is = absurd (no_argument is)
 
--- a unit is longer than the argument in it
+-- a unit is longer than its argument in braces
 unit_longer : (is_verbatim : Bool) (u : ContentUnit) (rest : List ℕ) → fits is_verbatim u rest ≡ true → held_length u < length (unit_spelling u)
 unit_longer is_verbatim (ContentUnit.command name space (Argument.braced text)) rest right =
     let inside : length (text ++ 125 ∷ []) ≡ length text + 1 = length-append text (125 ∷ []) in
@@ -143,14 +146,14 @@ unit_longer is_verbatim (ContentUnit.copied c) rest right = omega arith
 unit_longer is_verbatim (ContentUnit.formula text) rest right = omega arith
 unit_longer is_verbatim (ContentUnit.other c) rest right = omega arith
 
--- less is left after a unit, and its argument is shorter than what stood before it
+-- the text after a unit and the argument of the unit are shorter than the text before it
 pub unit_shorter : {is_verbatim : Bool} {u : ContentUnit} {text rest : List ℕ} → IsNext is_verbatim u text rest → (length rest < length text) × (held_length u < length text)
 unit_shorter {is_verbatim} {u} {text} {rest} one =
     let longer : held_length u < length (unit_spelling u) = unit_longer is_verbatim u rest one.fits in
     let size : length text ≡ length (unit_spelling u) + length rest = ap length one.spells ∙ length-append (unit_spelling u) rest in
     (omega arith, omega arith)
 
--- where the growing chunk is empty, the finished ones say all
+-- if the open chunk is empty, the finished ones have all atoms
 pub nothing_grows : (out : List (Spanned Chunk)) (growing : OpenChunk) → string_bytes growing.text ≡ [] → styled out ≡ so_far out growing
 nothing_grows out growing empty = sym (ap (λ cs. styled out ++ map (character growing.depth) cs) (ap chars empty ∙ chars-nil) ∙ append-nil (styled out))
 

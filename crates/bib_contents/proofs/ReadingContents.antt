@@ -1,4 +1,4 @@
--- The loop that reads contents: what holds at each unit.
+-- The loop that parses contents: the invariant at each unit.
 use Rattle.std.proofs.Common.{◌≡◌, ℕ, ◌+◌, ◌-◌, ◌<◌, ◌≤◌, ◌^◌, Bool, List, [], ◌++◌, length, drop, map, refl, sym, ap, ◌∙◌, subst, arith, append_assoc, length-append, length-drop}
 use Rattle.std.specs.Prelude.{encode_utf8_all, string_bytes}
 use Rattle.std.specs.Str.{chars, IsUtf8}
@@ -9,14 +9,14 @@ use Rattle.bib_chunks.specs.Styled.{Atom, styled}
 use Rattle.bib_chunks.specs.declared.chunk.Chunk.{Chunk}
 use Rattle.bib_text.specs.declared.spanned.Spanned.{Spanned}
 use Rattle.bib_contents.specs.Contents.{ContentUnit, IsNext, Reads, character, depth_after, unit_spelling, saturated}
-use Rattle.bib_styled.specs.Joined.{AreJoined, ArePlaced}
+use Rattle.bib_chunks.specs.Joined.{AreJoined, ArePlaced}
 use Rattle.bib_contents.specs.Progress.{left, Passes, Renders, Took, StaysPlaced, so_far}
 use Rattle.bib_contents.specs.declared.growing.OpenChunk.{OpenChunk}
 use Rattle.bib_contents.proofs.ArgumentFacts.{passes_within, passes_ahead, passes_shorter}
 use Rattle.bib_contents.proofs.ReaderFacts.{ReadSoFar, read_none, read_plain, read_unit, read_all, unit_shorter}
 use Rattle.bib_contents.proofs.TakingFacts.{grown_chars}
 
--- contents were read up to a place: what the chunks say is what was read, they are joined and in order
+-- contents were parsed up to the cursor `s`: the chunks have the atoms so far, stay joined, and are in order
 pub record Reading (is_verbatim : Bool) (text : List ℕ) (offset : ℕ) (start : List (Spanned Chunk)) (s : Place) (growing : OpenChunk) (out : List (Spanned Chunk)) : Type 0 where
   pub read : ReadSoFar is_verbatim (chars text) (styled start) (left s) growing.depth (so_far out growing)
   pub shorter : length (left s) ≤ length (chars text)
@@ -26,7 +26,7 @@ pub record Reading (is_verbatim : Bool) (text : List ℕ) (offset : ℕ) (start 
   pub same : s.text ≡ text
   pub within : s.at ≤ length s.text
 
--- at the start nothing was read
+-- at the start nothing was parsed
 pub reading_none : (is_verbatim : Bool) (text : List ℕ) (offset : ℕ) (start : List (Spanned Chunk)) (s : Place) (growing : OpenChunk) → s ≡ record { text = text; at = 0 } → offset ≤ 2 ^ 64 - 1 → growing.depth ≡ 0 → growing.start ≡ offset
     → string_bytes growing.text ≡ [] → Reading is_verbatim text offset start s growing start
 reading_none is_verbatim text offset start s growing here fits shallow begins empty = record {
@@ -39,7 +39,7 @@ reading_none is_verbatim text offset start s growing here fits shallow begins em
   within = rw here (omega arith);
 }
 
--- a part that stands for characters
+-- a step of the loop: a run of plain characters
 pub reading_plain : {is_verbatim : Bool} {text : List ℕ} {offset : ℕ} {start out : List (Spanned Chunk)} {s t : Place} (growing grown : OpenChunk) → Reading is_verbatim text offset start s growing out → Renders is_verbatim s t growing.text grown.text
     → grown.depth ≡ growing.depth → grown.start ≡ growing.start → Reading is_verbatim text offset start t grown out
 reading_plain {is_verbatim} {text} {offset} {start} {out} {s} {t} growing grown reading renders depth begins =
@@ -64,7 +64,7 @@ reading_plain {is_verbatim} {text} {offset} {start} {out} {s} {t} growing grown 
       within = passes_within passes reading.within;
     }
 
--- the place after a unit
+-- the position after a unit is as many bytes further as the unit has
 pub unit_place : {is_verbatim : Bool} {u : ContentUnit} {s t : Place} → IsNext is_verbatim u (left s) (left t) → t.text ≡ s.text → IsUtf8 (drop s.at s.text) → IsUtf8 (drop t.at t.text) → s.at ≤ length s.text → t.at ≤ length t.text
     → t.at ≡ s.at + length (encode_utf8_all (unit_spelling u))
 unit_place {is_verbatim} {u} {s} {t} one same utf8 utf8' within within' =
@@ -88,7 +88,7 @@ deeper depth (ContentUnit.formula text) = omega arith
 deeper depth (ContentUnit.command name space argument) = omega arith
 deeper depth (ContentUnit.other c) = omega arith
 
--- a unit
+-- a step of the loop: a unit
 pub reading_unit : {is_verbatim : Bool} {text : List ℕ} {offset : ℕ} {start out more : List (Spanned Chunk)} {s t : Place} {u : ContentUnit} (growing grown : OpenChunk) → Reading is_verbatim text offset start s growing out → IsNext is_verbatim u (left s) (left t) → t.text ≡ s.text
     → t.at ≡ s.at + length (encode_utf8_all (unit_spelling u)) → t.at ≤ length t.text → Took u growing.depth (so_far out growing) grown.depth (so_far more grown) → (AreJoined out → AreJoined more)
     → StaysPlaced out growing (saturated (offset + s.at)) more grown (saturated (offset + t.at))
@@ -111,14 +111,14 @@ reading_unit {is_verbatim} {text} {offset} {start} {out} {more} {s} {t} {u} grow
       within = within;
     }
 
--- the text ends
+-- at the end of the text the atoms are those of the contents
 pub reading_all : {is_verbatim : Bool} {text : List ℕ} {offset : ℕ} {start out : List (Spanned Chunk)} {s : Place} (growing : OpenChunk) (after : List Atom) → Reading is_verbatim text offset start s growing out → left s ≡ [] → after ≡ so_far out growing
     → (atoms : List Atom) × Reads is_verbatim 0 (chars text) atoms × (after ≡ styled start ++ atoms)
 reading_all growing after reading ends is =
     let all = read_all reading.read ends in
     (all.0, all.1, is ∙ all.2)
 
--- the last chunk ends in the text
+-- the last chunk begins in the text
 pub reading_ends : {is_verbatim : Bool} {text : List ℕ} {offset : ℕ} {start out : List (Spanned Chunk)} {s : Place} (growing : OpenChunk) → Reading is_verbatim text offset start s growing out → (low : ℕ) → ArePlaced low offset start
     → ArePlaced low growing.start out × (growing.start ≤ saturated (offset + length text))
 reading_ends {is_verbatim} {text} {offset} {start} {out} {s} growing reading low placed =

@@ -1,4 +1,4 @@
--- Facts on what a unit adds to the chunks.
+-- Facts about the atoms that a unit adds to the chunks.
 use Rattle.std.proofs.Common.{◌≡◌, ℕ, ◌+◌, ◌-◌, ◌≤◌, Bool, true, false, List, [], ◌∷◌, ◌++◌, length, map, refl, sym, ap, subst, ◌∙◌, arith, append_assoc, length-append, add-one, Some}
 use Rattle.std.specs.Prelude.{encode_utf8_all, string_bytes}
 use Rattle.std.specs.Str.{chars, IsUtf8}
@@ -11,7 +11,7 @@ use Rattle.bib_chunks.specs.declared.chunk.Chunk.{Chunk}
 use Rattle.bib_text.specs.declared.spanned.Spanned.{Spanned}
 use Rattle.bib_text.proofs.TextFacts.{chars_whole}
 use Rattle.bib_contents.specs.Contents.{Argument, ContentUnit, IsNext, unit_spelling, Reads, character, meaning, is_closable, depth_after, held, unit_text}
-use Rattle.bib_styled.specs.Joined.{ArePlaced}
+use Rattle.bib_chunks.specs.Joined.{ArePlaced}
 use Rattle.bib_contents.specs.Progress.{Took, left, so_far}
 use Rattle.bib_contents.proofs.UnitFacts.{command_parts}
 use Rattle.bib_contents.specs.UnitViews.{text_unit_of, argument_of, unit_of}
@@ -27,12 +27,12 @@ use Rattle.bib_contents.specs.declared.units.TextUnit.{TextUnit}
 use Rattle.bib_contents.specs.declared.units.TextUnit.TheVariants as shown
 use Rattle.bib_contents.proofs.ReaderFacts.{nothing_grows, no_argument, placed_wider}
 
--- the characters of a text that grew
+-- the characters of a text after an append
 pub grown_chars : (bs more cs : List ℕ) → IsUtf8 bs → IsUtf8 more → more ≡ bs ++ encode_utf8_all cs → chars more ≡ chars bs ++ cs
 grown_chars bs more cs utf8 utf8' grew =
     chars_whole (chars bs ++ cs) more utf8' (grew ∙ ap (λ xs. xs ++ encode_utf8_all cs) (sym (encodes-chars bs utf8)) ∙ sym (encodes-append (chars bs) cs))
 
--- what a unit of text is: it stands anywhere, leaves the depth, and stands for characters
+-- a unit of text may occur at any depth, doesn't change it, and has characters as atoms
 pub record IsTextUnit (depth : ℕ) (u : ContentUnit) : Type 0 where
   pub closable : is_closable depth u ≡ true
   pub deep : depth ≡ depth_after depth u
@@ -47,11 +47,11 @@ text_unit depth (shown.Copied c) = record { closable = refl; deep = refl; means 
 text_unit depth (shown.Command name space argument) = record { closable = refl; deep = refl; means = λ inner. refl }
 text_unit depth (shown.Other c) = record { closable = refl; deep = refl; means = λ inner. refl }
 
--- the argument that is held
+-- two arguments of one unit are equal
 pub held_is : {text argument : List ℕ} → Some text ≡ Some argument → text ≡ argument
 held_is same = cc
 
--- characters were added to the growing chunk
+-- characters were appended to the open chunk
 took_characters : (u : ContentUnit) (growing grown : OpenChunk) (out : List (Spanned Chunk)) (inner : List Atom) → IsTextUnit growing.depth u → ((argument : List ℕ) → held u ≡ Some argument → Reads false 0 argument inner)
     → Writes growing.text grown.text (unit_text u inner) → grown.depth ≡ growing.depth → Took u growing.depth (so_far out growing) grown.depth (so_far out grown)
 took_characters u growing grown out inner is argument written depth =
@@ -74,13 +74,13 @@ pub took_text : (unit : TextUnit) (growing grown : OpenChunk) (out : List (Spann
     → Writes growing.text grown.text (unit_text (text_unit_of unit) inner) → grown.depth ≡ growing.depth → Took (text_unit_of unit) growing.depth (so_far out growing) grown.depth (so_far out grown)
 took_text unit growing grown out inner argument written depth = took_characters (text_unit_of unit) growing grown out inner (text_unit growing.depth unit) argument written depth
 
--- a command with an argument in braces
+-- the text of a command with an argument in braces was appended
 pub took_applied : (name space argument : List ℕ) (growing grown : OpenChunk) (out : List (Spanned Chunk)) (inner : List Atom) → Reads false 0 argument inner → Writes growing.text grown.text (command_text name (Some (formatted_atoms false inner))) → grown.depth ≡ growing.depth
     → Took (ContentUnit.command name space (Argument.braced argument)) growing.depth (so_far out growing) grown.depth (so_far out grown)
 took_applied name space argument growing grown out inner read written depth =
     took_characters (ContentUnit.command name space (Argument.braced argument)) growing grown out inner record { closable = refl; deep = refl; means = λ inner. refl } (λ text holds. subst (λ t. Reads false 0 t inner) (held_is holds) read) written depth
 
--- what is not put on one line is written as it is
+-- a unit that isn't put on one line is written as its text
 as_is : (unit : TextUnit) → unit_written false (text_unit_of unit) ≡ unit_text (text_unit_of unit) []
 as_is (shown.Hyphens n) = refl
 as_is (shown.Spaces text) = refl
@@ -93,7 +93,7 @@ as_is (shown.Other c) = refl
 pub as_text : (old new : List ℕ) (unit : TextUnit) → new ≡ old ++ encode_utf8_all (unit_written false (text_unit_of unit)) → new ≡ old ++ encode_utf8_all (unit_text (text_unit_of unit) [])
 as_text old new unit wrote = wrote ∙ ap (λ cs. old ++ encode_utf8_all cs) (as_is unit)
 
--- math was added
+-- math was appended
 pub took_formula : (text : List ℕ) (depth : ℕ) (grown : OpenChunk) (before : List Atom) (out : List (Spanned Chunk)) → string_bytes grown.text ≡ [] → grown.depth ≡ depth → styled out ≡ before ++ Atom.math text ∷ []
     → Took (ContentUnit.formula text) depth before grown.depth (so_far out grown)
 took_formula text depth grown before out empty same atoms = record {
@@ -104,7 +104,7 @@ took_formula text depth grown before out empty same atoms = record {
   atoms = sym (nothing_grows out grown empty) ∙ atoms;
 }
 
--- a brace was opened, or closed
+-- a brace was opened
 pub took_opening : (depth : ℕ) (grown : OpenChunk) (before : List Atom) (out : List (Spanned Chunk)) → string_bytes grown.text ≡ [] → grown.depth ≡ depth + 1 → styled out ≡ before
     → Took ContentUnit.opening depth before grown.depth (so_far out grown)
 took_opening depth grown before out empty same atoms = record {
@@ -125,18 +125,18 @@ took_closing depth grown before out some empty same atoms = record {
   atoms = sym (nothing_grows out grown empty) ∙ atoms ∙ sym (append-nil before);
 }
 
--- math is spelt by two characters and more
+-- math is spelt with at least two bytes
 pub formula_wide : (text : List ℕ) → 2 ≤ length (encode_utf8_all (36 ∷ (text ++ 36 ∷ [])))
 formula_wide text =
     let characters : length (36 ∷ (text ++ 36 ∷ [])) ≤ length (encode_utf8_all (36 ∷ (text ++ 36 ∷ []))) = length-le-encodes (36 ∷ (text ++ 36 ∷ [])) in
     let inside : length (text ++ 36 ∷ []) ≡ length text + 1 = length-append text (36 ∷ []) in
     omega arith
 
--- the bytes of characters after others
+-- the length of appended characters in bytes is a sum
 sizes : (a b : List ℕ) → length (encode_utf8_all (a ++ b)) ≡ length (encode_utf8_all a) + length (encode_utf8_all b)
 sizes a b = ap length (encodes-append a b) ∙ length-append (encode_utf8_all a) (encode_utf8_all b)
 
--- a command is longer than its argument in braces: one byte stands after that at least, and two before it
+-- a command is at least three bytes longer than its argument in braces
 pub braced_wide : (name space text : List ℕ) → length (encode_utf8_all text) + 3 ≤ length (encode_utf8_all (unit_spelling (ContentUnit.command name space (Argument.braced text))))
 braced_wide name space text =
     let one : 1 ≤ length (encode_utf8_all (125 ∷ [])) = length-le-encodes (125 ∷ []) in
@@ -153,17 +153,17 @@ braced_wide name space text =
 pub placed_after : (low end following start : ℕ) (out : List (Spanned Chunk)) → ArePlaced low end out → end ≤ following → start ≡ following → ArePlaced low start out × (start ≤ following)
 placed_after low end following start out placed wider is = (placed_wider low end start out placed (omega (arith, wider, is)), omega (arith, is))
 
--- a command with this argument
+-- the unit of a command with this argument
 pub command_is : {unit : TextUnit} {name space : Bor (List ℕ)} {command_text : units.Argument} (argument : units.Argument) → unit ≡ shown.Command name space command_text → command_text ≡ argument
     → text_unit_of unit ≡ ContentUnit.command (chars name.now) (chars space.now) (argument_of argument)
 command_is {unit} {name} {space} {command_text} argument is same =
     ap text_unit_of is ∙ ap (λ a. ContentUnit.command (chars name.now) (chars space.now) (argument_of a)) same
 
--- where the argument of a unit stands
+-- the positions around the argument of a unit, given by equal numbers
 pub stands_at : (text : List ℕ) (low high start end : ℕ) → start ≡ low → end ≡ high → (unit : all_units.Unit) → IsArgumentBetween text low unit high → IsArgumentBetween text start unit end
 stands_at text low high start end first last unit stands = rw (first, last) stands
 
--- a command that is next has a name
+-- a command that comes next has a name
 pub unit_named : (unit : all_units.Unit) {is_verbatim : Bool} {text rest : List ℕ} → IsNext is_verbatim (unit_of unit) text rest → HasCommandName unit
 unit_named (any_unit.Shown shown) one = tt
 unit_named (any_unit.Applied name space inside) {is_verbatim} {text} {rest} one = (command_parts is_verbatim (chars name.now) (chars space.now) rest (Argument.braced (left inside)) one.fits).1

@@ -1,4 +1,4 @@
--- The first unit of a text: there is one at most.
+-- The first unit of a text: there is at most one.
 use Rattle.std.proofs.Common.{◌≡◌, ℕ, zero, suc, ◌-◌, Bool, true, false, not, ◌&&◌, if◌then◌else◌, List, [], ◌∷◌, ◌++◌, length, replicate, refl, ap, ◌∙◌, arith, append_assoc, inl, inr}
 use Rattle.std.specs.Prelude.{◌==◌, nat_lt}
 use Rattle.std.specs.List.{list_all, list_any}
@@ -7,7 +7,7 @@ use Rattle.std.proofs.lemmas.List.{length-replicate}
 use Rattle.bib_chunks.specs.Written.{is_grouping, is_reserved}
 use Rattle.bib_contents.specs.Contents.{is_escapable, ContentUnit, Argument, is_escaped, is_space, is_blank, is_name_character, is_sign, is_ordinary, begins, is_empty, balances, argument_spelling, unit_spelling, is_name, is_whole_name, takes_next, is_argument, fits}
 
--- the characters up to the first that fails, and what stands from there on
+-- the characters before the first one that fails the test
 abbrev pub prefix : (ℕ → Bool) → List ℕ → List ℕ
 prefix test [] = []
 prefix test (c ∷ cs) = if test c then c ∷ prefix test cs else []
@@ -16,7 +16,7 @@ abbrev pub following : (ℕ → Bool) → List ℕ → List ℕ
 following test [] = []
 following test (c ∷ cs) = if test c then following test cs else c ∷ cs
 
--- the characters up to the brace that closes so many open ones and one more
+-- the characters before the brace that closes `depth` open ones and one more
 abbrev pub braces : ℕ → List ℕ → List ℕ
 braces depth [] = []
 braces depth (c ∷ cs) =
@@ -46,7 +46,7 @@ first_escape is_verbatim (c ∷ cs) =
     else if is_sign c then first_command (c ∷ []) cs
     else first_command (c ∷ prefix is_name_character cs) (following is_name_character cs)
 
--- the unit that a text begins with
+-- the unit with which a text begins
 abbrev pub first_unit : Bool → List ℕ → ContentUnit
 first_unit is_verbatim [] = ContentUnit.opening
 first_unit is_verbatim (c ∷ cs) =
@@ -58,7 +58,7 @@ first_unit is_verbatim (c ∷ cs) =
     else if is_space c then ContentUnit.spaces (c ∷ prefix is_space cs)
     else ContentUnit.other c
 
--- a run that ends is the prefix, and the rest stands after it
+-- the longest run of characters that pass a test is the prefix
 pub prefix_run : (test : ℕ → Bool) (cs rest : List ℕ) → list_all test cs ≡ true → begins test rest ≡ false → prefix test (cs ++ rest) ≡ cs
 prefix_run test [] [] all stops = refl
 prefix_run test [] (d ∷ ds) all stops = rw stops refl
@@ -73,7 +73,7 @@ after_run test (c ∷ cs) rest all stops =
     let parts = and_parts (test c) (list_all test cs) all in
     rw parts.0 (after_run test cs rest parts.1 stops)
 
--- the text in a pair of braces
+-- the text in a pair of braces is found
 pub braces_run : (depth : ℕ) (cs rest : List ℕ) → balances depth cs ≡ true → braces depth (cs ++ 125 ∷ rest) ≡ cs
 braces_run depth [] rest balanced = rw (eqb-true depth 0 balanced) refl
 braces_run depth (c ∷ cs) rest balanced =
@@ -88,7 +88,7 @@ braces_run depth (c ∷ cs) rest balanced =
           ]
     ]
 
--- a character that passes a test isn't one that fails it
+-- a character that passes a test differs from one that fails it
 pub other_than : (test : ℕ → Bool) (c k : ℕ) → test c ≡ true → test k ≡ false → (c == k) ≡ false
 other_than test c k passes fails = ne_eqb c k (λ same. both_ways (test k) fails (rw same at passes))
 
@@ -96,7 +96,7 @@ pub hyphens_run : (n : ℕ) (rest : List ℕ) → begins (λ c. c == 45) rest �
 hyphens_run zero rest stops = prefix_run (λ c. c == 45) [] rest refl stops
 hyphens_run (suc n) rest stops = ap (λ xs. 45 ∷ xs) (hyphens_run n rest stops)
 
--- the argument before the rest of a text
+-- the argument before the rest of a text is found
 pub argument_first : (takes spaced : Bool) (argument : Argument) (rest : List ℕ) → is_argument takes spaced argument rest ≡ true
     → first_argument takes spaced (argument_spelling argument ++ rest) ≡ argument
 argument_first takes spaced Argument.without [] right = rw (not-true takes right) refl
@@ -114,7 +114,7 @@ argument_first takes spaced (Argument.braced text) rest right =
     let parts = and_parts (not spaced) (balances 0 text) right in
     rw (not-true spaced parts.0, append_assoc text (125 ∷ []) rest) (ap Argument.braced (braces_run 0 text rest parts.1))
 
--- a command is found after its name
+-- the white space and the argument after a command's name are found
 pub command_first : (name space rest : List ℕ) (argument : Argument) → list_all is_space space ≡ true → begins is_space (argument_spelling argument ++ rest) ≡ false
     → is_argument (takes_next name space) (not (is_empty space)) argument rest ≡ true
     → first_command name (space ++ (argument_spelling argument ++ rest)) ≡ ContentUnit.command name space argument
@@ -124,12 +124,12 @@ command_first name space rest argument white stops right =
     ∙ ap (λ xs. command_of name space xs) (after_run is_space space more white stops)
     ∙ ap (ContentUnit.command name space) (argument_first (takes_next name space) (not (is_empty space)) argument rest right)
 
--- white space is none of the characters that begin something else
+-- white space differs from the characters that begin other units
 space_apart : (c : ℕ) → is_space c ≡ true → (c == 92 ≡ false) × (c == 123 ≡ false) × (c == 125 ≡ false) × (c == 36 ≡ false) × (c == 45 ≡ false)
 unfolding is_space
 space_apart c white = (other_than is_space c 92 white refl, other_than is_space c 123 white refl, other_than is_space c 125 white refl, other_than is_space c 36 white refl, other_than is_space c 45 white refl)
 
--- what begins no command is not escaped
+-- white space and control characters are not escaped
 blank_apart : (c : ℕ) → is_blank c ≡ true → is_escaped false c ≡ false
 unfolding is_blank is_escaped is_escapable is_grouping is_reserved
 blank_apart c blank =
@@ -148,7 +148,7 @@ blank_apart c blank =
       apart 58 blank refl,
     ) refl
 
--- an ordinary character is none of those that begin something else
+-- an ordinary character differs from those that begin other units
 ordinary_apart : (is_verbatim : Bool) (c : ℕ) → is_ordinary is_verbatim c ≡ true
     → (c == 92 ≡ false) × (c == 123 ≡ false) × (c == 125 ≡ false) × (c == 36 && not is_verbatim ≡ false) × (c == 45 ≡ false) × (is_space c ≡ false)
 unfolding is_ordinary is_grouping
@@ -160,7 +160,7 @@ none_any (c ∷ cs) none =
     let parts = or_parts (c == 36) (list_any (λ c. c == 36) cs) none in
     rw parts.0 (none_any cs parts.1)
 
--- a name that is not a sign is taken whole
+-- a name that isn't a sign is found as a whole
 name_first : (c : ℕ) (cs tail : List ℕ) (u : ContentUnit) → list_all is_name_character cs ≡ true → begins is_name_character tail ≡ false → first_command (c ∷ cs) tail ≡ u
     → first_command (c ∷ prefix is_name_character (cs ++ tail)) (following is_name_character (cs ++ tail)) ≡ u
 name_first c cs tail u named stops found =
@@ -168,12 +168,12 @@ name_first c cs tail u named stops found =
     ∙ ap (first_command (c ∷ cs)) (after_run is_name_character cs tail named stops)
     ∙ found
 
--- a sign is a whole name
+-- a name that begins with a sign is that sign
 sign_first : (c : ℕ) (tail : List ℕ) {u : ContentUnit} (cs : List ℕ) → is_empty cs ≡ true → first_command (c ∷ cs) tail ≡ u → first_command (c ∷ []) (cs ++ tail) ≡ u
 sign_first c tail [] none found = found
 sign_first c tail (d ∷ ds) none found = absurd (both_ways false refl none)
 
--- a command begins with its name
+-- a command is found after its backslash
 pub escape_first : (c : ℕ) (cs tail : List ℕ) (u : ContentUnit) → is_name (c ∷ cs) ≡ true → is_whole_name (c ∷ cs) tail ≡ true → first_command (c ∷ cs) tail ≡ u
     → first_escape false (c ∷ (cs ++ tail)) ≡ u
 escape_first c cs tail u name whole found =
@@ -185,7 +185,7 @@ escape_first c cs tail u name whole found =
       | inr plain_name ↦ rw plain_name (name_first c cs tail u (rw plain_name at parts.1) (not-true _ (rw plain_name at whole)) found)
     ])
 
--- what is said of a command that fits
+-- the conditions of a command that fits
 pub command_parts : (is_verbatim : Bool) (name space rest : List ℕ) (argument : Argument) → fits is_verbatim (ContentUnit.command name space argument) rest ≡ true
     → (is_verbatim ≡ false) × (is_name name ≡ true) × (is_whole_name name (space ++ (argument_spelling argument ++ rest)) ≡ true) × (list_all is_space space ≡ true)
     × (begins is_space (argument_spelling argument ++ rest) ≡ false) × (is_argument (takes_next name space) (not (is_empty space)) argument rest ≡ true)
@@ -197,7 +197,7 @@ command_parts is_verbatim name space rest argument right =
     let a1 = and_parts (not is_verbatim) (is_name name) a2.0 in
     (not-true is_verbatim a1.0, a1.1, a2.1, a3.1, not-true _ a4.1, a5.1)
 
--- the first unit of a text that begins with a unit
+-- the unit with which a text begins is its first unit
 pub unit_first : (is_verbatim : Bool) (u : ContentUnit) (rest : List ℕ) → fits is_verbatim u rest ≡ true → first_unit is_verbatim (unit_spelling u ++ rest) ≡ u
 unit_first is_verbatim (ContentUnit.hyphens zero) rest right = absurd (both_ways false refl right)
 unit_first is_verbatim (ContentUnit.hyphens (suc n)) rest right =

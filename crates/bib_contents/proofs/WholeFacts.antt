@@ -1,4 +1,4 @@
--- The text of an argument neither begins nor ends in a break.
+-- The text of an argument neither begins nor ends with a line break.
 use Rattle.std.proofs.Common.{◌≡◌, ℕ, zero, suc, Bool, true, false, not, ◌&&◌, List, [], ◌∷◌, ◌++◌, map, refl, sym, ap, subst, ◌∙◌, append-nil, inl, inr, None, Some}
 use Rattle.std.specs.Prelude.{◌==◌}
 use Rattle.std.proofs.lemmas.Bool.{cases_Bool, and_parts, and_from, both_ways, eqb-true}
@@ -11,7 +11,7 @@ use Rattle.bib_contents.proofs.ArgumentReading.{name_plain, dashes_plain, escape
 use Rattle.bib_contents.proofs.LaidFacts.{IsCapped, IsLed, ends_in_break, ends_append, flowing_lined, begins_append, capped_plain, capped_given, alone_plain, formatted_append, formatted_normal, formatted_verbatim, led_characters, led_math, space_after}
 use Rattle.bib_contents.proofs.UnitFacts.{command_parts, first_unit, unit_first, prefix}
 
--- atoms that were read to the end of a text
+-- the formatted atoms of a whole text neither begin nor end with a line break
 pub record IsWhole (atoms : List Atom) : Type 0 where
   pub led : IsLed atoms
   pub last : ends_in_break (formatted_atoms false atoms) ≡ false
@@ -28,12 +28,13 @@ led_append xs ys one two =
       first = ap (begins is_break) (parts false) ∙ begins_append (formatted_atoms false xs) (formatted_atoms false ys) one.first two.first;
     }
 
--- whether a unit ends in a break
+-- whether a unit ends with a line break
 abbrev breaks_last : ContentUnit → Bool
 breaks_last (ContentUnit.copied c) = is_break c
 breaks_last u = false
 
--- the ends of what a unit stands for
+-- the text of a unit doesn't begin with a line break, and ends with one only if the unit is a line break after a
+-- backslash
 record HasEnds (u : ContentUnit) (inner : List Atom) : Type 0 where
   first : begins is_break (unit_text u inner) ≡ false
   last : breaks_last u ≡ false → ends_in_break (unit_text u inner) ≡ false
@@ -62,7 +63,8 @@ unit_ends (ContentUnit.command name space (Argument.braced text)) rest inner rig
     (capped_given name (formatted_atoms false inner) (name_plain name (command_parts false name space rest (Argument.braced text) right).1) (whole_capped (whole text refl)))
 unit_ends (ContentUnit.other c) rest inner right whole = capped_ends (ContentUnit.other c) inner (capped_plain (c ∷ []) (and_from _ _ (ordinary_plain c right) refl))
 
--- what a unit adds
+-- the atoms of a unit don't begin with a line break, and end with one only if the unit is a line break after a
+-- backslash
 record IsAdded (u : ContentUnit) (atoms : List Atom) : Type 0 where
   led : IsLed atoms
   last : breaks_last u ≡ false → ends_in_break (formatted_atoms false atoms) ≡ false
@@ -86,7 +88,7 @@ added depth (ContentUnit.formula text) inner has = record { led = led_math text;
 added depth (ContentUnit.command name space argument) inner has = added_characters depth (ContentUnit.command name space argument) inner has
 added depth (ContentUnit.other c) inner has = added_characters depth (ContentUnit.other c) inner has
 
--- white space follows a break after a backslash
+-- the unit after a backslash with a line break is white space
 next_spaces : (c : ℕ) (rest : List ℕ) → is_break c ≡ true → first_unit false (c ∷ rest) ≡ ContentUnit.spaces (c ∷ prefix is_space rest)
 unfolding is_space
 next_spaces c rest breaks = elim (cases_Bool (c == 10)) [
@@ -108,7 +110,7 @@ some_after c depth (d ∷ ds) atoms breaks follows (next {u = u} {rest = rest} {
     let is : u ≡ ContentUnit.spaces (d ∷ prefix is_space ds) = sym (unit_first false u rest one.fits) ∙ ap (first_unit false) (sym one.spells) ∙ next_spaces d ds (rw same breaks) in
     spaces_shown depth u d (prefix is_space ds) inner more is none
 
--- after a unit that ends in a break stands something
+-- the text after a unit that ends with a line break isn't formatted to nothing
 after_break : (u : ContentUnit) (depth : ℕ) (rest : List ℕ) (atoms : List Atom) → breaks_last u ≡ true → fits false u rest ≡ true → Reads false depth rest atoms → formatted_atoms false atoms ≡ [] → ⊥
 after_break (ContentUnit.copied c) depth rest atoms breaks right read none =
     some_after c depth rest atoms breaks (and_parts (not false && is_blank c) (begins (λ d. d == c) rest) right).1 read none
@@ -129,6 +131,7 @@ last_joined u xs [] some alone last = elim (cases_Bool (breaks_last u)) [
 ]
 last_joined u xs (y ∷ ys) some alone last = ends_append xs y ys last
 
+-- the parsed atoms of a text neither begin nor end with a line break
 pub whole_reads : {depth : ℕ} {text : List ℕ} {atoms : List Atom} → Reads false depth text atoms → IsWhole atoms
 whole_reads end = record { led = record { any = λ space. refl; first = refl }; last = refl }
 whole_reads {depth} (next {u = u} {rest = rest} {inner = inner} {atoms = more} one closable argument read) =

@@ -1,5 +1,5 @@
 -- Machinery: words of private contracts.
--- Arguments in braces: where they end, and what is written of them.
+-- Arguments in braces: where they end, and how they are written.
 use Rattle.std.specs.Prelude.{◌≡◌, ◌≤◌, ◌<◌, ℕ, ◌+◌, Bool, true, false, if◌then◌else◌, List, [], ◌∷◌, ◌++◌, length, take, drop, slice_index, encode_utf8_all}
 use Rattle.std.specs.Str.{chars}
 use Rattle.bib_text.specs.Places.{Place}
@@ -17,7 +17,7 @@ use Rattle.bib_contents.specs.declared.units.Unit as units
 use Rattle.bib_contents.specs.declared.units.Unit.TheVariants.{Applied}
 use Rattle.bib_text.specs.Characters as char
 
--- a closing brace stands at `end`, and the braces before it balance from `begin` on
+-- a closing brace is at byte `end` of the text, and the braces from `begin` to it balance
 pub record Closes (text : List ℕ) (begin end : ℕ) : Type 0 where
   pub inside : List ℕ
   pub width : end ≡ begin + length (encode_utf8_all inside)
@@ -25,59 +25,61 @@ pub record Closes (text : List ℕ) (begin end : ℕ) : Type 0 where
   pub balanced : balances 0 inside ≡ true
   pub brace : drop end text ≡ char.close_brace ∷ drop (end + 1) text
 
--- the ends that are known are those of a text, as far as it goes
+-- each known end that lies in the text is the end of the argument that begins at its position
 abbrev pub AreKnown : Ends → List ℕ → Type 0
 AreKnown ends text =
     (index : ℕ) → 0 < slice_index ends.places.items index → slice_index ends.places.items index < length text
     → Closes text (ends.start + index) (slice_index ends.places.items index)
 
--- an argument stands in a text after a place, and ends before another
+-- an argument starts at or after `low` in a text, and ends before `high`
 pub record IsInside (text : List ℕ) (low : ℕ) (inside : Place) (high : ℕ) : Type 0 where
   pub cut : inside.text ≡ take (length inside.text) text
   pub following : low ≤ inside.at
   pub within : inside.at ≤ length inside.text
   pub ends : length inside.text < high
 
--- an argument begins at a place, and the brace that closes it ends at another
+-- an argument begins at or after the place `u`, and the closing brace right after it ends at the place `v`
 pub record Encloses (u inside v : Place) : Type 0 where
   pub stands : IsInside u.text u.at inside v.at
   pub spelt : left u ≡ left inside ++ char.close_brace ∷ left v
   pub balanced : balances 0 (left inside) ≡ true
 
--- the argument of a unit stands between two places
+-- if a unit is a command with an argument in braces, that is between `low` and `high` in the text
 abbrev pub IsArgumentBetween : List ℕ → ℕ → units.Unit → ℕ → Type 0
 IsArgumentBetween text low (Applied name space inside) high = IsInside text low inside high
 IsArgumentBetween text low u high = Unit {0}
 
--- the command of a unit with an argument in braces has a name
+-- if a unit is a command with an argument in braces, the command has a name
 abbrev pub HasCommandName : units.Unit → Type 0
 HasCommandName (Applied name space inside) = is_name (chars name.now) ≡ true
 HasCommandName u = Unit {0}
 
+-- if the argument of a command is in braces, it is between `low` and `high` in the text
 abbrev pub IsFoundIn : List ℕ → ℕ → Found → ℕ → Type 0
 IsFoundIn text low (InBraces inside) high = IsInside text low inside high
 IsFoundIn text low found high = Unit {0}
 
--- characters on one line, or as they are
+-- characters, on one line if the flag says so
 abbrev pub laid : Bool → List ℕ → List ℕ
 laid is_flat cs = if is_flat then flowing false cs else cs
 
--- what an argument's atoms are written as: formatted, and on one line where an argument around it is
+-- the text of an argument's atoms: formatted, and put on one line if the flag says that an argument around it is
 abbrev pub argument_written : Bool → List Atom → List ℕ
 argument_written is_flat atoms = laid is_flat (formatted_atoms false atoms)
 
--- what a unit without an argument in braces is written as, on one line or as it is
+-- the text of a unit without an argument in braces; the flag says whether it is put on one line, where a line break
+-- after a backslash becomes a space
 abbrev pub unit_written : Bool → ContentUnit → List ℕ
 unit_written is_flat (ContentUnit.copied c) = char.backslash ∷ (if is_flat then (if is_break c then char.space else c) else c) ∷ []
 unit_written is_flat u = unit_text u []
 
--- an argument was read up to here, and written after what stood before
+-- an argument `whole` was parsed up to `rest` with `depth` braces open, and the output `now` is `base` and its text
 pub record IsReadTo (is_flat : Bool) (whole base rest : List ℕ) (depth : ℕ) (now : List ℕ) : Type 0 where
   pub atoms : List Atom
   pub goes : Goes false 0 whole atoms depth rest
   pub wrote : now ≡ encode_utf8_all (base ++ argument_written is_flat atoms)
 
--- an argument was read up to here: after a unit, before a command with an argument in braces, or to its end
+-- an argument was parsed up to here: after a unit, before a command with an argument in braces, or to its end
 abbrev pub IsReadOn : List ℕ → List ℕ → Frame → List ℕ → Next → Type 0
 IsReadOn whole base frame now Read = IsReadTo frame.is_flat whole base (left frame.s) frame.depth now
 IsReadOn whole base frame now (Follows name inside) =
@@ -85,18 +87,20 @@ IsReadOn whole base frame now (Follows name inside) =
     × IsNext false (ContentUnit.command (chars name.now) space (Argument.braced (left inside))) before (left frame.s)
 IsReadOn whole base frame now End = IsReadTo frame.is_flat whole base [] frame.depth now × (left frame.s ≡ [])
 
--- less is left than was, and the argument that follows stands in what was left
+-- fewer than `size` characters are left, counting those of an argument that follows, which lies between `low` and the
+-- cursor; at the end at most `size` are left
 abbrev pub IsShorterThan : ℕ → List ℕ → ℕ → Place → Next → Type 0
 IsShorterThan size text low s Read = length (left s) < size
 IsShorterThan size text low s (Follows name inside) = (length (left s) + length (left inside) + 1 < size) × IsInside text low inside s.at
 IsShorterThan size text low s End = length (left s) ≤ size
 
--- a frame stands in its text
+-- a frame's position lies in its text, and at most as many braces are open as bytes come before it
 pub record StandsRight (frame : Frame) : Type 0 where
   pub within : frame.s.at ≤ length frame.s.text
   pub deep : frame.depth ≤ frame.s.at
 
--- the parts of a frame that stay
+-- `new` is a later state of the frame `old`: its position isn't earlier, and its text, effect, start and flag are the
+-- same
 pub record KeepsFrame (old new : Frame) : Type 0 where
   pub text : new.s.text ≡ old.s.text
   pub effect : new.effect ≡ old.effect

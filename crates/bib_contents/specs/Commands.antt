@@ -1,5 +1,5 @@
 -- Meaning: words of public contracts.
--- What a command of LaTeX stands for, as the Rust crate `biblatex` has it. A text is given by its characters.
+-- The text of a LaTeX command, as the Rust crate `biblatex` has it. A text is a list of its characters.
 use Rattle.std.specs.Prelude.{ℕ, List, [], ◌∷◌, ◌++◌, Option, Some, None, codes, bytes_eq, if◌then◌else◌, ◌==◌}
 use Prim.Native.String.{String}
 use Rattle.bib_text.specs.Enums.{named}
@@ -20,11 +20,11 @@ accents =
 abbrev pub stroke : ℕ
 stroke = 0x338
 
--- a symbol: its name, and the text that it stands for
+-- a symbol: its name and its text
 abbrev pub symbol : String → String → List ℕ × List ℕ
 symbol name text = (codes name, codes text)
 
--- the symbols, which drop their argument
+-- the symbols, which replace their argument
 unfoldable pub symbols : List (List ℕ × List ℕ)
 symbols =
     symbol "LaTeX" "LaTeX" ∷ symbol "TeX" "TeX" ∷
@@ -52,27 +52,27 @@ symbols =
     symbol "dots" "…" ∷ symbol "textellipsis" "…" ∷ symbol "pounds" "£" ∷
     symbol "-" "" ∷ []
 
--- the letter that a mark is put on: LaTeX wants the letters i and j without their dots there
+-- the letter that a mark is put on: a dotless i or j, which LaTeX requires there, becomes the letter with a dot
 abbrev pub letter : ℕ → ℕ
 letter c = if c == 0x131 then 0x69 else if c == 0x237 then 0x6A else c
 
--- a mark with nothing below it: the circumflex and the tilde are signs of their own
+-- the characters for a mark without a letter: the circumflex and the tilde are ASCII characters, any other is the mark
 abbrev pub bare : ℕ → List ℕ
 bare mark = if mark == 0x302 then codes "^" else if mark == 0x303 then codes "~" else mark ∷ []
 
--- a text with a mark on its last character, composed with it
+-- a text with a mark on its last character, composed with it; for an empty text the mark without a letter
 abbrev pub with_mark : ℕ → List ℕ → List ℕ
 with_mark mark [] = bare mark
 with_mark mark (c ∷ []) = nfc (letter c ∷ mark ∷ [])
 with_mark mark (c ∷ d ∷ cs) = c ∷ with_mark mark (d ∷ cs)
 
--- what an accent stands for
+-- the text of an accent: without an argument the combining mark, otherwise the argument with the mark
 abbrev pub accented : ℕ → Option (List ℕ) → List ℕ
 accented mark None = mark ∷ []
 accented mark (Some argument) = with_mark mark argument
 
--- what the other commands stand for: two that ask whether there is an argument, and those that are not known, which
--- stay as they are (`bytes_eq` compares two lists of numbers, here code points)
+-- the text of a command that is neither an accent nor a symbol. `o` and `copyright` depend on whether there is an
+-- argument. An unknown command is kept. (`bytes_eq` compares two lists of numbers, here code points.)
 abbrev pub other : List ℕ → Option (List ℕ) → List ℕ
 other name None =
     if bytes_eq name (codes "o") then codes "ø"
@@ -83,12 +83,12 @@ other name (Some argument) =
     else if bytes_eq name (codes "copyright") then codes "©" ++ argument
     else codes "\\" ++ name ++ codes "{" ++ argument ++ codes "}"
 
--- what a command stands for whose name is that of an accent with this mark, that of this symbol, or of neither
+-- the text of a command, given the mark if its name is that of an accent, and the text if it is that of a symbol
 abbrev pub found : Option ℕ → Option (List ℕ) → List ℕ → Option (List ℕ) → List ℕ
 found (Some mark) text name argument = accented mark argument
 found None (Some text) name argument = text
 found None None name argument = other name argument
 
--- what a command with this name stands for, by the text of its argument if it has one
+-- the text of a command with this name, given the text of its argument if it has one
 unfoldable pub command_text : List ℕ → Option (List ℕ) → List ℕ
 command_text name argument = found (named accents name) (named symbols name) name argument

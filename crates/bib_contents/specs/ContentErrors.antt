@@ -1,5 +1,5 @@
 -- Meaning: words of public contracts.
--- Which kind of error contents have that can't be read: how each rule of `Reads` fails.
+-- The kind of error of contents that can't be parsed: how each rule of `Reads` fails.
 use Rattle.std.specs.Prelude.{◌≡◌, ℕ, Bool, true, false, ◌==◌, List, [], ◌∷◌, ◌++◌, Some}
 use Rattle.std.specs.List.{list_any}
 use Rattle.bib_chunks.specs.Styled.{Atom}
@@ -9,8 +9,8 @@ use Rattle.bib_syntax.specs.declared.raw.ParseErrorKind.TheVariants.{UnexpectedE
 use Rattle.bib_contents.specs.Contents.{ContentUnit, IsNext, Reads, balances, depth_after, held, is_closable, is_name, is_whole_name}
 use Rattle.bib_text.specs.Characters as char
 
--- a text begins with a unit that doesn't end. It is math without a second dollar sign, a backslash at the end of the text, or a
--- command whose argument has no closing brace
+-- a text begins with a unit that doesn't end, outside verbatim fields. It is math without a second dollar sign, a
+-- backslash at the end of the text, or a command whose argument has no closing brace
 pub data UnitFails : Bool → List ℕ → Type 0 where
   dollar : {text : List ℕ} → list_any (λ c. c == char.dollar) text ≡ false → UnitFails false (char.dollar ∷ text)
   backslash : UnitFails false (char.backslash ∷ [])
@@ -18,8 +18,9 @@ pub data UnitFails : Bool → List ℕ → Type 0 where
       → ((inside rest : List ℕ) → text ≡ inside ++ char.close_brace ∷ rest → balances 0 inside ≡ true → ⊥)
       → UnitFails false (char.backslash ∷ (name ++ char.open_brace ∷ text))
 
--- a text fails with this kind of error, with `depth` braces open before it. It fails at a closing brace that nothing opened,
--- or at a unit that doesn't end. Else the argument of its first unit fails, or its first unit is read and the rest fails
+-- a text fails with this kind of error, with `depth` braces open before it. It fails at a closing brace that has no
+-- opening one, or at a unit that doesn't end. Otherwise the argument of its first unit fails, or that unit is parsed
+-- and the rest fails
 pub data ContentFails : Bool → ℕ → List ℕ → ParseErrorKind → Type 0 where
   unopened : {is_verbatim : Bool} {depth : ℕ} {u : ContentUnit} {text rest : List ℕ} → IsNext is_verbatim u text rest
       → is_closable depth u ≡ false

@@ -1,5 +1,5 @@
 -- Machinery: words of private contracts.
--- What the program's units of contents are.
+-- The units of the program as the units of `Contents`.
 use Rattle.std.specs.Str.{chars}
 use Rattle.bib_contents.specs.Contents as contents
 use Rattle.bib_contents.specs.Progress.{left}
@@ -12,15 +12,18 @@ use Rattle.bib_contents.specs.declared.units.TextUnit.TheVariants.{Hyphens, Spac
 use Rattle.bib_contents.specs.declared.units.Unit.{Unit}
 use Rattle.bib_contents.specs.declared.units.Unit.TheVariants.{Shown, Applied, Formula, Opening, Closing}
 
+-- the argument of a command that isn't in braces
 abbrev pub argument_of : Argument → contents.Argument
 argument_of Without = contents.Argument.without
 argument_of Empty = contents.Argument.empty
 argument_of (Single c) = contents.Argument.single c
 
+-- the argument of a command
 abbrev pub found_of : Found → contents.Argument
 found_of (Plain argument) = argument_of argument
 found_of (InBraces inside) = contents.Argument.braced (left inside)
 
+-- a unit that is written as characters
 abbrev pub text_unit_of : TextUnit → contents.ContentUnit
 text_unit_of (Hyphens n) = contents.ContentUnit.hyphens n
 text_unit_of (Spaces text) = contents.ContentUnit.spaces (chars text.now)
@@ -30,6 +33,7 @@ text_unit_of (Copied c) = contents.ContentUnit.copied c
 text_unit_of (Command name space argument) = contents.ContentUnit.command (chars name.now) (chars space.now) (argument_of argument)
 text_unit_of (Other c) = contents.ContentUnit.other c
 
+-- a unit
 abbrev pub unit_of : Unit → contents.ContentUnit
 unit_of (Shown unit) = text_unit_of unit
 unit_of (Applied name space inside) = contents.ContentUnit.command (chars name.now) (chars space.now) (contents.Argument.braced (left inside))

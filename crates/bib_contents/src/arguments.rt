@@ -1,4 +1,4 @@
-//! Arguments in braces: those that stand in one another are read by a stack, and one text grows.
+//! Parses arguments in braces. Nested arguments are a stack of frames, and all of them are written to one text.
 
 ghost use Rattle.std.specs.Prelude.{◌≡◌, ◌+◌, ◌-◌, ◌≤◌, ◌<◌, ◌^◌, ◌⊎◌, ◌||◌, ◌==◌, ℕ, List, ◌++◌, length, false, true, IfOk, IfErr, OnOk, Some, string_bytes, encode_utf8_all};
 ghost use Rattle.std.specs.Str.{chars};
@@ -24,8 +24,9 @@ use crate::writing::{write_math, write_unit};
 use bib_syntax::raw::ParseError;
 use std::alloc::{AllocError, Global};
 
-// An argument that is being read: what is left of it, what its command makes of it, where its text begins in what is
-// written, how many braces are open in it, and whether an argument around it is put on one line.
+// An argument that is being parsed. `s` is at the text that is left, and `effect` is that of its command. Its own text
+// begins at byte `start` of the output, and `depth` braces are open in it. `is_flat` says whether an argument around it
+// is put on one line.
 #[derive(Drop)]
 struct Frame<'s> {
     s: Characters<'s>,
@@ -35,18 +36,18 @@ struct Frame<'s> {
     is_flat: bool,
 }
 
-// What stood next in an argument.
+// The result of parsing the next part of an argument.
 enum Next<'s> {
-    // A unit, which was read.
+    // A unit, which was written.
     Read,
-    // A command with an argument in braces, which is still to be read.
+    // A command with an argument in braces, which isn't parsed yet.
     Follows(&'s str, Characters<'s>),
-    // The end.
+    // The end of the argument.
     End,
 }
 
 impl<'s> Frame<'s> {
-    // Begins an argument.
+    // Begins an argument: writes the text that its command puts before it, and returns its frame.
     fn open(
         text: &mut String,
         name: &str,
@@ -73,14 +74,15 @@ impl<'s> Frame<'s> {
         })
     }
 
-    // Whether characters that stand here are put on one line.
+    // Returns whether characters at this point are written on one line.
     fn is_flat_here(&self) -> bool
         ensures { result ≡ (self.now.is_flat || self.now.depth == 0) }
     {
         self.is_flat || self.depth == 0
     }
 
-    // Reads what stands next.
+    // Writes a run of ordinary characters, and parses the unit after it, if there is one. The text begins at byte
+    // `offset` of the file.
     fn next(
         &mut self,
         text: &mut String,
@@ -120,7 +122,8 @@ impl<'s> Frame<'s> {
         Ok(next)
     }
 
-    // Takes a unit that stands from `start` to `end` in the file.
+    // Writes a unit, or returns the command and the argument that has to be parsed. The unit is from `start` to `end`
+    // in the file.
     fn take(
         &mut self,
         text: &mut String,
@@ -163,8 +166,8 @@ impl<'s> Frame<'s> {
     }
 }
 
-// Reads the argument of a command, in a piece that stands at `offset` in the file, and writes what the command stands
-// for.
+// Parses the argument of a command and writes the text of the command. The argument is in a piece that begins at byte
+// `offset` of the file.
 pub(crate) fn write_applied(
     text: &mut String,
     alloc: Global,

@@ -11,7 +11,7 @@ use crate::classes::{is_ordinary, is_space};
 use bib_text::scanner::Scanner;
 use std::marker::Model;
 
-// A text and a place in it. Contracts speak of the characters that are left.
+// A text and a position in it. Contracts speak of the characters that are left.
 #[derive(Drop)]
 pub(crate) struct Characters<'s> {
     text: &'s str,
@@ -31,7 +31,7 @@ impl<'s> Model for Characters<'s> {
         IsUtf8 (drop c.scanner.at c.scanner.text) };
 }
 
-// The character at a place, if the text goes on.
+// Returns the character at byte `at`, or `None` at the end of the text.
 fn char_at(text: &str, at: usize) -> Option<char>
     requires { IsCharBoundary text.now at }
     ensures { MatchOption result
@@ -49,7 +49,8 @@ fn char_at(text: &str, at: usize) -> Option<char>
     text[at..].chars().next()
 }
 
-// Whether this character, before a place, is a space that no white space follows, or a hyphen that no hyphen follows.
+// Returns whether `c`, which comes before byte `at`, is a space that no white space follows, or a hyphen that no hyphen
+// follows.
 fn is_alone(c: char, text: &str, at: usize) -> bool
     requires { IsCharBoundary text.now at }
     ensures { result ≡ is_alone c (left (place text.now at)) }
@@ -64,7 +65,7 @@ fn is_alone(c: char, text: &str, at: usize) -> bool
 }
 
 impl<'s> Characters<'s> {
-    // The characters of a text.
+    // Returns a cursor at the start of a text.
     pub(crate) fn new(text: &'s str) -> Self
         ensures { result ≡ place text.now 0 }
     {
@@ -74,7 +75,7 @@ impl<'s> Characters<'s> {
         }
     }
 
-    // The place, in bytes from the start of the text.
+    // Returns the position, in bytes from the start of the text.
     pub(crate) fn cursor(&self) -> usize
         ensures place { result ≡ self.now.at }
         ensures boundary { IsCharBoundary self.now.text result }
@@ -84,7 +85,7 @@ impl<'s> Characters<'s> {
         self.scanner.cursor()
     }
 
-    // The character that stands here.
+    // Returns the next character.
     pub(crate) fn peek(&self) -> Option<char>
         ensures { MatchOption result
             (left self.now ≡ [])
@@ -93,14 +94,14 @@ impl<'s> Characters<'s> {
         self.scanner.peek()
     }
 
-    // Whether the text ends here.
+    // Returns whether the cursor is at the end of the text.
     pub(crate) fn done(&self) -> bool
         ensures { MatchBool result (left self.now ≡ []) (left self.now ≡ [] → ⊥) }
     {
         self.peek().is_none()
     }
 
-    // Takes the character that stands here.
+    // Consumes the next character and returns it.
     pub(crate) fn eat(&mut self) -> Option<char>
         ensures { MatchOption result
             ((left self.old ≡ []) × (self.new ≡ self.old))
@@ -109,7 +110,7 @@ impl<'s> Characters<'s> {
         self.scanner.eat()
     }
 
-    // Takes this character if it stands here, and says whether it did.
+    // Consumes the next character if it is `c`, and returns whether it is.
     pub(crate) fn eat_if(&mut self, c: char) -> bool
         ensures { MatchBool result
             (Passes self.old (c ∷ []) self.new)
@@ -118,7 +119,7 @@ impl<'s> Characters<'s> {
         self.scanner.eat_if(c)
     }
 
-    // Takes characters while they pass a test, and gives the text that they are.
+    // Consumes characters while they pass a test, and returns their text.
     pub(crate) fn eat_while<F: Fn(char) -> bool>(&mut self, test: F) -> &'s str
         requires callable { F.IsAlwaysCallable test }
         requires is_test { (p : ℕ → Bool) × Answers (F.post test) p }
@@ -129,7 +130,8 @@ impl<'s> Characters<'s> {
         self.scanner.eat_while(test)
     }
 
-    // Takes characters that are read as themselves, and gives the text that they are: ordinary ones, spaces and hyphens.
+    // Consumes characters that are parsed as themselves, and returns their text: ordinary ones, and single spaces and
+    // hyphens.
     pub(crate) fn eat_shown(&mut self, is_verbatim: bool) -> &'s str
         ensures { ReadsAs is_verbatim self.old (chars result.now) self.new }
     {
@@ -159,7 +161,7 @@ impl<'s> Characters<'s> {
         &text[start..at]
     }
 
-    // The text from an earlier place up to here.
+    // Returns the text from byte `start` to the cursor.
     pub(crate) fn from(&self, start: usize) -> &'s str
         requires boundary { IsCharBoundary self.now.text start }
         requires following { start ≤ self.now.at }
@@ -168,14 +170,14 @@ impl<'s> Characters<'s> {
         self.scanner.from(start)
     }
 
-    // The length of the text, in bytes.
+    // Returns the length of the whole text, in bytes.
     pub(crate) fn len(&self) -> usize
         ensures { result ≡ length self.now.text }
     {
         self.text.len()
     }
 
-    // Moves to another place of the text.
+    // Moves the cursor to byte `target`.
     pub(crate) fn jump(&mut self, target: usize)
         requires { IsCharBoundary self.old.text target }
         ensures place { self.new ≡ place self.old.text target }
@@ -184,7 +186,7 @@ impl<'s> Characters<'s> {
         self.scanner.jump(target);
     }
 
-    // A cursor over the text up to here, at an earlier place.
+    // Returns a cursor over the text up to this cursor, at byte `start`.
     pub(crate) fn back_to(&self, start: usize) -> Characters<'s>
         requires boundary { IsCharBoundary self.now.text start }
         requires following { start ≤ self.now.at }
@@ -196,7 +198,7 @@ impl<'s> Characters<'s> {
         inside
     }
 
-    // Another cursor at this place.
+    // Returns another cursor at this position.
     pub(crate) fn copy(&self) -> Characters<'s>
         ensures { result ≡ self.now }
     {

@@ -5,8 +5,8 @@ ghost use Rattle.bib_contents.specs.Contents as contents;
 
 use bib_syntax::raw::is_id_continue;
 
-/// Whether a backslash takes a character its meaning, in a verbatim field or another, where a text is read or where it
-/// is written.
+/// Returns whether a backslash escapes `c`. `verb` says whether the field is a verbatim one. `read_char` is true for
+/// parsed text and false for written text: the colon is escaped only in parsed text.
 #[tactic(auto, unfolding(crate::specs::Contents::is_escapable, bib_chunks::specs::Written::is_grouping, bib_chunks::specs::Written::is_reserved))]
 pub fn is_escapable(c: char, verb: bool, read_char: bool) -> bool
     ensures { result ≡ contents.is_escapable c verb read_char }
@@ -19,7 +19,7 @@ pub fn is_escapable(c: char, verb: bool, read_char: bool) -> bool
     }
 }
 
-// Whether a backslash and this character are the character.
+// Returns whether a backslash and this character are parsed as the character.
 #[tactic(auto, unfolding(crate::specs::Contents::is_escaped, crate::specs::Contents::is_escapable, bib_chunks::specs::Written::is_grouping, bib_chunks::specs::Written::is_reserved))]
 pub(crate) fn is_escaped(is_verbatim: bool, c: char) -> bool
     ensures { result ≡ contents.is_escaped is_verbatim c }
@@ -31,7 +31,7 @@ pub(crate) fn is_escaped(is_verbatim: bool, c: char) -> bool
     }
 }
 
-// White space and control characters.
+// Returns whether the character is white space or a control character.
 #[tactic(auto, unfolding(crate::specs::Contents::is_blank))]
 pub(crate) fn is_blank(c: char) -> bool
     ensures { result ≡ contents.is_blank c }
@@ -39,7 +39,7 @@ pub(crate) fn is_blank(c: char) -> bool
     c.is_whitespace() || c.is_control()
 }
 
-// White space.
+// Returns whether the character is white space.
 #[tactic(auto, unfolding(crate::specs::Contents::is_space))]
 pub(crate) fn is_space(c: char) -> bool
     ensures { result ≡ contents.is_space c }
@@ -47,7 +47,7 @@ pub(crate) fn is_space(c: char) -> bool
     c.is_whitespace()
 }
 
-// The characters that go on in a command's name.
+// Returns whether the character may occur in a command's name after the first one.
 #[tactic(auto, unfolding(crate::specs::Contents::is_name_character))]
 pub(crate) fn is_name_character(c: char) -> bool
     ensures { result ≡ contents.is_name_character c }
@@ -55,7 +55,7 @@ pub(crate) fn is_name_character(c: char) -> bool
     is_id_continue(c)
 }
 
-// The characters that name an accent.
+// Returns whether the character is a sign that names an accent.
 #[tactic(auto, unfolding(crate::specs::Contents::is_mark))]
 pub(crate) fn is_mark(c: char) -> bool
     ensures { result ≡ contents.is_mark c }
@@ -63,7 +63,7 @@ pub(crate) fn is_mark(c: char) -> bool
     matches!(c, '"' | '\'' | '^' | '~' | '=' | '.' | '´' | '`')
 }
 
-// The letters that name an accent.
+// Returns whether the character is a letter that names an accent.
 #[tactic(auto, unfolding(crate::specs::Contents::is_accent_letter))]
 pub(crate) fn is_accent_letter(c: char) -> bool
     ensures { result ≡ contents.is_accent_letter c }
@@ -71,7 +71,7 @@ pub(crate) fn is_accent_letter(c: char) -> bool
     matches!(c, 'b' | 'c' | 'd' | 'H' | 'k' | 'r' | 'u' | 'v')
 }
 
-// The characters that are a command's whole name.
+// Returns whether the character is the whole name of a command.
 #[tactic(auto, unfolding(crate::specs::Contents::is_sign))]
 pub(crate) fn is_sign(c: char) -> bool
     ensures { result ≡ contents.is_sign c }
@@ -79,7 +79,8 @@ pub(crate) fn is_sign(c: char) -> bool
     is_mark(c) || c == '-'
 }
 
-// Whether a character neither begins nor ends anything.
+// Returns whether the character is a unit by itself: it isn't white space, a hyphen, a brace, a backslash or, outside
+// verbatim fields, a dollar sign.
 #[tactic(auto, unfolding(crate::specs::Contents::is_ordinary, crate::specs::Contents::is_space, bib_chunks::specs::Written::is_grouping))]
 pub(crate) fn is_ordinary(is_verbatim: bool, c: char) -> bool
     ensures { result ≡ contents.is_ordinary is_verbatim c }

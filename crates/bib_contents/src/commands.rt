@@ -1,4 +1,4 @@
-//! What a command stands for.
+//! The text of commands: accents, symbols and the others.
 
 ghost use Rattle.std.specs.Prelude.{◌≡◌, ℕ, List, ◌∷◌, [], ◌++◌, length, OnOk, IsTrue, Some, None, map, string_bytes, encode_utf8_all};
 ghost use Rattle.std.specs.Option.{option_map};
@@ -13,7 +13,7 @@ use std::alloc::AllocError;
 use unicode_normalization::char::compose;
 use unicode_normalization::to_nfc;
 
-// The mark of the accent that this character names.
+// Returns the combining mark of the accent that this character names.
 #[tactic(auto, unfolding(crate::specs::Commands::accents))]
 fn mark_of(c: char) -> Option<char>
     ensures { result ≡ named accents (c ∷ []) }
@@ -39,7 +39,7 @@ fn mark_of(c: char) -> Option<char>
     }
 }
 
-// The mark of the accent with this name.
+// Returns the combining mark of the accent with this name.
 fn accent_mark(name: &str) -> Option<char>
     ensures { result ≡ named accents (chars name.now) }
 {
@@ -53,7 +53,7 @@ fn accent_mark(name: &str) -> Option<char>
     mark_of(c)
 }
 
-// The text beside a name in a table.
+// Returns the text of the first row with this name in a table.
 fn find_text(table: &[(&str, &'static str)], name: &str) -> Option<&'static str>
     ensures { option_map (λ text. text.now) result ≡
         named (map (λ row. (row.0.now, row.1.now)) table.entry.now) name.now }
@@ -66,7 +66,7 @@ fn find_text(table: &[(&str, &'static str)], name: &str) -> Option<&'static str>
     None
 }
 
-// The text of the symbol with this name.
+// Returns the text of the symbol with this name.
 fn symbol(name: &str) -> Option<&'static str>
     ensures { option_map (λ text. text.now) result ≡
         option_map encode_utf8_all (named symbols (chars name.now)) }
@@ -74,7 +74,7 @@ fn symbol(name: &str) -> Option<&'static str>
     find_text(&SYMBOLS, name)
 }
 
-// The letter that a mark is put on.
+// Returns the letter that a mark is put on: the dotless i and j get their dots.
 fn letter(c: char) -> char
     ensures { result ≡ letter c }
 {
@@ -85,7 +85,7 @@ fn letter(c: char) -> char
     }
 }
 
-// The sign of a mark with nothing below it.
+// Returns the character for a mark without a letter.
 fn bare(mark: char) -> char
     ensures { result ∷ [] ≡ bare mark }
 {
@@ -109,7 +109,7 @@ fn write_composed(out: &mut String, letter: char, mark: char) -> Result<(), Allo
     Ok(())
 }
 
-// Writes a letter and a mark in their composed form. Letters of ASCII need no memory for it.
+// Writes a letter and a mark in their composed form, without a buffer if the letter is ASCII.
 fn write_marked_letter(out: &mut String, letter: char, mark: char) -> Result<(), AllocError>
     requires { IsTrue (is_in_form Nfd (mark ∷ [])) }
     ensures { OnOk result (Writes out.old out.new (nfc (letter ∷ mark ∷ []))) }
@@ -126,7 +126,7 @@ fn write_marked_letter(out: &mut String, letter: char, mark: char) -> Result<(),
     Ok(())
 }
 
-// Puts a mark on the last character of the text that begins at `start`.
+// Puts a mark on the last character of the text that begins at byte `start`. If that is empty, writes the mark alone.
 fn mark_last(out: &mut String, start: usize, mark: char) -> Result<(), AllocError>
     requires { IsTrue (is_in_form Nfd (mark ∷ [])) }
     ensures { (base inside : List ℕ) → length (encode_utf8_all base) ≡ start →
@@ -144,7 +144,7 @@ fn mark_last(out: &mut String, start: usize, mark: char) -> Result<(), AllocErro
     Ok(())
 }
 
-// Writes what a command without an argument stands for that is neither an accent nor a symbol.
+// Writes the text of a command without an argument that is neither an accent nor a symbol.
 fn write_other_alone(out: &mut String, name: &str) -> Result<(), AllocError>
     ensures { OnOk result (Writes out.old out.new (other (chars name.now) None)) }
 {
@@ -160,7 +160,7 @@ fn write_other_alone(out: &mut String, name: &str) -> Result<(), AllocError>
     Ok(())
 }
 
-// Writes what a command with this name stands for where it has no argument.
+// Writes the text of a command with this name that has no argument.
 pub(crate) fn write_alone(out: &mut String, name: &str) -> Result<(), AllocError>
     ensures { OnOk result (Writes out.old out.new (command_text (chars name.now) None)) }
 {
@@ -175,21 +175,21 @@ pub(crate) fn write_alone(out: &mut String, name: &str) -> Result<(), AllocError
     write_other_alone(out, name)
 }
 
-// What a command makes of its argument.
+// The effect of a command on its argument.
 #[derive(Clone, Copy)]
 pub(crate) enum Effect {
-    // A mark goes on its last character.
+    // A mark is put on its last character.
     Mark(char),
-    // A symbol stands in its place.
+    // A symbol replaces it.
     Symbol(&'static str),
-    // The copyright sign stands before it.
+    // The copyright sign is put before it.
     Copyright,
-    // The command is not known, and stays.
+    // The command is not known and is kept.
     Unknown,
 }
 
 impl Effect {
-    // What the command with this name makes of its argument.
+    // Returns the effect of the command with this name.
     pub(crate) fn of(name: &str) -> Self
         ensures made { (argument : List ℕ) →
             command_text (chars name.now) (Some argument) ≡ made result (chars name.now) argument }
@@ -208,7 +208,7 @@ impl Effect {
         }
     }
 
-    // Writes what stands before the argument.
+    // Writes the text before the argument.
     pub(crate) fn begin(self, out: &mut String, name: &str) -> Result<(), AllocError>
         ensures { OnOk result (Writes out.old out.new (made_before self (chars name.now))) }
     {
@@ -225,7 +225,7 @@ impl Effect {
         Ok(())
     }
 
-    // Ends the argument, whose text begins at `start`.
+    // Applies the effect to the argument, whose text begins at byte `start` and ends the output.
     pub(crate) fn end(self, out: &mut String, start: usize) -> Result<(), AllocError>
         requires fit { IsFit self }
         requires begun { (base inside : List ℕ) × (length (encode_utf8_all base) ≡ start) ×
@@ -249,7 +249,7 @@ impl Effect {
     }
 }
 
-// Writes what a command with this name and this argument stands for.
+// Writes the text of a command with this name and this argument.
 pub(crate) fn write_command(out: &mut String, name: &str, argument: &str) -> Result<(), AllocError>
     ensures { OnOk result (Writes out.old out.new
         (command_text (chars name.now) (Some (chars argument.now)))) }

@@ -1,4 +1,4 @@
-//! The contents of a piece: its units, and what they mean.
+//! Parses the contents of a piece: cuts it into units and appends their text to chunks.
 
 ghost use Rattle.std.specs.Prelude.{◌≡◌, ◌++◌, ◌+◌, ◌<◌, ◌^◌, ◌⊎◌, ℕ, List, length, OnOk, IfErr, encode_utf8_all};
 ghost use Rattle.std.specs.Str.{chars};
@@ -7,7 +7,7 @@ ghost use Rattle.bib_contents.specs.Arguments.{HasCommandName, IsArgumentBetween
 ghost use Rattle.bib_contents.specs.ContentErrors.{ContentFails};
 ghost use Rattle.bib_contents.specs.Contents.{IsContent, IsUnread, unit_spelling, StaysBetween, saturated};
 ghost use Rattle.bib_syntax.specs.Errors.{out_of_memory};
-ghost use Rattle.bib_styled.specs.Joined.{AreJoined, ArePlaced};
+ghost use Rattle.bib_chunks.specs.Joined.{AreJoined, ArePlaced};
 ghost use Rattle.bib_contents.specs.Progress.{StaysPlaced, IsUntaken, Took, so_far};
 ghost use Rattle.bib_contents.specs.UnitViews.{unit_of};
 
@@ -23,7 +23,8 @@ use bib_chunks::chunk::{Chunks, Span};
 use bib_syntax::raw::ParseError;
 use std::alloc::Global;
 
-// Takes a unit that stands at `span` of a piece, which stands at `offset` in the file.
+// Appends the text of a unit to the open chunk, or finishes that chunk at a brace or math. The unit is at `span` of a
+// piece, which begins at byte `offset` of the file.
 fn take(
     out: &mut Chunks,
     growing: &mut OpenChunk,
@@ -74,12 +75,14 @@ fn take(
     Ok(())
 }
 
-/// Reads the contents of a text that stands at `offset` in the file, and appends them. A chunk is joined to the one before
-/// it where both are normal or both verbatim. Places are counted in bytes of the file, up to `usize::MAX`.
+/// Parses the contents of `text` and appends their chunks to `out`. `text` begins at byte `offset` of the file, and
+/// `is_verbatim` says whether its field is a verbatim one. A chunk is merged with the one before it if both are normal
+/// or both verbatim. Spans are in bytes of the file, up to `usize::MAX`.
 ///
-/// Refuses a text that can't be read, with a span in it. The kind is `Unexpected` at a closing brace that nothing opened. It is
-/// `UnexpectedEof` if a dollar sign, an argument's brace or the character after a backslash is missing. Out of memory is the
-/// only other error. The contents before the error stay appended; when out of memory, the last chunk may be lost.
+/// If the text can't be parsed, returns an error with a span in it. The kind is `Unexpected` at a closing brace that
+/// has no opening one. It is `UnexpectedEof` if the second dollar sign of math, the closing brace of an argument or the
+/// character after a backslash is missing. The only other error is out of memory. The chunks that were finished before
+/// the error stay appended; when out of memory, the last of them may be lost.
 pub fn contents(
     out: &mut Chunks,
     alloc: Global,

@@ -1,4 +1,4 @@
-//! Where the arguments in an argument end.
+//! Finds where the arguments in an argument end.
 
 ghost use Rattle.std.specs.Prelude.{◌≡◌, ◌<◌, ℕ, List, length, IfOk, IfSome};
 ghost use Rattle.bib_contents.specs.Arguments.{AreKnown, Closes};
@@ -6,8 +6,9 @@ ghost use Rattle.bib_contents.specs.Arguments.{AreKnown, Closes};
 use crate::characters::Characters;
 use std::alloc::{AllocError, Global};
 
-// The places of the closing braces in a text, each beside the place after the opening brace that it closes, counted
-// from `start`; 0 where no opening brace stands. So the text is gone through once, however deep its braces go.
+// The positions of the closing braces in a text. `places[i]` belongs to the opening brace right before the position
+// `start + i`; it is 0 if there is no such brace or it isn't closed. The text is scanned once, however deep its braces
+// are nested.
 #[derive(Drop)]
 pub(crate) struct Ends {
     start: usize,
@@ -15,7 +16,7 @@ pub(crate) struct Ends {
 }
 
 impl Ends {
-    // No end is known.
+    // Returns `Ends` in which no end is known.
     pub(crate) fn none(alloc: Global) -> Self
         ensures { (text : List ℕ) → AreKnown result text }
     {
@@ -25,7 +26,7 @@ impl Ends {
         }
     }
 
-    // The ends in the text that is left.
+    // Finds the ends in the text that is left.
     pub(crate) fn of(alloc: Global, s: &Characters<'_>) -> Result<Self, AllocError>
         ensures { IfOk result (λ ends. AreKnown ends s.now.text) }
     {
@@ -37,7 +38,7 @@ impl Ends {
         Ends::between_braces(alloc, s.copy())
     }
 
-    // The ends in a text that has braces.
+    // Finds the ends in a text that contains an opening brace.
     fn between_braces(alloc: Global, s: Characters<'_>) -> Result<Self, AllocError>
         ensures { IfOk result (λ ends. AreKnown ends s.entry.text) }
     {
@@ -59,7 +60,7 @@ impl Ends {
         }
     }
 
-    // The place of the brace that closes the argument that begins here, if it is known.
+    // Returns the position of the brace that closes the argument that begins at `begin`, if it is known.
     pub(crate) fn end_of(&self, begin: usize) -> Option<usize>
         ensures { IfSome result (λ end. (text : List ℕ) → AreKnown self.now text →
             end < length text → Closes text begin end) }

@@ -6,7 +6,7 @@ ghost use Rattle.bib_syntax.specs.declared.raw.ParseErrorKind.TheVariants.{Unexp
 
 use bib_syntax::raw::{ParseError, ParseErrorKind, Token};
 
-// The error of a closing brace that nothing opened.
+// Returns the error of a closing brace that has no opening one.
 pub(crate) fn unopened(start: usize, end: usize) -> ParseError
     ensures kind { result.kind ≡ Unexpected ClosingBrace }
     ensures place { result.span ≡ record { start = start; end = end } }
@@ -17,7 +17,7 @@ pub(crate) fn unopened(start: usize, end: usize) -> ParseError
     }
 }
 
-// The error of a text that ends too soon, at its end.
+// Returns the error of a text that ends too early, with an empty span at its end.
 pub(crate) fn ended(end: usize) -> ParseError
     ensures kind { result.kind ≡ UnexpectedEof }
     ensures place { result.span ≡ record { start = end; end = end } }

@@ -1,28 +1,28 @@
-//! The chunk that a reader of contents is in.
+//! The chunk that isn't finished while contents are parsed.
 
 ghost use Rattle.std.specs.Prelude.{◌≡◌, ◌∷◌, [], ◌++◌, ◌+◌, ◌≤◌, ℕ, map, OnOk, string_bytes};
 ghost use Rattle.std.specs.Str.{chars};
 ghost use Rattle.bib_chunks.specs.Styled.{Atom, atoms_of, styled};
 ghost use Rattle.bib_contents.specs.Contents.{character};
-ghost use Rattle.bib_styled.specs.Joined.{AreJoined, ArePlaced};
+ghost use Rattle.bib_chunks.specs.Joined.{AreJoined, ArePlaced};
 ghost use Rattle.bib_contents.specs.Progress.{so_far};
 
 use bib_chunks::chunk::{Chunk, Chunks, Span, Spanned};
-use bib_styled::joining::append;
+use bib_chunks::joining::append;
 use bib_text::text::Text;
 use std::alloc::AllocError;
 
-// A chunk that grows: its text, how many braces are open in it, and where it begins.
+// A chunk that isn't finished: its text, the number of braces open in it, and its start in bytes of the file.
 #[derive(Drop)]
 pub(crate) struct OpenChunk {
     pub(crate) text: String,
     pub(crate) depth: usize,
     pub(crate) start: usize,
-    // Whether nothing was finished before it.
+    // Whether it is the first chunk of the piece.
     pub(crate) is_first: bool,
 }
 
-// The chunk with this text where so many braces are open.
+// Returns the chunk with this text: a normal one if no brace is open, otherwise a verbatim one.
 fn chunk_of(depth: usize, text: String) -> Chunk
     ensures { atoms_of result ≡ map (character depth) (chars (string_bytes text)) }
 {
@@ -32,7 +32,7 @@ fn chunk_of(depth: usize, text: String) -> Chunk
     Chunk::Verbatim(Text::from_string(text))
 }
 
-// A text without much room to spare. A few bytes are left, since an allocator does not take them back.
+// Shrinks the text if more than 15 bytes are unused. Fewer are left, since an allocator does not take them back.
 fn fitted(mut text: String) -> String
     ensures { string_bytes result ≡ string_bytes text }
 {
@@ -42,7 +42,7 @@ fn fitted(mut text: String) -> String
     text
 }
 
-// Finishes the chunk at a brace or math that stands from `end` to `following`, and begins one with so many braces open.
+// Finishes the chunk at a brace or math that is from `end` to `following`, and begins one with `depth` braces open.
 pub(crate) fn finish_chunk(
     out: &mut Chunks,
     growing: &mut OpenChunk,
@@ -69,7 +69,7 @@ pub(crate) fn finish_chunk(
     Ok(())
 }
 
-// Finishes the chunk before math, and adds the math, which stands at `span`.
+// Finishes the chunk before math, appends the math with the span `span`, and begins a chunk at `following`.
 pub(crate) fn finish_before_math(
     out: &mut Chunks,
     growing: &mut OpenChunk,
@@ -95,7 +95,7 @@ pub(crate) fn finish_before_math(
     Ok(())
 }
 
-// Finishes the last chunk at the end of a piece. An empty one is left out, unless it is alone.
+// Finishes the last chunk at the end of a piece. An empty one is dropped, unless it is the only one.
 pub(crate) fn finish(out: &mut Chunks, mut growing: OpenChunk, end: usize) -> Result<(), AllocError>
     ensures atoms { OnOk result (styled out.new ≡ so_far out.old growing) }
     ensures joined { OnOk result (AreJoined out.old → AreJoined out.new) }

@@ -1,4 +1,4 @@
-//! Parts of contents that stand for characters, without commands: they are written as they are read.
+//! Parses and writes runs of plain characters in contents, without a unit for each.
 
 ghost use Rattle.std.specs.Prelude.{◌≡◌, ◌<◌, ◌∷◌, [], true, length, IfOk, OnOk, MatchOption};
 ghost use Rattle.bib_contents.specs.Contents as contents;
@@ -10,7 +10,7 @@ use crate::units::hyphens;
 use crate::writing::write_dashes;
 use std::alloc::AllocError;
 
-// Takes a backslash and the character that it takes the meaning from, if they stand here, and gives that character.
+// If the text goes on with a backslash and a character that it escapes, consumes both and returns the character.
 fn eat_escaped(s: &mut Characters<'_>, is_verbatim: bool) -> Option<char>
     ensures { MatchOption result
         (s.new ≡ s.old)
@@ -30,8 +30,8 @@ fn eat_escaped(s: &mut Characters<'_>, is_verbatim: bool) -> Option<char>
     Some(c)
 }
 
-// Reads a run of white space or of hyphens or an escaped character, if one stands here, writes what it stands for, and
-// says whether it did.
+// If the text goes on with white space, a hyphen or an escaped character, consumes the run or the character, writes its
+// replacement, and returns true.
 fn write_run(
     text: &mut String,
     s: &mut Characters<'_>,
@@ -61,7 +61,7 @@ fn write_run(
     Ok(true)
 }
 
-// Reads what stands for characters up to what is something else, and writes those.
+// Parses plain characters up to the next unit of another kind, and writes them.
 pub(crate) fn write_plain(
     text: &mut String,
     s: &mut Characters<'_>,

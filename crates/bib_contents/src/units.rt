@@ -1,4 +1,4 @@
-//! Units of contents: what a field's text is cut into.
+//! Units of contents, into which a field's text is cut.
 
 ghost use Rattle.std.specs.Prelude.{◌≡◌, ℕ, ◌==◌, Bool, true, false, not, List, [], ◌∷◌, ◌++◌, replicate, IfNone, IfSome, MatchOption, MatchBool};
 ghost use Rattle.std.specs.List.{list_any};
@@ -17,7 +17,7 @@ use crate::classes::{
 };
 use crate::ends::Ends;
 
-// The argument of a command, where it stands in no braces.
+// The argument of a command, if it isn't in braces.
 pub(crate) enum Argument {
     Without,
     Empty,
@@ -30,7 +30,7 @@ enum Found<'s> {
     Braced(Characters<'s>),
 }
 
-// A unit that stands for characters.
+// A unit that is written as characters.
 pub(crate) enum TextUnit<'s> {
     Hyphens(usize),
     Spaces(&'s str),
@@ -51,7 +51,7 @@ pub(crate) enum Unit<'s> {
     Closing,
 }
 
-// Hyphens, counted.
+// Consumes the hyphens at the cursor and returns their number.
 pub(crate) fn hyphens(s: &mut Characters<'_>) -> usize
     ensures passed { (cs : List ℕ) × Passes s.old cs s.new }
     ensures same { s.new.text ≡ s.old.text }
@@ -61,7 +61,7 @@ pub(crate) fn hyphens(s: &mut Characters<'_>) -> usize
     s.eat_while(|c| c == '-').len()
 }
 
-// A math text, after its dollar sign.
+// Parses math after its first dollar sign. Returns `None` if there is no second one.
 fn formula<'s>(s: &mut Characters<'s>) -> Option<Unit<'s>>
     ensures same { s.new.text ≡ s.old.text }
     ensures found { MatchOption result
@@ -76,7 +76,7 @@ fn formula<'s>(s: &mut Characters<'s>) -> Option<Unit<'s>>
     Some(Unit::Formula(text))
 }
 
-// An argument, after its opening brace: its end is looked for.
+// Parses an argument after its opening brace, by a search for the closing one. Returns `None` if there is none.
 fn search<'s>(s: &mut Characters<'s>) -> Option<Characters<'s>>
     ensures same { s.new.text ≡ s.old.text }
     ensures found { MatchOption result
@@ -101,7 +101,7 @@ fn search<'s>(s: &mut Characters<'s>) -> Option<Characters<'s>>
     }
 }
 
-// An argument, after its opening brace. Its end is looked for where it isn't known.
+// Parses an argument after its opening brace. Searches for the closing one if its position isn't known.
 fn braced<'s>(s: &mut Characters<'s>, ends: &Ends) -> Option<Characters<'s>>
     requires known { AreKnown ends.now s.old.text }
     ensures same { s.new.text ≡ s.old.text }
@@ -122,7 +122,8 @@ fn braced<'s>(s: &mut Characters<'s>, ends: &Ends) -> Option<Characters<'s>>
     Some(inside)
 }
 
-// The argument of a command, after its name and the white space there.
+// Parses the argument of a command, after its name and the white space there. Returns `None` if the closing brace of
+// the argument is missing.
 fn eat_argument<'s>(
     s: &mut Characters<'s>,
     takes_next: bool,
@@ -161,7 +162,7 @@ fn eat_argument<'s>(
     Some(Found::Plain(Argument::Single(c)))
 }
 
-// Takes the name of a command, whose first character stands here.
+// Consumes the name of a command. `first` is the next character.
 fn eat_name<'s>(s: &mut Characters<'s>, first: char) -> &'s str
     requires stands { (rest : List ℕ) × (left s.old ≡ first ∷ rest) }
     requires begins { (contents.is_escaped false first ≡ false) ×
@@ -179,7 +180,7 @@ fn eat_name<'s>(s: &mut Characters<'s>, first: char) -> &'s str
     s.from(start)
 }
 
-// Whether a command takes the next character.
+// Returns whether a command takes the next character as its argument.
 fn takes_next(name: &str, is_spaced: bool) -> bool
     ensures { (space : List ℕ) → is_spaced ≡ not (contents.is_empty space) →
         result ≡ contents.takes_next (chars name.now) space }
@@ -194,7 +195,8 @@ fn takes_next(name: &str, is_spaced: bool) -> bool
     is_mark(first) || (is_accent_letter(first) && is_spaced)
 }
 
-// A command, after its backslash, where a character stands that can begin its name.
+// Parses a command after its backslash. `first` is the next character and can begin a name. Returns `None` if the
+// closing brace of its argument is missing.
 fn command<'s>(s: &mut Characters<'s>, first: char, ends: &Ends) -> Option<Unit<'s>>
     requires stands { (rest : List ℕ) × (left s.old ≡ first ∷ rest) }
     requires begins { (contents.is_escaped false first ≡ false) ×
@@ -221,7 +223,7 @@ fn command<'s>(s: &mut Characters<'s>, first: char, ends: &Ends) -> Option<Unit<
     }
 }
 
-// What a backslash begins, after it.
+// Parses the unit that begins with a backslash, after the backslash.
 fn escape<'s>(s: &mut Characters<'s>, is_verbatim: bool, ends: &Ends) -> Option<Unit<'s>>
     requires known { AreKnown ends.now s.old.text }
     ensures same { s.new.text ≡ s.old.text }
@@ -251,7 +253,7 @@ fn escape<'s>(s: &mut Characters<'s>, is_verbatim: bool, ends: &Ends) -> Option<
     command(s, c, ends)
 }
 
-// The unit that stands here; none at the end of the text, and where no unit begins.
+// Parses the next unit. Returns `None` at the end of the text, or if the unit isn't complete.
 pub(crate) fn eat_unit<'s>(
     s: &mut Characters<'s>,
     is_verbatim: bool,

@@ -1,4 +1,4 @@
-//! What a unit of contents is written as.
+//! Writes the text of units of contents.
 
 ghost use Rattle.std.specs.Prelude.{◌≡◌, ◌∷◌, [], ◌++◌, OnOk, Some, true, if◌then◌else◌};
 ghost use Rattle.std.specs.Str.{chars};
@@ -15,7 +15,7 @@ use bib_chunks::chunk::{Chunk, Spanned, format_verbatim};
 use bib_text::text::Text;
 use std::alloc::{AllocError, Global};
 
-// Writes so many hyphens, cut from the left: threes, then two or one.
+// Writes `count` hyphens as dashes: an em dash for each three, then an en dash for two or a hyphen for one.
 pub(crate) fn write_dashes(text: &mut String, count: usize) -> Result<(), AllocError>
     ensures { OnOk result (Writes text.old text.new (dashes count)) }
 {
@@ -30,7 +30,7 @@ pub(crate) fn write_dashes(text: &mut String, count: usize) -> Result<(), AllocE
     Ok(())
 }
 
-// Writes what a command with this character as its argument stands for.
+// Writes the text of a command with this character as its argument.
 fn write_single(text: &mut String, name: &str, c: char) -> Result<(), AllocError>
     ensures { OnOk result (Writes text.old text.new (command_text (chars name.now) (Some (c ∷ [])))) }
 {
@@ -38,14 +38,14 @@ fn write_single(text: &mut String, name: &str, c: char) -> Result<(), AllocError
     write_command(text, name, c.encode_utf8(&mut room))
 }
 
-// Whether a character breaks the line.
+// Returns whether the character is a line feed or a carriage return.
 fn is_break(c: char) -> bool
     ensures { result ≡ formatted.is_break c }
 {
     matches!(c, '\n' | '\r')
 }
 
-// What a character after a backslash is written as: on one line a break is a space.
+// Returns the character that is written after a kept backslash: on one line a line break becomes a space.
 fn copied(c: char, is_flat: bool) -> char
     ensures { result ≡ (if is_flat then (if formatted.is_break c then 32 else c) else c) }
 {
@@ -55,7 +55,7 @@ fn copied(c: char, is_flat: bool) -> char
     c
 }
 
-// Writes the characters that a unit stands for, on one line or as they are.
+// Writes the text of a unit. `is_flat` says whether it is put on one line.
 pub(crate) fn write_unit(
     text: &mut String,
     unit: TextUnit<'_>,
@@ -93,7 +93,7 @@ fn write_flat(text: &mut String, alloc: Global, part: &str) -> Result<(), AllocE
     Ok(())
 }
 
-// Writes a text on one line or as it is.
+// Writes a text, on one line if `is_flat`, otherwise unchanged.
 fn write_laid(text: &mut String, alloc: Global, part: &str, is_flat: bool) -> Result<(), AllocError>
     ensures { OnOk result (Writes text.old text.new (laid is_flat (chars part.now))) }
 {
@@ -104,7 +104,7 @@ fn write_laid(text: &mut String, alloc: Global, part: &str, is_flat: bool) -> Re
     Ok(())
 }
 
-// Writes math in an argument between dollar signs, on one line or as it is.
+// Writes math in an argument between dollar signs, on one line if `is_flat`, otherwise unchanged.
 pub(crate) fn write_math(
     text: &mut String,
     alloc: Global,

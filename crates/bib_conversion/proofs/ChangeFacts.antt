@@ -4,7 +4,7 @@ use Rattle.std.specs.Prelude.{◌&&◌, codes}
 use Rattle.std.specs.List.{AllByRecursion}
 use Rattle.bib_syntax.specs.Reading.{EntryReading, FieldReading}
 use Rattle.bib_documents.specs.Documents.{CanBeName, has_name}
-use Rattle.bib_entry.specs.declared.write.Format.{Format}
+use Rattle.bib_entry.specs.declared.write.Dialect.{Dialect}
 use Rattle.bib_strings.specs.Collected.{single_text}
 use Rattle.bib_conversion.specs.Conversions.{FieldChange, change_of, date_field, divides_date, exchanged_date, field_change, is_date_part, joined_among, joined_date, new_field_name, value_sides}
 use Rattle.bib_conversion.specs.Dates.{Sides, from_names, more_fields, to_fields, side_year}
@@ -28,8 +28,8 @@ date_case : (b : Bool) (text : Option (List ℕ)) (sides : Sides) → cond b (va
 date_case false text sides is = absurd (cc)
 date_case true text sides is = value_known text sides is
 
-exchanged_known : (format : Format) (e : EntryReading) (f : FieldReading) (sides : Sides) → exchanged_date format e f ≡ Some sides → AreKnown sides
-exchanged_known format e f sides is = date_case (has_name (codes "date") f && divides_date format e.fields) (single_text f.value.pieces) sides is
+exchanged_known : (dialect : Dialect) (e : EntryReading) (f : FieldReading) (sides : Sides) → exchanged_date dialect e f ≡ Some sides → AreKnown sides
+exchanged_known dialect e f sides is = date_case (has_name (codes "date") f && divides_date dialect e.fields) (single_text f.value.pieces) sides is
 
 among_known : (b : Bool) (joined : Option (List ℕ)) (date : List ℕ) → cond b joined None ≡ Some date → joined ≡ Some date
 among_known false joined date is = absurd (cc)
@@ -41,7 +41,7 @@ made_case None (Some name) sides joined names dates = names name refl
 made_case None None (Some sides) joined names dates = sides_put sides (dates sides refl)
 made_case None None None joined names dates = tt
 
-pub change_known : (format : Format) (defines : Bool) (text : List ℕ) (e : EntryReading) (f : FieldReading) → CanBeMade (field_change format defines text e f)
-change_known format defines text e f =
-    let joined : Option (List ℕ) = joined_date format defines text e.fields in
-    made_case (joined_among joined f) (new_field_name format e f) (exchanged_date format e f) (λ date is. joined_put format defines text e.fields date (among_known (is_date_part f) joined date is)) (name_known format e f) (exchanged_known format e f)
+pub change_known : (dialect : Dialect) (defines : Bool) (text : List ℕ) (e : EntryReading) (f : FieldReading) → CanBeMade (field_change dialect defines text e f)
+change_known dialect defines text e f =
+    let joined : Option (List ℕ) = joined_date dialect defines text e.fields in
+    made_case (joined_among joined f) (new_field_name dialect e f) (exchanged_date dialect e f) (λ date is. joined_put dialect defines text e.fields date (among_known (is_date_part f) joined date is)) (name_known dialect e f) (exchanged_known dialect e f)

@@ -1,4 +1,4 @@
--- A document with the types and the fields of a format: what it is read as.
+-- A document with the types and the fields of a dialect: what it is read as.
 use Rattle.std.proofs.Common.{◌≡◌, ℕ, suc, ◌≤◌, Bool, true, false, cond, List, [], ◌∷◌, ◌++◌, length, map, refl, sym, ap, ◌∙◌, subst, arith, append_assoc, append-nil, length-append, Option, Some, None, Result, Ok, Err}
 use Rattle.std.specs.Prelude.{IfOk, slice_get}
 use Rattle.std.specs.List.{AllByRecursion, list_any}
@@ -10,7 +10,7 @@ use Rattle.bib_documents.specs.Documents.{CanBeName, Document, IsDocument}
 use Rattle.bib_documents.specs.Stretches.{AreEditsInOrder}
 use Rattle.bib_documents.proofs.EditFacts.{moved_before}
 use Rattle.bib_documents.proofs.AgreementFacts.{agrees_self}
-use Rattle.bib_entry.specs.declared.write.Format.{Format}
+use Rattle.bib_entry.specs.declared.write.Dialect.{Dialect}
 use Rattle.bib_strings.specs.Exchanged.{IsReadPlaceless, placeless}
 use Rattle.bib_strings.specs.Tables.{IsTrimmed}
 use Rattle.bib_strings.proofs.ExchangedFacts.{file_placeless}
@@ -22,9 +22,10 @@ use Rattle.bib_conversion.specs.Dates.{field_reading, from_names, more_fields, n
 use Rattle.bib_conversion.proofs.ChangeFacts.{CanBeMade, change_known}
 use Rattle.bib_conversion.proofs.DividedFacts.{CanBePut, divided_put}
 use Rattle.bib_conversion.proofs.FieldNameFacts.{name_exchanged_read, name_stretch, with_name}
-use Rattle.bib_conversion.proofs.MadeFacts.{IsPut, Made, MadeFrom, field_gone, field_made, get_here, kind_made, less_made, less_made_from, of_entries, stays_made}
+use Rattle.bib_conversion.proofs.MadeFacts.{IsPut, Made, MadeFrom, field_gone, field_made, kind_made, less_made, less_made_from, of_entries, stays_made}
 use Rattle.bib_conversion.proofs.NewNameFacts.{type_known}
 use Rattle.bib_conversion.proofs.PlaceFacts.{AreEntriesIn, AreFieldsIn, IsIn, edits_in_order, file_in}
+use Rattle.bib_text.proofs.ListFacts.{get_here}
 
 -- ---- a field's name
 
@@ -47,7 +48,7 @@ name_put d f name can = record {
 
 -- ---- all of them
 
-module _ (d : Document) (format : Format) (read : IsDocument d) where
+module _ (d : Document) (dialect : Dialect) (read : IsDocument d) where
   -- an entry with these fields
   abbrev with_fields : EntryReading → List FieldReading → EntryReading
   with_fields e fs = record e { fields = fs }
@@ -93,7 +94,7 @@ module _ (d : Document) (format : Format) (read : IsDocument d) where
 
   -- what a field of an entry gives way to
   abbrev change : EntryReading → FieldReading → Option FieldChange
-  change e f = field_change format (defines_month d.says.abbreviations) d.text e f
+  change e f = field_change dialect (defines_month d.says.abbreviations) d.text e f
 
   fields_made : (before rest others : List EntryReading) (later : List Edit) (e : EntryReading) (fb fs : List FieldReading) (at end : ℕ) → d.says.entries ≡ before ++ e ∷ rest → e.fields ≡ fb ++ fs
       → AreFieldsIn d.text at fs end → AllByRecursion (IsFieldPlaced d.text) fs → Made d later (before ++ e ∷ others) end
@@ -109,7 +110,7 @@ module _ (d : Document) (format : Format) (read : IsDocument d) where
       let from = subst (λ n. MadeFrom d (edits ++ later) (before ++ with_fields e (fb ++ f ∷ now) ∷ others) f.value.end (length before) n fs) count made' in
       let o = change e f in
       subst (λ es. MadeFrom d es (before ++ with_fields e (fb ++ (field_converted f fs o ++ now)) ∷ others) at (length before) (length fb) (f ∷ fs)) (sym (append_assoc (edits_of_field d.text f fs o) edits later))
-      (field_case before rest others (edits ++ later) e fb f fs now at o (change_known format (defines_month d.says.abbreviations) d.text e f) whole cut order.0 order.1 all.0.trimmed from)
+      (field_case before rest others (edits ++ later) e fb f fs now at o (change_known dialect (defines_month d.says.abbreviations) d.text e f) whole cut order.0 order.1 all.0.trimmed from)
 
   kind_case : (before rest others : List EntryReading) (later : List Edit) (e : EntryReading) (fs : List FieldReading) (at : ℕ) (o : Option (List ℕ)) → ((name : List ℕ) → o ≡ Some name → CanBeName name × (block_kind name ≡ BlockKind.entry))
       → d.says.entries ≡ before ++ e ∷ rest → at ≤ e.kind.start → e.kind.start ≤ e.kind.end
@@ -121,7 +122,7 @@ module _ (d : Document) (format : Format) (read : IsDocument d) where
       less_made d _ _ e.kind.start at less (kind_made d later before others e (with_fields e fs) name read here known.0 known.1 made)
 
   entries_made : (before es : List EntryReading) (at : ℕ) → d.says.entries ≡ before ++ es → AreEntriesIn d.text at es → AllByRecursion (λ e. AllByRecursion (IsFieldPlaced d.text) e.fields) es
-      → Made d (edits_of_file format (defines_month d.says.abbreviations) d.text es) (before ++ map (entry_converted format (defines_month d.says.abbreviations) d.text) es) at
+      → Made d (edits_of_file dialect (defines_month d.says.abbreviations) d.text es) (before ++ map (entry_converted dialect (defines_month d.says.abbreviations) d.text) es) at
   entries_made before [] at whole order all = record {
     after = d;
     read = read;
@@ -131,16 +132,16 @@ module _ (d : Document) (format : Format) (read : IsDocument d) where
     alike = ap (λ es. placeless (of_entries d.says es)) whole;
   }
   entries_made before (e ∷ es) at whole order all =
-      let converted : EntryReading → EntryReading = entry_converted format (defines_month d.says.abbreviations) d.text in
+      let converted : EntryReading → EntryReading = entry_converted dialect (defines_month d.says.abbreviations) d.text in
       let edits : List Edit = edits_of_fields (change e) d.text e.fields in
       let now : List FieldReading = fields_converted (change e) e.fields in
       let others : List EntryReading = map converted es in
-      let later : List Edit = edits_of_file format (defines_month d.says.abbreviations) d.text es in
+      let later : List Edit = edits_of_file dialect (defines_month d.says.abbreviations) d.text es in
       let more = entries_made (before ++ e ∷ []) es order.0 (whole ∙ sym (append_assoc before (e ∷ []) es)) order.4 all.1 in
       let made = subst (λ xs. Made d later xs order.0) (append_assoc before (e ∷ []) others) more in
       let fields = fields_made before es others later e [] e.fields e.kind.end order.0 whole refl order.3 all.0 made in
-      subst (λ es'. Made d es' (before ++ converted e ∷ others) at) (sym (append_assoc (part_edits e.kind (new_type format e)) edits later))
-      (kind_case before es others (edits ++ later) e now at (new_type format e) (type_known format e) whole order.1 (omega (arith, order.2.some)) fields.made)
+      subst (λ es'. Made d es' (before ++ converted e ∷ others) at) (sym (append_assoc (part_edits e.kind (new_type dialect e)) edits later))
+      (kind_case before es others (edits ++ later) e now at (new_type dialect e) (type_known dialect e) whole order.1 (omega (arith, order.2.some)) fields.made)
 
 -- where the values of a document's fields stand, and where their stretches end
 fields_placed : (d : Document) → IsDocument d → IsUtf8 d.text → AllByRecursion (λ e. AllByRecursion (IsFieldPlaced d.text) e.fields) d.says.entries
@@ -148,17 +149,17 @@ fields_placed d read utf8 =
     let all = all_placed d read in
     fields_weaker (IsPlaced d.text) (IsPlaced d.text) (IsFieldPlaced d.text) (λ f placed again. record { placed = placed; trimmed = trimmed_known d.text f utf8 placed }) d.says.entries all all
 
--- a document that is converted is read as what it said with the types and the fields that the format has
-converted_read : (d : Document) (format : Format) → IsDocument d → IsUtf8 d.text → IsReadPlaceless (file_converted format d) (text_converted format d)
-converted_read d format read utf8 =
-    let made = entries_made d format read [] d.says.entries 0 refl (file_in d.text refl read) (fields_placed d read utf8) in
+-- a document that is converted is read as what it said with the types and the fields that the dialect has
+converted_read : (d : Document) (dialect : Dialect) → IsDocument d → IsUtf8 d.text → IsReadPlaceless (file_converted dialect d) (text_converted dialect d)
+converted_read d dialect read utf8 =
+    let made = entries_made d dialect read [] d.says.entries 0 refl (file_in d.text refl read) (fields_placed d read utf8) in
     record { tells = made.after.says; read = subst (λ t. IsRawReading t made.after.says) made.text made.read; alike = made.alike }
 
 -- its edits stand one after another
-pub file_edits_in_order : (d : Document) (format : Format) → IsDocument d → IsUtf8 d.text → AreEditsInOrder d.text 0 (edits_of_file format (defines_month d.says.abbreviations) d.text d.says.entries)
-file_edits_in_order d format read utf8 = edits_in_order format (defines_month d.says.abbreviations) d.text 0 d.says.entries (file_in d.text refl read) (fields_placed d read utf8)
+pub file_edits_in_order : (d : Document) (dialect : Dialect) → IsDocument d → IsUtf8 d.text → AreEditsInOrder d.text 0 (edits_of_file dialect (defines_month d.says.abbreviations) d.text d.says.entries)
+file_edits_in_order d dialect read utf8 = edits_in_order dialect (defines_month d.says.abbreviations) d.text 0 d.says.entries (file_in d.text refl read) (fields_placed d read utf8)
 
 -- what the call that converts a document answers
-pub converted_answer : {S E : Type 0} (bytes : S → List ℕ) (r : Result S E) (d : Document) (format : Format) → IsDocument d → IsUtf8 d.text → IfOk r (λ new. bytes new ≡ text_converted format d) → IfOk r (λ new. IsConverted format d (bytes new))
-converted_answer bytes (Err e) d format read utf8 text = _
-converted_answer bytes (Ok new) d format read utf8 text = record { is = text; read = subst (IsReadPlaceless (file_converted format d)) (sym text) (converted_read d format read utf8) }
+pub converted_answer : {S E : Type 0} (bytes : S → List ℕ) (r : Result S E) (d : Document) (dialect : Dialect) → IsDocument d → IsUtf8 d.text → IfOk r (λ new. bytes new ≡ text_converted dialect d) → IfOk r (λ new. IsConverted dialect d (bytes new))
+converted_answer bytes (Err e) d dialect read utf8 text = _
+converted_answer bytes (Ok new) d dialect read utf8 text = record { is = text; read = subst (IsReadPlaceless (file_converted dialect d)) (sym text) (converted_read d dialect read utf8) }

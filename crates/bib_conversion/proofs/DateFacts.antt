@@ -25,6 +25,7 @@ use Rattle.bib_dates.specs.Readings.{readable_value}
 use Rattle.bib_dates.proofs.DatesReread.{is_date_byte}
 use Rattle.bib_conversion.specs.Dates.{Side, SideNames, Sides, are_digits, braced_field, date_sides, day_fields, from_names, month_fields, month_side, month_abbreviations, more_fields, side_in, side_of, sides_of, one_side, two_sides, to_fields, to_names, side_year}
 use Rattle.bib_conversion.proofs.DividedFacts.{CanBePut, element_read}
+use Rattle.bib_text.proofs.ListFacts.{all_append}
 
 -- ---- digits and hyphens in braces
 
@@ -197,10 +198,6 @@ months_put name (Some month) plain known = (record { name = (plain_can name plai
 days_put : (name : List ℕ) (day : Option (List ℕ)) → is_plain_name name ≡ true → ((t : List ℕ) → day ≡ Some t → list_all is_ascii_digit t ≡ true) → AllByRecursion CanBePut (day_fields name day)
 days_put name None plain known = tt
 days_put name (Some day) plain known = (digits_put name day plain (known day refl), tt)
-
-all_append : {A : Type 0} (P : A → Type 0) (xs ys : List A) → AllByRecursion P xs → AllByRecursion P ys → AllByRecursion P (xs ++ ys)
-all_append P [] ys first rest = rest
-all_append P (x ∷ xs) ys first rest = (first.0, all_append P xs ys first.1 rest)
 
 more_put : (names : SideNames) (side : Side) → ArePlain names → IsKnown side → AllByRecursion CanBePut (more_fields names side)
 more_put names side plain known =

@@ -10,10 +10,10 @@ use Rattle.bib_dates.specs.Dates.{date_of}
 use Rattle.bib_dates.specs.Readings.{readable_value}
 use Rattle.bib_dates.specs.ThreeFields.{three_fields_of}
 use Rattle.bib_dates.specs.declared.date.Date.{Date}
-use Rattle.bib_enums.specs.ReadAs.{IsRefusal}
-use Rattle.bib_enums.specs.declared.type_error.TypeError.{TypeError}
-use Rattle.bib_enums.specs.declared.type_error.TypeErrorKind.{TypeErrorKind}
-use Rattle.bib_enums.specs.declared.type_error.TypeErrorKind.TheVariants.{OutOfMemory}
+use Rattle.bib_tables.specs.ReadAs.{IsRefusal}
+use Rattle.bib_tables.specs.declared.type_error.TypeError.{TypeError}
+use Rattle.bib_tables.specs.declared.type_error.TypeErrorKind.{TypeErrorKind}
+use Rattle.bib_tables.specs.declared.type_error.TypeErrorKind.TheVariants.{OutOfMemory}
 
 -- the reading of one verbatim chunk is that of its text
 verbatim_reading : (chunks : Value) (t : List ℕ) → IsUtf8 t → chunks ≡ alone (Verbatim t) → date_reading chunks ≡ date_of t

@@ -14,9 +14,9 @@ use Rattle.bib_syntax.specs.Reading.Piece.{abbreviation, literal}
 use Rattle.bib_syntax.specs.Grammar.{Element, Elements, Field, longest}
 use Rattle.bib_syntax.specs.Grammar.{Elements as elements}
 use Rattle.bib_syntax.specs.Grammar.{Gap as gap}
-use Rattle.bib_syntax.proofs.FieldFacts.{ahead_field, ahead_gap}
+use Rattle.bib_syntax.proofs.FieldFacts.{ahead_field, ahead_gap, elements_stop}
 use Rattle.bib_syntax.proofs.FileFacts.{ahead_head}
-use Rattle.bib_syntax.proofs.LawFacts.{start_not_white}
+use Rattle.bib_syntax.proofs.LawFacts.{start_not_white, start_plain}
 use Rattle.bib_documents.specs.Edits.{Edit, edited, moved_field, moved_piece, moved_place}
 use Rattle.bib_documents.specs.Documents.{CanBeName, Document, IsDocument, text_at}
 use Rattle.bib_documents.proofs.AgreementFacts.{Agrees, agrees_before, same_run}
@@ -35,7 +35,7 @@ use Rattle.bib_conversion.specs.Conversions.{field_stretch}
 use Rattle.bib_conversion.specs.Dates.{NewField, field_reading, new_field_text, more_field_texts}
 use Rattle.bib_conversion.proofs.KindFacts.{IsWithin}
 use Rattle.bib_conversion.proofs.MadeFacts.{IsPut}
-use Rattle.bib_conversion.proofs.PutFacts.{Begins, NewFields, fields_put, fields_put_read, new_opens, start_plain}
+use Rattle.bib_conversion.proofs.PutFacts.{Begins, NewFields, fields_put, fields_put_read, new_opens}
 use Rattle.bib_conversion.proofs.StandFacts.{name_stands}
 
 -- ---- one of them
@@ -159,10 +159,6 @@ run_ending (step {c = c} char white rest) ending = record {
   no_digit = grind (arith, nat_tests);
   no_point = grind (arith, nat_tests);
 }
-
-elements_stop : {u v : Place} {es : List Piece} → Elements longest u es v → Stops is_whitespace v × Stops (λ c. c == 35) v
-elements_stop (elements.last e white ends) = (white.stops, ends)
-elements_stop (elements.more e white sign white' rest) = elements_stop rest
 
 module _ (d : Document) (f : FieldReading) (n : NewField) (ns : List NewField) (trimmed : IsTrimmed d.text f) (ordered : f.name.start < f.value.start) (can : CanBePut n) (all : AllByRecursion CanBePut ns) where
   abbrev edit : Edit

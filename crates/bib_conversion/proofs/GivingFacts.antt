@@ -2,16 +2,16 @@
 use Rattle.std.proofs.Common.{◌≡◌, ℕ, true, false, List, refl, Option, Some, None}
 use Rattle.std.specs.Prelude.{is_some}
 use Rattle.bib_syntax.specs.Reading.{FieldReading}
-use Rattle.bib_entry.specs.declared.write.Format.{Format}
+use Rattle.bib_entry.specs.declared.write.Dialect.{Dialect}
 use Rattle.bib_conversion.specs.Conversions.{FieldChange}
 use Rattle.bib_conversion.specs.Notes.{change_note, stays_note}
 
 -- nothing is to know of one that does
-pub given_way : (format : Format) (change : Option FieldChange) (other : Option (List ℕ)) (f : FieldReading) → is_some change ≡ true → None ≡ change_note format change other f
-given_way format (Some change) other f is = refl
-given_way format None other f is = absurd (cc)
+pub given_way : (dialect : Dialect) (change : Option FieldChange) (other : Option (List ℕ)) (f : FieldReading) → is_some change ≡ true → None ≡ change_note dialect change other f
+given_way dialect (Some change) other f is = refl
+given_way dialect None other f is = absurd (cc)
 
 -- and of one that doesn't what is to know of one that stays
-pub stayed : (format : Format) (change : Option FieldChange) (other : Option (List ℕ)) (f : FieldReading) → is_some change ≡ false → stays_note format other f ≡ change_note format change other f
-stayed format (Some change) other f is = absurd (cc)
-stayed format None other f is = refl
+pub stayed : (dialect : Dialect) (change : Option FieldChange) (other : Option (List ℕ)) (f : FieldReading) → is_some change ≡ false → stays_note dialect other f ≡ change_note dialect change other f
+stayed dialect (Some change) other f is = absurd (cc)
+stayed dialect None other f is = refl

@@ -5,8 +5,8 @@ use Rattle.std.specs.List.{find}
 use Rattle.std.proofs.lemmas.Bool.{and_parts}
 use Rattle.bib_syntax.specs.Reading.{FieldReading}
 use Rattle.bib_documents.specs.Documents.{has_name}
-use Rattle.bib_entry.specs.declared.write.Format.{Format}
-use Rattle.bib_entry.specs.declared.write.Format.TheVariants.{Biblatex, Bibtex}
+use Rattle.bib_entry.specs.declared.write.Dialect.{Dialect}
+use Rattle.bib_entry.specs.declared.write.Dialect.TheVariants.{Biblatex, Bibtex}
 use Rattle.bib_strings.specs.Collected.{single_text}
 use Rattle.bib_strings.proofs.NameFacts.{plain_can}
 use Rattle.bib_conversion.specs.Conversions.{can_all_go_out, date_field, date_of_fields, date_of_parts, date_on_day, has_parts_once, joined_date, literal_of, month_of}
@@ -42,14 +42,14 @@ read_case defines fields date false once is = absurd (cc)
 read_case defines fields date true once is =
     record { once = once refl; parts = parts_known (literal_of (find (has_name (codes "year")) fields)) (month_of defines (find (has_name (codes "month")) fields)) (find (has_name (codes "day")) fields) date is }
 
-pub joined_read : (format : Format) (defines : Bool) (text : List ℕ) (fields : List FieldReading) (date : List ℕ) → joined_date format defines text fields ≡ Some date → IsJoinedDate defines fields date
+pub joined_read : (dialect : Dialect) (defines : Bool) (text : List ℕ) (fields : List FieldReading) (date : List ℕ) → joined_date dialect defines text fields ≡ Some date → IsJoinedDate defines fields date
 joined_read Bibtex defines text fields date is = absurd (cc)
 joined_read Biblatex defines text fields date is =
     let clear : Bool = can_all_go_out text fields in
     read_case defines fields date (has_parts_once fields && clear) (λ both. (and_parts (has_parts_once fields) clear both).0) is
 
 -- the field of their date can be put in
-pub joined_put : (format : Format) (defines : Bool) (text : List ℕ) (fields : List FieldReading) (date : List ℕ) → joined_date format defines text fields ≡ Some date → CanBePut (date_field date)
-joined_put format defines text fields date is =
-    let parts = (joined_read format defines text fields date is).parts in
+pub joined_put : (dialect : Dialect) (defines : Bool) (text : List ℕ) (fields : List FieldReading) (date : List ℕ) → joined_date dialect defines text fields ≡ Some date → CanBePut (date_field date)
+joined_put dialect defines text fields date is =
+    let parts = (joined_read dialect defines text fields date is).parts in
     record { name = (plain_can (codes "date") refl).0; value = date_bytes_read date (joined_bytes parts.year parts.month (literal_of (find (has_name (codes "day")) fields)) date parts.joined) }

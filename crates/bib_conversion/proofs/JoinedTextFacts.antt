@@ -10,8 +10,8 @@ use Rattle.std.proofs.lemmas.Bool.Decides.{nat_tests}
 use Rattle.std.proofs.lemmas.Int.{ints}
 use Rattle.std.proofs.lemmas.List.Folds.{list_all-append}
 use Rattle.jiff_core.specs.Calendar.{IsYear, days_in_month}
-use Rattle.bib_enums.specs.declared.type_error.TypeErrorKind.{TypeErrorKind}
-use Rattle.bib_enums.specs.declared.type_error.TypeErrorKind.TheVariants.{DayOutOfRange, MonthOutOfRange}
+use Rattle.bib_tables.specs.declared.type_error.TypeErrorKind.{TypeErrorKind}
+use Rattle.bib_tables.specs.declared.type_error.TypeErrorKind.TheVariants.{DayOutOfRange, MonthOutOfRange}
 use Rattle.bib_dates.specs.declared.date.Date.{Date}
 use Rattle.bib_dates.specs.declared.date.DateValue.TheVariants.{At}
 use Rattle.bib_dates.specs.declared.date.Datetime.{Datetime}
@@ -23,8 +23,8 @@ use Rattle.bib_dates.specs.Readings.Reading.{says, error, unread}
 use Rattle.bib_dates.specs.ThreeFields.{after_gap, day_after, day_field, day_number, day_of, month_and_day, month_field, month_named, month_with_day, names, on_day, only_day, reported_day, three_fields_of, with_era, year_field}
 use Rattle.bib_dates.specs.Written.{datetime_text, padded}
 use Rattle.bib_dates.proofs.Digits.{four, run_digits}
-use Rattle.bib_dates.proofs.DatesReread.{is_date_byte, is_side, text_survives}
-use Rattle.bib_dates.proofs.PartsReread.{Ends, IsNumber, after_hyphen, digits_plain, four_digits, hyphens_read, not_negative, nothing, number_reads, small_number_reads, two_digits, year_reads}
+use Rattle.bib_dates.proofs.DatesReread.{is_date_byte, is_side, text_survives, all_more, any_byte, any_none, both, date_plain, digit_bytes, no_slash, no_x}
+use Rattle.bib_dates.proofs.PartsReread.{Ends, IsNumber, after_hyphen, digits_plain, four_digits, hyphens_read, not_negative, nothing, number_reads, small_number_reads, two_digits, year_reads, within}
 use Rattle.bib_dates.proofs.PlainTexts.{capitals-plain, is_plain, plain, trim_end-plain, trim_start-plain}
 use Rattle.bib_conversion.specs.Dates.{are_digits}
 use Rattle.bib_conversion.specs.Joined.{is_day_alone, is_month_alone, joined_text, month_date_text}
@@ -183,28 +183,6 @@ three_read year month day d digits is =
 
 -- ---- a day that its month doesn't have
 
-all_more : (p q : ℕ → Bool) → ((b : ℕ) → p b ≡ true → q b ≡ true) → (xs : List ℕ) → list_all p xs ≡ true → list_all q xs ≡ true
-all_more p q f [] h = refl
-all_more p q f (x ∷ xs) h = let k = and_parts (p x) (list_all p xs) h in and_from _ _ (f x k.0) (all_more p q f xs k.1)
-
-any_none : (p q : ℕ → Bool) → ((b : ℕ) → p b ≡ true → q b ≡ false) → (xs : List ℕ) → list_all p xs ≡ true → list_any q xs ≡ false
-any_none p q f [] h = refl
-any_none p q f (x ∷ xs) h = let k = and_parts (p x) (list_all p xs) h in rw (f x k.0) (any_none p q f xs k.1)
-
-date_plain : (b : ℕ) → is_date_byte b ≡ true → is_plain b ≡ true
-date_plain b h = grind (arith, nat_tests)
-
-no_slash : (b : ℕ) → is_date_byte b ≡ true → (b == 47) ≡ false
-no_slash b h = grind (arith, nat_tests)
-
-no_x : (b : ℕ) → is_date_byte b ≡ true → (b == 88) ≡ false
-no_x b h = grind (arith, nat_tests)
-
-any_byte : (p : ℕ → Bool) → p 0 ≡ true → (text : List ℕ) → list_all p text ≡ true → (i : ℕ) → p (get_or text i 0) ≡ true
-any_byte p zeroth [] h i = zeroth
-any_byte p zeroth (b ∷ text) h zero = (and_parts (p b) (list_all p text) h).0
-any_byte p zeroth (b ∷ text) h (suc i) = any_byte p zeroth text (and_parts (p b) (list_all p text) h).1 i
-
 not_uncertain : (b : ℕ) → (is_date_byte b || b == 0) ≡ true → is_uncertain b ≡ false
 not_uncertain b h = grind (arith, nat_tests)
 
@@ -216,18 +194,9 @@ unmarked text h =
     let k = any_byte (λ b. is_date_byte b || b == 0) refl text (all_more is_date_byte (λ b. is_date_byte b || b == 0) (λ b q. rw q refl) text h) (length text - 1) in
     (not_uncertain (last text) k, not_approximate (last text) k)
 
-digit_bytes : (xs : List ℕ) → list_all is_ascii_digit xs ≡ true → list_all is_date_byte xs ≡ true
-digit_bytes xs h = all_more is_ascii_digit is_date_byte (λ b k. rw k refl) xs h
-
-both : (p : ℕ → Bool) (xs ys : List ℕ) → list_all p xs ≡ true → list_all p ys ≡ true → list_all p (xs ++ ys) ≡ true
-both p xs ys h k = list_all-append p xs ys ∙ and_from _ _ h k
-
 small_number_fails : (low high n : ℕ) (kind : TypeErrorKind) (xs rest : List ℕ) → lies low high n ≡ false → IsNumber 2 n xs → Ends rest → small_number low high kind (xs ++ rest) ≡ error kind
 unfolding small_number
 small_number_fails low high n kind xs rest past is ends = rw (number_reads 1 2 2 n xs rest refl is ends, past) refl
-
-within : (low high n : ℕ) → low ≤ n → n ≤ high → lies low high n ≡ true
-within low high n h k = grind (arith, nat_tests)
 
 beyond : (low high n : ℕ) → high < n → lies low high n ≡ false
 beyond low high n h = grind (arith, nat_tests)

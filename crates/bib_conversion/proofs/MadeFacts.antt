@@ -24,6 +24,7 @@ use Rattle.bib_strings.specs.Exchanged.{placeless}
 use Rattle.bib_strings.proofs.ExchangedFacts.{file_placeless}
 use Rattle.bib_conversion.proofs.KindFacts.{IsWithin, kind_exchanged_read, kind_stretch, with_kind}
 use Rattle.bib_conversion.proofs.PutFacts.{Begins, fields_put, put_at, put_is}
+use Rattle.bib_text.proofs.ListFacts.{get_here}
 
 -- ---- what is known where the edits from a place on are made
 
@@ -135,10 +136,6 @@ map_put : {A B : Type 0} (view : A → B) (xs news : List A) (j : ℕ) → map v
 map_put view [] news j = refl
 map_put view (x ∷ xs) news zero = map-append view news xs
 map_put view (x ∷ xs) news (suc j) = ap (λ l. view x ∷ l) (map_put view xs news j)
-
-pub get_here : {A : Type 0} (before : List A) (x : A) (rest : List A) → slice_get (before ++ x ∷ rest) (length before) ≡ Some x
-get_here [] x rest = refl
-get_here (y ∷ ys) x rest = get_here ys x rest
 
 get_put : {A : Type 0} (xs news : List A) (j i : ℕ) → i < j → slice_get (put_at j news xs) i ≡ slice_get xs i
 get_put [] news j i less = refl

@@ -1,17 +1,17 @@
--- The names that a format has: each can be a name of a type, or of a field.
+-- The names that a dialect has: each can be a name of a type, or of a field.
 use Rattle.std.proofs.Common.{◌≡◌, ℕ, Bool, true, false, cond, List, [], ◌∷◌, refl, subst, Option, Some, None}
 use Rattle.std.specs.Prelude.{bytes_eq, filter, not, ◌||◌}
 use Rattle.std.specs.List.{AllByRecursion}
 use Rattle.bib_syntax.specs.Reading.{EntryReading, FieldReading}
 use Rattle.bib_syntax.specs.Grammar.{BlockKind, block_kind, is_word}
 use Rattle.bib_documents.specs.Documents.{CanBeName}
-use Rattle.bib_entry_types.specs.EntryType.{entry_type_name, entry_type_of}
-use Rattle.bib_entry_types.specs.declared.mechanics.EntryType.{EntryType}
-use Rattle.bib_entry_types.specs.declared.mechanics.EntryType.TheVariants.{Article, Book, Booklet, InBook, InCollection, InProceedings, Manual, MastersThesis, PhdThesis, Misc, Proceedings, TechReport, Unpublished, MvBook, BookInBook, SuppBook, Periodical, SuppPeriodical, Collection, MvCollection, SuppCollection, Reference, MvReference, InReference, MvProceedings, Report, Patent, Thesis, Online, Software, Dataset, Set, XData, Unknown}
-use Rattle.bib_entry.specs.Format.{kind_in}
+use Rattle.bib_tables.specs.EntryType.{entry_type_name, entry_type_of}
+use Rattle.bib_tables.specs.declared.mechanics.EntryType.{EntryType}
+use Rattle.bib_tables.specs.declared.mechanics.EntryType.TheVariants.{Article, Book, Booklet, InBook, InCollection, InProceedings, Manual, MastersThesis, PhdThesis, Misc, Proceedings, TechReport, Unpublished, MvBook, BookInBook, SuppBook, Periodical, SuppPeriodical, Collection, MvCollection, SuppCollection, Reference, MvReference, InReference, MvProceedings, Report, Patent, Thesis, Online, Software, Dataset, Set, XData, Unknown}
+use Rattle.bib_entry.specs.Dialect.{kind_in}
 use Rattle.bib_entry.specs.WrittenEntries.{biblatex_names, names_in}
-use Rattle.bib_entry.specs.declared.write.Format.{Format}
-use Rattle.bib_entry.specs.declared.write.Format.TheVariants.{Biblatex, Bibtex}
+use Rattle.bib_entry.specs.declared.write.Dialect.{Dialect}
+use Rattle.bib_entry.specs.declared.write.Dialect.TheVariants.{Biblatex, Bibtex}
 use Rattle.bib_strings.specs.Collecting.{is_plain_name}
 use Rattle.bib_strings.proofs.NameFacts.{plain_can}
 use Rattle.bib_conversion.specs.Conversions.{exchanged_names, is_field_there, is_unnamed_type, new_field_name, new_type, other_name, other_names}
@@ -62,10 +62,10 @@ type_case false kind name same =
     let plain = type_plain kind in
     subst (λ n. CanBeName n × (block_kind n ≡ BlockKind.entry)) is ((plain_can (entry_type_name kind) plain.0).0, plain.1)
 
-pub type_known : (format : Format) (e : EntryReading) (name : List ℕ) → new_type format e ≡ Some name → CanBeName name × (block_kind name ≡ BlockKind.entry)
-type_known format e name is =
+pub type_known : (dialect : Dialect) (e : EntryReading) (name : List ℕ) → new_type dialect e ≡ Some name → CanBeName name × (block_kind name ≡ BlockKind.entry)
+type_known dialect e name is =
     let kind = entry_type_of e.kind.text in
-    type_case (is_unnamed_type kind || bytes_eq (entry_type_name (kind_in format kind)) (entry_type_name kind)) (kind_in format kind) name is
+    type_case (is_unnamed_type kind || bytes_eq (entry_type_name (kind_in dialect kind)) (entry_type_name kind)) (kind_in dialect kind) name is
 
 -- ---- names of fields
 
@@ -112,7 +112,7 @@ bibtex_plain Set = (refl, (refl, tt))
 bibtex_plain XData = (refl, (refl, tt))
 bibtex_plain (Unknown name) = (refl, (refl, tt))
 
-names_plain : (format : Format) (kind : EntryType) → AllByRecursion IsPlainRow (other_names format kind)
+names_plain : (dialect : Dialect) (kind : EntryType) → AllByRecursion IsPlainRow (other_names dialect kind)
 names_plain Biblatex kind = biblatex_plain
 names_plain Bibtex kind = bibtex_plain kind
 
@@ -133,8 +133,8 @@ found_plain : (rows : List (List ℕ × List ℕ)) (text name : List ℕ) → Al
 found_plain [] text name all is = absurd (cc)
 found_plain (row ∷ rows) text name all is = found_case (is_word text row.0) row.1 name (other_name rows text) all.0 (found_plain rows text name all.1) is
 
-pub name_known : (format : Format) (e : EntryReading) (f : FieldReading) (name : List ℕ) → new_field_name format e f ≡ Some name → CanBeName name
-name_known format e f name is =
+pub name_known : (dialect : Dialect) (e : EntryReading) (f : FieldReading) (name : List ℕ) → new_field_name dialect e f ≡ Some name → CanBeName name
+name_known dialect e f name is =
     let kind = entry_type_of e.kind.text in
-    let all = kept_plain (λ row. not (is_field_there e.fields row.1)) (other_names format kind) (names_plain format kind) in
-    (plain_can name (found_plain (exchanged_names format e) f.name.text name all is)).0
+    let all = kept_plain (λ row. not (is_field_there e.fields row.1)) (other_names dialect kind) (names_plain dialect kind) in
+    (plain_can name (found_plain (exchanged_names dialect e) f.name.text name all is)).0

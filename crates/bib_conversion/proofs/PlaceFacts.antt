@@ -16,13 +16,13 @@ use Rattle.bib_syntax.proofs.FileFacts.{ahead_block, ahead_head, ahead_line_comm
 use Rattle.bib_documents.specs.Documents.{value_stretch}
 use Rattle.bib_documents.specs.Edits.{Edit}
 use Rattle.bib_documents.specs.Stretches.{AreEditsInOrder}
-use Rattle.bib_documents.proofs.BoundaryFacts.{char_boundary}
 use Rattle.bib_documents.proofs.SplitFacts.{EntryBlock, entry_block, one_entry}
 use Rattle.bib_documents.proofs.ValueFacts.{run_stands}
 use Rattle.bib_strings.proofs.TrimmedFacts.{IsFieldPlaced}
 use Rattle.bib_conversion.specs.Conversions.{FieldChange, date_field, field_change, edits_of_field, edits_of_fields, edits_of_file, field_stretch, going_out, is_date_part, new_type, part_edits, written_sides}
 use Rattle.bib_conversion.specs.Dates.{new_field_text}
-use Rattle.bib_entry.specs.declared.write.Format.{Format}
+use Rattle.bib_entry.specs.declared.write.Dialect.{Dialect}
+use Rattle.bib_text.proofs.BoundaryFacts.{run_boundary, char_boundary}
 
 -- a part that isn't empty, and where it may be cut out
 pub record IsCut (text : List ℕ) (p : Part) : Type 0 where
@@ -121,10 +121,6 @@ file_in text {u} same (file.block {v = v} {first = first} {rest = rest} b x) =
 
 -- ---- the edits stand one after another
 
-run_boundary : {test : ℕ → Bool} {u v : Place} → Run test u v → IsCharBoundary v.text v.at → IsCharBoundary u.text u.at
-run_boundary stop boundary = boundary
-run_boundary (step char passes rest) boundary = char_boundary char
-
 edits_earlier : (text : List ℕ) (at less : ℕ) (edits : List Edit) → less ≤ at → AreEditsInOrder text at edits → AreEditsInOrder text less edits
 edits_earlier text at less [] small order = tt
 edits_earlier text at less (edit ∷ edits) small order = (omega (arith, order.0), order.1, order.2, order.3, order.4)
@@ -172,10 +168,10 @@ fields_in_order change text at end (f ∷ fs) more order all rest =
     subst (AreEditsInOrder text at) (sym (append_assoc (edits_of_field text f fs (change f)) others more))
     (field_in_order text at end f fs (change f) (others ++ more) order.0 order.1 all.0 order.2 (fields_in_order change text (first_place f.value.end fs) end fs more (first_in text f.value.end end fs order.2).1 all.1 rest))
 
-pub edits_in_order : (format : Format) (defines : Bool) (text : List ℕ) (at : ℕ) (es : List EntryReading) → AreEntriesIn text at es → AllByRecursion (λ e. AllByRecursion (IsFieldPlaced text) e.fields) es → AreEditsInOrder text at (edits_of_file format defines text es)
-edits_in_order format defines text at [] order all = tt
-edits_in_order format defines text at (e ∷ es) order all =
-    let fields : List Edit = edits_of_fields (field_change format defines text e) text e.fields in
-    let more : List Edit = edits_of_file format defines text es in
-    subst (AreEditsInOrder text at) (sym (append_assoc (part_edits e.kind (new_type format e)) fields more))
-    (part_in_order text at e.kind (new_type format e) (fields ++ more) order.1 order.2 (fields_in_order (field_change format defines text e) text e.kind.end order.0 e.fields more order.3 all.0 (edits_in_order format defines text order.0 es order.4 all.1)))
+pub edits_in_order : (dialect : Dialect) (defines : Bool) (text : List ℕ) (at : ℕ) (es : List EntryReading) → AreEntriesIn text at es → AllByRecursion (λ e. AllByRecursion (IsFieldPlaced text) e.fields) es → AreEditsInOrder text at (edits_of_file dialect defines text es)
+edits_in_order dialect defines text at [] order all = tt
+edits_in_order dialect defines text at (e ∷ es) order all =
+    let fields : List Edit = edits_of_fields (field_change dialect defines text e) text e.fields in
+    let more : List Edit = edits_of_file dialect defines text es in
+    subst (AreEditsInOrder text at) (sym (append_assoc (part_edits e.kind (new_type dialect e)) fields more))
+    (part_in_order text at e.kind (new_type dialect e) (fields ++ more) order.1 order.2 (fields_in_order (field_change dialect defines text e) text e.kind.end order.0 e.fields more order.3 all.0 (edits_in_order dialect defines text order.0 es order.4 all.1)))

@@ -11,7 +11,7 @@ use Rattle.bib_syntax.specs.Reading.{EntryReading, FieldReading}
 use Rattle.bib_syntax.specs.Grammar.{Field, Fields, Gap, longest}
 use Rattle.bib_syntax.proofs.FieldFacts.{ahead_field, ahead_gap}
 use Rattle.bib_syntax.proofs.FileFacts.{ahead_head}
-use Rattle.bib_syntax.proofs.LawFacts.{start_not_white}
+use Rattle.bib_syntax.proofs.LawFacts.{start_not_white, start_plain}
 use Rattle.bib_documents.specs.Edits.{Edit, edited, moved_place, moved_entry, moved_field, moved_part}
 use Rattle.bib_documents.specs.Documents.{Document, IsDocument, entry_edited}
 use Rattle.bib_documents.proofs.EditFacts.{Fits, before_frame, after_frame, moved_before, zone_before, zone_after}
@@ -68,9 +68,6 @@ new_opens (FieldsBefore.more field gap comma gap' others) last = record { char =
 before_append : {u v w : Place} {fs gs : List FieldReading} → FieldsBefore u fs v → FieldsBefore v gs w → FieldsBefore u (fs ++ gs) w
 before_append FieldsBefore.none others = others
 before_append (FieldsBefore.more field gap comma gap' first) others = FieldsBefore.more field gap comma gap' (before_append first others)
-
-pub start_plain : (c : ℕ) → is_id_start c ≡ true → (c == 37) ≡ false
-start_plain c starts = ne_eqb c 37 (λ same. test_clash (is_id_start 37) (subst (λ x. is_id_start x ≡ true) same starts) refl)
 
 -- ---- the fields before them, in the new text
 

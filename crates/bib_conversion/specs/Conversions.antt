@@ -5,13 +5,13 @@ use Rattle.std.specs.Str.{trim_end}
 use Rattle.std.specs.List.{find, flat_map, list_any}
 use Rattle.bib_syntax.specs.Grammar.{is_word}
 use Rattle.bib_syntax.specs.Reading.{Part, FieldReading, EntryReading, FileReading}
-use Rattle.bib_entry_types.specs.EntryType.{entry_type_name, entry_type_of}
-use Rattle.bib_entry_types.specs.declared.mechanics.EntryType.{EntryType}
-use Rattle.bib_entry_types.specs.declared.mechanics.EntryType.TheVariants.{Unknown}
-use Rattle.bib_entry.specs.Format.{kind_in}
+use Rattle.bib_tables.specs.EntryType.{entry_type_name, entry_type_of}
+use Rattle.bib_tables.specs.declared.mechanics.EntryType.{EntryType}
+use Rattle.bib_tables.specs.declared.mechanics.EntryType.TheVariants.{Unknown}
+use Rattle.bib_entry.specs.Dialect.{kind_in}
 use Rattle.bib_entry.specs.WrittenEntries.{biblatex_names, names_in}
-use Rattle.bib_entry.specs.declared.write.Format.{Format}
-use Rattle.bib_entry.specs.declared.write.Format.TheVariants.{Biblatex, Bibtex}
+use Rattle.bib_entry.specs.declared.write.Dialect.{Dialect}
+use Rattle.bib_entry.specs.declared.write.Dialect.TheVariants.{Biblatex, Bibtex}
 use Rattle.bib_documents.specs.Documents.{Document, has_name, value_stretch}
 use Rattle.bib_documents.specs.Edits.{Edit, edited_all}
 use Rattle.bib_format.specs.Formatted.{has_percent}
@@ -25,17 +25,17 @@ abbrev pub is_unnamed_type : EntryType → Bool
 is_unnamed_type (Unknown name) = true
 is_unnamed_type kind = false
 
--- the name of the type that a format has for a type, if that is another one; a type that neither has stays
-abbrev pub other_type : Format → EntryType → Option (List ℕ)
-other_type format kind =
-    if is_unnamed_type kind || bytes_eq (entry_type_name (kind_in format kind)) (entry_type_name kind) then None else Some (entry_type_name (kind_in format kind))
+-- the name of the type that a dialect has for a type, if that is another one; a type that neither has stays
+abbrev pub other_type : Dialect → EntryType → Option (List ℕ)
+other_type dialect kind =
+    if is_unnamed_type kind || bytes_eq (entry_type_name (kind_in dialect kind)) (entry_type_name kind) then None else Some (entry_type_name (kind_in dialect kind))
 
 -- the name that takes the place of that of an entry's type, if one does
-abbrev pub new_type : Format → EntryReading → Option (List ℕ)
-new_type format e = other_type format (entry_type_of e.kind.text)
+abbrev pub new_type : Dialect → EntryReading → Option (List ℕ)
+new_type dialect e = other_type dialect (entry_type_of e.kind.text)
 
--- the names of fields for which a format has others in entries of a type, each with the other
-abbrev pub other_names : Format → EntryType → List (List ℕ × List ℕ)
+-- the names of fields for which a dialect has others in entries of a type, each with the other
+abbrev pub other_names : Dialect → EntryType → List (List ℕ × List ℕ)
 other_names Biblatex kind = biblatex_names
 other_names Bibtex kind = names_in kind
 
@@ -53,12 +53,12 @@ other_name [] name = None
 other_name (row ∷ rows) name = if is_word name row.0 then Some row.1 else other_name rows name
 
 -- the names of an entry's fields that give way, each with the one that takes its place: the type of the entry is its own
-abbrev pub exchanged_names : Format → EntryReading → List (List ℕ × List ℕ)
-exchanged_names format e = free_names e.fields (other_names format (entry_type_of e.kind.text))
+abbrev pub exchanged_names : Dialect → EntryReading → List (List ℕ × List ℕ)
+exchanged_names dialect e = free_names e.fields (other_names dialect (entry_type_of e.kind.text))
 
 -- the name that takes the place of that of an entry's field, if one does
-abbrev pub new_field_name : Format → EntryReading → FieldReading → Option (List ℕ)
-new_field_name format e f = other_name (exchanged_names format e) f.name.text
+abbrev pub new_field_name : Dialect → EntryReading → FieldReading → Option (List ℕ)
+new_field_name dialect e f = other_name (exchanged_names dialect e) f.name.text
 
 -- how many of some fields have a name, in any ASCII case
 abbrev pub times_named : List FieldReading → List ℕ → ℕ
@@ -74,7 +74,7 @@ value_sides None = None
 value_sides (Some text) = date_sides text
 
 -- whether an entry's date gives way to fields of its parts: for BibTeX, where it may
-abbrev pub divides_date : Format → List FieldReading → Bool
+abbrev pub divides_date : Dialect → List FieldReading → Bool
 divides_date Biblatex fields = false
 divides_date Bibtex fields = is_date_free fields
 
@@ -83,8 +83,8 @@ abbrev pub date_among : Bool → FieldReading → Option Sides
 date_among divides f = if has_name (codes "date") f && divides then value_sides (single_text f.value.pieces) else None
 
 -- the sides of the date that gives way, if an entry's field is it
-abbrev pub exchanged_date : Format → EntryReading → FieldReading → Option Sides
-exchanged_date format e f = date_among (divides_date format e.fields) f
+abbrev pub exchanged_date : Dialect → EntryReading → FieldReading → Option Sides
+exchanged_date dialect e f = date_among (divides_date dialect e.fields) f
 
 -- whether a field is a part of a date: its year, its month or its day
 abbrev pub is_date_part : FieldReading → Bool
@@ -140,7 +140,7 @@ abbrev pub date_of_fields : Bool → List FieldReading → Option (List ℕ)
 date_of_fields defines fields = date_of_parts (literal_of (find (has_name (codes "year")) fields)) (month_of defines (find (has_name (codes "month")) fields)) (find (has_name (codes "day")) fields)
 
 -- the text of the date that takes the place of its parts among an entry's fields, if one does: for BibLaTeX, where they may be joined
-abbrev pub joined_date : Format → Bool → List ℕ → List FieldReading → Option (List ℕ)
+abbrev pub joined_date : Dialect → Bool → List ℕ → List FieldReading → Option (List ℕ)
 joined_date Biblatex defines text fields = if has_parts_once fields && can_all_go_out text fields then date_of_fields defines fields else None
 joined_date Bibtex defines text fields = None
 
@@ -166,8 +166,8 @@ change_of None None (Some sides) = Some (FieldChange.divided sides)
 change_of None None None = None
 
 -- what an entry's field gives way to, if it does, in a text that defines an abbreviation of a month or doesn't
-abbrev pub field_change : Format → Bool → List ℕ → EntryReading → FieldReading → Option FieldChange
-field_change format defines text e f = change_of (joined_among (joined_date format defines text e.fields) f) (new_field_name format e f) (exchanged_date format e f)
+abbrev pub field_change : Dialect → Bool → List ℕ → EntryReading → FieldReading → Option FieldChange
+field_change dialect defines text e f = change_of (joined_among (joined_date dialect defines text e.fields) f) (new_field_name dialect e f) (exchanged_date dialect e f)
 
 -- the edit of a part of a text that gives way to another text, if it does
 abbrev pub part_edits : Part → Option (List ℕ) → List Edit
@@ -205,16 +205,16 @@ edits_of_fields change text [] = []
 edits_of_fields change text (f ∷ fs) = edits_of_field text f fs (change f) ++ edits_of_fields change text fs
 
 -- the edits of an entry: of the name of its type, and of its fields
-abbrev pub edits_of_entry : Format → Bool → List ℕ → EntryReading → List Edit
-edits_of_entry format defines text e = part_edits e.kind (new_type format e) ++ edits_of_fields (field_change format defines text e) text e.fields
+abbrev pub edits_of_entry : Dialect → Bool → List ℕ → EntryReading → List Edit
+edits_of_entry dialect defines text e = part_edits e.kind (new_type dialect e) ++ edits_of_fields (field_change dialect defines text e) text e.fields
 
 -- the edits of some entries
-abbrev pub edits_of_file : Format → Bool → List ℕ → List EntryReading → List Edit
-edits_of_file format defines text entries = flat_map (edits_of_entry format defines text) entries
+abbrev pub edits_of_file : Dialect → Bool → List ℕ → List EntryReading → List Edit
+edits_of_file dialect defines text entries = flat_map (edits_of_entry dialect defines text) entries
 
--- a document's text with the types and the fields that a format has
-abbrev pub text_converted : Format → Document → List ℕ
-text_converted format d = edited_all (edits_of_file format (defines_month d.says.abbreviations) d.text d.says.entries) d.text
+-- a document's text with the types and the fields that a dialect has
+abbrev pub text_converted : Dialect → Document → List ℕ
+text_converted dialect d = edited_all (edits_of_file dialect (defines_month d.says.abbreviations) d.text d.says.entries) d.text
 
 -- a part with another text, if it gives way to one
 abbrev pub with_other_text : Part → Option (List ℕ) → Part
@@ -233,15 +233,15 @@ abbrev pub fields_converted : (FieldReading → Option FieldChange) → List Fie
 fields_converted change [] = []
 fields_converted change (f ∷ fs) = field_converted f fs (change f) ++ fields_converted change fs
 
--- an entry with the type and the fields that a format has for it
-abbrev pub entry_converted : Format → Bool → List ℕ → EntryReading → EntryReading
-entry_converted format defines text e = record e { kind = with_other_text e.kind (new_type format e); fields = fields_converted (field_change format defines text e) e.fields }
+-- an entry with the type and the fields that a dialect has for it
+abbrev pub entry_converted : Dialect → Bool → List ℕ → EntryReading → EntryReading
+entry_converted dialect defines text e = record e { kind = with_other_text e.kind (new_type dialect e); fields = fields_converted (field_change dialect defines text e) e.fields }
 
--- what a document says, with the types and the fields that a format has
-abbrev pub file_converted : Format → Document → FileReading
-file_converted format d = record d.says { entries = map (entry_converted format (defines_month d.says.abbreviations) d.text) d.says.entries }
+-- what a document says, with the types and the fields that a dialect has
+abbrev pub file_converted : Dialect → Document → FileReading
+file_converted dialect d = record d.says { entries = map (entry_converted dialect (defines_month d.says.abbreviations) d.text) d.says.entries }
 
--- a text is a document's with the types and the fields of a format, and is read so
-pub record IsConverted (format : Format) (d : Document) (text : List ℕ) : Type 0 where
-  pub is : text ≡ text_converted format d
-  pub read : IsReadPlaceless (file_converted format d) text
+-- a text is a document's with the types and the fields of a dialect, and is read so
+pub record IsConverted (dialect : Dialect) (d : Document) (text : List ℕ) : Type 0 where
+  pub is : text ≡ text_converted dialect d
+  pub read : IsReadPlaceless (file_converted dialect d) text

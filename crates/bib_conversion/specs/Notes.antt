@@ -1,12 +1,12 @@
 -- Meaning: words of public contracts.
--- What is to know of a file's fields that don't give way to those of a format.
+-- What is to know of a file's fields that don't give way to those of a dialect.
 use Rattle.std.specs.Prelude.{ℕ, suc, Bool, if◌then◌else◌, List, [], ◌∷◌, ◌++◌, codes, Option, Some, None}
 use Rattle.std.specs.List.{list_any}
 use Rattle.bib_syntax.specs.Grammar.{is_word}
 use Rattle.bib_syntax.specs.Reading.{EntryReading, FieldReading}
-use Rattle.bib_entry_types.specs.EntryType.{entry_type_of}
-use Rattle.bib_entry.specs.declared.write.Format.{Format}
-use Rattle.bib_entry.specs.declared.write.Format.TheVariants.{Biblatex, Bibtex}
+use Rattle.bib_tables.specs.EntryType.{entry_type_of}
+use Rattle.bib_entry.specs.declared.write.Dialect.{Dialect}
+use Rattle.bib_entry.specs.declared.write.Dialect.TheVariants.{Biblatex, Bibtex}
 use Rattle.bib_documents.specs.Documents.{Document, has_name}
 use Rattle.bib_conversion.specs.Conversions.{FieldChange, defines_month, field_change, other_name, other_names}
 use Rattle.bib_conversion.specs.declared.notes.Note.{Note}
@@ -31,24 +31,24 @@ bibtex_note f = if has_name (codes "date") f then Some DateStays else if is_bibt
 abbrev pub biblatex_note : FieldReading → Option NoteKind
 biblatex_note f = if has_name (codes "month") f then Some MonthStays else None
 
--- that for a format
-abbrev pub format_note : Format → FieldReading → Option NoteKind
-format_note Biblatex f = biblatex_note f
-format_note Bibtex f = bibtex_note f
+-- that for a dialect
+abbrev pub dialect_note : Dialect → FieldReading → Option NoteKind
+dialect_note Biblatex f = biblatex_note f
+dialect_note Bibtex f = bibtex_note f
 
--- what is to know of a field that stays, given the name that the format has in the place of its own, if it has one
-abbrev pub stays_note : Format → Option (List ℕ) → FieldReading → Option NoteKind
-stays_note format (Some other) f = Some NameIsThere
-stays_note format None f = format_note format f
+-- what is to know of a field that stays, given the name that the dialect has in the place of its own, if it has one
+abbrev pub stays_note : Dialect → Option (List ℕ) → FieldReading → Option NoteKind
+stays_note dialect (Some other) f = Some NameIsThere
+stays_note dialect None f = dialect_note dialect f
 
 -- what is to know of a field, given what it gives way to
-abbrev pub change_note : Format → Option FieldChange → Option (List ℕ) → FieldReading → Option NoteKind
-change_note format (Some change) other f = None
-change_note format None other f = stays_note format other f
+abbrev pub change_note : Dialect → Option FieldChange → Option (List ℕ) → FieldReading → Option NoteKind
+change_note dialect (Some change) other f = None
+change_note dialect None other f = stays_note dialect other f
 
 -- what is to know of an entry's field, in a text that defines an abbreviation of a month or doesn't
-abbrev pub field_note : Format → Bool → List ℕ → EntryReading → FieldReading → Option NoteKind
-field_note format defines text e f = change_note format (field_change format defines text e f) (other_name (other_names format (entry_type_of e.kind.text)) f.name.text) f
+abbrev pub field_note : Dialect → Bool → List ℕ → EntryReading → FieldReading → Option NoteKind
+field_note dialect defines text e f = change_note dialect (field_change dialect defines text e f) (other_name (other_names dialect (entry_type_of e.kind.text)) f.name.text) f
 
 -- what comes of each element and its index, one after another, of a list whose first element has an index
 abbrev pub indexed : {A B : Type 0} → (ℕ → A → List B) → ℕ → List A → List B
@@ -61,9 +61,9 @@ note_at entry field None = []
 note_at entry field (Some kind) = record { entry = entry; field = field; kind = kind } ∷ []
 
 -- the notes of the fields of the entry with an index
-abbrev pub entry_notes : Format → Bool → List ℕ → ℕ → EntryReading → List Note
-entry_notes format defines text entry e = indexed (λ field f. note_at entry field (field_note format defines text e f)) 0 e.fields
+abbrev pub entry_notes : Dialect → Bool → List ℕ → ℕ → EntryReading → List Note
+entry_notes dialect defines text entry e = indexed (λ field f. note_at entry field (field_note dialect defines text e f)) 0 e.fields
 
 -- the notes of a document's entries
-abbrev pub file_notes : Format → Document → List Note
-file_notes format d = indexed (entry_notes format (defines_month d.says.abbreviations) d.text) 0 d.says.entries
+abbrev pub file_notes : Dialect → Document → List Note
+file_notes dialect d = indexed (entry_notes dialect (defines_month d.says.abbreviations) d.text) 0 d.says.entries

@@ -10,4 +10,4 @@ use Rattle.bib_conversion.specs.declared.notes.Rules.{Rules}
 
 -- what is to know of a field
 abbrev pub rules_note : Rules → FieldReading → Option NoteKind
-rules_note rules f = change_note rules.format (change_by rules.changes f) (other_name (lent_names rules.names.now) f.name.text) f
+rules_note rules f = change_note rules.dialect (change_by rules.changes f) (other_name (lent_names rules.names.now) f.name.text) f

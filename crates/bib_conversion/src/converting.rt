@@ -1,4 +1,4 @@
-//! Files with the types and the fields of a format.
+//! Files with the types and the fields of a dialect.
 
 ghost use Rattle.std.specs.Prelude.{◌≡◌, ◌++◌, IfOk, List, OnOk, None, Some, map};
 ghost use Rattle.std.specs.List.{AllByRecursion};
@@ -18,9 +18,9 @@ use crate::fields::{exchanged_date, has_part, is_date_part, value_end};
 use crate::joining::defines_month;
 use crate::names::{other_name, other_type};
 use bib_documents::document::RawDocument;
-use bib_entry::write::Format;
-use bib_entry_types::mechanics::EntryType;
+use bib_entry::write::Dialect;
 use bib_syntax::raw::{Pair, RawEntry};
+use bib_tables::mechanics::EntryType;
 use bib_text::spanned::Spanned;
 use std::alloc::{AllocError, Global};
 
@@ -167,43 +167,43 @@ fn push_field_edits(
 fn push_entry_edits(
     edits: &mut Vec<Edit>,
     alloc: Global,
-    format: Format,
+    dialect: Dialect,
     defines: bool,
     text: &str,
     entry: &Spanned<RawEntry<'_>>,
 ) -> Result<(), AllocError>
     requires { AllByRecursion (IsPlaced text.now) (entry_reading_of entry.now).fields }
-    ensures { OnOk result (map edit_in_bytes edits.new.items ≡ map edit_in_bytes edits.old.items ++ edits_of_entry format defines text.now (entry_reading_of entry.now)) }
+    ensures { OnOk result (map edit_in_bytes edits.new.items ≡ map edit_in_bytes edits.old.items ++ edits_of_entry dialect defines text.now (entry_reading_of entry.now)) }
 {
     let kind = EntryType::new(alloc, entry.v.kind.v)?;
-    push_part_edit(edits, alloc, &entry.v.kind, other_type(format, &kind))?;
+    push_part_edit(edits, alloc, &entry.v.kind, other_type(dialect, &kind))?;
     let fields = &entry.v.fields;
-    let changes = changes_of(alloc, format, defines, text, &kind, fields)?;
+    let changes = changes_of(alloc, dialect, defines, text, &kind, fields)?;
     push_field_edits(edits, alloc, text, &changes, fields)
 }
 
 // The edits of entries of a text that defines an abbreviation of a month or doesn't.
 fn edits(
     alloc: Global,
-    format: Format,
+    dialect: Dialect,
     defines: bool,
     text: &str,
     entries: &[Spanned<RawEntry<'_>>],
 ) -> Result<Vec<Edit>, AllocError>
     requires { AllByRecursion (λ e. AllByRecursion (IsPlaced text.now) e.fields) (map entry_reading_of entries.now) }
-    ensures { IfOk result (λ made. map edit_in_bytes made.items ≡ edits_of_file format defines text.now (map entry_reading_of entries.now)) }
+    ensures { IfOk result (λ made. map edit_in_bytes made.items ≡ edits_of_file dialect defines text.now (map entry_reading_of entries.now)) }
 {
     let mut edits = Vec::new(alloc);
     'entries: for entry in entries {
-        push_entry_edits(&mut edits, alloc, format, defines, text, entry)?;
+        push_entry_edits(&mut edits, alloc, dialect, defines, text, entry)?;
     }
     Ok(edits)
 }
 
-/// The text with the types of entries and the fields that a format has. Every other byte stays: values but for dates, comments, and what
+/// The text with the types of entries and the fields that a dialect has. Every other byte stays: values but for dates, comments, and what
 /// stands between entries.
 ///
-/// The name of a type for which the format has another, in any ASCII case, gives way to that one's; a type that neither BibTeX nor
+/// The name of a type for which the dialect has another, in any ASCII case, gives way to that one's; a type that neither BibTeX nor
 /// BibLaTeX has stays. For BibLaTeX the fields `journal`, `address` and `school` become `journaltitle`, `location` and `institution`.
 /// For BibTeX `journaltitle` and `location` become `journal` and `address`, and in an entry whose own type is a thesis's `institution`
 /// becomes `school`. A name stays where the entry has a field with the other one.
@@ -222,13 +222,13 @@ fn edits(
 pub fn convert(
     alloc: Global,
     document: &RawDocument<'_>,
-    format: Format,
+    dialect: Dialect,
 ) -> Result<String, AllocError>
-    ensures { IfOk result (λ new. IsConverted format document.now (string_bytes new)) }
+    ensures { IfOk result (λ new. IsConverted dialect document.now (string_bytes new)) }
 {
     let text = document.text();
     let raw = document.raw();
     let defines = defines_month(&raw.abbreviations);
-    let edits = edits(alloc, format, defines, text, &raw.entries)?;
+    let edits = edits(alloc, dialect, defines, text, &raw.entries)?;
     edited_all(alloc, text, &edits)
 }

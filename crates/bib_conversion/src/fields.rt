@@ -14,7 +14,7 @@ ghost use Rattle.bib_conversion.specs.Tables.{lent_text, sides_as_written};
 
 use crate::dates::{Sides, date_sides};
 use crate::names::has_field;
-use bib_entry::write::Format;
+use bib_entry::write::Dialect;
 use bib_syntax::raw::{Pair, RawChunk, is_word};
 use bib_text::spanned::Spanned;
 use std::alloc::{AllocError, Global};
@@ -111,12 +111,12 @@ fn is_date_free(fields: &[Pair<'_>]) -> bool
 }
 
 // Whether an entry's date gives way to fields of its parts: for BibTeX, where it may.
-pub(crate) fn divides_date(format: Format, fields: &[Pair<'_>]) -> bool
-    ensures { result ≡ spec.divides_date format (map field_of fields.now) }
+pub(crate) fn divides_date(dialect: Dialect, fields: &[Pair<'_>]) -> bool
+    ensures { result ≡ spec.divides_date dialect (map field_of fields.now) }
 {
-    match format {
-        Format::Biblatex => false,
-        Format::Bibtex => is_date_free(fields),
+    match dialect {
+        Dialect::Biblatex => false,
+        Dialect::Bibtex => is_date_free(fields),
     }
 }
 

@@ -10,7 +10,7 @@ ghost use Rattle.bib_chunks.specs.Values as values;
 ghost use Rattle.bib_dates.specs.Readings.{readable_value};
 ghost use Rattle.bib_dates.specs.ThreeFields.{three_fields_of};
 ghost use Rattle.bib_documents.specs.Documents.{has_name};
-ghost use Rattle.bib_entry.specs.declared.write.Format.TheVariants.{Biblatex};
+ghost use Rattle.bib_entry.specs.declared.write.Dialect.TheVariants.{Biblatex};
 ghost use Rattle.bib_format.specs.Formatted as formatted;
 ghost use Rattle.bib_syntax.specs.Views.{field_of, piece_of};
 ghost use Rattle.bib_conversion.specs.Conversions as conversions;
@@ -23,7 +23,7 @@ use crate::names::is_one_of;
 use bib_chunks::chunk::making::verbatim;
 use bib_chunks::chunk::{Chunks, ChunksRef};
 use bib_dates::date::Date;
-use bib_entry::write::Format;
+use bib_entry::write::Dialect;
 use bib_syntax::raw::{Pair, RawChunk};
 use bib_text::spanned::Spanned;
 use std::alloc::{AllocError, Global};
@@ -305,15 +305,15 @@ fn allowed_date(
 // The text of the date that takes the place of its parts among an entry's fields, if one does.
 pub(crate) fn joined_date(
     alloc: Global,
-    format: Format,
+    dialect: Dialect,
     defines: bool,
     text: &str,
     fields: &[Pair<'_>],
 ) -> Result<Option<String>, AllocError>
-    ensures { IfOk result (λ date. option_map string_bytes date ≡ conversions.joined_date format defines text.now (map field_of fields.now)) }
+    ensures { IfOk result (λ date. option_map string_bytes date ≡ conversions.joined_date dialect defines text.now (map field_of fields.now)) }
 {
-    match format {
-        Format::Biblatex => allowed_date(alloc, defines, text, fields),
-        Format::Bibtex => Ok(None),
+    match dialect {
+        Dialect::Biblatex => allowed_date(alloc, defines, text, fields),
+        Dialect::Bibtex => Ok(None),
     }
 }

@@ -1,4 +1,4 @@
-//! A bibliography file's text with the types of entries and the fields that BibLaTeX has, or BibTeX.
+//! Converts the entry types and fields of a file to those of BibLaTeX or of BibTeX.
 //!
 //! A name or a date that gives way is an edit of the text, and all edits are made in one go over it; the new text isn't read. What it says is proved of the file grammar, edit by edit from the last to the first (`ConvertedFacts`): a document
 //! agrees with the old one up to where its last edit begins (`MadeFacts`), so the next name is where it was. An entry with another name

@@ -1,26 +1,26 @@
-//! The names of types and fields for which a format has others.
+//! The names of types and fields for which a dialect has others.
 
 ghost use Rattle.std.specs.Prelude.{◌≡◌, IfOk, map};
 ghost use Rattle.std.specs.List.{list_any};
 ghost use Rattle.bib_syntax.specs.Grammar.{is_word};
 ghost use Rattle.bib_syntax.specs.Views.{field_of};
-ghost use Rattle.bib_entry.specs.Format.{kind_in};
+ghost use Rattle.bib_entry.specs.Dialect.{kind_in};
 ghost use Rattle.bib_conversion.specs.Conversions as spec;
 ghost use Rattle.bib_conversion.specs.Tables.{lent_names, lent_text};
 ghost use Rattle.bib_strings.specs.Collecting.{lent_texts};
 
-use bib_entry::write::Format;
-use bib_entry_types::mechanics::EntryType;
+use bib_entry::write::Dialect;
 use bib_syntax::raw::{Pair, is_word};
+use bib_tables::mechanics::EntryType;
 use std::alloc::{AllocError, Global};
 
-// The type that a format has for a type.
-fn kind_in(format: Format, kind: &EntryType) -> EntryType
-    ensures { result ≡ kind_in format kind.now }
+// The type that a dialect has for a type.
+fn kind_in(dialect: Dialect, kind: &EntryType) -> EntryType
+    ensures { result ≡ kind_in dialect kind.now }
 {
-    match format {
-        Format::Biblatex => kind.to_biblatex(),
-        Format::Bibtex => kind.to_bibtex(),
+    match dialect {
+        Dialect::Biblatex => kind.to_biblatex(),
+        Dialect::Bibtex => kind.to_bibtex(),
     }
 }
 
@@ -31,11 +31,11 @@ fn is_unknown(kind: &EntryType) -> bool
     matches!(kind, EntryType::Unknown(_))
 }
 
-// The name of the type that a format has for a type, if that is another one; a type that neither has stays.
-pub(crate) fn other_type(format: Format, kind: &EntryType) -> Option<&'static str>
-    ensures { lent_text result ≡ spec.other_type format kind.now }
+// The name of the type that a dialect has for a type, if that is another one; a type that neither has stays.
+pub(crate) fn other_type(dialect: Dialect, kind: &EntryType) -> Option<&'static str>
+    ensures { lent_text result ≡ spec.other_type dialect kind.now }
 {
-    let other = kind_in(format, kind);
+    let other = kind_in(dialect, kind);
     if is_unknown(kind) || other.name() == kind.name() {
         return None;
     }
@@ -44,7 +44,7 @@ pub(crate) fn other_type(format: Format, kind: &EntryType) -> Option<&'static st
 
 // The names for which BibTeX has others in entries of a type, each with the other.
 fn bibtex_names(kind: &EntryType) -> &'static [(&'static str, &'static str)]
-    ensures { lent_names result.now ≡ spec.other_names Format.Bibtex kind.now }
+    ensures { lent_names result.now ≡ spec.other_names Dialect.Bibtex kind.now }
 {
     match kind {
         EntryType::Thesis | EntryType::MastersThesis | EntryType::PhdThesis => &[
@@ -56,20 +56,20 @@ fn bibtex_names(kind: &EntryType) -> &'static [(&'static str, &'static str)]
     }
 }
 
-// The names for which a format has others in entries of a type, each with the other.
+// The names for which a dialect has others in entries of a type, each with the other.
 pub(crate) fn other_names(
-    format: Format,
+    dialect: Dialect,
     kind: &EntryType,
 ) -> &'static [(&'static str, &'static str)]
-    ensures { lent_names result.now ≡ spec.other_names format kind.now }
+    ensures { lent_names result.now ≡ spec.other_names dialect kind.now }
 {
-    match format {
-        Format::Biblatex => &[
+    match dialect {
+        Dialect::Biblatex => &[
             ("journal", "journaltitle"),
             ("address", "location"),
             ("school", "institution"),
         ],
-        Format::Bibtex => bibtex_names(kind),
+        Dialect::Bibtex => bibtex_names(kind),
     }
 }
 
@@ -88,13 +88,13 @@ pub(crate) fn has_field(fields: &[Pair<'_>], name: &str) -> bool
 // The names of an entry's fields that give way, each with the one that takes its place.
 pub(crate) fn exchanged_names(
     alloc: Global,
-    format: Format,
+    dialect: Dialect,
     kind: &EntryType,
     fields: &[Pair<'_>],
 ) -> Result<Vec<(&'static str, &'static str)>, AllocError>
-    ensures { IfOk result (λ names. lent_names names.items ≡ spec.free_names (map field_of fields.now) (spec.other_names format kind.now)) }
+    ensures { IfOk result (λ names. lent_names names.items ≡ spec.free_names (map field_of fields.now) (spec.other_names dialect kind.now)) }
 {
-    let names = other_names(format, kind);
+    let names = other_names(dialect, kind);
     let mut free = Vec::new(alloc);
     'rows: for row in names {
         if !has_field(fields, row.1) {

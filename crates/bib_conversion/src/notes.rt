@@ -1,9 +1,9 @@
-//! What is to know of fields that don't give way to those of a format.
+//! What is to know of fields that don't give way to those of a dialect.
 
 ghost use Rattle.std.specs.Prelude.{◌≡◌, ◌++◌, IfOk, OnOk, is_some, map};
 ghost use Rattle.std.specs.Option.{option_map};
 ghost use Rattle.std.specs.String.{string_bytes};
-ghost use Rattle.bib_entry_types.specs.EntryType.{entry_type_of};
+ghost use Rattle.bib_tables.specs.EntryType.{entry_type_of};
 ghost use Rattle.bib_syntax.specs.Views.{entry_reading_of, field_of};
 ghost use Rattle.bib_conversion.specs.Conversions as conversions;
 ghost use Rattle.bib_conversion.specs.Notes as spec;
@@ -16,16 +16,16 @@ use crate::fields::{exchanged_date, is_date_part};
 use crate::joining::defines_month;
 use crate::names::{is_one_of, other_name, other_names};
 use bib_documents::document::RawDocument;
-use bib_entry::write::Format;
-use bib_entry_types::mechanics::EntryType;
+use bib_entry::write::Dialect;
 use bib_syntax::raw::{Pair, RawEntry, is_word};
+use bib_tables::mechanics::EntryType;
 use bib_text::spanned::Spanned;
 use std::alloc::{AllocError, Global};
 
 /// What is to know of a field.
 #[derive(Debug, Clone, Copy, PartialEq, Eq)]
 pub enum NoteKind {
-    /// It keeps its name, since its entry has a field with the one that the format has for it.
+    /// It keeps its name, since its entry has a field with the one that the dialect has for it.
     NameIsThere,
     /// It is a date that BibTeX has no fields for, or whose fields are there already.
     DateStays,
@@ -104,23 +104,23 @@ fn biblatex_note(field: &Pair<'_>) -> Option<NoteKind>
     }
 }
 
-// What is to know of a field that stays, given the name that the format has in the place of its own, if it has one.
-fn stays_note(format: Format, other: Option<&str>, field: &Pair<'_>) -> Option<NoteKind>
-    ensures { result ≡ spec.stays_note format (lent_text other.entry) (field_of field.now) }
+// What is to know of a field that stays, given the name that the dialect has in the place of its own, if it has one.
+fn stays_note(dialect: Dialect, other: Option<&str>, field: &Pair<'_>) -> Option<NoteKind>
+    ensures { result ≡ spec.stays_note dialect (lent_text other.entry) (field_of field.now) }
 {
     if other.is_some() {
         return Some(NoteKind::NameIsThere);
     }
-    match format {
-        Format::Biblatex => biblatex_note(field),
-        Format::Bibtex => bibtex_note(field),
+    match dialect {
+        Dialect::Biblatex => biblatex_note(field),
+        Dialect::Bibtex => bibtex_note(field),
     }
 }
 
-// What is to know of the fields of an entry: the names for which the format has others, and what gives way.
+// What is to know of the fields of an entry: the names for which the dialect has others, and what gives way.
 #[derive(Drop)]
 struct Rules {
-    format: Format,
+    dialect: Dialect,
     names: &'static [(&'static str, &'static str)],
     changes: Changes,
 }
@@ -128,22 +128,22 @@ struct Rules {
 // The rules of an entry of a text that defines an abbreviation of a month or doesn't.
 fn rules_of(
     alloc: Global,
-    format: Format,
+    dialect: Dialect,
     defines: bool,
     text: &str,
     entry: &RawEntry<'_>,
 ) -> Result<Rules, AllocError>
-    ensures format { IfOk result (λ rules. rules.format ≡ format) }
-    ensures names { IfOk result (λ rules. lent_names rules.names.now ≡ conversions.other_names format (entry_type_of entry.now.kind.v.now)) }
-    ensures free { IfOk result (λ rules. lent_names rules.changes.names.items ≡ conversions.free_names (map field_of entry.now.fields.items) (conversions.other_names format (entry_type_of entry.now.kind.v.now))) }
-    ensures divides { IfOk result (λ rules. rules.changes.divides ≡ conversions.divides_date format (map field_of entry.now.fields.items)) }
-    ensures joined { IfOk result (λ rules. option_map string_bytes rules.changes.joined ≡ conversions.joined_date format defines text.now (map field_of entry.now.fields.items)) }
+    ensures dialect { IfOk result (λ rules. rules.dialect ≡ dialect) }
+    ensures names { IfOk result (λ rules. lent_names rules.names.now ≡ conversions.other_names dialect (entry_type_of entry.now.kind.v.now)) }
+    ensures free { IfOk result (λ rules. lent_names rules.changes.names.items ≡ conversions.free_names (map field_of entry.now.fields.items) (conversions.other_names dialect (entry_type_of entry.now.kind.v.now))) }
+    ensures divides { IfOk result (λ rules. rules.changes.divides ≡ conversions.divides_date dialect (map field_of entry.now.fields.items)) }
+    ensures joined { IfOk result (λ rules. option_map string_bytes rules.changes.joined ≡ conversions.joined_date dialect defines text.now (map field_of entry.now.fields.items)) }
 {
     let kind = EntryType::new(alloc, entry.kind.v)?;
-    let changes = changes_of(alloc, format, defines, text, &kind, &entry.fields)?;
+    let changes = changes_of(alloc, dialect, defines, text, &kind, &entry.fields)?;
     Ok(Rules {
-        format,
-        names: other_names(format, &kind),
+        dialect,
+        names: other_names(dialect, &kind),
         changes,
     })
 }
@@ -172,7 +172,7 @@ fn field_note(
     if gives_way(alloc, &rules.changes, field)? {
         return Ok(None);
     }
-    Ok(stays_note(rules.format, other_name(rules.names, field.key.v), field))
+    Ok(stays_note(rules.dialect, other_name(rules.names, field.key.v), field))
 }
 
 // Adds the note of the field with an index, if there is something to know of it.
@@ -211,47 +211,47 @@ fn push_field_notes(
 fn push_entry_notes(
     notes: &mut Vec<Note>,
     alloc: Global,
-    format: Format,
+    dialect: Dialect,
     defines: bool,
     text: &str,
     index: usize,
     entry: &Spanned<RawEntry<'_>>,
 ) -> Result<(), AllocError>
-    ensures { OnOk result (notes.new.items ≡ notes.old.items ++ spec.entry_notes format defines text.now index (entry_reading_of entry.now)) }
+    ensures { OnOk result (notes.new.items ≡ notes.old.items ++ spec.entry_notes dialect defines text.now index (entry_reading_of entry.now)) }
 {
-    let rules = rules_of(alloc, format, defines, text, &entry.v)?;
+    let rules = rules_of(alloc, dialect, defines, text, &entry.v)?;
     push_field_notes(notes, alloc, &rules, index, &entry.v.fields)
 }
 
 // The notes of entries of a text that defines an abbreviation of a month or doesn't.
 fn entry_notes(
     alloc: Global,
-    format: Format,
+    dialect: Dialect,
     defines: bool,
     text: &str,
     entries: &[Spanned<RawEntry<'_>>],
 ) -> Result<Vec<Note>, AllocError>
-    ensures { IfOk result (λ notes. notes.items ≡ indexed (spec.entry_notes format defines text.now) 0 (map entry_reading_of entries.now)) }
+    ensures { IfOk result (λ notes. notes.items ≡ indexed (spec.entry_notes dialect defines text.now) 0 (map entry_reading_of entries.now)) }
 {
     let mut notes = Vec::new(alloc);
     'entries: for (index, entry) in entries.iter().enumerate() {
-        push_entry_notes(&mut notes, alloc, format, defines, text, index, entry)?;
+        push_entry_notes(&mut notes, alloc, dialect, defines, text, index, entry)?;
     }
     Ok(notes)
 }
 
-/// What is to know of the fields that don't give way where a document is converted for a format, in the order of the file. A field
-/// that the format has another name for keeps its own where its entry has a field with the other. For BibLaTeX a month is named that
+/// What is to know of the fields that don't give way where a document is converted for a dialect, in the order of the file. A field
+/// that the dialect has another name for keeps its own where its entry has a field with the other. For BibLaTeX a month is named that
 /// isn't joined with a year. For BibTeX a date stays where it isn't divided, and a field that no standard style reads is named. Fails
 /// only where there is no memory.
 pub fn notes(
     alloc: Global,
     document: &RawDocument<'_>,
-    format: Format,
+    dialect: Dialect,
 ) -> Result<Vec<Note>, AllocError>
-    ensures { IfOk result (λ notes. notes.items ≡ file_notes format document.now) }
+    ensures { IfOk result (λ notes. notes.items ≡ file_notes dialect document.now) }
 {
     let raw = document.raw();
     let defines = defines_month(&raw.abbreviations);
-    entry_notes(alloc, format, defines, document.text(), &raw.entries)
+    entry_notes(alloc, dialect, defines, document.text(), &raw.entries)
 }

@@ -4,9 +4,9 @@ use Rattle.std.specs.Prelude.{ℕ, if◌then◌else◌, List, [], ◌++◌, code
 use Rattle.bib_chunks.specs.Values.{Value, text}
 use Rattle.bib_entry.specs.declared.entry.Entry.{Entry}
 use Rattle.bib_entry.specs.Fields.{field_or}
-use Rattle.bib_enums.specs.Language.{language_row}
-use Rattle.bib_enums.specs.declared.types.lang.Language.{Language}
-use Rattle.bib_enums.specs.declared.types.lang.Language.TheVariants.{EnglishUK}
+use Rattle.bib_tables.specs.Language.{language_row}
+use Rattle.bib_tables.specs.declared.types.lang.Language.{Language}
+use Rattle.bib_tables.specs.declared.types.lang.Language.TheVariants.{EnglishUK}
 use Rattle.bib_values.specs.Enumerations.{language_read}
 use Rattle.bib_csl.specs.declared.item.Field.{Field}
 use Rattle.bib_csl.specs.declared.variables.Variable.TheVariants as variable

@@ -10,8 +10,8 @@ use Rattle.bib_chunks.specs.Cuts.{and_list, comma_list}
 use Rattle.bib_chunks.specs.Values.{Value, text}
 use Rattle.bib_entry.specs.declared.entry.Entry.{Entry}
 use Rattle.bib_entry.specs.Editors.{role_of}
-use Rattle.bib_enums.specs.declared.types.EditorType.{EditorType}
-use Rattle.bib_enums.specs.declared.types.EditorType.TheVariants as role
+use Rattle.bib_tables.specs.declared.types.EditorType.{EditorType}
+use Rattle.bib_tables.specs.declared.types.EditorType.TheVariants as role
 use Rattle.bib_people.specs.declared.person.Person.{Person}
 use Rattle.bib_people.specs.Names.{person_of}
 use Rattle.bib_csl.specs.declared.item.Field.{Field}

@@ -3,8 +3,8 @@
 use Rattle.std.specs.Prelude.{ℕ, if◌then◌else◌, List, [], ◌++◌, codes, bytes_eq}
 use Rattle.bib_entry.specs.Fields.{field_or}
 use Rattle.bib_entry.specs.declared.entry.Entry.{Entry}
-use Rattle.bib_entry_types.specs.declared.mechanics.EntryType.{EntryType}
-use Rattle.bib_entry_types.specs.declared.mechanics.EntryType.TheVariants.{MastersThesis, PhdThesis, TechReport}
+use Rattle.bib_tables.specs.declared.mechanics.EntryType.{EntryType}
+use Rattle.bib_tables.specs.declared.mechanics.EntryType.TheVariants.{MastersThesis, PhdThesis, TechReport}
 use Rattle.bib_csl.specs.declared.item.Field.{Field}
 use Rattle.bib_csl.specs.declared.variables.Variable.TheVariants.{Publisher, PublisherPlace, OriginalPublisher, OriginalPublisherPlace, Genre}
 use Rattle.bib_csl.specs.Fields.{given}

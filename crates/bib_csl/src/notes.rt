@@ -13,7 +13,7 @@ use crate::texts::{either, field_or, joined, rich_text};
 use crate::variables::Variable;
 use bib_chunks::chunk::ChunksRef;
 use bib_entry::entry::Entry;
-use bib_enums::types::lang::Language;
+use bib_tables::types::lang::Language;
 use bib_text::items::Items;
 use bib_text::text::Text;
 use bib_values::enums::read_language;

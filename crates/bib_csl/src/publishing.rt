@@ -9,7 +9,7 @@ use crate::item::Field;
 use crate::texts::{either, list_text, list_text_or, rich_text};
 use crate::variables::Variable;
 use bib_entry::entry::Entry;
-use bib_entry_types::mechanics::EntryType;
+use bib_tables::mechanics::EntryType;
 use bib_text::items::Items;
 use bib_text::text::Text;
 use std::alloc::{AllocError, Global};

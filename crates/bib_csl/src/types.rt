@@ -4,7 +4,7 @@ ghost use Rattle.std.specs.Prelude.{◌≡◌};
 ghost use Rattle.bib_csl.specs.Types.{type_of_article, item_type_of, is_article, is_in_book, is_volume, counts_issues, counts_series};
 
 use crate::variables::ItemType;
-use bib_entry_types::mechanics::EntryType;
+use bib_tables::mechanics::EntryType;
 
 // The type of an article, by the text of the field `entrysubtype`.
 fn type_of_article(subtype: &str) -> ItemType

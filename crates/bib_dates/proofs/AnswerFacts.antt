@@ -1,9 +1,9 @@
--- What is read in turn is answered in turn: a refusal of a part refuses the whole.
+-- An error of a part is an error of the whole.
 use Rattle.std.proofs.Common.{◌≡◌, ℕ, List, Result, Ok, Err, Option, Some, inl, inr, refl, sym, ap, subst, ◌∙◌}
 use Rattle.std.specs.Borrow.{Bor}
 use Rattle.std.specs.Prelude.{ℤ}
-use Rattle.bib_enums.specs.declared.type_error.TypeError.{TypeError}
-use Rattle.bib_enums.specs.ReadAs.{IsRefusal}
+use Rattle.bib_tables.specs.declared.type_error.TypeError.{TypeError}
+use Rattle.bib_tables.specs.ReadAs.{IsRefusal}
 use Rattle.bib_dates.specs.declared.errors.ReadError.{ReadError}
 use Rattle.bib_dates.specs.declared.errors.ReadError.TheVariants.{Specified, Unspecified}
 use Rattle.bib_dates.specs.Readings.{Reading, ◌>>=◌, readable_value, MayRefuse}
@@ -11,7 +11,7 @@ use Rattle.bib_dates.specs.Readings.Reading.{says, error, unread}
 use Rattle.bib_dates.specs.Code.{reading, parsed}
 use Rattle.bib_dates.specs.ThreeFields.{month_field, day_of, month_with_day, year_field, month_and_day, on_day, three_fields_of}
 
--- a reading is refused so
+-- parsing returned this error
 abbrev pub Refused : {A : Type 0} → Reading A → TypeError → Type 0
 Refused r e = IsRefusal (readable_value r) (MayRefuse r) e
 
@@ -41,7 +41,7 @@ part_said (Ok q) p e = let x : q ≡ p = cc in ap (λ y. says (y.0, y.1.now)) x
 part_said (Err (Specified reason)) p e = cc
 part_said (Err (Unspecified reason)) p e = cc
 
--- ---- a month, and the day after it or in a field of its own
+-- ---- a month, and the day after it or in its own field
 
 pub month_refused : (text : List ℕ) (day : Option (List ℕ)) (r : Result (Option ℕ × Bor (List ℕ)) ReadError) (e : TypeError)
     → parsed r ≡ month_field text → Refused (reading r) e → Refused (month_with_day text day) e
@@ -54,11 +54,13 @@ month_said : (text : List ℕ) (day : Option (List ℕ)) (r : Result (Option ℕ
 unfolding month_with_day
 month_said text day r p is found = rw (sym is ∙ part_said r p found) refl
 
+-- an error of the day is an error of the month and the day
 pub day_refused : (text : List ℕ) (day : Option (List ℕ)) (r : Result (Option ℕ × Bor (List ℕ)) ReadError) (p : Option ℕ × Bor (List ℕ)) (read : Reading (Option ℕ)) (e : TypeError)
     → parsed r ≡ month_field text → readable_value (reading r) ≡ Some p → read ≡ day_of day p.1.now → Refused read e → Refused (month_with_day text day) e
 day_refused text day r p read e is found same h =
     subst (λ x. Refused x e) (sym (month_said text day r p is found)) (passed (day_of day p.1.now) (λ at. says (p.0, at)) e (subst (λ x. Refused x e) same h))
 
+-- a parsed month and a parsed day are the month and the day
 pub month_and_day_read : (text : List ℕ) (day : Option (List ℕ)) (r : Result (Option ℕ × Bor (List ℕ)) ReadError) (p : Option ℕ × Bor (List ℕ)) (read : Reading (Option ℕ)) (d : Option ℕ)
     → parsed r ≡ month_field text → readable_value (reading r) ≡ Some p → read ≡ day_of day p.1.now → readable_value read ≡ Some d → readable_value (month_with_day text day) ≡ Some (p.0, d)
 month_and_day_read text day r p read d is found same h =
@@ -76,11 +78,13 @@ year_said : (year : List ℕ) (month day : Option (List ℕ)) (y : ℤ) → read
 unfolding three_fields_of
 year_said year month day y h = rw (said (year_field year) y h) refl
 
+-- an error of the month and the day is an error of the three fields
 pub parts_refused : (year : List ℕ) (month day : Option (List ℕ)) (y : ℤ) (e : TypeError) → readable_value (year_field year) ≡ Some y
     → Refused (month_and_day month day) e → Refused (three_fields_of year month day) e
 parts_refused year month day y e found h =
     subst (λ x. Refused x e) (sym (year_said year month day y found)) (passed (month_and_day month day) (λ parts. says (on_day y parts.0 parts.1)) e h)
 
+-- a parsed year, month and day are the date of the three fields
 pub all_read : (year : List ℕ) (month day : Option (List ℕ)) (y : ℤ) (m d : Option ℕ) → readable_value (year_field year) ≡ Some y
     → readable_value (month_and_day month day) ≡ Some (m, d) → readable_value (three_fields_of year month day) ≡ Some (on_day y m d)
 all_read year month day y m d found h =

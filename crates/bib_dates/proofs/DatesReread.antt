@@ -1,4 +1,4 @@
--- Each kept date is read back from what is written of it.
+-- Each kept date parses from its text.
 use Rattle.std.proofs.Common.{◌≡◌, ℕ, zero, suc, ◌+◌, ◌-◌, ◌<◌, ◌≤◌, Bool, true, false, ◌||◌, ◌==◌, not, List, [], ◌∷◌, ◌++◌, length, take, drop, get_or, refl, sym, ap, ◌∙◌, arith, length-append, take_at, drop_at, append-nil, append_assoc, Option, Some, None, ℤ, pos, negsuc}
 use Rattle.std.specs.Prelude.{codes, bytes_eq}
 use Rattle.std.specs.List.{prefix_len, list_all, list_any, before_first, after_first, position_or_len}
@@ -29,24 +29,24 @@ use Rattle.bib_dates.proofs.PartsReread.{side_reads, not_negative, IsNumber, fou
 abbrev pub is_date_byte : ℕ → Bool
 is_date_byte b = is_ascii_digit b || b == 45
 
--- what a side is written as: digits and hyphens, four bytes or more, and read back
+-- the text of a side: digits and hyphens, four bytes or more, which parses as the side
 pub record IsSide (d : Datetime) (text : List ℕ) : Type 0 where
   pub bytes : list_all is_date_byte text ≡ true
   pub long : 4 ≤ length text
   pub read : side text ≡ says d
 
-all_more : (p q : ℕ → Bool) → ((b : ℕ) → p b ≡ true → q b ≡ true) → (xs : List ℕ) → list_all p xs ≡ true → list_all q xs ≡ true
+pub all_more : (p q : ℕ → Bool) → ((b : ℕ) → p b ≡ true → q b ≡ true) → (xs : List ℕ) → list_all p xs ≡ true → list_all q xs ≡ true
 all_more p q f [] h = refl
 all_more p q f (x ∷ xs) h = let k = and_parts (p x) (list_all p xs) h in and_from _ _ (f x k.0) (all_more p q f xs k.1)
 
-any_none : (p q : ℕ → Bool) → ((b : ℕ) → p b ≡ true → q b ≡ false) → (xs : List ℕ) → list_all p xs ≡ true → list_any q xs ≡ false
+pub any_none : (p q : ℕ → Bool) → ((b : ℕ) → p b ≡ true → q b ≡ false) → (xs : List ℕ) → list_all p xs ≡ true → list_any q xs ≡ false
 any_none p q f [] h = refl
 any_none p q f (x ∷ xs) h = let k = and_parts (p x) (list_all p xs) h in rw (f x k.0) (any_none p q f xs k.1)
 
-digit_bytes : (xs : List ℕ) → list_all is_ascii_digit xs ≡ true → list_all is_date_byte xs ≡ true
+pub digit_bytes : (xs : List ℕ) → list_all is_ascii_digit xs ≡ true → list_all is_date_byte xs ≡ true
 digit_bytes xs h = all_more is_ascii_digit is_date_byte (λ b k. rw k refl) xs h
 
-both : (p : ℕ → Bool) (xs ys : List ℕ) → list_all p xs ≡ true → list_all p ys ≡ true → list_all p (xs ++ ys) ≡ true
+pub both : (p : ℕ → Bool) (xs ys : List ℕ) → list_all p xs ≡ true → list_all p ys ≡ true → list_all p (xs ++ ys) ≡ true
 both p xs ys h k = list_all-append p xs ys ∙ and_from _ _ h k
 
 number_bytes : (y : ℤ) (m d : Option ℕ) → IsKeptDay y m d → list_all is_date_byte (month_day_text m d) ≡ true
@@ -81,13 +81,13 @@ is_side d kept =
 
 -- ---- sides
 
-date_plain : (b : ℕ) → is_date_byte b ≡ true → is_plain b ≡ true
+pub date_plain : (b : ℕ) → is_date_byte b ≡ true → is_plain b ≡ true
 date_plain b h = grind (arith, nat_tests)
 
-no_slash : (b : ℕ) → is_date_byte b ≡ true → (b == 47) ≡ false
+pub no_slash : (b : ℕ) → is_date_byte b ≡ true → (b == 47) ≡ false
 no_slash b h = grind (arith, nat_tests)
 
-no_x : (b : ℕ) → is_date_byte b ≡ true → (b == 88) ≡ false
+pub no_x : (b : ℕ) → is_date_byte b ≡ true → (b == 88) ≡ false
 no_x b h = grind (arith, nat_tests)
 
 no_point : (b : ℕ) → is_date_byte b ≡ true → (b == 46) ≡ false
@@ -136,7 +136,7 @@ without_x text h = any_none is_date_byte (λ b. b == 88) no_x text h
 without_slash : (text : List ℕ) → list_all is_date_byte text ≡ true → holds 47 text ≡ false
 without_slash text h = any_none is_date_byte (λ b. b == 47) no_slash text h
 
--- none of two, and one of two
+-- a test that no element of two lists passes, no element of the appended lists passes
 none_of : (p : ℕ → Bool) (xs ys : List ℕ) → list_any p xs ≡ false → list_any p ys ≡ false → list_any p (xs ++ ys) ≡ false
 none_of p xs ys h k = list_any-append p xs ys ∙ rw h k
 
@@ -181,7 +181,7 @@ between_reads d e text other is too = rw (
 abbrev pub is_value_byte : ℕ → Bool
 is_value_byte b = is_date_byte b || lies 46 47 b
 
--- what a date or a range is written as
+-- the text of a date or a range, without a mark, which parses as it
 pub record IsValue (v : DateValue) (text : List ℕ) : Type 0 where
   pub bytes : list_all is_value_byte text ≡ true
   pub read : date_value text ≡ says v
@@ -221,7 +221,7 @@ last_is text c = get_or_at text c [] 0 (length (text ++ (c ∷ [])) - 1) (omega 
 prefix_is : (text : List ℕ) (c : ℕ) → take (length (text ++ (c ∷ [])) - 1) (text ++ (c ∷ [])) ≡ text
 prefix_is text c = take_at text (c ∷ []) (length (text ++ (c ∷ [])) - 1) (omega (arith, length-append text (c ∷ [])))
 
-any_byte : (p : ℕ → Bool) → p 0 ≡ true → (text : List ℕ) → list_all p text ≡ true → (i : ℕ) → p (get_or text i 0) ≡ true
+pub any_byte : (p : ℕ → Bool) → p 0 ≡ true → (text : List ℕ) → list_all p text ≡ true → (i : ℕ) → p (get_or text i 0) ≡ true
 any_byte p zeroth [] h i = zeroth
 any_byte p zeroth (b ∷ text) h zero = (and_parts (p b) (list_all p text) h).0
 any_byte p zeroth (b ∷ text) h (suc i) = any_byte p zeroth text (and_parts (p b) (list_all p text) h).1 i
@@ -270,7 +270,7 @@ written_is_plain d kept =
     rw (mark_after d.value mark)
     (both is_plain (value_text d.value []) mark (all_more is_value_byte is_plain value_plain (value_text d.value []) is.bytes) (mark_plain d.uncertain d.approximate))
 
--- the law on texts: each kept date is read back from what is written of it
+-- the law on texts: each kept date parses from its text
 pub text_survives : (d : Date) → IsKeptDate d → date_of (date_text d) ≡ says d
 text_survives d kept =
     let bytes = written_is_plain d kept in
@@ -280,7 +280,7 @@ text_survives d kept =
 plain_simple : (b : ℕ) → is_plain b ≡ true → is_simple b ≡ true
 plain_simple b h = grind (arith, nat_tests)
 
--- the law on chunks
+-- the law on chunks: each kept date parses from its chunks
 pub date_survives : (d : Date) → IsKeptDate d → date_read (date_written d) ≡ Some d
 date_survives d kept =
     let whole : text (date_written d) ≡ date_text d = simple_text (date_text d) (all_more is_plain is_simple plain_simple (date_text d) (written_is_plain d kept)) in

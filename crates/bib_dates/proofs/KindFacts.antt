@@ -1,9 +1,9 @@
--- Any error of a date is of a kind that dates have, also where the kind is promised.
+-- Each error of a date has one of the kinds that dates have, and so has each specified one.
 use Rattle.std.proofs.Common.{◌≡◌, ◌⊎◌, ℕ, ◌==◌, Bool, true, false, cond, List, [], ◌∷◌, length, drop, Option, Some, None, subst, sym, ap, refl, inl, inr}
 use Rattle.std.specs.Prelude.{ℤ, codes}
 use Rattle.std.specs.Str.{trim_start, trim_end, str_to_ascii_uppercase}
-use Rattle.bib_enums.specs.declared.type_error.TypeErrorKind.{TypeErrorKind}
-use Rattle.bib_enums.specs.declared.type_error.TypeErrorKind.TheVariants.{DayOutOfRange, MonthOutOfRange, InvalidNumber, MissingNumber, WrongNumberOfDigits, InvalidFormat, YearZeroCE}
+use Rattle.bib_tables.specs.declared.type_error.TypeErrorKind.{TypeErrorKind}
+use Rattle.bib_tables.specs.declared.type_error.TypeErrorKind.TheVariants.{DayOutOfRange, MonthOutOfRange, InvalidNumber, MissingNumber, WrongNumberOfDigits, InvalidFormat, YearZeroCE}
 use Rattle.bib_dates.specs.Readings.{Reading, ◌>>=◌, IsDateKind, IsUnreadKind, MayRefuse}
 use Rattle.bib_dates.specs.Readings.Reading.{says, error, unread}
 use Rattle.bib_dates.specs.Parts.{begins_with, number, small_number, after_byte, after_hyphens, year}
@@ -11,7 +11,7 @@ use Rattle.bib_dates.specs.Times.{offset_minute, signed_offset, offset, after_mi
 use Rattle.bib_dates.specs.Dates.{after_month, after_year, side, all_months, all_days, unknown_month, century, decade, after_four_digits, unknown, range, date_value, without_mark, marked_date, date_of}
 use Rattle.bib_dates.specs.ThreeFields.{starts_word, stands, of_era, with_era, year_field, month_field, reported_day, day_after, only_day, day_field, day_of, month_with_day, month_and_day, three_fields_of}
 
--- each of the four kinds where none is promised is one that dates have
+-- each of the four kinds that an error may have if none is specified is one that dates have
 is_date_kind : (kind : TypeErrorKind) → IsUnreadKind kind → IsDateKind kind
 is_date_kind InvalidNumber is = tt
 is_date_kind MissingNumber is = tt
@@ -19,19 +19,19 @@ is_date_kind WrongNumberOfDigits is = tt
 is_date_kind InvalidFormat is = tt
 is_date_kind _ never = absurd never
 
--- an error's kind is the promised one, or one of the four
+-- the kind of an error is the specified one, or one of the four
 pub promised_or_unread : {A : Type 0} (r : Reading A) (kind : TypeErrorKind) → MayRefuse r kind → (r ≡ error kind) ⊎ ((r ≡ unread) × IsUnreadKind kind)
 promised_or_unread (says a) kind never = absurd never
 promised_or_unread (error promised) kind may = inl (ap (λ k. error k) (sym may.0))
 promised_or_unread unread kind may = inr (refl, may)
 
--- an error's kind is one that dates have
+-- the kind of an error is one that dates have
 pub has_date_kind : {A : Type 0} (r : Reading A) (kind : TypeErrorKind) → MayRefuse r kind → IsDateKind kind
 has_date_kind (says a) kind never = absurd never
 has_date_kind (error promised) kind may = may.1
 has_date_kind unread kind may = is_date_kind kind may
 
--- a promised kind is one that dates have
+-- the specified kind of a reading, if any, is one that dates have
 data Fine {A : Type 0} : Reading A → Type 0 where
   said : {a : A} → Fine (says a)
   reported : {kind : TypeErrorKind} → IsDateKind kind → Fine (error kind)
@@ -222,7 +222,7 @@ fine_three_fields : (year : List ℕ) (month day : Option (List ℕ)) → Fine (
 unfolding three_fields_of
 fine_three_fields year month day = fine_then (fine_year_field year) (λ _. fine_then (fine_month_and_day month day) (λ _. Fine.said))
 
--- ---- so is any that is promised
+-- ---- specified kinds
 
 promised : {A : Type 0} (r : Reading A) (kind : TypeErrorKind) → Fine r → r ≡ error kind → IsDateKind kind
 promised (says a) kind fine is = cc

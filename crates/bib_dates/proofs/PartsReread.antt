@@ -1,4 +1,4 @@
--- The year, the month and the day of a kept date are read back from what is written of them.
+-- The year, the month and the day of a kept date parse from its text.
 use Rattle.std.proofs.Common.{◌≡◌, ℕ, zero, suc, ◌+◌, ◌-◌, ◌^◌, ◌<◌, ◌≤◌, Bool, true, false, ◌==◌, List, [], ◌∷◌, ◌++◌, length, replicate, refl, sym, ap, ◌∙◌, arith, lit<, length-append, take_at, drop_at, ne_eqb, append-nil}
 use Rattle.std.specs.List.{prefix_len, list_all}
 use Rattle.std.specs.Char.{is_ascii_digit, digit_value}
@@ -14,8 +14,8 @@ use Rattle.std.proofs.lemmas.Bool.Decides.{nat_tests}
 use Rattle.std.specs.Prelude.{ℤ, pos, negsuc, neg_ℤ, Option, Some, None}
 use Rattle.std.specs.Int.{is_negative}
 use Rattle.jiff_core.specs.Calendar.{days_in_month, IsYear}
-use Rattle.bib_enums.specs.declared.type_error.TypeErrorKind.{TypeErrorKind}
-use Rattle.bib_enums.specs.declared.type_error.TypeErrorKind.TheVariants.{DayOutOfRange, MonthOutOfRange}
+use Rattle.bib_tables.specs.declared.type_error.TypeErrorKind.{TypeErrorKind}
+use Rattle.bib_tables.specs.declared.type_error.TypeErrorKind.TheVariants.{DayOutOfRange, MonthOutOfRange}
 use Rattle.bib_dates.specs.Kept.{IsKeptDay}
 use Rattle.bib_dates.proofs.PlainTexts.{is_plain, plain, trim_start-plain}
 use Rattle.bib_dates.specs.Parts.{run, after_run, lies, number, small_number, begins_with, after_hyphens, sign, year}
@@ -39,7 +39,7 @@ zeros_value : (k : ℕ) (ds : List ℕ) → digits_value 10 (replicate k 48 ++ d
 zeros_value zero ds = refl
 zeros_value (suc k) ds = zeros_value k ds
 
--- a padded number is digits, so many, of that value
+-- a padded number: `width` digits with this value
 pub record IsNumber (width n : ℕ) (text : List ℕ) : Type 0 where
   pub digits : list_all is_ascii_digit text ≡ true
   pub size : length text ≡ width
@@ -54,7 +54,7 @@ padded_number width n some small fits =
       value = zeros_value (width - length (decimal n)) (decimal n) ∙ numeral.1;
     }
 
--- a text after which a number ends
+-- the text after a number doesn't begin with a digit
 pub record Ends (rest : List ℕ) : Type 0 where
   pub plain : plain rest ≡ true
   pub no_digit : prefix_len is_ascii_digit rest ≡ 0
@@ -73,7 +73,7 @@ whole_run : (p : ℕ → Bool) (xs rest : List ℕ) → list_all p xs ≡ true �
 whole_run p [] rest h = omega arith
 whole_run p (x ∷ xs) rest h = let q = and_parts (p x) (list_all p xs) h in rw (q.0, whole_run p xs rest q.1) (omega arith)
 
--- the digits at the start of a text, and the text after them
+-- the number of digits at the start of a text
 run_len : (width n : ℕ) (xs rest : List ℕ) → IsNumber width n xs → Ends rest → prefix_len is_ascii_digit (xs ++ rest) ≡ width
 run_len width n xs rest is ends = let e = whole_run is_ascii_digit xs rest is.digits in let s = is.size in let z = ends.no_digit in omega arith
 
@@ -101,7 +101,7 @@ not_begun byte (x ∷ xs) rest h some other =
     let p = and_parts _ _ h in
     ne_eqb x byte (λ e. let q : is_ascii_digit byte ≡ true = ap is_ascii_digit (sym e) ∙ p.0 in cc)
 
--- a year of four digits after no sign, and after a minus
+-- a year of four digits without a sign
 year_digits : (n : ℕ) (xs rest : List ℕ) → IsNumber 4 n xs → Ends rest → year (xs ++ rest) ≡ says (pos n, rest)
 unfolding year sign
 year_digits n xs rest is ends =
@@ -156,9 +156,11 @@ hyphens_read width n xs rest some is ends =
     let there : 0 < length xs = let s = is.size in omega arith in
     rw (trim_start-plain (45 ∷ (xs ++ rest)) whole, no_hyphen xs rest is.digits there) refl
 
+-- a number ends at the end of the text
 pub nothing : Ends []
 nothing = record { plain = refl; no_digit = refl }
 
+-- a number ends at a hyphen
 pub after_hyphen : (width n : ℕ) (xs rest : List ℕ) → IsNumber width n xs → plain rest ≡ true → Ends (45 ∷ (xs ++ rest))
 after_hyphen width n xs rest is h = record { plain = plain-append xs rest (digits_plain xs is.digits) h; no_digit = refl }
 
@@ -168,7 +170,7 @@ month_short y m = grind (arith, nat_tests)
 one_less : (n : ℕ) → n + 1 - 1 ≡ n
 one_less n = omega arith
 
-within : (low high n : ℕ) → low ≤ n → n ≤ high → lies low high n ≡ true
+pub within : (low high n : ℕ) → low ≤ n → n ≤ high → lies low high n ≡ true
 within low high n h k = grind (arith, nat_tests)
 
 pub side_reads : (y : ℤ) (m d : Option ℕ) → IsYear y → IsKeptDay y m d → side (datetime_text (datetime y m d None)) ≡ says (datetime y m d None)

@@ -1,4 +1,4 @@
--- ASCII texts without white space and lowercase letters: trimming and uppercasing change nothing.
+-- ASCII texts without white space and lowercase letters: trimming and upper case change nothing.
 use Rattle.std.proofs.Common.{◌≡◌, ℕ, ◌<◌, Bool, true, false, ◌||◌, ◌==◌, List, [], ◌∷◌, refl, ap, arith}
 use Rattle.std.specs.List.{list_all, All}
 use Rattle.std.specs.Char.{is_whitespace, to_ascii_uppercase}
@@ -10,7 +10,7 @@ use Rattle.std.proofs.lemmas.Bool.Decides.{nat_tests}
 use Rattle.std.proofs.lemmas.Bool.{and_parts}
 use Rattle.bib_dates.specs.Parts.{lies}
 
--- a sign, a digit or a capital
+-- a sign, a digit or an uppercase letter
 abbrev pub is_plain : ℕ → Bool
 is_plain b = lies 33 96 b || b == 126
 

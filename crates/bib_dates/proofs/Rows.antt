@@ -1,8 +1,8 @@
--- Worked rows of the definitions, computed.
+-- Examples of the definitions, computed.
 use Rattle.std.proofs.Common.{◌≡◌, refl, Some, None, true, false, pos, neg_ℤ}
 use Rattle.std.specs.Prelude.{codes}
 use Rattle.std.specs.Str.{trim_start, trim_end, chars}
-use Rattle.bib_enums.specs.declared.type_error.TypeErrorKind.TheVariants.{UndefinedRange, DayOutOfRange, MonthOutOfRange, WrongNumberOfDigits}
+use Rattle.bib_tables.specs.declared.type_error.TypeErrorKind.TheVariants.{UndefinedRange, DayOutOfRange, MonthOutOfRange, WrongNumberOfDigits}
 use Rattle.bib_dates.specs.declared.date.DateValue.TheVariants.{At, After, Before, Between}
 use Rattle.bib_dates.specs.Readings.Reading.{says, error}
 use Rattle.bib_dates.specs.Parts.{number, small_number, after_hyphens, sign, year}

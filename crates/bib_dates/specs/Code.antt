@@ -1,9 +1,9 @@
 -- Machinery: words of private contracts.
--- The results of private functions as readings: `Specified` holds the kind of error that the definition names.
+-- The results of private functions as readings: `Specified` contains the kind of error that the definition specifies.
 use Rattle.std.specs.Prelude.{ℕ, List, Result, Ok, Err}
 use Rattle.std.specs.Borrow.{Bor}
-use Rattle.bib_enums.specs.declared.type_error.TypeErrorKind.{TypeErrorKind}
-use Rattle.bib_enums.specs.declared.type_error.TypeErrorKind.TheVariants as Kind
+use Rattle.bib_tables.specs.declared.type_error.TypeErrorKind.{TypeErrorKind}
+use Rattle.bib_tables.specs.declared.type_error.TypeErrorKind.TheVariants as Kind
 use Rattle.bib_dates.specs.declared.errors.SpecifiedKind.{SpecifiedKind}
 use Rattle.bib_dates.specs.declared.errors.SpecifiedKind.TheVariants.{UndefinedRange, DayOutOfRange, MonthOutOfRange, InvalidNumber, WrongNumberOfDigits, InvalidFormat, YearZeroCE}
 use Rattle.bib_dates.specs.declared.errors.ReadError.{ReadError}
@@ -11,7 +11,7 @@ use Rattle.bib_dates.specs.declared.errors.ReadError.TheVariants.{Specified, Uns
 use Rattle.bib_dates.specs.Readings.{Reading, Parsed}
 use Rattle.bib_dates.specs.Readings.Reading.{says, error, unread}
 
--- the kind of type errors that a specified kind is
+-- a specified kind as a kind of type errors
 abbrev pub error_kind_of : SpecifiedKind → TypeErrorKind
 error_kind_of UndefinedRange = Kind.UndefinedRange
 error_kind_of DayOutOfRange = Kind.DayOutOfRange
@@ -27,13 +27,13 @@ reading (Ok a) = says a
 reading (Err (Specified reason)) = error (error_kind_of reason)
 reading (Err (Unspecified reason)) = unread
 
--- the same of a part, with the rest of the text
+-- the same for a part, with the rest of the text
 abbrev pub parsed : {A : Type 0} → Result (A × Bor (List ℕ)) ReadError → Parsed A
 parsed (Ok p) = says (p.0, p.1.now)
 parsed (Err (Specified reason)) = error (error_kind_of reason)
 parsed (Err (Unspecified reason)) = unread
 
--- the same of the rest of a text alone
+-- the same for the rest of a text only
 abbrev pub rest : Result (Bor (List ℕ)) ReadError → Reading (List ℕ)
 rest (Ok text) = says text.now
 rest (Err (Specified reason)) = error (error_kind_of reason)

@@ -1,5 +1,5 @@
 -- Meaning: words of public contracts.
--- The dates that are read back from what is written of them.
+-- The dates that parse from their text.
 use Rattle.std.specs.Prelude.{◌≡◌, ℕ, ◌+◌, ◌<◌, ℤ, Option, Some, None}
 use Rattle.jiff_core.specs.Calendar.{days_in_month, IsYear}
 use Rattle.bib_dates.specs.declared.date.Date.{Date}
@@ -7,25 +7,26 @@ use Rattle.bib_dates.specs.declared.date.DateValue.{DateValue}
 use Rattle.bib_dates.specs.declared.date.DateValue.TheVariants.{At, After, Before, Between}
 use Rattle.bib_dates.specs.declared.date.Datetime.{Datetime}
 
--- the month and the day exist, and no day stands without a month; both count from 0
+-- the month and the day exist, and there is no day without a month; both count from 0
 abbrev pub IsKeptDay : ℤ → Option ℕ → Option ℕ → Type 0
 IsKeptDay y None None = Unit {0}
 IsKeptDay y None (Some d) = ⊥
 IsKeptDay y (Some m) None = m < 12
 IsKeptDay y (Some m) (Some d) = (m < 12) × (d < days_in_month y (m + 1))
 
--- the year lies from -9999 to 9999, the day exists, and no time stands there
+-- the year is from -9999 to 9999, the month and the day exist, and there is no time
 pub record IsKeptDatetime (d : Datetime) : Type 0 where
   pub year : IsYear d.year
   pub day : IsKeptDay d.year d.month d.day
   pub time : d.time ≡ None
 
+-- the date, or each side of a range, is kept
 abbrev pub IsKeptValue : DateValue → Type 0
 IsKeptValue (At d) = IsKeptDatetime d
 IsKeptValue (After d) = IsKeptDatetime d
 IsKeptValue (Before d) = IsKeptDatetime d
 IsKeptValue (Between a b) = IsKeptDatetime a × IsKeptDatetime b
 
--- a date that is read back from what is written of it
+-- a kept date, which parses from its text: the date or each side of the range is kept
 abbrev pub IsKeptDate : Date → Type 0
 IsKeptDate d = IsKeptValue d.value

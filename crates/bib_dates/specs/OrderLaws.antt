@@ -1,6 +1,6 @@
 -- Machinery: words of private contracts.
--- The orders of times and of dates are partial orders, Equal exactly for equal values. A law may cite lemmas of its own
--- crate from here alone.
+-- The orders of times and of dates are partial orders, with `Equal` exactly for equal values. A law of an `impl` may
+-- cite lemmas of its own crate only from specs/.
 use Rattle.std.specs.Prelude.{◌≡◌, refl, ℕ, Bool, true, false, ◌&&◌, Option, Some, None, is_some, option_map, nat_eq}
 use Rattle.std.proofs.Common.{ap, subst, ◌∙◌, arith}
 use Rattle.std.specs.Option.{option_eq}
@@ -30,7 +30,7 @@ alone_equal : (same : Bool) → Decides same (if_equal same ≡ Some Equal)
 alone_equal true = (λ h. refl, λ h. refl)
 alone_equal false = (λ h. cc, λ h. cc)
 
--- equal, or not to be compared, for an equality
+-- equal or not comparable, by an equivalence, is a partial order
 pub alone_po : {K : Type 0} (E : K → K → Bool) → IsEquivalence E → IsPartialOrder E (λ x y. if_equal (E x y))
 alone_po E e = record {
   antisymm = λ x y. ap if_equal (e.symm x y) ∙ alone_back (E y x);
@@ -39,7 +39,7 @@ alone_po E e = record {
   congr = λ x y z h. ap if_equal (e.congr x y z h);
 }
 
--- a part that one side alone has is not to be compared
+-- if a part has a partial order, so has an optional part; it isn't comparable if only one side has it
 module _ {K : Type 0} {E : K → K → Bool} {C : K → K → Option Ordering} (o : IsPartialOrder E C) where
   back : (p q : Option K) → part_cmp C p q ≡ option_map ordering_reverse (part_cmp C q p)
   back None None = refl
@@ -74,10 +74,11 @@ same_offset_itself : (a : TimeOffset) → same_offset a a ≡ true
 same_offset_itself Utc = refl
 same_offset_itself (Offset p h m) = simp (bool_eq_equiv.refl, nat_eq_equiv.refl)
 
+-- numbers that pass the test of equality are equal
 pub nat_is : (a b : ℕ) → nat_eq a b ≡ true → a ≡ b
 nat_is a b h = grind (arith, nat_tests)
 
--- what is the same is equal
+-- offsets of the same values are equal
 same_offset_is : (a b : TimeOffset) → same_offset a b ≡ true → a ≡ b
 same_offset_is Utc Utc h = refl
 same_offset_is Utc (Offset q k n) h = cc
@@ -89,11 +90,11 @@ same_offset_is (Offset p h m) (Offset q k n) e =
     let y : h ≡ k = nat_is h k two.0 in
     let z : m ≡ n = nat_is m n two.1 in cc
 
--- a lemma: being the same offset is an equality
+-- a lemma: `same_offset` is an equivalence
 pub same_offset_laws : IsEquivalence same_offset
 same_offset_laws = decided same_offset (λ a b. (same_offset_is a b, λ e. subst (λ x. same_offset a x ≡ true) e (same_offset_itself a)))
 
--- a lemma: being the same offset is a partial equality
+-- a lemma: `same_offset` is a partial equivalence
 pub same_offset_partial : IsPartialEquivalence same_offset
 same_offset_partial = partial_equiv_from_equiv same_offset_laws
 
@@ -122,6 +123,7 @@ same_time_is a b h =
       offset = same_maybe_is a.offset b.offset three.1 i;
     }
 
+-- `same_time` decides whether two times are equal
 pub same_time_decides : (a b : Time) → Decides (same_time a b) (a ≡ b)
 same_time_decides a b = (same_time_is a b, λ e. subst (λ x. same_time a x ≡ true) e (same_time_itself a))
 
@@ -136,15 +138,16 @@ same_says x y = absorbed (beq (is_some x.offset) (is_some y.offset)) (int_eq (ut
     (λ h. subst (λ z. beq (is_some x.offset) (is_some z.offset) ≡ true) (same_time_is x y h) (bool_eq_equiv.refl (is_some x.offset)))
     (λ h. subst (λ z. int_eq (utc_seconds x) (utc_seconds z) ≡ true) (same_time_is x y h) (int_eq_equiv.refl (utc_seconds x)))
 
--- a lemma: times are ordered by a partial order, equal exactly for equal ones
+-- a lemma: `time_cmp` is a partial order, with `Equal` exactly for equal times
 pub time_laws : IsPartialOrder same_time time_cmp
 time_laws = subst (λ E. IsPartialOrder E time_cmp) (λ i x y. same_says x y i)
     (then_po (on_po (λ t. is_some t.offset) (alone_po beq bool_eq_equiv)) (then_po (on_po utc_seconds signed_po) (alone_po same_time (decided same_time same_time_decides))))
 
+-- whether two dates have the same values
 abbrev pub same_datetime : Datetime → Datetime → Bool
 same_datetime a b = int_eq a.year b.year && (option_eq nat_eq a.month b.month && (option_eq nat_eq a.day b.day && option_eq same_time a.time b.time))
 
--- a lemma: dates are ordered by a partial order, equal exactly for equal ones
+-- a lemma: `datetime_cmp` is a partial order, with `Equal` exactly for equal dates
 pub datetime_laws : IsPartialOrder same_datetime datetime_cmp
 datetime_laws =
     then_po (on_po (λ d. d.year) signed_po)

@@ -1,17 +1,17 @@
 -- Meaning: words of public contracts.
--- What a text is read as where some kinds of errors are promised and others aren't, as for the dates of the Rust crate
--- `biblatex`.
+-- Results of parsing a text where some kinds of errors are specified and others aren't, as for the dates of the Rust
+-- crate `biblatex`.
 use Rattle.std.specs.Prelude.{◌≡◌, ℕ, List, Option, Some, None, ⊤}
-use Rattle.bib_enums.specs.declared.type_error.TypeErrorKind.{TypeErrorKind}
-use Rattle.bib_enums.specs.declared.type_error.TypeErrorKind.TheVariants.{UndefinedRange, DayOutOfRange, MonthOutOfRange, InvalidNumber, MissingNumber, WrongNumberOfDigits, InvalidFormat, YearZeroCE}
+use Rattle.bib_tables.specs.declared.type_error.TypeErrorKind.{TypeErrorKind}
+use Rattle.bib_tables.specs.declared.type_error.TypeErrorKind.TheVariants.{UndefinedRange, DayOutOfRange, MonthOutOfRange, InvalidNumber, MissingNumber, WrongNumberOfDigits, InvalidFormat, YearZeroCE}
 
--- a value, an error of this kind, or an error whose kind isn't promised
+-- a value, an error of this kind, or an error whose kind isn't specified
 pub data Reading (A : Type 0) : Type 0 where
   says : A → Reading A
   error : TypeErrorKind → Reading A
   unread : Reading A
 
--- what is read next, of what was read
+-- the next step of parsing, which takes the value of the first one; an error of the first one is kept
 infixl 10 ◌>>=◌
 abbrev pub ◌>>=◌ : {A B : Type 0} → Reading A → (A → Reading B) → Reading B
 says a >>= next = next a
@@ -28,7 +28,7 @@ readable_value (says a) = Some a
 readable_value (error kind) = None
 readable_value unread = None
 
--- the kinds that dates have: each error of a date is of one of these, except out of memory
+-- the kinds of errors that dates have, except out of memory
 abbrev pub IsDateKind : TypeErrorKind → Type 0
 IsDateKind UndefinedRange = ⊤
 IsDateKind DayOutOfRange = ⊤
@@ -40,8 +40,8 @@ IsDateKind InvalidFormat = ⊤
 IsDateKind YearZeroCE = ⊤
 IsDateKind other = ⊥
 
--- the kinds that a date's error may have if the definition names none: a number or the format is wrong. The error is then never
--- one of the other four: an open range, a month or a day out of range, or the year 0
+-- the kinds that a date's error may have if the definition specifies none: a number or the format is wrong. So the
+-- error is never one of the other four: an open range, a month or a day out of range, or the year 0
 abbrev pub IsUnreadKind : TypeErrorKind → Type 0
 IsUnreadKind InvalidNumber = ⊤
 IsUnreadKind MissingNumber = ⊤
@@ -49,7 +49,7 @@ IsUnreadKind WrongNumberOfDigits = ⊤
 IsUnreadKind InvalidFormat = ⊤
 IsUnreadKind other = ⊥
 
--- the kinds that a refusal may have, except out of memory: the promised one, or any of four if none is promised
+-- the kinds that an error may have, except out of memory: the specified one, or any of four if none is specified
 abbrev pub MayRefuse : {A : Type 0} → Reading A → TypeErrorKind → Type 0
 MayRefuse (says a) kind = ⊥
 MayRefuse (error promised) kind = (kind ≡ promised) × IsDateKind kind

@@ -1,7 +1,7 @@
 -- Meaning: words of public contracts.
 -- Dates in three fields: a year with an era, a month by number or name, and a day in a field of its own or after the
--- month. After the manual of BibLaTeX and BibTeX's fields `year`, `month` and `day`, as the Rust crate `biblatex` reads them.
--- The eras and the names of months are ASCII; the texts are not put into uppercase letters.
+-- month. The rules are those of the BibLaTeX manual and of BibTeX's fields `year`, `month` and `day`, as the Rust crate
+-- `biblatex` parses them. The eras and the names of months are ASCII; the texts are not put into upper case.
 use Rattle.std.specs.Prelude.{ℕ, ◌-◌, Bool, true, false, ◌&&◌, ◌||◌, ◌==◌, nat_lt, not, if◌then◌else◌, ℤ, pos, ◌-ℤ◌, List, [], ◌∷◌, length, drop, codes, encode_utf8_all, Option, Some, None}
 use Rattle.std.specs.List.{prefix_len}
 use Rattle.std.specs.declared.ops.Range.{Range}
@@ -13,14 +13,14 @@ use Rattle.std.specs.Str.Parse.{digits_value}
 use Rattle.bib_dates.specs.declared.date.Date.{Date}
 use Rattle.bib_dates.specs.declared.date.DateValue.TheVariants.{At}
 use Rattle.bib_text.specs.Runs.{rest_after}
-use Rattle.bib_enums.specs.declared.type_error.TypeErrorKind.TheVariants.{DayOutOfRange, MonthOutOfRange, InvalidFormat, YearZeroCE}
+use Rattle.bib_tables.specs.declared.type_error.TypeErrorKind.TheVariants.{DayOutOfRange, MonthOutOfRange, InvalidFormat, YearZeroCE}
 use Rattle.bib_dates.specs.Readings.{Reading, ◌>>=◌, Parsed}
 use Rattle.bib_dates.specs.Readings.Reading.{says, error, unread}
 use Rattle.bib_dates.specs.Parts.{run, after_run, lies, begins_with, sign, signed}
 use Rattle.bib_dates.specs.Dates.{datetime}
 use Rattle.bib_text.specs.Characters as char
 
--- whether white space stands at the start
+-- whether a text begins with white space
 abbrev pub starts_blank : List ℕ → Bool
 starts_blank text = not (length (trim_start text) == length text)
 
@@ -29,20 +29,23 @@ abbrev pub is_word_first : List ℕ → Bool
 is_word_first [] = false
 is_word_first (c ∷ cs) = is_alphabetic c || is_numeric c
 
+-- whether a text begins with a letter or a number
 abbrev pub starts_word : List ℕ → Bool
 starts_word text = is_word_first (chars text)
 
--- whether this word stands at the start, and what stands after as many bytes
+-- whether the text begins with this word
 abbrev pub stands : List ℕ → List ℕ → Bool
 stands [] text = true
 stands (b ∷ []) text = begins_with b text
 stands (b ∷ c ∷ word) text = begins_with b text && stands (c ∷ word) (drop 1 text)
 
+-- a text without as many bytes at its start as the word has
 abbrev pub after_word : List ℕ → List ℕ → List ℕ
 after_word [] text = text
 after_word (b ∷ word) text = after_word word (drop 1 text)
 
--- a year of an era, after which no letter and no number stands: it has no sign, and there is no year 0
+-- the year of an era, given the text after the era, which must not begin with a letter or a number. The year has no
+-- sign and isn't 0.
 unfoldable pub of_era : Bool → ℕ → ℤ → List ℕ → Reading ℤ
 of_era has_sign n year rest_after =
     if starts_word rest_after then unread
@@ -50,7 +53,7 @@ of_era has_sign n year rest_after =
     else if n == 0 then error YearZeroCE
     else says year
 
--- a number of the common era or before it, or a year with its sign; other text may stand after
+-- the year of a number, with an era after it or with its sign; any other text may come after it
 unfoldable pub with_era : Bool → Bool → ℕ → List ℕ → Reading ℤ
 with_era has_sign is_minus n text =
     if stands (codes "AD") text then of_era has_sign n (pos n) (after_word (codes "AD") text)
@@ -59,7 +62,7 @@ with_era has_sign is_minus n text =
     else if stands (codes "BC") text then of_era has_sign n (pos 1 -ℤ pos n) (after_word (codes "BC") text)
     else says (signed is_minus n)
 
--- the year field: an optional sign, one to four digits, and perhaps an era
+-- the year field: an optional sign, one to four digits, and an optional era
 unfoldable pub year_field : List ℕ → Reading ℤ
 year_field text =
     let here = trim_start text in
@@ -70,7 +73,7 @@ year_field text =
     then with_era has_sign (sign here).0 (digits_value 10 (run is_ascii_digit digits)) (trim_start (after_run is_ascii_digit digits))
     else unread
 
--- whether a word is the name of a month or its first three letters, in any case
+-- whether a word is the name of a month or its first three letters, in any ASCII case
 abbrev pub names : List ℕ → List ℕ → List ℕ → Bool
 names word name short = str_eq_ignore_ascii_case word name || str_eq_ignore_ascii_case word short
 
@@ -91,11 +94,11 @@ month_named word =
     else if names word (codes "december") (codes "dec") then Some 11
     else None
 
--- a month by its name, after any digits; another word names no month
+-- a month by its name, after any digits, and the text after it; another word names no month
 abbrev pub named_month : List ℕ → Parsed (Option ℕ)
 named_month text = says (month_named (run is_ascii_alphabetic text), after_run is_ascii_alphabetic text)
 
--- the month field: one or two digits, or else a run of letters; and the text after it
+-- the month field: one or two digits, otherwise a run of letters; and the text after it
 unfoldable pub month_field : List ℕ → Parsed (Option ℕ)
 month_field text =
     let here = trim_start text in
@@ -108,7 +111,7 @@ month_field text =
 abbrev pub is_separator : ℕ → Bool
 is_separator c = is_whitespace c || c == char.hyphen
 
--- what stands after the longest run of these
+-- a text without the longest run of these at its start
 abbrev pub after_gap : List ℕ → List ℕ
 after_gap text = encode_utf8_all (rest_after is_separator (chars text))
 
@@ -129,36 +132,36 @@ day_after text =
     else if prefix_len is_ascii_digit here == 0 then unread
     else reported_day (day_number (run is_ascii_digit here))
 
--- where the digits of a day after a month stand, in bytes of the month's text: they end where what stands after them begins
+-- the span of the digits of a day after a month, in bytes of the month's text, given the text after the month
 abbrev pub day_place : List ℕ → List ℕ → Range ℕ
 day_place month following = record {
   start = length month - length (after_gap following);
   end = length month - length (after_run is_ascii_digit (after_gap following));
 }
 
--- digits alone, a number of at most 255
+-- a day that consists of digits only and is a number of at most 255
 unfoldable pub only_day : List ℕ → Reading (Option ℕ)
 only_day text =
     if length (after_run is_ascii_digit text) == 0 && (not (prefix_len is_ascii_digit text == 0) && not (nat_lt 255 (digits_value 10 (run is_ascii_digit text))))
     then reported_day (day_number (run is_ascii_digit text)) else unread
 
--- the day field: a decimal from 1 to 31, with an optional plus
+-- the day field: a decimal number from 1 to 31, with an optional plus
 unfoldable pub day_field : List ℕ → Reading (Option ℕ)
 day_field text = if begins_with char.plus (trim text) then only_day (drop 1 (trim text)) else only_day (trim text)
 
--- the day, in a field of its own if there is one
+-- the day: that of the day field, if there is one, otherwise the one after the month
 abbrev pub day_of : Option (List ℕ) → List ℕ → Reading (Option ℕ)
 day_of None rest_after = day_after rest_after
 day_of (Some text) rest_after = day_field text
 
--- a month, and the day of its own field or after the month
+-- a month, and the day of the day field or after the month
 unfoldable pub month_with_day : List ℕ → Option (List ℕ) → Reading (Option ℕ × Option ℕ)
 month_with_day text day = do
   month ← month_field text
   at ← day_of day month.1
   says (month.0, at)
 
--- month and day; without a month field the day is not looked at
+-- month and day; without a month field the day is ignored
 abbrev pub month_and_day : Option (List ℕ) → Option (List ℕ) → Reading (Option ℕ × Option ℕ)
 month_and_day None day = says (None, None)
 month_and_day (Some text) day = month_with_day text day
@@ -167,7 +170,7 @@ month_and_day (Some text) day = month_with_day text day
 abbrev pub on_day : ℤ → Option ℕ → Option ℕ → Date
 on_day year month day = record { value = At (datetime year month day None); uncertain = false; approximate = false }
 
--- what three fields are read as
+-- the result of parsing three fields
 unfoldable pub three_fields_of : List ℕ → Option (List ℕ) → Option (List ℕ) → Reading Date
 three_fields_of year month day = do
   y ← year_field year

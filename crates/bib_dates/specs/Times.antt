@@ -1,8 +1,8 @@
 -- Meaning: words of public contracts.
--- The time after a day, as level 0 of the Extended Date/Time Format has it, and as the Rust crate `biblatex` reads it.
+-- The time after a day, as in level 0 of the Extended Date/Time Format, and as the Rust crate `biblatex` parses it.
 use Rattle.std.specs.Prelude.{ℕ, Bool, true, false, ◌==◌, if◌then◌else◌, List, [], length, drop, Option, Some, None}
 use Rattle.std.specs.Str.{trim_start}
-use Rattle.bib_enums.specs.declared.type_error.TypeErrorKind.TheVariants.{InvalidNumber}
+use Rattle.bib_tables.specs.declared.type_error.TypeErrorKind.TheVariants.{InvalidNumber}
 use Rattle.bib_dates.specs.declared.date.Time.{Time}
 use Rattle.bib_dates.specs.declared.date.TimeOffset.{TimeOffset}
 use Rattle.bib_dates.specs.declared.date.TimeOffset.TheVariants.{Utc, Offset}
@@ -11,7 +11,7 @@ use Rattle.bib_dates.specs.Readings.Reading.{says, unread}
 use Rattle.bib_dates.specs.Parts.{small_number, begins_with, after_byte, after_colon}
 use Rattle.bib_text.specs.Characters as char
 
--- the minutes of an offset, after its hours; text after them is passed over
+-- the minutes of an offset, after its hours; text after them is ignored
 unfoldable pub offset_minute : List ℕ → Reading ℕ
 offset_minute [] = says 0
 offset_minute text = do
@@ -19,14 +19,14 @@ offset_minute text = do
   minute ← small_number 0 59 InvalidNumber rest
   says minute.0
 
--- an offset after its sign: hours, and perhaps minutes
+-- an offset after its sign: hours, and optional minutes
 unfoldable pub signed_offset : Bool → List ℕ → Reading (Option TimeOffset)
 signed_offset positive text = do
   hours ← small_number 0 23 InvalidNumber text
   minutes ← offset_minute (trim_start hours.1)
   says (Some (Offset positive hours.0 minutes))
 
--- an offset: `Z`, after which any text may stand, or a sign and hours, and perhaps minutes
+-- an offset: `Z`, after which any text may come, or a sign and hours, and optional minutes
 unfoldable pub offset : List ℕ → Reading (Option TimeOffset)
 offset text =
     if length text == 0 then says None
@@ -35,10 +35,11 @@ offset text =
     else if begins_with char.hyphen text then signed_offset false (drop 1 text)
     else unread
 
+-- the time of these parts
 abbrev pub time : ℕ → ℕ → ℕ → Option TimeOffset → Option Time
 time hour minute second offset = Some (record { hour = hour; minute = minute; second = second; offset = offset })
 
--- what stands after a minute: nothing, or a second, and perhaps an offset
+-- the time of an hour and a minute, and of the text after them: nothing, or a second and an optional offset
 unfoldable pub after_minute : ℕ → ℕ → List ℕ → Reading (Option Time)
 after_minute hour minute [] = says (time hour minute 0 None)
 after_minute hour minute text = do
@@ -47,6 +48,7 @@ after_minute hour minute text = do
   zone ← offset (trim_start second.1)
   says (time hour minute second.0 zone)
 
+-- the time of an hour, and of the text after it: nothing, or a minute and an optional second and offset
 unfoldable pub after_hour : ℕ → List ℕ → Reading (Option Time)
 after_hour hour [] = says (time hour 0 0 None)
 after_hour hour text = do
@@ -54,7 +56,7 @@ after_hour hour text = do
   minute ← small_number 0 59 InvalidNumber rest
   after_minute hour minute.0 (trim_start minute.1)
 
--- what stands after a day: nothing, or `T` and a time
+-- the time in the text after a day: nothing, or `T` and a time
 unfoldable pub after_day : List ℕ → Reading (Option Time)
 after_day [] = says None
 after_day text = do

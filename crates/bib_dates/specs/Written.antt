@@ -10,7 +10,7 @@ use Rattle.bib_dates.specs.declared.date.DateValue.TheVariants.{At, After, Befor
 use Rattle.bib_dates.specs.declared.date.Datetime.{Datetime}
 use Rattle.bib_text.specs.Characters as char
 
--- zeros, so that the number after them has at least so many digits
+-- the zeros before a number that has at least so many digits with them
 abbrev pub zeros : ℕ → ℕ → List ℕ
 zeros width n = replicate (width - length (decimal n)) char.zero
 
@@ -22,11 +22,11 @@ padded width n = zeros width n ++ decimal n
 abbrev pub year_text : ℤ → List ℕ
 year_text y = if is_negative y then char.hyphen ∷ padded 4 (unsigned_abs y) else padded 4 (unsigned_abs y)
 
--- a month or a day, which counts from 0, by its number in at least two digits
+-- a month or a day, which counts from 0, as its number from 1 in at least two digits
 abbrev pub count_text : ℕ → List ℕ
 count_text n = padded 2 (n + 1)
 
--- a month and a day, each after a hyphen: a day without a month isn't written
+-- a month and a day, each after a hyphen; a day without a month isn't written
 abbrev pub month_day_text : Option ℕ → Option ℕ → List ℕ
 month_day_text None day = []
 month_day_text (Some m) None = char.hyphen ∷ count_text m
@@ -36,7 +36,7 @@ month_day_text (Some m) (Some d) = (char.hyphen ∷ count_text m) ++ (char.hyphe
 abbrev pub datetime_text : Datetime → List ℕ
 datetime_text d = year_text d.year ++ month_day_text d.month d.day
 
--- the mark of a date that isn't sure, isn't exact, or neither
+-- the mark of a date, given whether it is uncertain and whether it is approximate
 abbrev pub mark_text : Bool → Bool → List ℕ
 mark_text true true = codes "%"
 mark_text true false = codes "?"
@@ -54,16 +54,16 @@ value_text (Between a b) mark = datetime_text a ++ (codes "/" ++ (datetime_text 
 abbrev pub date_text : Date → List ℕ
 date_text d = value_text d.value (mark_text d.uncertain d.approximate)
 
--- ---- for fields of their own, as BibTeX has them
+-- ---- for separate fields, as BibTeX has them
 
--- the side whose parts are the fields `year`, `month` and `day`: of two sides, the first
+-- the side whose parts are the fields `year`, `month` and `day`: the first one if there are two
 abbrev pub first_side : DateValue → Datetime
 first_side (At d) = d
 first_side (After d) = d
 first_side (Before d) = d
 first_side (Between a b) = a
 
--- the side whose parts are the fields `endyear`, `endmonth` and `endday`: of two sides, the second
+-- the side whose parts are the fields `endyear`, `endmonth` and `endday`: the second one, if there are two
 abbrev pub second_side : DateValue → Option Datetime
 second_side (At d) = None
 second_side (After d) = None
@@ -74,11 +74,11 @@ second_side (Between a b) = Some b
 abbrev pub month_text : Datetime → Option (List ℕ)
 month_text d = option_map count_text d.month
 
--- the text of a day, if there is one and a month too
+-- a day, if there is one and a month too
 abbrev pub day_of_month : Option ℕ → Option ℕ → Option ℕ
 day_of_month None day = None
 day_of_month (Some m) day = day
 
--- a day, counted from 1, in at least two digits; a day without a month has none
+-- the text of a day, if there is one and a month too
 abbrev pub day_text : Datetime → Option (List ℕ)
 day_text d = option_map count_text (day_of_month d.month d.day)

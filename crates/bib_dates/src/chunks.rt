@@ -1,11 +1,11 @@
-//! Dates and the chunks of fields.
+//! Parses dates from the chunks of fields, and writes them as chunks.
 
 ghost use Rattle.std.specs.Prelude.{◌≡◌, ℕ, IfOk, option_copied};
 ghost use Rattle.std.specs.Option.{option_map};
 ghost use Rattle.std.specs.declared.ops.Range.{Range as ARange};
 ghost use Rattle.bib_chunks.specs.Styled;
 ghost use Rattle.bib_chunks.specs.Values.{text};
-ghost use Rattle.bib_enums.specs.ReadAs.{LiesAt};
+ghost use Rattle.bib_tables.specs.ReadAs.{LiesAt};
 ghost use Rattle.bib_dates.specs.Code.{reading};
 ghost use Rattle.bib_dates.specs.ThreeFields as Fields;
 ghost use Rattle.bib_dates.specs.Chunks.{
@@ -25,10 +25,10 @@ use crate::read::marked;
 use crate::write;
 use bib_chunks::chunk::making::normal;
 use bib_chunks::chunk::{Chunks, ChunksRef, Span, format_verbatim, whole_span};
-use bib_enums::type_error::TypeError;
+use bib_tables::type_error::TypeError;
 use std::alloc::{AllocError, Global};
 
-// What was read of the text of chunks, or their refusal.
+// Returns the parsed value, or its error with this span.
 fn found<T: Drop>(read: Result<T, ReadError>, span: Span) -> Result<T, TypeError>
     ensures reads { AnswersReading (reading read) result }
     ensures place { LiesAt span result }
@@ -47,11 +47,14 @@ fn found<T: Drop>(read: Result<T, ReadError>, span: Span) -> Result<T, TypeError
 }
 
 impl Date {
-    /// The date or the range that the formatted text of chunks is, in whatever case. A mark at its end, `?`, `~` or `%`,
-    /// says that it isn't sure, isn't exact, or neither. Refused with `UndefinedRange` where both sides of a range are
-    /// open, with `MonthOutOfRange` and `DayOutOfRange` where there is no such month or day, with `InvalidNumber` where
-    /// a day has no such time, with `WrongNumberOfDigits` where more than four digits stand before an `X`, and else with
-    /// a kind that isn't promised.
+    /// Parses the formatted text of `chunks` as a date or a range, in any ASCII case. A mark at its end says that it is
+    /// uncertain (`?`), approximate (`~`) or both (`%`).
+    ///
+    /// An error other than out of memory has the span of all chunks. Its kind is `UndefinedRange` if both sides of a
+    /// range are open. It is `MonthOutOfRange` or `DayOutOfRange` if there is no such month or day, and `InvalidNumber`
+    /// if a number of a time is out of range. It is `WrongNumberOfDigits` if a text with an `X` begins with more than
+    /// four digits, or an `X` comes right after four. Otherwise the kind isn't specified: it is `InvalidNumber`,
+    /// `MissingNumber`, `WrongNumberOfDigits` or `InvalidFormat`.
     pub fn parse(alloc: Global, chunks: ChunksRef<'_>) -> Result<Date, TypeError>
         ensures reads { AnswersReading (date_reading chunks.now) result }
         ensures place { LiesAt (Styled.whole_span chunks.now) result }
@@ -61,11 +64,15 @@ impl Date {
         found(marked(text.as_str().trim_end()), whole_span(chunks))
     }
 
-    /// The date that the formatted texts of a year, a month and a day are. The year may have an era after it, and the
-    /// month may be a name; without a field of its own, the day may stand after the month. Refused with
-    /// `MonthOutOfRange` where there is no such month, with `DayOutOfRange` where no month has the day, in its own field a number of at most 255,
-    /// with `YearZeroCE` where the year 0 has an era, with `InvalidFormat` where a sign has an era or is separated from its
-    /// digits, and else with a kind that isn't promised.
+    /// Parses the formatted texts of a year, a month and a day as a date. An era may come after the year, and the month
+    /// may be a name. If there is no day field, the day may come after the month. Without a month, the day is ignored.
+    ///
+    /// An error other than out of memory has the span of its field. For a day after the month, it has that of the
+    /// digits, in bytes of the month's text. The kind is `MonthOutOfRange` if there is no such month. It is
+    /// `DayOutOfRange` if no month has the day, which in its own field is a number of at most 255. It is `YearZeroCE`
+    /// if the year 0 has an era. It is `InvalidFormat` if a year with a sign has an era, or white space comes after the
+    /// sign. Otherwise the kind isn't specified: it is `InvalidNumber`, `MissingNumber`, `WrongNumberOfDigits` or
+    /// `InvalidFormat`.
     pub fn parse_three_fields(
         alloc: Global,
         year: ChunksRef<'_>,
@@ -93,7 +100,7 @@ impl Date {
     }
 }
 
-// The year that chunks are.
+// Parses the year field.
 fn year_of(alloc: Global, chunks: ChunksRef<'_>) -> Result<i32, TypeError>
     ensures reads { AnswersReading (Fields.year_field (text chunks.now)) result }
     ensures place { LiesAt (Styled.whole_span chunks.now) result }
@@ -102,7 +109,7 @@ fn year_of(alloc: Global, chunks: ChunksRef<'_>) -> Result<i32, TypeError>
     found(year_field(text.as_str()), whole_span(chunks))
 }
 
-// The day that chunks are.
+// Parses the day field.
 fn day_of(alloc: Global, chunks: ChunksRef<'_>) -> Result<Option<u8>, TypeError>
     ensures reads { AnswersReading (Fields.day_field (text chunks.now)) result }
     ensures place { LiesAt (Styled.whole_span chunks.now) result }
@@ -117,7 +124,7 @@ fn day_of(alloc: Global, chunks: ChunksRef<'_>) -> Result<Option<u8>, TypeError>
     found(day_field(text.as_str(), reason), span)
 }
 
-// The month that chunks are, and the day in chunks of its own, or else after the month.
+// Parses the month field, and the day field or, without one, the day after the month.
 fn month_and_day_of(
     alloc: Global,
     month: ChunksRef<'_>,
@@ -137,7 +144,7 @@ fn month_and_day_of(
     Ok((number, day))
 }
 
-// The month and the day that chunks are, if there are chunks of a month.
+// Parses the month and the day, if there is a month field.
 fn month_and_day(
     alloc: Global,
     month: Option<ChunksRef<'_>>,
@@ -154,7 +161,8 @@ fn month_and_day(
     month_and_day_of(alloc, month, day)
 }
 
-/// One normal chunk of a date's text, without times; it stands nowhere.
+/// Returns the text of a date, without times, as one normal chunk with a detached span: both its ends are `usize::MAX`.
+/// The only error is out of memory.
 pub fn date_chunks(alloc: Global, date: &Date) -> Result<Chunks, AllocError>
     ensures { IfOk result (λ chunks. chunks ≡ date_written date.now) }
 {

@@ -8,15 +8,15 @@ ghost use Rattle.bib_dates.specs.OrderLaws.{same_offset_laws, same_offset_partia
 
 use std::cmp::Ordering;
 
-/// A date or a range of dates, and how sure and how exact it is, as ISO 8601-2 writes it in its extended format (BibLaTeX manual,
-/// 2.3.8).
+/// A date or a range of dates, and whether it is uncertain or approximate, in the extended format of ISO 8601-2
+/// (BibLaTeX manual, 2.3.8).
 #[derive(Debug, Clone, Copy, PartialEq, Eq)]
 pub struct Date {
     /// The date or the range.
     pub value: DateValue,
-    /// Whether the sources are not sure.
+    /// Whether the date is uncertain (mark `?`, or `%` for both).
     pub uncertain: bool,
-    /// Whether the date is not exact.
+    /// Whether the date is approximate (mark `~`, or `%` for both).
     pub approximate: bool,
 }
 
@@ -33,10 +33,10 @@ pub enum DateValue {
     Between(Datetime, Datetime),
 }
 
-/// A year, and perhaps a month, a day and a time. Months and days count from 0.
+/// A year with an optional month, day and time. Months and days count from 0.
 #[derive(Debug, Clone, Copy, PartialEq, Eq)]
 pub struct Datetime {
-    /// The year; the one before 1 is 0.
+    /// The year; the one before year 1 is 0.
     pub year: i32,
     /// The month, from 0.
     pub month: Option<u8>,
@@ -66,7 +66,7 @@ pub enum TimeOffset {
     Utc,
     /// Ahead of UTC or behind it.
     Offset {
-        /// Whether it is ahead.
+        /// Whether it is ahead of UTC.
         positive: bool,
         /// Hours.
         hours: u8,
@@ -105,7 +105,7 @@ impl Eq for TimeOffset {
 }
 
 impl TimeOffset {
-    /// Returns the offset of `hours` and `minutes`: ahead of UTC if `positive`, else behind UTC.
+    /// Returns the offset of `hours` and `minutes`: ahead of UTC if `positive`, otherwise behind UTC.
     pub fn offset(positive: bool, hours: u8, minutes: u8) -> TimeOffset
         ensures { result ≡ Offset positive hours minutes }
     {
@@ -129,7 +129,7 @@ impl TimeOffset {
         }
     }
 
-    // Seconds ahead of UTC.
+    // Returns the seconds ahead of UTC.
     fn seconds(&self) -> isize
         ensures { result ≡ offset_seconds self.now }
     {
@@ -147,7 +147,7 @@ impl TimeOffset {
     }
 }
 
-// The seconds of an offset, or 0.
+// Returns the seconds of an offset, or 0 if there is none.
 fn shift_of(offset: Option<TimeOffset>) -> isize
     ensures value { result ≡ shift offset }
     ensures low { neg_ℤ (pos 1000000) ≤ℤ result }
@@ -159,7 +159,7 @@ fn shift_of(offset: Option<TimeOffset>) -> isize
     offset.seconds()
 }
 
-// Whether a day has such a time.
+// Returns whether a day has such a time.
 fn is_clock(hour: u8, minute: u8, second: u8) -> bool
     ensures { result ≡ is_clock hour minute second }
 {
@@ -167,7 +167,7 @@ fn is_clock(hour: u8, minute: u8, second: u8) -> bool
 }
 
 impl Time {
-    /// A time without an offset: hours up to 23, minutes and seconds up to 59.
+    /// Returns the time without an offset, or `None` if `hour` is above 23, or `minute` or `second` above 59.
     pub fn from_hms(hour: u8, minute: u8, second: u8) -> Option<Time>
         ensures { result ≡ clock hour minute second None }
     {
@@ -182,7 +182,7 @@ impl Time {
         })
     }
 
-    /// A time with an offset: hours up to 23, minutes and seconds up to 59.
+    /// Returns the time with an offset, or `None` if `hour` is above 23, or `minute` or `second` above 59.
     pub fn from_hms_offset(hour: u8, minute: u8, second: u8, offset: TimeOffset) -> Option<Time>
         ensures { result ≡ clock hour minute second (Some offset) }
     {
@@ -197,7 +197,7 @@ impl Time {
         })
     }
 
-    /// The seconds since midnight, less the offset, if there is one.
+    /// Returns the seconds since midnight minus the offset, if there is one.
     pub fn to_utc_seconds(&self) -> isize
         ensures { result ≡ utc_seconds self.now }
     {
@@ -230,7 +230,7 @@ impl PartialOrd for Time {
     }
 }
 
-// What the first part says, or else the next.
+// Returns the first order, or the next one if the first is `Equal`.
 fn then(first: Option<Ordering>, next: Option<Ordering>) -> Option<Ordering>
     ensures { result ≡ partial_ordering_then first next }
 {
@@ -240,7 +240,7 @@ fn then(first: Option<Ordering>, next: Option<Ordering>) -> Option<Ordering>
     }
 }
 
-// How a month or a day compares: not at all where one side alone has it.
+// Compares two months or days. Returns `None` if only one side has it.
 fn number_part(ours: Option<u8>, theirs: Option<u8>) -> Option<Ordering>
     ensures { result ≡ part_cmp number_cmp ours theirs }
 {
@@ -251,7 +251,7 @@ fn number_part(ours: Option<u8>, theirs: Option<u8>) -> Option<Ordering>
     }
 }
 
-// How a time compares: not at all where one side alone has it.
+// Compares two times. Returns `None` if only one side has one.
 fn time_part(ours: Option<Time>, theirs: Option<Time>) -> Option<Ordering>
     ensures { result ≡ part_cmp time_cmp ours theirs }
 {

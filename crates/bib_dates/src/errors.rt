@@ -1,13 +1,13 @@
-//! Why a text is no date.
+//! The errors of texts that aren't dates.
 
 ghost use Rattle.std.specs.Prelude.{◌≡◌, ◌≢◌};
-ghost use Rattle.bib_enums.specs.declared.type_error.TypeErrorKind.TheVariants.{OutOfMemory};
+ghost use Rattle.bib_tables.specs.declared.type_error.TypeErrorKind.TheVariants.{OutOfMemory};
 ghost use Rattle.bib_dates.specs.Code.{error_kind_of};
 ghost use Rattle.bib_dates.specs.Readings.{IsDateKind, IsUnreadKind};
 
-use bib_enums::type_error::TypeErrorKind;
+use bib_tables::type_error::TypeErrorKind;
 
-// A kind of error that the definition of dates names. Out of memory is no error of a text.
+// A kind of error that the definition of dates specifies. Out of memory is not an error of a text.
 #[derive(Debug, Clone, Copy, PartialEq, Eq)]
 pub(crate) enum SpecifiedKind {
     UndefinedRange,
@@ -19,7 +19,7 @@ pub(crate) enum SpecifiedKind {
     YearZeroCE,
 }
 
-// A kind of error that a text may have if the definition names none.
+// A kind of error that a text may have if the definition specifies none.
 #[derive(Debug, Clone, Copy, PartialEq, Eq)]
 pub(crate) enum UnspecifiedKind {
     InvalidNumber,
@@ -28,7 +28,7 @@ pub(crate) enum UnspecifiedKind {
     InvalidFormat,
 }
 
-// Why a text isn't read: the definition names the kind of its error, or it doesn't.
+// The error of a text that can't be parsed: the definition specifies its kind, or it doesn't.
 #[derive(Debug, Clone, Copy, PartialEq, Eq)]
 pub(crate) enum ReadError {
     Specified(SpecifiedKind),

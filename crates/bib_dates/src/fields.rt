@@ -14,14 +14,14 @@ use crate::parts::{after, digits, sign, signed, value};
 use bib_chunks::chunk::Span;
 use bib_text::scanner::Scanner;
 
-// Whether white space stands at the start.
+// Returns whether the text begins with white space.
 fn starts_blank(text: &str) -> bool
     ensures { result ≡ Spec.starts_blank text.now }
 {
     text.trim_start().len() != text.len()
 }
 
-// Whether a letter or a number stands at the start.
+// Returns whether the text begins with a letter or a number.
 fn starts_word(text: &str) -> bool
     ensures { result ≡ Spec.starts_word text.now }
 {
@@ -31,7 +31,7 @@ fn starts_word(text: &str) -> bool
     first.is_alphabetic() || first.is_numeric()
 }
 
-// What stands after these two bytes.
+// Returns the text after these two bytes, if the text begins with them.
 fn after_two(text: &str, first: u8, second: u8) -> Option<&str>
     requires some { 0 < first }
     requires ascii { first < 128 }
@@ -44,7 +44,7 @@ fn after_two(text: &str, first: u8, second: u8) -> Option<&str>
     after(following, second)
 }
 
-// What stands after `BCE`.
+// Returns the text after `BCE`, if the text begins with that.
 fn after_bce(text: &str) -> Option<&str>
     ensures stands { is_some result ≡ Spec.stands (codes "BCE") text.now }
     ensures following { IfSome result (λ r. r.now ≡ Spec.after_word (codes "BCE") text.now) }
@@ -53,7 +53,7 @@ fn after_bce(text: &str) -> Option<&str>
     after_two(following, b'C', b'E')
 }
 
-// The year of an era, after whose name this text stands.
+// Returns the year of an era. `following` is the text after the name of the era.
 #[tactic(auto, unfolding(crate::specs::ThreeFields::of_era))]
 fn of_era(has_sign: bool, n: u16, year: i32, following: &str) -> Result<i32, ReadError>
     ensures { reading result ≡ Spec.of_era has_sign n year following.now }
@@ -70,7 +70,7 @@ fn of_era(has_sign: bool, n: u16, year: i32, following: &str) -> Result<i32, Rea
     Ok(year)
 }
 
-// The year of this number and sign, and of the era that may stand after it.
+// Returns the year of this number and sign, and of the era that may come after it.
 #[tactic(auto, unfolding(crate::specs::ThreeFields::with_era))]
 fn with_era(has_sign: bool, is_minus: bool, n: u16, text: &str) -> Result<i32, ReadError>
     requires { n < 10000 }
@@ -91,7 +91,7 @@ fn with_era(has_sign: bool, is_minus: bool, n: u16, text: &str) -> Result<i32, R
     Ok(signed(is_minus, n))
 }
 
-// The year of a field.
+// Parses the year field.
 #[tactic(auto, unfolding(crate::specs::ThreeFields::year_field))]
 pub(crate) fn year_field(text: &str) -> Result<i32, ReadError>
     ensures { reading result ≡ Spec.year_field text.now }
@@ -109,14 +109,14 @@ pub(crate) fn year_field(text: &str) -> Result<i32, ReadError>
     with_era(has_sign, is_minus, value(digits), following.trim_start())
 }
 
-// Whether a word is this name or its first letters, in any case.
+// Returns whether a word is this name or its short form, in any ASCII case.
 fn names(word: &str, name: &str, short: &str) -> bool
     ensures { result ≡ Spec.names word.now name.now short.now }
 {
     word.eq_ignore_ascii_case(name) || word.eq_ignore_ascii_case(short)
 }
 
-// The month that a word names, from 0.
+// Returns the month that a word names, from 0.
 #[tactic(auto, unfolding(crate::specs::ThreeFields::month_named))]
 fn month_named(word: &str) -> Option<u8>
     ensures { result ≡ Spec.month_named word.now }
@@ -150,7 +150,7 @@ fn month_named(word: &str) -> Option<u8>
     }
 }
 
-// How many letters stand at the start.
+// Returns the number of ASCII letters at the start.
 fn letters_len(text: &str) -> usize
     ensures { result ≡ prefix_len is_ascii_alphabetic text.now }
 {
@@ -160,7 +160,7 @@ fn letters_len(text: &str) -> usize
         .count()
 }
 
-// The letters at the start, and what stands after them.
+// Returns the ASCII letters at the start, and the text after them.
 fn letters(text: &str) -> (&str, &str)
     ensures run { result.0.now ≡ Parts.run is_ascii_alphabetic text.now }
     ensures following { result.1.now ≡ Parts.after_run is_ascii_alphabetic text.now }
@@ -168,7 +168,7 @@ fn letters(text: &str) -> (&str, &str)
     text.split_at(letters_len(text))
 }
 
-// The month that the letters at the start name, and what stands after them.
+// Returns the month that the letters at the start name, and the text after them.
 fn named_month(text: &str) -> (Option<u8>, &str)
     ensures { says (result.0, result.1.now) ≡ Spec.named_month text.now }
 {
@@ -176,7 +176,7 @@ fn named_month(text: &str) -> (Option<u8>, &str)
     (month_named(word), following)
 }
 
-// The month of a field, and what stands after it.
+// Parses the month field, and returns the month and the text after it.
 #[tactic(auto, unfolding(crate::specs::ThreeFields::month_field))]
 pub(crate) fn month_field(text: &str) -> Result<(Option<u8>, &str), ReadError>
     ensures { parsed result ≡ Spec.month_field text.now }
@@ -192,7 +192,7 @@ pub(crate) fn month_field(text: &str) -> Result<(Option<u8>, &str), ReadError>
     Ok((Some(n as u8 - 1), following))
 }
 
-// What stands after a run of white space and hyphens.
+// Returns a text without the white space and hyphens at its start.
 fn after_gap(text: &str) -> &str
     ensures { result.now ≡ Spec.after_gap text.now }
 {
@@ -202,7 +202,7 @@ fn after_gap(text: &str) -> &str
     &text[at..]
 }
 
-// Where the digits of a day after a month stand, in bytes of the month's text.
+// Returns the span of the digits of a day after a month, in bytes of the month's text.
 pub(crate) fn day_place(text: &str, following: &str) -> Span
     ensures { result ≡ Spec.day_place text.now following.now }
 {
@@ -211,7 +211,7 @@ pub(crate) fn day_place(text: &str, following: &str) -> Span
     text.len().saturating_sub(here.len())..text.len().saturating_sub(after_digits.len())
 }
 
-// A day from 1 to 31, counted from 0.
+// Returns a day from 1 to 31, counted from 0, or `None` for another number.
 fn day_number(digits: &str) -> Option<u8>
     requires { AllDigits 10 digits.now }
     ensures { result ≡ Spec.day_number digits.now }
@@ -225,7 +225,7 @@ fn day_number(digits: &str) -> Option<u8>
     Some(day - 1)
 }
 
-// The day after a month.
+// Parses the day after a month. Returns `None` if no gap comes after the month.
 #[tactic(auto, unfolding(crate::specs::ThreeFields::day_after))]
 pub(crate) fn day_after(text: &str) -> Result<Option<u8>, ReadError>
     ensures { reading result ≡ Spec.day_after text.now }
@@ -244,7 +244,7 @@ pub(crate) fn day_after(text: &str) -> Result<Option<u8>, ReadError>
     Ok(Some(day))
 }
 
-// Whether digits are a number of at most 255.
+// Returns whether digits are a number of at most 255.
 fn is_short(digits: &str) -> bool
     requires { AllDigits 10 digits.now }
     ensures { result ≡ (not (length digits.now == 0) && not (nat_lt 255 (digits_value 10 digits.now))) }
@@ -252,7 +252,7 @@ fn is_short(digits: &str) -> bool
     digits.parse::<u8>().is_ok()
 }
 
-// A day in digits alone; other texts are refused for this reason.
+// Parses a day that consists of digits only. If the text isn't a number of at most 255, the error is `reason`.
 #[tactic(auto, unfolding(crate::specs::ThreeFields::only_day))]
 fn only_day(text: &str, reason: UnspecifiedKind) -> Result<Option<u8>, ReadError>
     ensures { reading result ≡ Spec.only_day text.now }
@@ -267,7 +267,7 @@ fn only_day(text: &str, reason: UnspecifiedKind) -> Result<Option<u8>, ReadError
     Ok(Some(day))
 }
 
-// The day of a field of its own; what is no number is refused for this reason.
+// Parses the day field. If it isn't a number of at most 255, the error is `reason`.
 #[tactic(auto, unfolding(crate::specs::ThreeFields::day_field))]
 pub(crate) fn day_field(text: &str, reason: UnspecifiedKind) -> Result<Option<u8>, ReadError>
     ensures { reading result ≡ Spec.day_field text.now }

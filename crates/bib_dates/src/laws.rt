@@ -1,8 +1,9 @@
-//! Laws of dates and times. These functions do nothing: what they ensure is proved of the definitions alone.
+//! Laws of dates and times. The functions have empty bodies: each contract is a theorem about the definitions that it
+//! names.
 
 ghost use Rattle.std.specs.Prelude.{◌≡◌, ◌↔◌, ◌≢◌, ◌⊎◌, ◌<ℤ◌, ℕ, List, Option, Some, None, is_some};
 ghost use Rattle.std.specs.declared.cmp.Ordering.TheVariants.{Less, Equal};
-ghost use Rattle.bib_enums.specs.declared.type_error.TypeErrorKind.{TypeErrorKind as AKind};
+ghost use Rattle.bib_tables.specs.declared.type_error.TypeErrorKind.{TypeErrorKind as AKind};
 ghost use Rattle.bib_dates.specs.Readings.{Reading, IsDateKind, IsUnreadKind, MayRefuse};
 ghost use Rattle.bib_dates.specs.Readings.Reading.{says, error, unread};
 ghost use Rattle.bib_dates.specs.Dates.{date_of};
@@ -15,15 +16,16 @@ ghost use Rattle.bib_dates.specs.declared.date.Date.{Date as ADate};
 ghost use Rattle.bib_dates.specs.declared.date.Datetime.{Datetime as ADatetime};
 ghost use Rattle.bib_dates.specs.declared.date.Time.{Time as ATime};
 
-/// Each date that is kept is read back from its text, and its text is written anew as it stands. The dates of years from
-/// -9999 to 9999 are kept whose months and days exist, where no day lacks its month, and that have no time.
+/// States that each kept date parses from its text, and that rewriting this text leaves it unchanged. A date is kept if
+/// it has no time, its years are from -9999 to 9999, its months and days exist, and no day lacks a month.
 pub fn dates_survive()
     ensures read { (d : ADate) → IsKeptDate d → date_of (date_text d) ≡ says d }
     ensures written { (d : ADate) → IsKeptDate d → rewritten_date (date_text d) ≡ Some (date_text d) }
 {}
 
-/// Each error of a date, except out of memory, is of a kind that dates have, and so is each kind that is promised. The kind is
-/// the promised one or, if none is promised, one of the four for which `IsUnreadKind` holds.
+/// States which kinds of errors dates have. Each error except out of memory has one of the kinds of `IsDateKind`, and
+/// so has each specified one. The kind is the specified one or, if none is specified, one of the four of
+/// `IsUnreadKind`.
 pub fn dates_have_few_kinds()
     ensures error { (reading : Reading ADate) (kind : AKind) → MayRefuse reading kind → IsDateKind kind }
     ensures promised { (reading : Reading ADate) (kind : AKind) → MayRefuse reading kind →
@@ -33,16 +35,16 @@ pub fn dates_have_few_kinds()
         three_fields_of year month day ≡ error kind → IsDateKind kind }
 {}
 
-/// Of two times that both have an offset or both lack it, the one is earlier whose seconds are fewer; where one alone has
-/// it, they aren't compared.
+/// States how times are ordered. If both have an offset or both have none, the one with fewer seconds is earlier. If
+/// only one has an offset, they are not comparable.
 pub fn times_go_by_their_seconds()
     ensures less { (a b : ATime) → is_some a.offset ≡ is_some b.offset →
         (time_cmp a b ≡ Some Less) ↔ (utc_seconds a <ℤ utc_seconds b) }
     ensures alone { (a b : ATime) → is_some a.offset ≢ is_some b.offset → time_cmp a b ≡ None }
 {}
 
-/// No time is earlier than itself, what is earlier than an earlier one is earlier, and times compare as `Equal` exactly
-/// where they are equal.
+/// States that the order of times is a strict partial order: no time is earlier than itself, and a time before an
+/// earlier one is earlier. Times compare as `Equal` exactly if they are equal.
 pub fn times_are_ordered()
     ensures itself { (a : ATime) → time_cmp a a ≢ Some Less }
     ensures through { (a b c : ATime) → time_cmp a b ≡ Some Less → time_cmp b c ≡ Some Less →
@@ -50,7 +52,7 @@ pub fn times_are_ordered()
     ensures equal { (a b : ATime) → (time_cmp a b ≡ Some Equal) ↔ (a ≡ b) }
 {}
 
-/// The same of dates.
+/// States the same for dates.
 pub fn dates_are_ordered()
     ensures itself { (a : ADatetime) → datetime_cmp a a ≢ Some Less }
     ensures through { (a b c : ADatetime) → datetime_cmp a b ≡ Some Less →

@@ -1,15 +1,18 @@
-//! Dates and times: how they are read from texts and from the chunks of fields, how they are written, and how they
-//! compare.
+//! Dates and times: how they are parsed from texts and from the chunks of fields, how they are written, and how they
+//! are ordered.
 //!
-//! A date's definition is a function from the bytes of a text to a value, an error of a promised kind, or an error of
-//! any kind, made of small functions, each of which reads a part at the start of a text and gives it with the rest. The
-//! code has one function for each of them, on a `&str`, whose contract is that equation; so hardly one has a proof
-//! file. The text is formatted once, put into uppercase in place, and parsed in one pass. An error of a text is a
-//! `ReadError`, which has no variant for out of memory. `Specified` holds a kind that the definition names, `Unspecified`
-//! another. The calls on chunks turn it into an error of the chunks. `parts` has numbers, signs and hyphens, `times`
-//! the time after a day, `read` the sides of ranges, unknown digits and marks, `fields` the three fields. That a kept date is
-//! read back is proved of the definitions: trimming and uppercasing change nothing in its text, and each part is read up to
-//! where the next begins.
+//! The definition of a date is a function from the bytes of a text to a value or an error. The kind of the error is
+//! specified or not. The function consists of small ones, each of which parses a part at the start of a text and
+//! returns it with the rest. The program has one function on a `&str` for each of them, whose contract says that both
+//! return the same. So few of them need a proof file.
+//!
+//! The text of a date is formatted once, put into upper case in place, and parsed in one pass. An error of a text is a
+//! `ReadError`, which has no variant for out of memory. `Specified` contains a kind that the definition specifies,
+//! `Unspecified` another one. The functions on chunks turn it into a type error with a span.
+//!
+//! `parts` parses numbers, signs and hyphens, `times` the time after a day, `read` the sides of ranges, unknown digits
+//! and marks, `fields` the three fields. The proof that a kept date parses from its text speaks of the definitions
+//! only. Trimming and upper case change nothing in that text, and each part ends where the next one begins.
 #![tactic(auto)]
 
 pub mod chunks;

@@ -10,7 +10,7 @@ ghost use Rattle.bib_dates.specs.Parts as Spec;
 
 use crate::errors::{ReadError, SpecifiedKind, UnspecifiedKind};
 
-// What stands after this byte, if it stands at the start.
+// Returns the text after this byte, if the text begins with it.
 pub(crate) fn after(text: &str, byte: u8) -> Option<&str>
     requires some { 0 < byte }
     requires ascii { byte < 128 }
@@ -23,7 +23,7 @@ pub(crate) fn after(text: &str, byte: u8) -> Option<&str>
     }
 }
 
-// How many digits stand at the start.
+// Returns the number of digits at the start.
 fn digits_len(text: &str) -> usize
     ensures { result ≡ prefix_len is_ascii_digit text.now }
 {
@@ -33,7 +33,7 @@ fn digits_len(text: &str) -> usize
         .count()
 }
 
-// The digits at the start, and what stands after them.
+// Returns the digits at the start, and the text after them.
 pub(crate) fn digits(text: &str) -> (&str, &str)
     ensures run { result.0.now ≡ Spec.run is_ascii_digit text.now }
     ensures len { length result.0.now ≡ prefix_len is_ascii_digit text.now }
@@ -43,14 +43,14 @@ pub(crate) fn digits(text: &str) -> (&str, &str)
     text.split_at(digits_len(text))
 }
 
-// How often this byte stands at the start.
+// Returns the length of the run of this byte at the start.
 fn byte_run_len(text: &str, byte: u8) -> usize
     ensures { result ≡ prefix_len (λ b. b == byte) text.now }
 {
     text.as_bytes().iter().take_while(|b| **b == byte).count()
 }
 
-// How often this byte stands at the start, and what stands after.
+// Returns the length of the run of this byte at the start, and the text after it.
 pub(crate) fn byte_run(text: &str, byte: u8) -> (usize, &str)
     requires { byte < 128 }
     ensures len { result.0 ≡ prefix_len (λ b. b == byte) text.now }
@@ -61,7 +61,7 @@ pub(crate) fn byte_run(text: &str, byte: u8) -> (usize, &str)
     (len, following)
 }
 
-// The number that at most four digits are.
+// Returns the number of one to four digits.
 pub(crate) fn value(digits: &str) -> u16
     requires count { length digits.now ≤ 4 }
     requires some { 0 < length digits.now }
@@ -74,7 +74,8 @@ pub(crate) fn value(digits: &str) -> u16
     digits.parse::<u16>().unwrap_or(0)
 }
 
-// A number of so many digits; of another count, it is refused for this reason.
+// Parses a number of `low` to `high` digits, after white space. If there are more or fewer digits, the error is
+// `reason`.
 #[tactic(auto, unfolding(crate::specs::Parts::number))]
 pub(crate) fn number(
     low: usize,
@@ -94,7 +95,7 @@ pub(crate) fn number(
     Ok((value(digits), following))
 }
 
-// A number of one or two digits, in these bounds; another is refused for this reason.
+// Parses a number of one or two digits. If it isn't from `low` to `high`, the error is `reason`.
 #[tactic(auto, unfolding(crate::specs::Parts::small_number))]
 pub(crate) fn small_number(
     low: u8,
@@ -112,7 +113,7 @@ pub(crate) fn small_number(
     Ok((n as u8, following))
 }
 
-// What stands after this byte at the start.
+// Returns the text after this byte at the start. If the text doesn't begin with it, the error is `reason`.
 pub(crate) fn after_byte(text: &str, byte: u8, reason: UnspecifiedKind) -> Result<&str, ReadError>
     requires some { 0 < byte }
     requires ascii { byte < 128 }
@@ -124,14 +125,15 @@ pub(crate) fn after_byte(text: &str, byte: u8, reason: UnspecifiedKind) -> Resul
     }
 }
 
-// What stands after a colon, with white space before it.
+// Returns the text after a colon and the white space before that.
 pub(crate) fn after_colon(text: &str) -> Result<&str, ReadError>
     ensures { rest result ≡ Spec.after_colon text.now }
 {
     after_byte(text.trim_start(), b':', UnspecifiedKind::InvalidFormat)
 }
 
-// What stands after a run of hyphens, with white space before it; without hyphens, it is refused for this reason.
+// Returns the text after a run of hyphens and the white space before that. If there is no hyphen, the error is
+// `reason`.
 #[tactic(auto, unfolding(crate::specs::Parts::after_hyphens))]
 pub(crate) fn after_hyphens(text: &str, reason: UnspecifiedKind) -> Result<&str, ReadError>
     ensures { rest result ≡ Spec.after_hyphens text.now }
@@ -141,7 +143,7 @@ pub(crate) fn after_hyphens(text: &str, reason: UnspecifiedKind) -> Result<&str,
     Ok(following)
 }
 
-// Whether a minus stands at the start, and what stands after a sign.
+// Returns whether the text begins with a minus, and the text after a sign.
 #[tactic(auto, unfolding(crate::specs::Parts::sign))]
 pub(crate) fn sign(text: &str) -> (bool, &str)
     ensures minus { result.0 ≡ (Spec.sign text.now).0 }
@@ -156,7 +158,7 @@ pub(crate) fn sign(text: &str) -> (bool, &str)
     (false, text)
 }
 
-// A year that has two digits.
+// Returns the year for two digits: 2000 is added to a number below 50, 1900 to others.
 fn of_century(year: i32) -> i32
     requires low { neg_ℤ (pos 99) ≤ℤ year }
     requires high { year ≤ℤ pos 99 }
@@ -166,7 +168,7 @@ fn of_century(year: i32) -> i32
     if year < 50 { year + 2000 } else { year + 1900 }
 }
 
-// A year of two or four digits, with an optional sign.
+// Parses a year of two or four digits, with an optional sign.
 #[tactic(auto, unfolding(crate::specs::Parts::year))]
 pub(crate) fn year(text: &str) -> Result<(i32, &str), ReadError>
     ensures value { parsed result ≡ Spec.year text.now }
@@ -184,7 +186,7 @@ pub(crate) fn year(text: &str) -> Result<(i32, &str), ReadError>
     Ok((year, following))
 }
 
-// The number with its sign.
+// Returns the number with its sign.
 pub(crate) fn signed(is_minus: bool, n: u16) -> i32
     requires { n < 10000 }
     ensures value { result ≡ Spec.signed is_minus n }

@@ -1,9 +1,9 @@
-// The reader of a date in one text.
+// Parses a date in one text.
 
 ghost use Rattle.std.specs.Prelude.{◌≡◌, ◌+◌, ◌^◌, ◌<◌, ◌≤◌, None, pos, ◌↔◌, ◌==◌, IsTrue, IfOk, IfSome, is_some};
 ghost use Rattle.std.specs.List.{before_first, after_first};
 ghost use Rattle.jiff_core.specs.Calendar.{IsDate, IsYear, days_in_month};
-ghost use Rattle.bib_enums.specs.declared.type_error.TypeErrorKind.TheVariants.{DayOutOfRange};
+ghost use Rattle.bib_tables.specs.declared.type_error.TypeErrorKind.TheVariants.{DayOutOfRange};
 ghost use Rattle.bib_dates.specs.Code.{reading, parsed};
 ghost use Rattle.bib_dates.specs.Parts;
 ghost use Rattle.bib_dates.specs.Dates as Spec;
@@ -14,7 +14,7 @@ use crate::parts::{after, after_hyphens, byte_run, digits, number, small_number,
 use crate::times::after_day;
 use jiff::civil;
 
-// Whether the calendar has this day: the month and the day count from 1.
+// Returns whether the calendar has this day. The month and the day count from 1.
 pub(crate) fn day_exists(year: i32, month: u8, day: u8) -> bool
     requires { IsYear year }
     ensures { IsTrue result ↔ IsDate year (pos month) (pos day) }
@@ -29,7 +29,7 @@ pub(crate) fn day_exists(year: i32, month: u8, day: u8) -> bool
     civil::Date::new(year, month, day).is_ok()
 }
 
-// A day of this month.
+// Parses a day of this month, which counts from 1.
 #[tactic(auto, unfolding(crate::specs::Parts::small_number))]
 fn day(year: i32, month: u8, text: &str) -> Result<(u8, &str), ReadError>
     requires year { IsYear year }
@@ -46,7 +46,7 @@ fn day(year: i32, month: u8, text: &str) -> Result<(u8, &str), ReadError>
     Ok((day, following))
 }
 
-// The date of this year and month, which counts from 1, and of the day and the time that may stand after them.
+// Returns the date of this year and month, which counts from 1, and of the day and the time that may come after them.
 #[tactic(auto, unfolding(crate::specs::Dates::after_month))]
 fn after_month(year: i32, month: u8, text: &str) -> Result<Datetime, ReadError>
     requires year { IsYear year }
@@ -73,7 +73,7 @@ fn after_month(year: i32, month: u8, text: &str) -> Result<Datetime, ReadError>
     })
 }
 
-// The date of this year, and of the month, the day and the time that may stand after it.
+// Returns the date of this year, and of the month, the day and the time that may come after it.
 #[tactic(auto, unfolding(crate::specs::Dates::after_year))]
 fn after_year(year: i32, text: &str) -> Result<Datetime, ReadError>
     requires { IsYear year }
@@ -92,7 +92,7 @@ fn after_year(year: i32, text: &str) -> Result<Datetime, ReadError>
     after_month(year, month, following.trim_start())
 }
 
-// One side of a range, or a date alone.
+// Parses one side of a range, or a single date.
 #[tactic(auto, unfolding(crate::specs::Dates::side))]
 fn side(text: &str) -> Result<Datetime, ReadError>
     ensures { reading result ≡ Spec.side text.now }
@@ -101,7 +101,7 @@ fn side(text: &str) -> Result<Datetime, ReadError>
     after_year(year, following.trim_start())
 }
 
-// A year and perhaps a month and a day, without a time.
+// Returns a date without a time.
 fn datetime(year: u16, month: Option<u8>, day: Option<u8>) -> Datetime
     ensures { result ≡ Spec.datetime (pos year) month day None }
 {
@@ -113,7 +113,7 @@ fn datetime(year: u16, month: Option<u8>, day: Option<u8>) -> Datetime
     }
 }
 
-// From the first month of a year to the last.
+// Returns the range from the first month of a year to the last one.
 fn months(year: u16) -> DateValue
     ensures { result ≡ Spec.months year }
 {
@@ -123,7 +123,7 @@ fn months(year: u16) -> DateValue
     )
 }
 
-// From the first day of a month to the 31st, whether there is one or not.
+// Returns the range from the first day of a month to the 31st, even if there is none.
 fn days(year: u16, month: u8) -> DateValue
     ensures { result ≡ Spec.days year month }
 {
@@ -133,7 +133,7 @@ fn days(year: u16, month: u8) -> DateValue
     )
 }
 
-// From this year to the one that is so many more.
+// Returns the range from this year to the one `more` years later.
 fn years(year: u16, more: u16) -> DateValue
     requires { year + more < 2 ^ 16 }
     ensures { result ≡ Spec.years year more }
@@ -144,7 +144,7 @@ fn years(year: u16, more: u16) -> DateValue
     )
 }
 
-// The months of a year, after `XX` for the month.
+// Returns the months of a year. `text` is the text after `XX` for the month.
 #[tactic(auto, unfolding(crate::specs::Dates::all_months))]
 fn all_months(year: u16, text: &str) -> Result<DateValue, ReadError>
     ensures { reading result ≡ Spec.all_months year text.now }
@@ -160,7 +160,7 @@ fn all_months(year: u16, text: &str) -> Result<DateValue, ReadError>
     Ok(months(year))
 }
 
-// The days of a month, after a year and hyphens.
+// Returns the days of a month. `text` is the text after the year and hyphens.
 #[tactic(auto, unfolding(crate::specs::Dates::all_days))]
 fn all_days(year: u16, text: &str) -> Result<DateValue, ReadError>
     ensures { reading result ≡ Spec.all_days year text.now }
@@ -177,7 +177,7 @@ fn all_days(year: u16, text: &str) -> Result<DateValue, ReadError>
     Ok(days(year, month as u8 - 1))
 }
 
-// The months of a year or the days of a month, after the year and hyphens.
+// Returns the months of a year or the days of a month. `text` is the text after the year and hyphens.
 #[tactic(auto, unfolding(crate::specs::Dates::unknown_month))]
 fn unknown_month(year: u16, text: &str) -> Result<DateValue, ReadError>
     ensures { reading result ≡ Spec.unknown_month year text.now }
@@ -192,7 +192,7 @@ fn unknown_month(year: u16, text: &str) -> Result<DateValue, ReadError>
     Err(ReadError::Unspecified(UnspecifiedKind::WrongNumberOfDigits))
 }
 
-// The years of a century, after its two digits.
+// Returns the years of a century. `text` is the text after its two digits.
 #[tactic(auto, unfolding(crate::specs::Dates::century))]
 fn century(n: u16, text: &str) -> Result<DateValue, ReadError>
     requires { n < 100 }
@@ -205,7 +205,7 @@ fn century(n: u16, text: &str) -> Result<DateValue, ReadError>
     Ok(years(100 * n, 99))
 }
 
-// The years of a decade, after its three digits.
+// Returns the years of a decade. `text` is the text after its three digits.
 #[tactic(auto, unfolding(crate::specs::Dates::decade))]
 fn decade(n: u16, text: &str) -> Result<DateValue, ReadError>
     requires { n < 1000 }
@@ -218,7 +218,8 @@ fn decade(n: u16, text: &str) -> Result<DateValue, ReadError>
     Ok(years(10 * n, 9))
 }
 
-// The months of a year or the days of a month, after the year's four digits: an `X` right after them would be a fifth.
+// Returns the months of a year or the days of a month. `text` is the text after the year's four digits. An `X` right
+// after them would be a fifth digit.
 #[tactic(auto, unfolding(crate::specs::Dates::after_four_digits))]
 fn after_four_digits(year: u16, text: &str) -> Result<DateValue, ReadError>
     ensures { reading result ≡ Spec.after_four_digits year text.now }
@@ -230,7 +231,7 @@ fn after_four_digits(year: u16, text: &str) -> Result<DateValue, ReadError>
     unknown_month(year, following.trim_start())
 }
 
-// A date with digits that are not known.
+// Parses a date with unknown digits.
 #[tactic(auto, unfolding(crate::specs::Dates::unknown))]
 fn unknown(text: &str) -> Result<DateValue, ReadError>
     ensures { reading result ≡ Spec.unknown text.now }
@@ -252,14 +253,14 @@ fn unknown(text: &str) -> Result<DateValue, ReadError>
     decade(n, following)
 }
 
-// Whether a side of a range is open.
+// Returns whether a side of a range is open.
 fn is_open(text: &str) -> bool
     ensures { result ≡ Spec.is_open text.now }
 {
     text.trim().is_empty() || text == ".."
 }
 
-// A range of these sides.
+// Parses a range with these sides.
 #[tactic(auto, unfolding(crate::specs::Dates::range))]
 fn range(from: &str, to: &str) -> Result<DateValue, ReadError>
     ensures { reading result ≡ Spec.range from.now to.now }
@@ -279,7 +280,7 @@ fn range(from: &str, to: &str) -> Result<DateValue, ReadError>
     Ok(DateValue::Between(start, end))
 }
 
-// The two sides of a range.
+// Returns the texts before and after the first slash.
 fn sides(text: &str) -> Option<(&str, &str)>
     ensures some { is_some result ≡ Spec.holds 47 text.now }
     ensures from { IfSome result (λ p. p.0.now ≡ before_first (λ b. b == 47) text.now) }
@@ -288,7 +289,7 @@ fn sides(text: &str) -> Option<(&str, &str)>
     text.split_once('/')
 }
 
-// A date without the mark at its end.
+// Parses a date without the mark at its end.
 #[tactic(auto, unfolding(crate::specs::Dates::date_value))]
 fn date_value(text: &str) -> Result<DateValue, ReadError>
     ensures { reading result ≡ Spec.date_value text.now }
@@ -303,28 +304,28 @@ fn date_value(text: &str) -> Result<DateValue, ReadError>
     range(from, to)
 }
 
-// Whether this mark says that a date is not sure.
+// Returns whether this mark says that a date is uncertain.
 fn is_uncertain(mark: u8) -> bool
     ensures { result ≡ Spec.is_uncertain mark }
 {
     mark == b'%' || mark == b'?'
 }
 
-// Whether this mark says that a date is not exact.
+// Returns whether this mark says that a date is approximate.
 fn is_approximate(mark: u8) -> bool
     ensures { result ≡ Spec.is_approximate mark }
 {
     mark == b'%' || mark == b'~'
 }
 
-// The last byte of a text, or 0.
+// Returns the last byte of a text, or 0.
 fn last(text: &str) -> u8
     ensures { result ≡ Spec.last text.now }
 {
     text.as_bytes().last().copied().unwrap_or(0)
 }
 
-// A text without the mark at its end.
+// Returns a text without the mark at its end.
 fn without_mark(text: &str) -> &str
     ensures { result.now ≡ Spec.without_mark text.now }
 {
@@ -334,7 +335,7 @@ fn without_mark(text: &str) -> &str
     text
 }
 
-// A date with the mark at its end.
+// Parses a date with the mark at its end.
 #[tactic(auto, unfolding(crate::specs::Dates::marked_date))]
 pub(crate) fn marked(text: &str) -> Result<Date, ReadError>
     ensures { reading result ≡ Spec.marked_date text.now }

@@ -1,12 +1,12 @@
-//! Hyphens and colons between the parts of a date.
+//! Parses hyphens and colons between the parts of a date.
 
 ghost use Rattle.std.specs.Prelude.{◌≡◌, MatchResult};
 ghost use Rattle.bib_dates.specs.Separators.{IsHyphens, IsColon, IsWithout, no_sign};
 
-use bib_enums::type_error::{TypeError, TypeErrorKind};
+use bib_tables::type_error::{TypeError, TypeErrorKind};
 use bib_text::scanner::Scanner;
 
-// The error that no such sign stands after the white space that was eaten from here on.
+// Returns the error of a missing sign, with the span of the white space from `start` to the cursor.
 fn no_sign(s: &Scanner<'_>, start: usize) -> TypeError
     ensures { result ≡ no_sign (record { text = s.now.text; at = start }) s.now }
 {
@@ -16,8 +16,8 @@ fn no_sign(s: &Scanner<'_>, start: usize) -> TypeError
     }
 }
 
-/// Eats white space and the hyphens after it, of which there must be one. A refusal is of the kind `InvalidFormat`, at the
-/// white space; that alone was eaten then.
+/// Consumes white space and the hyphens after it. At least one hyphen is required; if there is none, the error has the
+/// kind `InvalidFormat` and the span of the white space, and only that is consumed.
 pub fn parse_hyphen(s: &mut Scanner<'_>) -> Result<(), TypeError>
     ensures { MatchResult result
         (λ _. IsHyphens s.old s.new)
@@ -32,8 +32,8 @@ pub fn parse_hyphen(s: &mut Scanner<'_>) -> Result<(), TypeError>
     Ok(())
 }
 
-/// Eats white space and the colon after it, which must be there. A refusal is of the kind `InvalidFormat`, at the white
-/// space; that alone was eaten then.
+/// Consumes white space and the colon after it. If there is no colon, the error has the kind `InvalidFormat` and the
+/// span of the white space, and only that is consumed.
 pub fn parse_colon(s: &mut Scanner<'_>) -> Result<(), TypeError>
     ensures { MatchResult result
         (λ _. IsColon s.old s.new)

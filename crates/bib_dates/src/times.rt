@@ -1,4 +1,4 @@
-// The time after a day.
+// Parses the time after a day.
 
 ghost use Rattle.std.specs.Prelude.{◌≡◌};
 ghost use Rattle.bib_dates.specs.Code.{reading};
@@ -8,7 +8,7 @@ use crate::date::{Time, TimeOffset};
 use crate::errors::{ReadError, SpecifiedKind, UnspecifiedKind};
 use crate::parts::{after, after_byte, after_colon, small_number};
 
-// The minutes of an offset, after its hours, if there are any.
+// Parses the minutes of an offset, after its hours. Returns 0 if there are none.
 #[tactic(auto, unfolding(crate::specs::Times::offset_minute))]
 fn offset_minute(text: &str) -> Result<u8, ReadError>
     ensures { reading result ≡ Spec.offset_minute text.now }
@@ -21,7 +21,7 @@ fn offset_minute(text: &str) -> Result<u8, ReadError>
     Ok(minute)
 }
 
-// An offset after its sign.
+// Parses an offset after its sign.
 #[tactic(auto, unfolding(crate::specs::Times::signed_offset))]
 fn signed_offset(positive: bool, text: &str) -> Result<Option<TimeOffset>, ReadError>
     ensures { reading result ≡ Spec.signed_offset positive text.now }
@@ -35,7 +35,7 @@ fn signed_offset(positive: bool, text: &str) -> Result<Option<TimeOffset>, ReadE
     }))
 }
 
-// The offset after a second, if there is one.
+// Parses the offset after a second, if there is one.
 #[tactic(auto, unfolding(crate::specs::Times::offset))]
 fn offset(text: &str) -> Result<Option<TimeOffset>, ReadError>
     ensures { reading result ≡ Spec.offset text.now }
@@ -55,7 +55,7 @@ fn offset(text: &str) -> Result<Option<TimeOffset>, ReadError>
     Err(ReadError::Unspecified(UnspecifiedKind::InvalidFormat))
 }
 
-// The time of this hour and minute, and of the second and the offset that may stand after them.
+// Returns the time of this hour and minute, and of the second and the offset that may come after them.
 #[tactic(auto, unfolding(crate::specs::Times::after_minute))]
 fn after_minute(hour: u8, minute: u8, text: &str) -> Result<Option<Time>, ReadError>
     ensures { reading result ≡ Spec.after_minute hour minute text.now }
@@ -79,7 +79,7 @@ fn after_minute(hour: u8, minute: u8, text: &str) -> Result<Option<Time>, ReadEr
     }))
 }
 
-// The time of this hour, and of what may stand after it.
+// Returns the time of this hour, and of the minute, the second and the offset that may come after it.
 #[tactic(auto, unfolding(crate::specs::Times::after_hour))]
 fn after_hour(hour: u8, text: &str) -> Result<Option<Time>, ReadError>
     ensures { reading result ≡ Spec.after_hour hour text.now }
@@ -97,7 +97,7 @@ fn after_hour(hour: u8, text: &str) -> Result<Option<Time>, ReadError>
     after_minute(hour, minute, following.trim_start())
 }
 
-// The time after a day, if there is one.
+// Parses the time after a day, if there is one.
 #[tactic(auto, unfolding(crate::specs::Times::after_day))]
 pub(crate) fn after_day(text: &str) -> Result<Option<Time>, ReadError>
     ensures { reading result ≡ Spec.after_day text.now }

@@ -1,4 +1,4 @@
-//! How dates are written.
+//! Writes dates.
 
 ghost use Rattle.std.specs.Prelude.{◌≡◌, ◌∷◌, IfOk, Some, string_bytes};
 ghost use Rattle.std.specs.Fmt.{WritesOnOk};
@@ -9,7 +9,8 @@ use crate::date::{Date, DateValue, Datetime};
 use std::alloc::{AllocError, Global};
 use std::fmt;
 
-/// The year, the month and the day, with hyphens between them. A day without a month isn't written, nor is the time.
+/// Writes the year, the month and the day, with hyphens between them. A day without a month isn't written, nor is the
+/// time.
 impl fmt::Display for Datetime {
     ghost output = { λ d. Some (datetime_text d) };
 
@@ -26,7 +27,7 @@ impl fmt::Display for Datetime {
     }
 }
 
-// A year in at least four digits, with a sign if it is negative.
+// Writes a year in at least four digits, with a sign if it is negative.
 fn year<W: fmt::Write>(f: &mut fmt::Formatter<W>, year: i32) -> fmt::Result
     ensures { WritesOnOk W.write_str_gives f.old result (year_text year) f.new }
 {
@@ -36,14 +37,14 @@ fn year<W: fmt::Write>(f: &mut fmt::Formatter<W>, year: i32) -> fmt::Result
     four_wide(f, year.unsigned_abs())
 }
 
-// A number in at least four digits.
+// Writes a number in at least four digits.
 fn four_wide<W: fmt::Write>(f: &mut fmt::Formatter<W>, n: u32) -> fmt::Result
     ensures { WritesOnOk W.write_str_gives f.old result (padded 4 n) f.new }
 {
     write!(f, "{n:04}")
 }
 
-// A month or a day, which counts from 0, after a hyphen.
+// Writes a hyphen and a month or a day, which counts from 0.
 fn count<W: fmt::Write>(f: &mut fmt::Formatter<W>, n: u8) -> fmt::Result
     ensures { WritesOnOk W.write_str_gives f.old result (45 ∷ count_text n) f.new }
 {
@@ -51,14 +52,14 @@ fn count<W: fmt::Write>(f: &mut fmt::Formatter<W>, n: u8) -> fmt::Result
     write!(f, "-{n:02}")
 }
 
-// A number in at least four digits.
+// Returns a number in at least four digits.
 fn four_digits(alloc: Global, n: u32) -> Result<String, AllocError>
     ensures { IfOk result (λ text. string_bytes text ≡ padded 4 n) }
 {
     format!(in alloc; "{n:04}")
 }
 
-// The text of a month or a day, which counts from 0.
+// Returns the text of a month or a day, which counts from 0.
 fn count_text(alloc: Global, n: u8) -> Result<String, AllocError>
     ensures { IfOk result (λ text. string_bytes text ≡ count_text n) }
 {
@@ -67,7 +68,7 @@ fn count_text(alloc: Global, n: u8) -> Result<String, AllocError>
 }
 
 impl Datetime {
-    /// The year in at least four digits, after a minus where it is below zero.
+    /// Returns the year in at least four digits, with `-` before a negative one. The only error is out of memory.
     pub fn year_text(&self, alloc: Global) -> Result<String, AllocError>
         ensures { IfOk result (λ text. string_bytes text ≡ year_text self.now.year) }
     {
@@ -78,7 +79,8 @@ impl Datetime {
         Ok(digits)
     }
 
-    /// The number of the month in at least two digits, if there is a month.
+    /// Returns the number of the month in at least two digits, from 1, if there is a month. The only error is out of
+    /// memory.
     pub fn month_text(&self, alloc: Global) -> Result<Option<String>, AllocError>
         ensures { IfOk result (λ text. option_map string_bytes text ≡ month_text self.now) }
     {
@@ -88,7 +90,8 @@ impl Datetime {
         Ok(Some(count_text(alloc, month)?))
     }
 
-    /// The number of the day in at least two digits, if there is a day and a month.
+    /// Returns the number of the day in at least two digits, from 1, if there is a day and a month. The only error is
+    /// out of memory.
     pub fn day_text(&self, alloc: Global) -> Result<Option<String>, AllocError>
         ensures { IfOk result (λ text. option_map string_bytes text ≡ day_text self.now) }
     {
@@ -100,7 +103,7 @@ impl Datetime {
 }
 
 impl DateValue {
-    /// The date, or the side of a range that is there; of two sides, the first.
+    /// Returns the date, or the side of a range: the first one if there are two.
     pub fn first_side(&self) -> Datetime
         ensures { result ≡ first_side self.now }
     {
@@ -112,7 +115,7 @@ impl DateValue {
         }
     }
 
-    /// The second side of a range, if it has two.
+    /// Returns the second side of a range, if it has two.
     pub fn second_side(&self) -> Option<Datetime>
         ensures { result ≡ second_side self.now }
     {
@@ -123,7 +126,7 @@ impl DateValue {
     }
 }
 
-// The mark at the end.
+// Returns the mark at the end of a date.
 fn mark(uncertain: bool, approximate: bool) -> &'static str
     ensures { result.now ≡ mark_text uncertain approximate }
 {
@@ -135,7 +138,7 @@ fn mark(uncertain: bool, approximate: bool) -> &'static str
     }
 }
 
-// The text of a date.
+// Returns the text of a date.
 pub(crate) fn text(date: &Date, alloc: Global) -> Result<String, AllocError>
     ensures { IfOk result (λ text. string_bytes text ≡ date_text date.now) }
 {

@@ -6,7 +6,7 @@ use Rattle.std.specs.Char.{is_whitespace}
 use Rattle.std.proofs.lemmas.List.{take_at}
 use Rattle.bib_text.specs.Places.{Place, place, CharAt, Run, Longest, between}
 use Rattle.bib_text.specs.Places.Run.{stop, step}
-use Rattle.bib_text.proofs.PlaceFacts.{ahead_then, ahead_char, ahead_run, longest_same, same_char, same_place, stops_at, test_clash}
+use Rattle.bib_text.proofs.PlaceFacts.{ahead_then, ahead_char, ahead_run, longest_same, same_char, same_place, stops_at, test_clash, one_white}
 use Rattle.bib_syntax.specs.Characters.{is_id_continue, is_id_start}
 use Rattle.bib_syntax.specs.Reading.{Part, EntryReading}
 use Rattle.bib_syntax.specs.Reading.Piece.{literal}
@@ -66,9 +66,6 @@ record LineRead (whole name value : List ℕ) (at : ℕ) : Type 0 where
   gap : Gap longest (place whole (at + 3 + length name + 3 + length (in_braces value))) (place whole (at + 3 + length name + 3 + length (in_braces value)))
   comma : CharAt (place whole (at + 3 + length name + 3 + length (in_braces value))) 44 (place whole (at + length (added_line name value)))
   feed : CharAt (place whole at) 10 (place whole (at + 1))
-
-one_white : {u v w : Place} {d : ℕ} → CharAt u 32 v → CharAt v d w → is_whitespace d ≡ false → Longest is_whitespace u v
-one_white space char dark = record { run = step space refl stop; stops = stops_at is_whitespace char dark }
 
 start_no_percent : (c : ℕ) → is_id_start c ≡ true → (c == 37) ≡ false
 start_no_percent c starts = ne_eqb c 37 (λ same. test_clash (is_id_start 37) (subst (λ x. is_id_start x ≡ true) same starts) refl)

@@ -11,10 +11,6 @@ use Rattle.bib_documents.specs.Stretches.{AreChangesInOrder, AreEditsInOrder, En
 use Rattle.bib_documents.specs.declared.errors.EditError.{EditError}
 use Rattle.bib_documents.specs.declared.errors.EditError.TheVariants.{NotInBraces, OutOfMemory}
 
-pub all_append : {A : Type 0} (P : A → Type 0) (xs ys : List A) → AllByRecursion P xs → AllByRecursion P ys → AllByRecursion P (xs ++ ys)
-all_append P [] ys first rest = rest
-all_append P (x ∷ xs) ys first rest = (first.0, all_append P xs ys first.1 rest)
-
 pub all_left : {A : Type 0} (P : A → Type 0) (xs ys : List A) → AllByRecursion P (xs ++ ys) → AllByRecursion P xs
 all_left P [] ys all = tt
 all_left P (x ∷ xs) ys all = (all.0, all_left P xs ys all.1)

@@ -7,7 +7,7 @@ use Rattle.std.proofs.lemmas.Bool.Decides.{nat_tests}
 use Rattle.bib_text.specs.Places.{place, CharAt}
 use Rattle.bib_text.proofs.PlaceFacts.{char_here, char_left}
 use Rattle.bib_documents.specs.Edits.{Edit, edited, moved_place}
-use Rattle.bib_documents.proofs.BoundaryFacts.{Border, not_over}
+use Rattle.bib_text.proofs.BoundaryFacts.{Border, not_over}
 use Rattle.bib_documents.proofs.ZoneFacts.{Frame, Zone}
 
 -- an edit of a text: its stretch lies in it, and in the new text no character goes over where the new bytes begin

@@ -19,7 +19,7 @@ use Rattle.bib_syntax.specs.Grammar.{Fields as fields}
 use Rattle.bib_syntax.specs.Grammar.{Body as body}
 use Rattle.bib_syntax.proofs.WordFacts.{ahead_number}
 use Rattle.bib_syntax.proofs.FieldFacts.{ahead_identifier, ahead_quoted_parts, ahead_parts, ahead_quoted, ahead_element, ahead_elements, ahead_field, ahead_gap, ahead_fields}
-use Rattle.bib_syntax.proofs.FileFacts.{ahead_head, ahead_body, ahead_line_comment}
+use Rattle.bib_syntax.proofs.FileFacts.{ahead_head, ahead_body, ahead_line_comment, says_entry}
 use Rattle.bib_documents.specs.Edits.{moved_part, moved_piece, moved_field, moved_entry, moved_file}
 use Rattle.bib_documents.proofs.ZoneFacts.{Frame, Zone, Inside, there, inside_between, char_there, char_back, stops_there, run_there, longest_there, parts_there, between_there, part_there}
 
@@ -221,10 +221,6 @@ head_there z iu iv below h = head_until z iu iv (stops_there is_whitespace z iv 
 -- what a preamble says
 abbrev says_preamble : List ℕ → FileReading
 says_preamble text = record { preamble = text; entries = []; abbreviations = [] }
-
--- what an entry says, from its parts
-abbrev says_entry : Part → Part → List FieldReading → ℕ → ℕ → FileReading
-says_entry key kind fs start end = record { preamble = []; entries = record { key = key; kind = kind; fields = fs; start = start; end = end } ∷ []; abbreviations = [] }
 
 pub body_there : {f : Frame} {start u v : Place} {kind : Part} {k : BlockKind} {says : FileReading} → Zone f → Inside f u → Inside f v → Body longest start kind k u says v
     → Body longest (there f start) (moved_part f.move kind) k (there f u) (moved_file f.move says) (there f v)

@@ -14,7 +14,7 @@ use Rattle.bib_syntax.proofs.FileFacts.{ahead_block, ahead_line_comment, then-th
 use Rattle.bib_documents.specs.Edits.{moved_entry, moved_field, moved_file, moved_piece}
 use Rattle.bib_documents.specs.Documents.{Document, IsDocument, joined_documents}
 use Rattle.bib_documents.proofs.EditFacts.{ascii_stands, rest_stands}
-use Rattle.bib_documents.proofs.BoundaryFacts.{not_over}
+use Rattle.bib_text.proofs.BoundaryFacts.{not_over}
 use Rattle.bib_documents.proofs.ZoneFacts.{Frame, Inside, Zone, char_there, inside_between, run_there, there}
 use Rattle.bib_documents.proofs.GrammarFacts.{block_there, line_comment_there}
 use Rattle.bib_documents.proofs.MovedFacts.{body_within, char_within, file_there, run_within}

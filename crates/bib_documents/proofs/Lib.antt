@@ -1,6 +1,5 @@
 pub mod AddedFacts
 pub mod AgreementFacts
-pub mod BoundaryFacts
 pub mod ChangeListFacts
 pub mod ChangedFacts
 pub mod EditFacts

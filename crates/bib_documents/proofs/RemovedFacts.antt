@@ -19,7 +19,7 @@ use Rattle.bib_syntax.proofs.FileFacts.{ahead_head, is_skipped, skipped_rest}
 use Rattle.bib_documents.specs.Edits.{Edit, edited, moved_place, moved_entry, moved_field, moved_file}
 use Rattle.bib_documents.specs.Documents.{Document, EntryRemoved, HasEntry, IsEdited, IsDocument, entry_removed}
 use Rattle.bib_documents.specs.Placed.{IsEntryPlaced}
-use Rattle.bib_documents.proofs.BoundaryFacts.{Border, char_boundary}
+use Rattle.bib_text.proofs.BoundaryFacts.{Border, char_boundary}
 use Rattle.bib_documents.proofs.EditFacts.{Fits, before_frame, after_frame, length-edited, moved_after, moved_before, zone_before, zone_after}
 use Rattle.bib_documents.proofs.ZoneFacts.{Inside, inside}
 use Rattle.bib_documents.proofs.SplitFacts.{ahead_file_before, joined_file, split_file}

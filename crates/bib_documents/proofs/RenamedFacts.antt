@@ -16,7 +16,7 @@ use Rattle.bib_syntax.proofs.FileFacts.{ahead_head}
 use Rattle.bib_documents.specs.Edits.{Edit, edited, moved_place, moved_entry}
 use Rattle.bib_documents.specs.Documents.{CanBeKey, Document, IsDocument, entry_renamed, first_position, next_index, text_at}
 use Rattle.bib_documents.specs.Placed.{IsKeyPlaced}
-use Rattle.bib_documents.proofs.BoundaryFacts.{Border, char_boundary}
+use Rattle.bib_text.proofs.BoundaryFacts.{Border, char_boundary}
 use Rattle.bib_documents.proofs.EditFacts.{Fits, before_frame, after_frame, piece_frame, moved_after, moved_before, new_bytes, zone_before, zone_after, zone_piece}
 use Rattle.bib_documents.proofs.ZoneFacts.{Inside, char_there, inside, inside_between, longest_there, run_there, stops_there, there}
 use Rattle.bib_documents.proofs.GrammarFacts.{below_char, fields_there, gap_there, head_until}
@@ -24,10 +24,7 @@ use Rattle.bib_documents.proofs.SplitFacts.{EntryBlock, ahead_file_before, block
 use Rattle.bib_documents.proofs.MovedFacts.{char_within}
 use Rattle.bib_documents.proofs.EntryFacts.{entry_edited_read, goes}
 use Rattle.bib_documents.proofs.ValueFacts.{run_stands}
-
--- a character of a key is no white space
-key_dark : (c : ℕ) → is_key c ≡ true → is_whitespace c ≡ false
-key_dark c passes = not-true (is_whitespace c) (and_parts (not (c == 44 || c == 125) && not (is_control c)) (not (is_whitespace c)) passes).1
+use Rattle.bib_syntax.proofs.LawFacts.{key_dark}
 
 -- a key, where it stands
 record KeyRead (whole key : List ℕ) (at : ℕ) : Type 0 where

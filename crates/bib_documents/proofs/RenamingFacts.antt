@@ -22,8 +22,8 @@ use Rattle.bib_documents.specs.declared.errors.EditError.TheVariants.{NotInBrace
 use Rattle.bib_documents.proofs.SplitFacts.{EntryBlock, entry_block, one_entry}
 use Rattle.bib_documents.proofs.ValueFacts.{field_placed}
 use Rattle.bib_documents.proofs.RenamedFacts.{first_passes, key_placed, key_some}
-use Rattle.bib_documents.proofs.ChangeListFacts.{all_append}
 use Rattle.bib_documents.proofs.ChangedFacts.{IsPieceOf, all_made}
+use Rattle.bib_text.proofs.ListFacts.{all_append}
 
 -- ---- one after another
 

@@ -11,10 +11,10 @@ use Rattle.bib_documents.specs.Edits.{edited}
 use Rattle.bib_documents.specs.Documents.{CanBeName, CanStandInBraces, Document, FieldSet, HasEntry, HasField, IsAfterComma, IsEdited, IsDocument, field_added, added_line, first_position, is_keyed, has_name, is_value, last_position, value_changed, value_edit}
 use Rattle.bib_documents.specs.Placed.{HasComma}
 use Rattle.bib_documents.specs.declared.errors.EditError.{EditError}
-use Rattle.bib_documents.proofs.BoundaryFacts.{char_boundary}
 use Rattle.bib_documents.proofs.SplitFacts.{ahead_file_before, split_file}
 use Rattle.bib_documents.proofs.ValueFacts.{run_stands, value_changed_read}
 use Rattle.bib_documents.proofs.AddedFacts.{field_added_read}
+use Rattle.bib_text.proofs.BoundaryFacts.{char_boundary}
 
 -- where the comma after an entry's key stands
 pub comma_known : (d : Document) (k : ℕ) (e : EntryReading) → IsDocument d → slice_get d.says.entries k ≡ Some e → HasComma d.text e

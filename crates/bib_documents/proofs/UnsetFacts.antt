@@ -16,11 +16,10 @@ use Rattle.bib_syntax.specs.Grammar.{Field, Fields, Gap, longest}
 use Rattle.bib_syntax.specs.Grammar.{Fields as fields}
 use Rattle.bib_syntax.proofs.FieldFacts.{ahead_elements, ahead_field, ahead_fields, ahead_gap}
 use Rattle.bib_syntax.proofs.FileFacts.{ahead_head}
-use Rattle.bib_syntax.proofs.LawFacts.{start_not_white}
+use Rattle.bib_syntax.proofs.LawFacts.{start_not_white, start_plain}
 use Rattle.bib_documents.specs.Edits.{Edit, edited, moved_place, moved_entry, moved_field, moved_part}
 use Rattle.bib_documents.specs.Documents.{Document, IsDocument, field_edit, field_limit, field_removed}
 use Rattle.bib_documents.specs.Placed.{AreFieldsPlaced}
-use Rattle.bib_documents.proofs.BoundaryFacts.{char_boundary}
 use Rattle.bib_documents.proofs.EditFacts.{Fits, before_frame, after_frame, moved_after, moved_before, zone_before, zone_after}
 use Rattle.bib_documents.proofs.ZoneFacts.{Frame, Inside, Zone, char_there, inside, inside_between, longest_there, part_there, there}
 use Rattle.bib_documents.proofs.GrammarFacts.{below_between, below_char, field_there, fields_there, gap_there, gap_until, head_there}
@@ -28,6 +27,7 @@ use Rattle.bib_documents.proofs.SplitFacts.{EntryBlock, FieldsAfter, FieldsBefor
 use Rattle.bib_documents.proofs.MovedFacts.{char_within}
 use Rattle.bib_documents.proofs.EntryFacts.{entry_edited_read, goes}
 use Rattle.bib_documents.proofs.RemovedFacts.{taken_out}
+use Rattle.bib_text.proofs.BoundaryFacts.{char_boundary}
 
 -- ---- what is left after a field
 
@@ -46,9 +46,6 @@ record RestFields (u : Place) (fs : List FieldReading) (v : Place) : Type 0 wher
   dark : is_whitespace char ≡ false
   plain : (char == 37) ≡ false
   limit : limit_of fs v.at ≡ start.at
-
-start_plain : (c : ℕ) → is_id_start c ≡ true → (c == 37) ≡ false
-start_plain c starts = ne_eqb c 37 (λ same. test_clash (is_id_start 37) (subst (λ x. is_id_start x ≡ true) same starts) refl)
 
 pub start_line : (c : ℕ) → is_id_start c ≡ true → (c == 10) ≡ false
 start_line c starts = ne_eqb c 10 (λ same. test_clash (is_id_start 10) (subst (λ x. is_id_start x ≡ true) same starts) refl)

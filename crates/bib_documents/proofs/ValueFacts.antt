@@ -16,14 +16,14 @@ use Rattle.bib_syntax.specs.Grammar.{Number as number}
 use Rattle.bib_syntax.specs.Grammar.{Element as element}
 use Rattle.bib_syntax.specs.Grammar.{Elements as elements}
 use Rattle.bib_syntax.specs.Grammar.{Gap as gap}
-use Rattle.bib_syntax.proofs.FieldFacts.{ahead_identifier, ahead_parts, ahead_quoted_parts, ahead_elements, ahead_field, ahead_gap}
+use Rattle.bib_syntax.proofs.FieldFacts.{ahead_identifier, ahead_parts, ahead_quoted_parts, ahead_elements, ahead_field, ahead_gap, elements_stop}
 use Rattle.bib_syntax.proofs.FileFacts.{ahead_head}
 use Rattle.bib_syntax.proofs.LawFacts.{start_not_white}
 use Rattle.bib_documents.specs.Placed.{IsPlaced}
 use Rattle.std.specs.Str.{IsCharBoundary}
 use Rattle.bib_documents.specs.Edits.{Edit, edited, moved_place, moved_part, moved_field}
 use Rattle.bib_documents.specs.Documents.{Document, IsDocument, CanStandInBraces, in_braces, text_at, value_edit, with_value, value_changed}
-use Rattle.bib_documents.proofs.BoundaryFacts.{Border, char_boundary}
+use Rattle.bib_text.proofs.BoundaryFacts.{Border, char_boundary}
 use Rattle.bib_documents.proofs.EditFacts.{Fits, before_frame, after_frame, piece_frame, moved_before, moved_after, zone_before, zone_after, zone_piece, new_bytes}
 use Rattle.bib_documents.proofs.ZoneFacts.{Inside, there, inside, inside_between, char_there, run_there, longest_there, stops_there}
 use Rattle.bib_documents.proofs.GrammarFacts.{below_between, below_char, identifier_there, braced_there}
@@ -32,11 +32,6 @@ use Rattle.bib_documents.proofs.MovedFacts.{char_within}
 use Rattle.bib_documents.proofs.EntryFacts.{goes, field_edited_read}
 
 -- ---- where a value begins and ends
-
--- a value ends at no white space and no #
-elements_stop : {u v : Place} {es : List Piece} → Elements longest u es v → Stops is_whitespace v × Stops (λ c. c == 35) v
-elements_stop (elements.last e white ends) = (white.stops, ends)
-elements_stop (elements.more e white sign white' rest) = elements_stop rest
 
 -- it begins with a character that is no white space
 pub record Opens (u v : Place) : Type 0 where

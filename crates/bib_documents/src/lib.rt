@@ -1,4 +1,4 @@
-//! A bibliography file's text with its raw reading as one value, and edits that change a stretch of the text, or several.
+//! The source of a bibliography file together with its raw reading, and edits of its entries, fields and keys.
 //!
 //! An edit finds its stretch by the spans of the raw reading, and copies the text round it; the new text isn't read. What it says
 //! is proved of the file grammar. Two texts share a *zone* where they have the same bytes (`ZoneFacts`): before the stretch and after

@@ -1,4 +1,4 @@
--- Facts on the fields of dates.
+-- Lemmas about the fields of dates.
 use Rattle.std.proofs.Common.{◌≡◌, ℕ, cond, false, List, ◌++◌, map, refl, sym, ap, ◌∙◌, Some, None, Ok}
 use Rattle.std.specs.Prelude.{codes}
 use Rattle.std.specs.Char.{to_ascii_lowercase}
@@ -7,25 +7,25 @@ use Rattle.std.specs.FinMap.{get-remove}
 use Rattle.std.specs.Ordering.{eq_by_cmp}
 use Rattle.std.proofs.lemmas.Cmp.{nat_list_cmp_total}
 use Rattle.bib_dates.specs.declared.date.Date.{Date}
-use Rattle.bib_maps.specs.Sorted.{ByText, by_bytes}
+use Rattle.bib_collections.specs.Sorted.{ByText, by_bytes}
 use Rattle.bib_typed.specs.declared.typed.PermissiveType.{PermissiveType}
 use Rattle.bib_typed.specs.declared.typed.Type.{Ghosts}
 use Rattle.bib_entry.specs.DateFields.{without_part, SetsDate}
 use Rattle.bib_entry.specs.Fields.{with_field}
-use Rattle.bib_fields.specs.Retrieved.{field_as}
+use Rattle.bib_typed.specs.Retrieved.{field_as}
 use Rattle.bib_entry.specs.Prefixes.{date_prefix}
 use Rattle.bib_entry.specs.declared.dates.Prefix.{Prefix}
 use Rattle.bib_entry.specs.declared.dates.Prefix.TheVariants.{Plain, Event, Orig, Url}
 use Rattle.bib_entry.specs.declared.entry.Entry.{Entry}
 
--- a name of a date is in lowercase letters
+-- the name of a date is in lowercase letters
 lowered : (p : Prefix) → map to_ascii_lowercase (date_prefix p ++ codes "date") ≡ date_prefix p ++ codes "date"
 lowered Plain = refl
 lowered Event = refl
 lowered Orig = refl
 lowered Url = refl
 
--- and no name of a part
+-- and it differs from the names of its parts
 apart_year : (p : Prefix) → eq_by_cmp by_bytes (date_prefix p ++ codes "date") (date_prefix p ++ codes "year") ≡ false
 apart_year Plain = refl
 apart_year Event = refl
@@ -44,11 +44,11 @@ apart_day Event = refl
 apart_day Orig = refl
 apart_day Url = refl
 
--- a field that isn't taken out stays
+-- a field that isn't removed keeps its chunks
 stays : {V : Type 0} (m : ByText V) (name other : List ℕ) → eq_by_cmp by_bytes name other ≡ false → by_name.get (by_name.remove m other) name ≡ by_name.get m name
 stays m name other apart = get-remove nat_list_cmp_total m other name ∙ ap (λ same. cond same None (by_name.get m name)) apart
 
--- what a setter of a date does
+-- a setter of a date does what `SetsDate` states
 pub is_set_date : (type : Ghosts (PermissiveType Date)) (m : type.Meaning) (p : Prefix) (old mid two three new : Entry) (date year month day : List ℕ)
     → mid ≡ with_field old (map to_ascii_lowercase date) (type.writes m) → (type.kept m → field_as type.reads (by_name.get mid.fields (map to_ascii_lowercase date)) ≡ Some m)
     → date ≡ date_prefix p ++ codes "date" → year ≡ date_prefix p ++ codes "year" → month ≡ date_prefix p ++ codes "month" → day ≡ date_prefix p ++ codes "day"

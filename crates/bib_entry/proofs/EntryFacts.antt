@@ -1,10 +1,10 @@
--- Facts on entries.
+-- Lemmas about entries.
 use Rattle.std.proofs.Common.{◌≡◌, refl, ap}
-use Rattle.bib_entry_types.specs.declared.mechanics.EntryType.{EntryType}
-use Rattle.bib_entry_types.specs.declared.mechanics.EntryType.TheVariants.{Article, Book, Booklet, InBook, InCollection, InProceedings, Manual, MastersThesis, PhdThesis, Misc, Proceedings, TechReport, Unpublished, MvBook, BookInBook, SuppBook, Periodical, SuppPeriodical, Collection, MvCollection, SuppCollection, Reference, MvReference, InReference, MvProceedings, Report, Patent, Thesis, Online, Software, Dataset, Set, XData, Unknown}
-use Rattle.bib_entry_types.specs.contracts.mechanics.EntryTypeClone.TheImpl.{ghosts}
+use Rattle.bib_tables.specs.declared.mechanics.EntryType.{EntryType}
+use Rattle.bib_tables.specs.declared.mechanics.EntryType.TheVariants.{Article, Book, Booklet, InBook, InCollection, InProceedings, Manual, MastersThesis, PhdThesis, Misc, Proceedings, TechReport, Unpublished, MvBook, BookInBook, SuppBook, Periodical, SuppPeriodical, Collection, MvCollection, SuppCollection, Reference, MvReference, InReference, MvProceedings, Report, Patent, Thesis, Online, Software, Dataset, Set, XData, Unknown}
+use Rattle.bib_tables.specs.contracts.mechanics.EntryTypeClone.TheImpl.{ghosts}
 
--- a copy of a type is that type
+-- a clone of an entry type equals it
 pub same_type : (a b : EntryType) → ghosts.is_clone a b → b ≡ a
 same_type Article Article h = refl
 same_type Book Book h = refl

@@ -1,5 +1,5 @@
 pub mod DateFacts
+pub mod DialectFacts
 pub mod EntryFacts
 pub mod FieldFacts
-pub mod FormatFacts
 pub mod ReportFacts

@@ -2,7 +2,7 @@ pub mod Fields
 pub mod Editors
 pub mod Verdicts
 pub mod Reports
-pub mod Format
+pub mod Dialect
 pub mod Parents
 pub mod WrittenEntries
 pub mod DateFields

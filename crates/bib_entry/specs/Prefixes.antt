@@ -4,6 +4,7 @@ use Rattle.std.specs.Prelude.{ℕ, List, codes}
 use Rattle.bib_entry.specs.declared.dates.Prefix.{Prefix}
 use Rattle.bib_entry.specs.declared.dates.Prefix.TheVariants.{Plain, Event, Orig, Url}
 
+-- the text of a prefix
 abbrev pub date_prefix : Prefix → List ℕ
 date_prefix Plain = codes ""
 date_prefix Event = codes "event"

@@ -1,4 +1,4 @@
-//! Dates of an entry: read from a field or from three, and set.
+//! Getters and setters for the dates of an entry, which are in one field or in three.
 
 ghost use Rattle.std.specs.Prelude.{◌≡◌, ◌++◌, codes};
 ghost use Rattle.bib_entry.specs.DateFields.{IsDateRead, GetsDate, SetsDate, three_parts, three_parts_place};
@@ -7,12 +7,12 @@ ghost use Rattle.bib_entry.specs.Prefixes.{date_prefix};
 use crate::entry::Entry;
 use bib_chunks::chunk::ChunksRef;
 use bib_dates::date::Date;
-use bib_fields::retrieval::RetrievalError;
 use bib_text::text::Text;
+use bib_typed::retrieval::RetrievalError;
 use bib_typed::typed::{PermissiveType, Type};
 use std::alloc::{AllocError, Global};
 
-// What stands before `date`, `year`, `month` and `day` in the names of the fields of a date.
+// The prefix of the names of a date's fields, before `date`, `year`, `month` and `day`.
 #[derive(Clone, Copy)]
 enum Prefix {
     Plain,
@@ -22,7 +22,7 @@ enum Prefix {
 }
 
 impl Prefix {
-    // The name of the field of the date.
+    // Returns the name of the field of the date.
     fn date(self) -> &'static str
         ensures { result.now ≡ date_prefix self ++ codes "date" }
     {
@@ -34,7 +34,7 @@ impl Prefix {
         }
     }
 
-    // The name of the field of the year.
+    // Returns the name of the field of the year.
     fn year(self) -> &'static str
         ensures { result.now ≡ date_prefix self ++ codes "year" }
     {
@@ -46,7 +46,7 @@ impl Prefix {
         }
     }
 
-    // The name of the field of the month.
+    // Returns the name of the field of the month.
     fn month(self) -> &'static str
         ensures { result.now ≡ date_prefix self ++ codes "month" }
     {
@@ -58,7 +58,7 @@ impl Prefix {
         }
     }
 
-    // The name of the field of the day.
+    // Returns the name of the field of the day.
     fn day(self) -> &'static str
         ensures { result.now ≡ date_prefix self ++ codes "day" }
     {
@@ -72,7 +72,7 @@ impl Prefix {
 }
 
 impl Entry {
-    // The date that the three fields after a prefix are, given the year.
+    // Parses the date of `year` and of the fields of the month and the day with this prefix.
     fn three_parts(
         &self,
         alloc: Global,
@@ -90,7 +90,7 @@ impl Entry {
         }
     }
 
-    // The date after a prefix.
+    // Returns the date with this prefix.
     fn date_with_prefix(
         &self,
         alloc: Global,
@@ -107,7 +107,7 @@ impl Entry {
         }
     }
 
-    // Sets the date after a prefix.
+    // Sets the date with this prefix.
     fn set_date_with_prefix(
         &mut self,
         prefix: Prefix,
@@ -124,16 +124,16 @@ impl Entry {
         Ok(())
     }
 
-    /// The field `date`, or else the fields `year`, `month` and `day`: the date of publication. A date that can't be
-    /// read is answered as its chunks where it is one field, and refused where it is three. Without a year the field
-    /// `year` is reported as missing.
+    /// Returns the date of publication: the field `date`, or else the date in `year`, `month` and `day`. If the field `date`
+    /// can't be parsed, its chunks are returned. If the three fields can't be parsed, the error is a `TypeError`. If `date`
+    /// and `year` are missing, the error is `Missing` with the name `year`.
     pub fn date(&self, alloc: Global) -> Result<PermissiveType<Date>, RetrievalError>
         ensures { GetsDate ⟦<PermissiveType<Date> as Type>⟧ (codes "") self.now result }
     {
         self.date_with_prefix(alloc, Prefix::Plain)
     }
 
-    /// Sets the field `date`, and takes `year`, `month` and `day` out. A refusal changes nothing.
+    /// Sets the field `date`, and removes `year`, `month` and `day`. If memory runs out, the entry stays unchanged.
     pub fn set_date(&mut self, value: &PermissiveType<Date>) -> Result<(), AllocError>
         ensures { SetsDate ⟦<PermissiveType<Date> as Type>⟧
             (⟦<PermissiveType<Date> as Type>⟧.meaning value.now) (codes "")
@@ -142,16 +142,17 @@ impl Entry {
         self.set_date_with_prefix(Prefix::Plain, value)
     }
 
-    /// The field `eventdate`, or else the fields `eventyear`, `eventmonth` and `eventday`: the date of the conference. A date that can't be
-    /// read is answered as its chunks where it is one field, and refused where it is three. Without a year the field
-    /// `year` is reported as missing.
+    /// Returns the date of the conference: the field `eventdate`, or else the date in `eventyear`, `eventmonth` and
+    /// `eventday`. If the field `eventdate` can't be parsed, its chunks are returned. If the three fields can't be parsed,
+    /// the error is a `TypeError`. If `eventdate` and `eventyear` are missing, the error is `Missing` with the name `year`.
     pub fn event_date(&self, alloc: Global) -> Result<PermissiveType<Date>, RetrievalError>
         ensures { GetsDate ⟦<PermissiveType<Date> as Type>⟧ (codes "event") self.now result }
     {
         self.date_with_prefix(alloc, Prefix::Event)
     }
 
-    /// Sets the field `eventdate`, and takes `eventyear`, `eventmonth` and `eventday` out. A refusal changes nothing.
+    /// Sets the field `eventdate`, and removes `eventyear`, `eventmonth` and `eventday`. If memory runs out, the entry stays
+    /// unchanged.
     pub fn set_event_date(&mut self, value: &PermissiveType<Date>) -> Result<(), AllocError>
         ensures { SetsDate ⟦<PermissiveType<Date> as Type>⟧
             (⟦<PermissiveType<Date> as Type>⟧.meaning value.now) (codes "event")
@@ -160,16 +161,17 @@ impl Entry {
         self.set_date_with_prefix(Prefix::Event, value)
     }
 
-    /// The field `origdate`, or else the fields `origyear`, `origmonth` and `origday`: the date of the original. A date that can't be
-    /// read is answered as its chunks where it is one field, and refused where it is three. Without a year the field
-    /// `year` is reported as missing.
+    /// Returns the date of the original: the field `origdate`, or else the date in `origyear`, `origmonth` and `origday`. If
+    /// the field `origdate` can't be parsed, its chunks are returned. If the three fields can't be parsed, the error is a
+    /// `TypeError`. If `origdate` and `origyear` are missing, the error is `Missing` with the name `year`.
     pub fn orig_date(&self, alloc: Global) -> Result<PermissiveType<Date>, RetrievalError>
         ensures { GetsDate ⟦<PermissiveType<Date> as Type>⟧ (codes "orig") self.now result }
     {
         self.date_with_prefix(alloc, Prefix::Orig)
     }
 
-    /// Sets the field `origdate`, and takes `origyear`, `origmonth` and `origday` out. A refusal changes nothing.
+    /// Sets the field `origdate`, and removes `origyear`, `origmonth` and `origday`. If memory runs out, the entry stays
+    /// unchanged.
     pub fn set_orig_date(&mut self, value: &PermissiveType<Date>) -> Result<(), AllocError>
         ensures { SetsDate ⟦<PermissiveType<Date> as Type>⟧
             (⟦<PermissiveType<Date> as Type>⟧.meaning value.now) (codes "orig")
@@ -178,16 +180,17 @@ impl Entry {
         self.set_date_with_prefix(Prefix::Orig, value)
     }
 
-    /// The field `urldate`, or else the fields `urlyear`, `urlmonth` and `urlday`: the date when the address was visited. A date that can't be
-    /// read is answered as its chunks where it is one field, and refused where it is three. Without a year the field
-    /// `year` is reported as missing.
+    /// Returns the date when the address was visited: the field `urldate`, or else the date in `urlyear`, `urlmonth` and
+    /// `urlday`. If the field `urldate` can't be parsed, its chunks are returned. If the three fields can't be parsed, the
+    /// error is a `TypeError`. If `urldate` and `urlyear` are missing, the error is `Missing` with the name `year`.
     pub fn url_date(&self, alloc: Global) -> Result<PermissiveType<Date>, RetrievalError>
         ensures { GetsDate ⟦<PermissiveType<Date> as Type>⟧ (codes "url") self.now result }
     {
         self.date_with_prefix(alloc, Prefix::Url)
     }
 
-    /// Sets the field `urldate`, and takes `urlyear`, `urlmonth` and `urlday` out. A refusal changes nothing.
+    /// Sets the field `urldate`, and removes `urlyear`, `urlmonth` and `urlday`. If memory runs out, the entry stays
+    /// unchanged.
     pub fn set_url_date(&mut self, value: &PermissiveType<Date>) -> Result<(), AllocError>
         ensures { SetsDate ⟦<PermissiveType<Date> as Type>⟧
             (⟦<PermissiveType<Date> as Type>⟧.meaning value.now) (codes "url")

@@ -1,21 +1,21 @@
 //! The editors of an entry.
 
 ghost use Rattle.std.specs.Prelude.{◌≡◌, ◌++◌, IfOk, IfErr, OnOk};
-ghost use Rattle.bib_enums.specs.TypeError.{no_memory};
+ghost use Rattle.bib_tables.specs.TypeError.{no_memory};
 ghost use Rattle.std.specs.FinMap as by_name;
 ghost use Rattle.bib_entry.specs.Editors.{contents, editors_in, editors_of, role_of};
 
 use crate::entry::Entry;
-use bib_enums::type_error::TypeError;
-use bib_enums::types::EditorType;
 use bib_people::person::Person;
+use bib_tables::type_error::TypeError;
+use bib_tables::types::EditorType;
 use bib_typed::typed::Type;
 use std::alloc::Global;
 
 impl Entry {
-    /// The people of the fields `editor`, `editora`, `editorb` and `editorc`, those that are there, each with the role
-    /// that `editortype`, `editoratype`, `editorbtype` or `editorctype` names, and without that field as editors. The
-    /// only error is out of memory.
+    /// Returns the people of each of the fields `editor`, `editora`, `editorb` and `editorc` that the entry has, with their
+    /// role. The role is the value of `editortype`, `editoratype`, `editorbtype` or `editorctype`, and `Editor` if that field
+    /// is missing. The only error is out of memory.
     pub fn editors(&self, alloc: Global) -> Result<Vec<(Vec<Person>, EditorType)>, TypeError>
         ensures editors { IfOk result (λ editors. contents editors.items ≡ editors_of self.now) }
         ensures refused { IfErr result (λ e. e ≡ no_memory) }
@@ -28,7 +28,7 @@ impl Entry {
         Ok(editors)
     }
 
-    // Appends the people of a field, in the role that another names.
+    // Appends the people of the field `people`, with the role in the field `role`.
     fn add_editors(
         &self,
         alloc: Global,
@@ -49,7 +49,7 @@ impl Entry {
         Ok(())
     }
 
-    // The role that a field names.
+    // Returns the role in the field `name`, or `Editor` if it is missing.
     fn role(&self, alloc: Global, name: &str) -> Result<EditorType, TypeError>
         ensures role { IfOk result (λ role. role ≡ role_of (by_name.get self.now.fields name.now)) }
         ensures refused { IfErr result (λ e. e ≡ no_memory) }

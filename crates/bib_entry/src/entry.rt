@@ -6,17 +6,17 @@ ghost use Rattle.std.specs.Option.{option_copied};
 ghost use Rattle.std.specs.FinMap as by_name;
 
 use bib_chunks::chunk::{Chunks, ChunksRef};
-use bib_entry_types::mechanics::EntryType;
-use bib_fields::setting::SetError;
-use bib_fields::{reading, setting};
-use bib_maps::text_map::TextMap;
+use bib_collections::text_map::TextMap;
+use bib_tables::mechanics::EntryType;
 use bib_text::text::Text;
+use bib_typed::setting::SetError;
+use bib_typed::{reading, setting};
 use std::alloc::{AllocError, Global};
 
 /// An entry of a bibliography.
 #[derive(Debug, PartialEq, Eq, Drop)]
 pub struct Entry {
-    /// The key that the entry is cited by.
+    /// The key by which the entry is cited.
     pub key: Text,
     /// The type of the entry.
     pub entry_type: EntryType,
@@ -25,7 +25,7 @@ pub struct Entry {
 }
 
 impl Entry {
-    /// An entry without fields. Does not allocate.
+    /// Returns an entry without fields. Does not allocate.
     pub fn new(alloc: Global, key: Text, entry_type: EntryType) -> Self
         ensures { result ≡ record { key = key; entry_type = entry_type; fields = by_name.empty } }
     {
@@ -36,15 +36,15 @@ impl Entry {
         }
     }
 
-    /// The field of this very name.
+    /// Returns the chunks of the field `name`. The case of letters matters.
     pub fn get(&self, name: &str) -> Option<ChunksRef<'_>>
         ensures { option_copied result ≡ by_name.get self.now.fields name.now }
     {
         reading::get(&self.fields, name)
     }
 
-    /// Sets the field of the name in lower case, and hands back what it held. A refusal changes nothing, and gives the
-    /// chunks back.
+    /// Sets the field whose name is `name` in lowercase ASCII letters, and returns its previous chunks. If memory runs out,
+    /// the entry stays unchanged, and the error contains `chunks`.
     pub fn set(&mut self, name: &str, chunks: Chunks) -> Result<Option<Chunks>, SetError>
         ensures had { IfOk result (λ had. had ≡ by_name.get self.old.fields
             (map to_ascii_lowercase name.now)) }
@@ -56,7 +56,7 @@ impl Entry {
         setting::set(&mut self.fields, name, chunks)
     }
 
-    /// Takes the field of this very name out. Does not allocate.
+    /// Removes the field `name`, and returns its chunks. The case of letters matters. Does not allocate.
     pub fn remove(&mut self, name: &str) -> Option<Chunks>
         ensures had { result ≡ by_name.get self.old.fields name.now }
         ensures removed { self.new ≡

@@ -1,4 +1,4 @@
-//! Fields of an entry read as values of a type, and set to them.
+//! Getters and setters for fields as values of a type.
 
 ghost use Rattle.std.specs.Prelude.{◌≡◌, map};
 ghost use Rattle.std.specs.Char.{to_ascii_lowercase};
@@ -12,21 +12,21 @@ mod titles;
 
 use crate::entry::Entry;
 use bib_chunks::chunk::ChunksRef;
-use bib_fields::retrieval::RetrievalError;
-use bib_fields::{reading, setting};
+use bib_typed::retrieval::RetrievalError;
 use bib_typed::typed::Type;
+use bib_typed::{reading, setting};
 use std::alloc::{AllocError, Global};
 
 impl Entry {
-    /// The value that the field of this very name is read as. An error says that there is no such field, or why its chunks
-    /// are not read as the type, or that memory was refused.
+    /// Parses the field `name` as a value of type `T`. The case of letters matters. The error is `Missing` if there is no
+    /// such field, a `TypeError` if its chunks can't be parsed as a `T`, or out of memory.
     pub fn get_as<T: Type>(&self, alloc: Global, name: &str) -> Result<T, RetrievalError>
         ensures { GetsValue T.Type self.now name.now result }
     {
         reading::get_as(&self.fields, alloc, name)
     }
 
-    // What the field of this very name is read as, or else that of the other name.
+    // Parses the field `name` as a value of type `T`, or else the field `other`.
     pub(crate) fn get_as_or<T: Type>(
         &self,
         alloc: Global,
@@ -38,7 +38,7 @@ impl Entry {
         reading::get_as_or(&self.fields, alloc, name, other)
     }
 
-    // The chunks of the field of this very name.
+    // Returns the chunks of the field `name`.
     pub(crate) fn chunks_of_field(
         &self,
         alloc: Global,
@@ -49,7 +49,7 @@ impl Entry {
         reading::chunks_of_field(&self.fields, alloc, name)
     }
 
-    // The chunks of the field of this very name, or else of the other.
+    // Returns the chunks of the field `name`, or else of the field `other`.
     pub(crate) fn chunks_of_either(
         &self,
         alloc: Global,
@@ -61,7 +61,8 @@ impl Entry {
         reading::chunks_of_either(&self.fields, alloc, name, other)
     }
 
-    /// Sets the field of the name in lower case to the chunks that a value is written as. A refusal changes nothing.
+    /// Sets the field whose name is `name` in lowercase ASCII letters to the chunks that `value` is written as. If memory
+    /// runs out, the entry stays unchanged.
     pub fn set_as<T: Type>(&mut self, name: &str, value: &T) -> Result<(), AllocError>
         ensures { SetsValue T.Type (T.meaning value.now) (map to_ascii_lowercase name.now)
             self.old self.new result }

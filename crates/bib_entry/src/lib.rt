@@ -1,8 +1,8 @@
-//! Entries of a bibliography, and their fields as typed values.
+//! Entries of a bibliography, with getters and setters for typed values of their fields.
 //!
-//! A getter or setter is one line over `get_as`, `set_as`, `get` or `set`. `write_entry` writes an entry at the end of
-//! a text, for either format; the calls of `biblatex` that make texts and those that hand them to a sink are a few
-//! lines round it. Sections of the BibLaTeX manual are those of its version 3.18.
+//! Each getter or setter is one line that calls `get_as`, `set_as`, `get` or `set`. `write_entry` appends an entry to a text
+//! in either dialect. The functions of `biblatex` that return texts or pass them to a sink are a few lines around it. Section
+//! numbers of the BibLaTeX manual are those of its version 3.18.
 #![tactic(auto)]
 
 mod dates;

@@ -1,12 +1,12 @@
-//! The entries that an entry belongs to, or stands beside.
+//! The entries that an entry belongs to or is related to.
 
 ghost use Rattle.std.specs.Prelude.{◌≡◌, IfOk, IfErr, map, string_bytes};
 ghost use Rattle.bib_entry.specs.Parents.{has_references, parents_of};
-ghost use Rattle.bib_enums.specs.TypeError.{no_memory};
+ghost use Rattle.bib_tables.specs.TypeError.{no_memory};
 
 use crate::entry::Entry;
 use bib_chunks::chunk::format_verbatim;
-use bib_enums::type_error::TypeError;
+use bib_tables::type_error::TypeError;
 use bib_values::lists::read_strings;
 use std::alloc::{AllocError, Global};
 
@@ -23,7 +23,7 @@ fn parents_of(alloc: Global, entry: &Entry) -> Result<Vec<String>, AllocError>
     Ok(names)
 }
 
-/// Whether an entry has a field by which it takes over from others, `crossref` or `xdata`.
+/// Returns whether an entry has a field through which it inherits, `crossref` or `xdata`.
 pub fn has_references(entry: &Entry) -> bool
     ensures { result ≡ has_references entry.now }
 {
@@ -31,8 +31,8 @@ pub fn has_references(entry: &Entry) -> bool
 }
 
 impl Entry {
-    /// The names of the entries that this one belongs to: the text of `crossref`, and then the parts of the comma list
-    /// `xref`. Refused only when out of memory.
+    /// Returns the names of the entries that this entry belongs to: the text of `crossref`, and then the items of the
+    /// comma-separated list `xref`. The only error is out of memory.
     pub fn parents(&self, alloc: Global) -> Result<Vec<String>, TypeError>
         ensures parents { IfOk result (λ names.
             map (λ s. string_bytes s) names.items ≡ parents_of self.now) }

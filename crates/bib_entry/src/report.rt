@@ -1,30 +1,30 @@
-//! Reports on entries: what they lack, what they must not have, and what is not read.
+//! Reports on entries: missing, superfluous and malformed fields.
 
 ghost use Rattle.std.specs.Prelude.{◌≡◌, ◌==◌, ◌&&◌, IfOk, length};
-ghost use Rattle.bib_entry_types.specs.Requirements.{texts};
+ghost use Rattle.bib_tables.specs.Requirements.{texts};
 ghost use Rattle.bib_entry.specs.Reports.{missing_of, superfluous_of, AreMalformed};
 
 mod errors;
 mod fields;
 
 use crate::entry::Entry;
-use bib_enums::type_error::TypeError;
+use bib_tables::type_error::TypeError;
 use bib_text::text::Text;
 use std::alloc::{AllocError, Global};
 
-/// What is wrong with an entry.
+/// The problems of an entry.
 #[derive(Debug, Drop)]
 pub struct Report {
-    /// The fields that its type requires and that it lacks.
+    /// The fields that its type requires and the entry lacks.
     pub missing: Vec<&'static str>,
-    /// The fields that it has and that its type forbids.
+    /// The fields that its type forbids and the entry has.
     pub superfluous: Vec<&'static str>,
-    /// The fields whose chunks are not read, and why not.
+    /// The fields whose chunks can't be parsed, each with its error.
     pub malformed: Vec<(Text, TypeError)>,
 }
 
 impl Report {
-    /// Whether nothing is wrong. Does not allocate.
+    /// Returns whether the report is empty. Does not allocate.
     pub fn is_ok(&self) -> bool
         ensures { result ≡ (length self.now.missing.items == 0
             && (length self.now.superfluous.items == 0
@@ -35,9 +35,10 @@ impl Report {
 }
 
 impl Entry {
-    /// What is wrong with the entry: the fields that it lacks, those that it must not have, and those that are not read
-    /// as values of their types. A required field without chunks lacks; `journaltitle`, `location` and `school` may be
-    /// there as `journal`, `address` and `institution`.
+    /// Reports the problems of the entry. `missing` contains the fields that its type requires and it lacks, and
+    /// `superfluous` those that its type forbids and it has. `malformed` contains the fields that can't be parsed as values
+    /// of their types. A required field without chunks is missing. It may also occur under its other name: `journal` for
+    /// `journaltitle`, `address` for `location`, and `institution` for `school`.
     pub fn verify(&self, alloc: Global) -> Result<Report, AllocError>
         ensures missing { IfOk result (λ report. texts report.missing.items ≡ missing_of self.now) }
         ensures superfluous { IfOk result (λ report. texts report.superfluous.items ≡

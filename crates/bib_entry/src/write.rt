@@ -1,11 +1,11 @@
-//! Entries as they are written in a file.
+//! Writing entries in BibLaTeX's or BibTeX's types and fields.
 
 ghost use Rattle.std.specs.Prelude.{◌≡◌, ◌++◌, OnOk, IfOk, codes, string_bytes, unwrap_or};
 ghost use Rattle.std.specs.FinMap.{entries};
 ghost use Rattle.std.specs.List.{flat_map};
-ghost use Rattle.bib_entry_types.specs.EntryType.{entry_type_name};
+ghost use Rattle.bib_tables.specs.EntryType.{entry_type_name};
 ghost use Rattle.bib_text.specs.Enums.{named};
-ghost use Rattle.bib_entry.specs.Format.{entry_in, written_field, kind_in};
+ghost use Rattle.bib_entry.specs.Dialect.{entry_in, written_field, kind_in};
 ghost use Rattle.std.specs.Option.{option_map};
 ghost use Rattle.bib_dates.specs.Chunks.{date_read};
 ghost use Rattle.bib_entry.specs.WrittenEntries.{biblatex_entry, biblatex_name, bibtex_entry, bibtex_field, bibtex_name, bibtex_names, date_lines, date_or, written_line, part_line, side_lines, thesis_names, value_bytes};
@@ -13,33 +13,33 @@ ghost use Rattle.bib_entry.specs.WrittenEntries.{biblatex_entry, biblatex_name, 
 use crate::entry::Entry;
 use bib_chunks::chunk::{ChunksRef, write_value};
 use bib_dates::date::{Date, Datetime};
-use bib_entry_types::fields::is_verbatim_field;
-use bib_entry_types::mechanics::EntryType;
+use bib_tables::fields::is_verbatim_field;
+use bib_tables::mechanics::EntryType;
 use bib_typed::typed::Type;
 use std::alloc::{AllocError, Global};
 
-/// The program whose types and fields an entry is written with.
+/// The dialect whose types and fields an entry is written with.
 #[derive(Clone, Copy)]
-pub enum Format {
+pub enum Dialect {
     /// BibLaTeX.
     Biblatex,
     /// BibTeX.
     Bibtex,
 }
 
-impl Format {
-    // The type that stands for a type.
+impl Dialect {
+    // Returns the entry type of this dialect that `kind` is mapped to.
     fn kind(self, kind: &EntryType) -> EntryType
         ensures { result ≡ kind_in self kind.now }
     {
         match self {
-            Format::Biblatex => kind.to_biblatex(),
-            Format::Bibtex => kind.to_bibtex(),
+            Dialect::Biblatex => kind.to_biblatex(),
+            Dialect::Bibtex => kind.to_bibtex(),
         }
     }
 }
 
-// The name that BibLaTeX has for a field.
+// Returns BibLaTeX's name of a field.
 fn biblatex_name(name: &str) -> &str
     ensures { result.now ≡ biblatex_name name.now }
 {
@@ -51,7 +51,7 @@ fn biblatex_name(name: &str) -> &str
     }
 }
 
-// Writes the line of a field with its own name and the one that it is written with.
+// Appends the line of a field. `written` is the name in the output, and `name` is the name in the entry.
 fn write_line(
     out: &mut String,
     written: &str,
@@ -68,7 +68,7 @@ fn write_line(
     Ok(())
 }
 
-// The name that BibTeX has for a field, whatever the type of its entry.
+// Returns BibTeX's name of a field, for any type of its entry.
 fn plain_name(name: &str) -> &str
     ensures { result.now ≡ unwrap_or (named bibtex_names name.now) name.now }
 {
@@ -79,7 +79,7 @@ fn plain_name(name: &str) -> &str
     }
 }
 
-// The name that BibTeX has for a field of a thesis.
+// Returns BibTeX's name of a field of a thesis.
 fn thesis_name(name: &str) -> &str
     ensures { result.now ≡ unwrap_or (named thesis_names name.now) name.now }
 {
@@ -89,7 +89,7 @@ fn thesis_name(name: &str) -> &str
     }
 }
 
-// The name that BibTeX has for a field of an entry of this type.
+// Returns BibTeX's name of a field of an entry of type `kind`.
 fn bibtex_name<'n>(kind: &EntryType, name: &'n str) -> &'n str
     ensures { result.now ≡ bibtex_name kind.now name.now }
 {
@@ -99,7 +99,7 @@ fn bibtex_name<'n>(kind: &EntryType, name: &'n str) -> &'n str
     }
 }
 
-// Writes the line of a part of a date, if it is there.
+// Appends the line of a part of a date, if there is one.
 fn write_part(
     out: &mut String,
     prefix: &str,
@@ -120,7 +120,7 @@ fn write_part(
     Ok(())
 }
 
-// Writes the lines of one side of a date, with this before their names.
+// Appends the lines of one side of a date, with `prefix` before their names.
 fn write_side(
     alloc: Global,
     out: &mut String,
@@ -135,7 +135,7 @@ fn write_side(
     write_part(out, prefix, "day", side.day_text(alloc)?)
 }
 
-// Writes a date in fields of their own.
+// Appends a date in separate fields.
 fn write_date(alloc: Global, out: &mut String, date: &Date) -> Result<(), AllocError>
     ensures { OnOk result (string_bytes out.new ≡ string_bytes out.old ++ date_lines date.now) }
 {
@@ -146,7 +146,7 @@ fn write_date(alloc: Global, out: &mut String, date: &Date) -> Result<(), AllocE
     write_side(alloc, out, "end", end)
 }
 
-// Writes what stands for the field `date`: the date, if one is read in it.
+// Appends the field `date`: in separate fields if it can be parsed, and unchanged otherwise.
 fn write_date_field(
     alloc: Global,
     out: &mut String,
@@ -164,7 +164,7 @@ fn write_date_field(
     }
 }
 
-// Writes a field of an entry of this type with BibTeX's names.
+// Appends a field of an entry of type `kind` with BibTeX's names.
 fn write_bibtex_field(
     alloc: Global,
     out: &mut String,
@@ -181,25 +181,25 @@ fn write_bibtex_field(
     write_line(out, bibtex_name(kind, name), name, chunks)
 }
 
-// Writes a field of an entry of this type.
+// Appends a field of an entry of type `kind`.
 fn write_field(
     alloc: Global,
     out: &mut String,
     kind: &EntryType,
     name: &str,
     chunks: ChunksRef<'_>,
-    format: Format,
+    dialect: Dialect,
 ) -> Result<(), AllocError>
     ensures { OnOk result (string_bytes out.new ≡ string_bytes out.old ++
-        written_field format kind.now (name.now, chunks.now)) }
+        written_field dialect kind.now (name.now, chunks.now)) }
 {
-    match format {
-        Format::Biblatex => write_line(out, biblatex_name(name), name, chunks),
-        Format::Bibtex => write_bibtex_field(alloc, out, kind, name, chunks),
+    match dialect {
+        Dialect::Biblatex => write_line(out, biblatex_name(name), name, chunks),
+        Dialect::Bibtex => write_bibtex_field(alloc, out, kind, name, chunks),
     }
 }
 
-// Writes what stands before the fields of an entry.
+// Appends the text before the fields of an entry.
 fn write_head(out: &mut String, kind: &str, key: &str) -> Result<(), AllocError>
     ensures { OnOk result (string_bytes out.new ≡ string_bytes out.old ++
         (codes "@" ++ (kind.now ++ (codes "{" ++ (key.now ++ codes ",\n"))))) }
@@ -212,15 +212,15 @@ fn write_head(out: &mut String, kind: &str, key: &str) -> Result<(), AllocError>
     Ok(())
 }
 
-// Writes the fields of an entry.
+// Appends the fields of an entry.
 fn write_fields(
     alloc: Global,
     out: &mut String,
     entry: &Entry,
-    format: Format,
+    dialect: Dialect,
 ) -> Result<(), AllocError>
     ensures { OnOk result (string_bytes out.new ≡ string_bytes out.old ++
-        flat_map (written_field format entry.now.entry_type) (entries entry.now.fields)) }
+        flat_map (written_field dialect entry.now.entry_type) (entries entry.now.fields)) }
 {
     'fields: for (name, chunks) in &entry.fields {
         write_field(
@@ -229,57 +229,57 @@ fn write_fields(
             &entry.entry_type,
             name.as_str(),
             chunks.as_slice(),
-            format,
+            dialect,
         )?;
     }
     Ok(())
 }
 
-/// Writes an entry at the end of a text, with the types and fields of a format.
+/// Appends an entry to `out`, in the types and fields of `dialect`.
 pub fn write_entry(
     alloc: Global,
     out: &mut String,
     entry: &Entry,
-    format: Format,
+    dialect: Dialect,
 ) -> Result<(), AllocError>
     ensures { OnOk result (string_bytes out.new ≡ string_bytes out.old ++
-        entry_in format entry.now) }
+        entry_in dialect entry.now) }
 {
-    let kind = format.kind(&entry.entry_type);
+    let kind = dialect.kind(&entry.entry_type);
     write_head(out, kind.name(), entry.key.as_str())?;
-    write_fields(alloc, out, entry, format)?;
+    write_fields(alloc, out, entry, dialect)?;
     out.push('}')?;
     Ok(())
 }
 
 impl Entry {
-    /// Writes the entry with escapes, in BibLaTeX's types and fields. A command that the reader does not know is plain text:
-    /// `\emph{x}` is written `\\emph\{x\}`, and outside verbatim fields `~` is written `\textasciitilde{}`. The edits and
-    /// `convert` of `bibkit` keep a file's own text.
+    /// Returns the entry as a text with escapes, in BibLaTeX's types and fields. An unknown command was parsed as plain text,
+    /// so it is escaped: `\emph{x}` is written `\\emph\{x\}`. Outside verbatim fields `~` is written `\textasciitilde{}`. The
+    /// edits and `convert` of `bibkit` preserve the source of a file instead.
     ///
     /// `journal`, `address` and `school` become `journaltitle`, `location` and `institution`. The fields are in the order of
-    /// their own names' bytes. The only error is out of memory.
+    /// the bytes of their names in the entry. The only error is out of memory.
     pub fn to_biblatex_string(&self, alloc: Global) -> Result<String, AllocError>
         ensures { IfOk result (λ text. string_bytes text ≡ biblatex_entry self.now) }
     {
         let mut out = String::new(alloc);
-        write_entry(alloc, &mut out, self, Format::Biblatex)?;
+        write_entry(alloc, &mut out, self, Dialect::Biblatex)?;
         Ok(out)
     }
 
-    /// Writes the entry with escapes, in BibTeX's types and fields. A command that the reader does not know is plain text:
-    /// `\emph{x}` is written `\\emph\{x\}`, and outside verbatim fields `~` is written `\textasciitilde{}`. The edits and
-    /// `convert` of `bibkit` keep a file's own text.
+    /// Returns the entry as a text with escapes, in BibTeX's types and fields. An unknown command was parsed as plain text,
+    /// so it is escaped: `\emph{x}` is written `\\emph\{x\}`. Outside verbatim fields `~` is written `\textasciitilde{}`. The
+    /// edits and `convert` of `bibkit` preserve the source of a file instead.
     ///
     /// `journaltitle` and `location` become `journal` and `address`, and the `institution` of a thesis becomes `school`. A
     /// `date` that can be parsed becomes `year`, `month` and `day`, and a range with two sides also `endyear`, `endmonth` and
-    /// `endday`; any other `date` is written as it is. The fields are in the order of their own names' bytes. The only error
-    /// is out of memory.
+    /// `endday`. Any other `date` is written unchanged. The fields are in the order of the bytes of their names in the entry.
+    /// The only error is out of memory.
     pub fn to_bibtex_string(&self, alloc: Global) -> Result<String, AllocError>
         ensures { IfOk result (λ text. string_bytes text ≡ bibtex_entry self.now) }
     {
         let mut out = String::new(alloc);
-        write_entry(alloc, &mut out, self, Format::Bibtex)?;
+        write_entry(alloc, &mut out, self, Dialect::Bibtex)?;
         Ok(out)
     }
 }

@@ -11,7 +11,7 @@ use Rattle.bib_excerpts.specs.Citations.{add_citation, left_after, cites_all, ci
 use Rattle.bib_excerpts.specs.Collecting.{IsCollected, IsSeen}
 use Rattle.bib_excerpts.specs.declared.citations.Citation.{Citation}
 use Rattle.bib_excerpts.specs.declared.citations.Collected.{Collected}
-use Rattle.bib_excerpts.proofs.PartFacts.{begins, begins_not}
+use Rattle.bib_text.proofs.ListFacts.{begins, begins_not}
 
 -- what is left after a prefix
 pub prefix_after : (prefix text : List ℕ) (r : Option (Bor (List ℕ))) → MatchOption r (FindsTextPrefix prefix text None) (λ x. (n : ℕ) × FindsTextPrefix prefix text (Some n) × (x.now ≡ drop n text) × (length x.now + n ≡ length text))

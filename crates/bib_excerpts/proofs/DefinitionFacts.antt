@@ -21,31 +21,11 @@ use Rattle.bib_syntax.specs.declared.raw.recovery.SkippedBlock.{SkippedBlock}
 use Rattle.bib_syntax.proofs.FieldFacts.{ahead_field, ahead_gap, ahead_parts, ahead_quoted_parts}
 use Rattle.bib_syntax.proofs.FileFacts.{ahead_block, ahead_head, ahead_line_comment}
 use Rattle.bib_syntax.proofs.RecoveryFacts.{ahead_passed}
-use Rattle.bib_syntax.proofs.SliceFacts.{all_append}
 use Rattle.bib_excerpts.specs.Standing.{IsFieldIn}
+use Rattle.bib_text.proofs.ListFacts.{all_append}
+use Rattle.bib_text.proofs.BoundaryFacts.{char_boundary}
 
 -- ---- a text may be cut where a character stands
-
-head_of : (x : Bool) (a b rest : List ℕ) → get_or (cond x a b ++ rest) 0 0 ≡ cond x (get_or (a ++ rest) 0 0) (get_or (b ++ rest) 0 0)
-head_of true a b rest = refl
-head_of false a b rest = refl
-
-lead_value : (x y z : Bool) (c i j k : ℕ) → (x ≡ true → c < 128) → 128 ≤ cond x c (cond y (192 + i) (cond z (224 + j) (240 + k))) → 192 ≤ cond x c (cond y (192 + i) (cond z (224 + j) (240 + k)))
-lead_value true y z c i j k small high = absurd (omega (arith, small refl, high))
-lead_value false true z c i j k small high = omega arith
-lead_value false false true c i j k small high = omega arith
-lead_value false false false c i j k small high = omega arith
-
--- the first byte of a character
-lead_is : (c : ℕ) (rest : List ℕ) → get_or (encode c ++ rest) 0 0 ≡ cond (ltb c 128) c (cond (ltb c 2048) (192 + c / 64) (cond (ltb c 65536) (224 + c / 4096) (240 + c / 262144)))
-unfolding encode
-lead_is c rest = head_of (ltb c 128) _ _ rest ∙ ap (cond (ltb c 128) c) (head_of (ltb c 2048) _ _ rest ∙ ap (cond (ltb c 2048) (192 + c / 64)) (head_of (ltb c 65536) _ _ rest))
-
-char_boundary : {u v : Place} {c : ℕ} → CharAt u c v → IsCharBoundary u.text u.at
-char_boundary {u} {v} {c} char =
-    let same : get_or u.text u.at 0 ≡ get_or (encode c ++ drop v.at u.text) 0 0 = sym (ap (λ n. get_or u.text n 0) (omega arith)) ∙ sym (get_or-drop u.at u.text 0 0) ∙ ap (λ t. get_or t 0 0) char.here in
-    let lead = same ∙ lead_is c (drop v.at u.text) in
-    (omega (arith, char_left char), λ below high. subst (λ b. 192 ≤ b) (sym lead) (lead_value (ltb c 128) (ltb c 2048) (ltb c 65536) c (c / 64) (c / 4096) (c / 262144) (ltb-true c 128) (subst (λ b. 128 ≤ b) lead high)))
 
 -- ---- and after what stands there
 

@@ -9,6 +9,7 @@ use Rattle.std.proofs.lemmas.Bool.{false≢true, cases_lt}
 use Rattle.std.proofs.lemmas.Bool.Decides.{eqb_tells}
 use Rattle.bib_excerpts.specs.Needed.{marked}
 use Rattle.bib_excerpts.specs.Searching.{IsMarked, unmarked}
+use Rattle.std.proofs.Math.Bool.{or-true}
 
 -- what is made of a thing where it has a mark
 abbrev pub made_if : {Y A : Type 0} → (Y → List A) → Bool → Y → List A
@@ -73,15 +74,11 @@ pub any_more : {X Y : Type 0} (v : X → Y) (test : Y → Bool) (xs : List X) (i
 any_more v test xs i d within =
     ap (λ l. list_any test (map v l)) (take_more xs i d within) ∙ ap (list_any test) (map-append v (take i xs) (get_or xs i d ∷ [])) ∙ any_push test (map v (take i xs)) (v (get_or xs i d))
 
-or_true : (b : Bool) → b || true ≡ true
-or_true true = refl
-or_true false = refl
-
 -- what is made of one passes
 pub any_at : {X Y : Type 0} (v : X → Y) (test : Y → Bool) (xs : List X) (i : ℕ) (d : X) → i < length xs → test (v (get_or xs i d)) ≡ true → list_any test (map v xs) ≡ true
 any_at v test [] i d within passes = absurd (omega (arith, within))
 any_at v test (x ∷ xs) zero d within passes = ap (λ b. b || list_any test (map v xs)) passes
-any_at v test (x ∷ xs) (suc i) d within passes = ap (λ b. test (v x) || b) (any_at v test xs i d (omega (arith, within)) passes) ∙ or_true (test (v x))
+any_at v test (x ∷ xs) (suc i) d within passes = ap (λ b. test (v x) || b) (any_at v test xs i d (omega (arith, within)) passes) ∙ or-true (test (v x))
 
 -- what is made of the first and of one more
 pub made_of_more : {X Y A : Type 0} (v : X → Y) (f : Y → List A) (xs : List X) (i : ℕ) (x : X) → i < length xs → get_or xs i x ≡ x → flat_map f (map v (take (i + 1) xs)) ≡ flat_map f (map v (take i xs)) ++ f (v x)

@@ -5,28 +5,15 @@ use Rattle.std.specs.Str.Pattern.{FindsText, HasMatch, LacksTextAt}
 use Rattle.std.proofs.lemmas.Bool.Decides.{Decides-eqb}
 use Rattle.std.proofs.lemmas.Slice.Eq.{starts_is}
 use Rattle.bib_excerpts.specs.Answers.{has_part}
-
--- where a text begins with a part
-pub begins : (part text rest : List ℕ) → text ≡ part ++ rest → starts_with eqb text part ≡ true
-begins part text rest is = (starts_is Decides-eqb text part (starts_with eqb text part) refl).1 rest is
-
--- where it doesn't
-pub begins_not : (part text : List ℕ) → ((rest : List ℕ) → text ≢ part ++ rest) → starts_with eqb text part ≡ false
-begins_not part text never = of (starts_with eqb text part) refl where
-  of : (b : Bool) → starts_with eqb text part ≡ b → starts_with eqb text part ≡ false
-  of true is = absurd (never _ ((starts_is Decides-eqb text part (starts_with eqb text part) refl).0 is))
-  of false is = is
-
-or_true : (b : Bool) → b || true ≡ true
-or_true true = refl
-or_true false = refl
+use Rattle.std.proofs.Math.Bool.{or-true}
+use Rattle.bib_text.proofs.ListFacts.{begins, begins_not}
 
 -- a part that stands at some place
 part_at : (part text : List ℕ) (at : ℕ) (rest : List ℕ) → drop at text ≡ part ++ rest → has_part part text ≡ true
 part_at part [] zero rest is = begins part [] rest is
 part_at part [] (suc at) rest is = begins part [] rest is
 part_at part (b ∷ text) zero rest is = ap (λ d. d || has_part part text) (begins part (b ∷ text) rest is)
-part_at part (b ∷ text) (suc at) rest is = ap (λ d. starts_with eqb (b ∷ text) part || d) (part_at part text at rest is) ∙ or_true (starts_with eqb (b ∷ text) part)
+part_at part (b ∷ text) (suc at) rest is = ap (λ d. starts_with eqb (b ∷ text) part || d) (part_at part text at rest is) ∙ or-true (starts_with eqb (b ∷ text) part)
 
 -- a part that stands at no place
 part_nowhere : (part text : List ℕ) → ((at : ℕ) → at ≤ length text → LacksTextAt part text at) → has_part part text ≡ false

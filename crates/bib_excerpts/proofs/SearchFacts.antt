@@ -18,6 +18,7 @@ use Rattle.bib_excerpts.specs.Needed.{Node, node_at, HasName, RefersTo, IsNeeded
 use Rattle.bib_excerpts.specs.Needed.IsNeeded.{asked, reached}
 use Rattle.bib_excerpts.specs.Searching.{AreHolders, AreHoldersIn, IsMarked, Marks, LooksUp, holders_in}
 use Rattle.bib_excerpts.proofs.MarkFacts.{any_push, unmarked_less, set_decides, mark_kept, none_marked, marked_below, contains_none}
+use Rattle.std.proofs.Math.Bool.{or-true}
 
 abbrev pub Map : Type 0
 Map = BTreeMap (Bor (List ℕ)) (Vec ℕ)
@@ -44,10 +45,6 @@ holder_more false old now after index one among among' is is' so = (
   λ h. subst (λ l. Contains l one) (sym is) (so.1 (⊎_elim (λ o. inl o) (λ x. inr (x.0, sym is' ∙ x.1)) h)),
 )
 
-or_true : (b : Bool) → b || true ≡ true
-or_true true = refl
-or_true false = refl
-
 pub among_more : (names : List (Bor (List ℕ))) (i : ℕ) (d : Bor (List ℕ)) (name : List ℕ) → i < length names → is_listed (map (λ n. n.now) (take (i + 1) names)) name ≡ cond (bytes_eq (get_or names i d).now name) true (is_listed (map (λ n. n.now) (take i names)) name)
 among_more names i d name within =
     ap (λ l. is_listed (map (λ n. n.now) l) name) (take_more names i d within) ∙ ap (λ l. is_listed l name) (map-append (λ n. n.now) (take i names) (get_or names i d ∷ []))
@@ -56,7 +53,7 @@ among_more names i d name within =
 pub among_at : (names : List (Bor (List ℕ))) (i : ℕ) (d : Bor (List ℕ)) → i < length names → is_listed (map (λ n. n.now) names) (get_or names i d).now ≡ true
 among_at [] i d within = absurd (omega (arith, within))
 among_at (n ∷ names) zero d within = ap (λ b. b || is_listed (map (λ n. n.now) names) n.now) ((bytes_eq-Decides n.now n.now).1 refl)
-among_at (n ∷ names) (suc i) d within = ap (λ b. bytes_eq n.now (get_or names i d).now || b) (among_at names i d (omega (arith, within))) ∙ or_true (bytes_eq n.now (get_or names i d).now)
+among_at (n ∷ names) (suc i) d within = ap (λ b. bytes_eq n.now (get_or names i d).now || b) (among_at names i d (omega (arith, within))) ∙ or-true (bytes_eq n.now (get_or names i d).now)
 
 -- ---- the map, where a name's indices are taken out, and where one is added
 

@@ -1,4 +1,4 @@
-//! Parts of a bibliography file as they stand in it, byte for byte, and what a document cites of it.
+//! Finds entries by key, by field or by the citations of a document, and returns their source text.
 //!
 //! A file is read by `RawBibliography::recover`, so that one with errors has excerpts too. What is printed is cut out of its text: each
 //! entry is a block of the file grammar where it stands, each definition a field (`DefinitionFacts`).

@@ -1,4 +1,4 @@
--- Facts on what is kept of a file's fields and entries, one after another.
+-- Keeping the fields and the entries of a file one by one.
 use Rattle.std.proofs.Common.{◌≡◌, ℕ, ◌+◌, true, false, List, [], ◌∷◌, ◌++◌, ◌<◌, zero, suc, drop, length, map, refl, sym, ap, subst, ◌∙◌, append_assoc, is_some, get_or, reverse, add-one, arith}
 use Rattle.std.specs.Prelude.{slice_get, Some}
 use Rattle.std.specs.FinMap as by_name
@@ -8,7 +8,7 @@ use Rattle.std.proofs.lemmas.List.{append-nil, drop_more, map-append}
 use Rattle.bib_abbreviations.specs.Abbreviations.{Definitions}
 use Rattle.bib_chunks.specs.declared.chunk.Chunk.{Chunk}
 use Rattle.bib_entry.specs.declared.entry.Entry.{Entry}
-use Rattle.bib_entry_types.specs.EntryType.{entry_type_of}
+use Rattle.bib_tables.specs.EntryType.{entry_type_of}
 use Rattle.bib_file_entries.specs.Bibliography.{claims, empty_bibliography}
 use Rattle.bib_file_entries.specs.Claiming.{IsKeptSoFar, place_of}
 use Rattle.bib_file_entries.specs.Keeping.{AreKeptFields, IsKeptEntry, IsKeptField, IsLeftOut}
@@ -19,8 +19,8 @@ use Rattle.bib_file_entries.proofs.BibliographyFacts.{below_empty}
 use Rattle.bib_file_entries.proofs.LoadedFacts.{same_next, bibliography_next, below_next}
 use Rattle.bib_file_entries.proofs.LoadingFacts.{AllZip-push, IsFound, are_readable, found_last}
 use Rattle.bib_file_entries.proofs.RawFacts.{found_same, readable_same}
-use Rattle.bib_maps.specs.Names.{AreIndicesBelow, claimed, claims_for}
-use Rattle.bib_maps.specs.Sorted.{ByText, by_bytes}
+use Rattle.bib_collections.specs.Names.{AreIndicesBelow, claimed, claims_for}
+use Rattle.bib_collections.specs.Sorted.{ByText, by_bytes}
 use Rattle.bib_syntax.specs.Reading.{EntryReading, FieldReading}
 use Rattle.bib_syntax.specs.Views.{entry_reading_of, field_of}
 use Rattle.bib_syntax.specs.declared.raw.Pair.{Pair}
@@ -29,7 +29,7 @@ use Rattle.bib_syntax.specs.declared.raw.RawEntry.{RawEntry}
 use Rattle.bib_text.specs.declared.spanned.Spanned.{Spanned}
 use Rattle.std.specs.FinMap.{get-empty}
 
--- fields were kept so far: what is kept of the rest stands after them
+-- the fields so far were kept or left out; the kept ones of `rest` follow them
 pub record KeptSoFar (definitions : Definitions) (said rest : List Pair) (old errors : List ParseError) (pairs : List (List ℕ × List (Spanned Chunk))) : Type 0 where
   pub kept : List Pair
   pub more : List ParseError
@@ -38,6 +38,7 @@ pub record KeptSoFar (definitions : Definitions) (said rest : List Pair) (old er
   pub read : AllZip (IsRead definitions) kept pairs
   pub noted : errors ≡ old ++ more
 
+-- before the first field, nothing is kept or left out
 pub kept_none : (definitions : Definitions) (said : List Pair) (old : List ParseError) → KeptSoFar definitions said said old old []
 kept_none definitions said old = record { kept = []; more = []; onward = λ fields later is. is; read = tt; noted = sym (append-nil old) }
 
@@ -81,7 +82,7 @@ left_out_next {definitions} {said} {rest} {f} {old} {errors} {new} {pairs} so_fa
       noted = added_twice old so_far.more first errors new so_far.noted field.errors;
     }
 
--- the element at an index, and the rest after it
+-- the elements from an index on are the element at the index and those after it
 pub rest_at : {A : Type 0} (all : List A) (i : ℕ) (x : A) → i < length all → x ≡ get_or all i x → drop i all ≡ x ∷ drop (i + 1) all
 rest_at all i x within is = drop_more all i x within ∙ ap (λ y. y ∷ drop (i + 1) all) (sym is)
 
@@ -97,7 +98,7 @@ kept_all {definitions} {said} {old} {errors} {pairs} so_far = record {
   errors = so_far.noted;
 }
 
--- an entry of the fields that are kept
+-- an entry with the kept fields is the kept part of its raw entry
 pub kept_entry : {definitions : Definitions} (raw : Spanned RawEntry) {old errors : List ParseError} {pairs : List (List ℕ × List (Spanned Chunk))} (entry : Entry)
     → AreKeptFields definitions raw.v.fields.items old errors pairs → entry.key ≡ raw.v.key.v.now → entry.entry_type ≡ entry_type_of raw.v.kind.v.now
     → entry.fields ≡ by_name.from_entries {R = by_bytes} (reverse pairs) → IsKeptEntry definitions (entry_reading_of raw) old errors entry
@@ -115,7 +116,7 @@ kept_entry {definitions} raw {old} {errors} {pairs} entry fields key kind is = r
   errors = fields.errors;
 }
 
--- the element at which the rest of a list begins
+-- `one` is the element at an index, and `rest` are those after it
 record BeginsAt {A : Type 0} (all : List A) (index : ℕ) (one : A) (rest : List A) : Type 0 where
   there : slice_get all index ≡ Some one
   more : drop (suc index) all ≡ rest
@@ -129,7 +130,7 @@ begins_at (x ∷ all) (suc index) one rest is =
     let next = begins_at all index one rest is in
     record { there = next.there; more = next.more; within = omega (arith, next.within) }
 
--- entries were kept so far, and those from this index on are left
+-- the entries below an index were kept or left out; the kept ones of `rest` follow them
 pub record EntriesKeptSoFar (definitions : Definitions) (said rest : List EntryReading) (found : List Entry) (names : ByText ℕ) (places : List (Range ℕ)) (origins : List ℕ) (index : ℕ) (errors : List ParseError) : Type 0 where
   pub kept : List EntryReading
   pub earlier : List (List ℕ)
@@ -142,6 +143,7 @@ pub record EntriesKeptSoFar (definitions : Definitions) (said rest : List EntryR
   pub bibliography : loaded_after empty_bibliography found ≡ record { entries = found; names = names }
   pub below : AreIndicesBelow (length found) names
 
+-- before the first entry, nothing is kept or left out
 pub entries_none : (definitions : Definitions) (said : List EntryReading) → EntriesKeptSoFar definitions said said [] by_name.empty [] [] 0 []
 entries_none definitions said = record {
   kept = [];
@@ -155,10 +157,11 @@ entries_none definitions said = record {
   below = below_empty 0;
 }
 
+-- the elements after the next one
 ahead_next : {A : Type 0} (all rest : List A) (index : ℕ) (one : A) → drop index all ≡ one ∷ rest → drop (index + 1) all ≡ rest
 ahead_next all rest index one is = rw add-one (begins_at all index one rest is).more
 
--- an entry whose key was claimed is left out
+-- one more entry is left out, because its key was claimed before
 pub entries_duplicate : {definitions : Definitions} {said rest : List EntryReading} {one : EntryReading} {found : List Entry} {names : ByText ℕ} {places : List (Range ℕ)} {origins : List ℕ} {index : ℕ} {errors : List ParseError} (e : ParseError)
     → EntriesKeptSoFar definitions said (one ∷ rest) found names places origins index errors → is_some (by_name.get names one.key.text) ≡ true → e ≡ duplicate_key one
     → EntriesKeptSoFar definitions said rest found names places origins (index + 1) (errors ++ e ∷ [])

@@ -1,4 +1,4 @@
--- Facts on what a file says as a bibliography.
+-- Lemmas about the entries of a file.
 use Rattle.std.proofs.Common.{◌≡◌, ℕ, ◌+◌, Bool, true, false, List, [], ◌∷◌, ◌++◌, length, length-append, refl, sym, ap, ◌∙◌, subst, arith, append_assoc, Option, None, Some, MatchOption, cond, ◌||◌, is_none, is_some}
 use Rattle.std.specs.Prelude.{bytes_eq, codes}
 use Rattle.std.specs.FinMap as by_name
@@ -19,13 +19,14 @@ use Rattle.bib_syntax.specs.Reading.{FieldReading, EntryReading}
 use Rattle.bib_abbreviations.proofs.LawFacts.{evaluates_same}
 use Rattle.bib_entry.specs.declared.entry.Entry.{Entry}
 use Rattle.bib_file_entries.specs.Bibliography.{Bibliography, claims, aliases, appended, empty_bibliography}
-use Rattle.bib_styled.specs.Lists.{comma_texts}
+use Rattle.bib_chunks.specs.Lists.{comma_texts}
 use Rattle.bib_file_entries.specs.Loaded.{AllCanBeRead, IsEntry, AreEntries, IsFirstErrorOfFields, IsFirstErrorOfEntries, FieldSays, field_in, is_claimed, loaded_after}
-use Rattle.bib_maps.specs.Names.{AreIndicesBelow, claimed, claims_for}
-use Rattle.bib_maps.specs.Sorted.{ByText, by_bytes}
+use Rattle.bib_collections.specs.Names.{AreIndicesBelow, claimed, claims_for}
+use Rattle.bib_collections.specs.Sorted.{ByText, by_bytes}
 use Rattle.bib_file_entries.proofs.BibliographyFacts.{below_empty, below_claimed, below_more}
+use Rattle.std.proofs.Math.Bool.{or-false}
 
--- what a field `ids` of two entries claims
+-- two entries of one raw entry have the same other names
 aliases_found : (definitions : Definitions) (found : Option FieldReading) (one two : Option (List (Spanned Chunk)))
     → MatchOption found (one ≡ None) (λ f. (chunks : List (Spanned Chunk)) × (one ≡ Some chunks) × FieldSays definitions f chunks)
     → MatchOption found (two ≡ None) (λ f. (chunks : List (Spanned Chunk)) × (two ≡ Some chunks) × FieldSays definitions f chunks)
@@ -33,25 +34,25 @@ aliases_found : (definitions : Definitions) (found : Option FieldReading) (one t
 aliases_found definitions None one two first second = rw (first, second) refl
 aliases_found definitions (Some f) one two first second = rw (first.1, second.1) (ap comma_texts (evaluates_same first.2.says second.2.says))
 
--- what an entry claims is what the file says of it
+-- two entries of one raw entry claim the same names
 pub claims_same : {definitions : Definitions} {said : EntryReading} (one two : Entry) → IsEntry definitions said one → IsEntry definitions said two → claims one ≡ claims two
 claims_same {definitions} {said} one two first second =
     ap (λ key. key ∷ aliases one) (first.key ∙ sym second.key)
     ∙ ap (λ names. two.key ∷ names) (aliases_found definitions (field_in said.fields (codes "ids")) (by_name.get one.fields (codes "ids")) (by_name.get two.fields (codes "ids")) (first.fields (codes "ids")) (second.fields (codes "ids")))
 
--- where there is an error, not all fields can be read
+-- if the fields have a first error, not all can be parsed
 pub fields_unread : {definitions : Definitions} {fields : List FieldReading} {e : ParseError} → IsFirstErrorOfFields definitions fields e → AllCanBeRead definitions fields → ⊥
 fields_unread (IsFirstErrorOfFields.here error unread) all = unread all.0
 fields_unread (IsFirstErrorOfFields.following read error) all = fields_unread error all.1
 
--- where there is an error, there are no such entries
+-- if the raw entries have a first error, they have no entries
 pub no_entries : {definitions : Definitions} {claimed : List (List ℕ)} {said : List EntryReading} {e : ParseError} {found : List Entry} → IsFirstErrorOfEntries definitions claimed said e → AreEntries definitions claimed said found → ⊥
 no_entries (IsFirstErrorOfEntries.duplicate was is) (AreEntries.next fresh read rest) = both_ways _ fresh was
 no_entries (IsFirstErrorOfEntries.unreadable fresh error) (AreEntries.next fresh' read rest) = fields_unread error read.readable
 no_entries {definitions} {claimed} (IsFirstErrorOfEntries.following {rest = more} {entry = one} fresh read error) (AreEntries.next {entry = two} {entries = others} fresh' read' rest) =
     no_entries error (subst (λ names. AreEntries definitions (claimed ++ names) more others) (claims_same two one read' read) rest)
 
--- a name is claimed where it isn't new, and isn't where it is
+-- a name that isn't new was claimed before, and one that is new was not
 pub had_by : {A : Type 0} (o : Option A) (is_new : Bool) → is_new ≡ is_none o → is_new ≡ false → is_some o ≡ true
 had_by None is_new is old = sym old ∙ is
 had_by (Some x) is_new is old = refl
@@ -60,31 +61,27 @@ pub absent_by : {A : Type 0} (o : Option A) (is_new : Bool) → is_new ≡ is_no
 absent_by None is_new is new = refl
 absent_by (Some x) is_new is new = sym new ∙ is
 
--- entries after others
+-- adding two lists of entries one after the other is adding their concatenation
 pub loaded_more : (bibliography : Bibliography) (first second : List Entry) → loaded_after bibliography (first ++ second) ≡ loaded_after (loaded_after bibliography first) second
 loaded_more bibliography [] second = refl
 loaded_more bibliography (entry ∷ first) second = loaded_more (appended bibliography entry) first second
-
-or_false : (b : Bool) → (b || false) ≡ b
-or_false true = refl
-or_false false = refl
 
 one_more : (test : Bool) (index : ℕ) (had : Option ℕ) (later : Bool) → (is_some (cond test (Some index) had) || later) ≡ (is_some had || (test || later))
 one_more true index None later = refl
 one_more true index (Some p) later = refl
 one_more false index had later = refl
 
--- a name is there once names were claimed for an index if it was there, or is one of them
+-- after claiming names for an index, the claimed names are the old ones and these
 pub names_claimed : (index : ℕ) (more : List (List ℕ)) (names : ByText ℕ) (name : List ℕ)
     → is_some (by_name.get (claimed names (claims_for more index)) name) ≡ (is_some (by_name.get names name) || is_claimed more name)
-names_claimed index [] names name = sym (or_false (is_some (by_name.get names name)))
+names_claimed index [] names name = sym (or-false (is_some (by_name.get names name)))
 names_claimed index (one ∷ more) names name =
     names_claimed index more (by_name.insert names one index) name
     ∙ ap (λ o. is_some o || is_claimed more name) (get-insert nat_list_cmp_total names one index name ∙ ap (λ b. cond b (Some index) (by_name.get names name)) (is_eq-slice_cmp name one))
     ∙ one_more (bytes_eq name one) index (by_name.get names name) (is_claimed more name)
 
--- entries were read so far, which claimed these names: what is read of the rest is read of the whole after them, and a
--- error of the rest is one of the whole
+-- the entries so far were loaded, and claimed the names. Entries of the remaining raw entries follow them, and a first error
+-- of the remaining ones is one of the whole
 pub record LoadedSoFar (definitions : Definitions) (said rest : List EntryReading) (found : List Entry) (names : ByText ℕ) : Type 0 where
   pub earlier : List (List ℕ)
   pub same : (name : List ℕ) → is_some (by_name.get names name) ≡ is_claimed earlier name
@@ -93,6 +90,7 @@ pub record LoadedSoFar (definitions : Definitions) (said rest : List EntryReadin
   pub bibliography : loaded_after empty_bibliography found ≡ record { entries = found; names = names }
   pub below : AreIndicesBelow (length found) names
 
+-- before the first raw entry, nothing is loaded
 pub loaded_none : (definitions : Definitions) (said : List EntryReading) → LoadedSoFar definitions said said [] by_name.empty
 loaded_none definitions said = record {
   earlier = [];
@@ -103,7 +101,7 @@ loaded_none definitions said = record {
   below = below_empty 0;
 }
 
--- what is known of names once an entry was read after others, which claims its names
+-- the claimed names after one more entry
 pub same_next : (earlier : List (List ℕ)) (entry : Entry) (names : ByText ℕ) (index : ℕ) → ((name : List ℕ) → is_some (by_name.get names name) ≡ is_claimed earlier name)
     → (name : List ℕ) → is_some (by_name.get (claimed names (claims_for (claims entry) index)) name) ≡ is_claimed (earlier ++ claims entry) name
 same_next earlier entry names index same name =
@@ -111,10 +109,12 @@ same_next earlier entry names index same name =
     ∙ ap (λ b. b || is_claimed (claims entry) name) (same name)
     ∙ sym (list_any-append (bytes_eq name) earlier (claims entry))
 
+-- adding an entry to a bibliography of added entries
 pub bibliography_next : (found : List Entry) (entry : Entry) (names : ByText ℕ) → loaded_after empty_bibliography found ≡ record { entries = found; names = names }
     → loaded_after empty_bibliography (found ++ entry ∷ []) ≡ record { entries = found ++ entry ∷ []; names = claimed names (claims_for (claims entry) (length found)) }
 bibliography_next found entry names loaded = loaded_more empty_bibliography found (entry ∷ []) ∙ ap (λ bibliography. appended bibliography entry) loaded
 
+-- each name still points to an entry when an entry is added with its claims
 pub below_next : (found : List Entry) (entry : Entry) (names : ByText ℕ) → AreIndicesBelow (length found) names
     → AreIndicesBelow (length (found ++ entry ∷ [])) (claimed names (claims_for (claims entry) (length found)))
 below_next found entry names below =
@@ -122,6 +122,7 @@ below_next found entry names below =
     below_claimed (length (found ++ entry ∷ [])) (claims entry) names (length found)
     (below_more (length found) (length (found ++ entry ∷ [])) names below (omega (arith, count))) (omega (arith, count))
 
+-- one more raw entry is loaded
 pub loaded_next : {definitions : Definitions} {said : List EntryReading} {one : EntryReading} {rest : List EntryReading} {found : List Entry} {names : ByText ℕ} (entry : Entry)
     → LoadedSoFar definitions said (one ∷ rest) found names → is_some (by_name.get names one.key.text) ≡ false → IsEntry definitions one entry
     → LoadedSoFar definitions said rest (found ++ entry ∷ []) (claimed names (claims_for (claims entry) (length found)))
@@ -136,17 +137,17 @@ loaded_next {definitions} {said} {one} {rest} {found} {names} entry loaded absen
       below = below_next found entry names loaded.below;
     }
 
--- all were read
+-- all raw entries were loaded
 pub loaded_all : {definitions : Definitions} {said : List EntryReading} {found : List Entry} {names : ByText ℕ} → LoadedSoFar definitions said [] found names → AreEntries definitions [] said found
 loaded_all {definitions} {said} {found} loaded = subst (AreEntries definitions [] said) (append-nil found) (loaded.onward [] AreEntries.none)
 
--- a key that was claimed is the first error
+-- if the next key was claimed before, this is the first error
 pub error_duplicate : {definitions : Definitions} {said : List EntryReading} {one : EntryReading} {rest : List EntryReading} {found : List Entry} {names : ByText ℕ} (e : ParseError)
     → LoadedSoFar definitions said (one ∷ rest) found names → is_some (by_name.get names one.key.text) ≡ true
     → e ≡ record { span = record { start = one.start; end = one.end }; kind = DuplicateKey one.key.text } → IsFirstErrorOfEntries definitions [] said e
 error_duplicate {one = one} e loaded had is = loaded.faulty e (IsFirstErrorOfEntries.duplicate (sym (loaded.same one.key.text) ∙ had) is)
 
--- and else a field that can't be read
+-- otherwise the first error of the next entry's fields is the first error
 pub error_unreadable : {definitions : Definitions} {said : List EntryReading} {one : EntryReading} {rest : List EntryReading} {found : List Entry} {names : ByText ℕ} (e : ParseError)
     → LoadedSoFar definitions said (one ∷ rest) found names → is_some (by_name.get names one.key.text) ≡ false → IsFirstErrorOfFields definitions one.fields e
     → IsFirstErrorOfEntries definitions [] said e

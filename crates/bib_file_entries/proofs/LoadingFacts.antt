@@ -1,4 +1,4 @@
--- Facts on reading a file's entries.
+-- Loading entries from raw entries.
 use Rattle.std.proofs.Common.{◌≡◌, ℕ, ◌<◌, Bool, true, false, cond, List, [], ◌∷◌, ◌++◌, length, reverse, take, drop, get_or, Option, Some, None, refl, inl, inr, ◌⊎◌, ◌+◌, sym, ap, subst, ◌∙◌, suc}
 use Rattle.std.proofs.Math.Seq.{drop-cons}
 use mathlib.Core.List.{reverse_aux}
@@ -20,9 +20,9 @@ use Rattle.bib_syntax.specs.declared.raw.Pair.{Pair}
 use Rattle.bib_syntax.specs.declared.raw.ParseError.{ParseError}
 use Rattle.bib_file_entries.specs.Loading.{AreReadable, IsFieldOf, IsFieldsError, IsRead, field_name, last_definition, last_field, pieces_of}
 use Rattle.bib_file_entries.specs.Reading.{IsFieldError}
-use Rattle.bib_maps.specs.Sorted.{by_bytes}
+use Rattle.bib_collections.specs.Sorted.{by_bytes}
 
--- of definitions with one more after them, that one stands for its name
+-- a definition at the end of the list is the last one of its name
 pub last_definition-push : (pairs : List Pair) (p : Pair) (name : List ℕ)
     → last_definition (pairs ++ p ∷ []) name ≡ cond (bytes_eq name p.key.v.now) (Some (pieces_of p)) (last_definition pairs name)
 last_definition-push pairs p name =
@@ -33,7 +33,7 @@ chosen : {A B : Type 0} (f : A → B) (b : Bool) (a : A) (o : Option A) → opti
 chosen f true a o = refl
 chosen f false a o = refl
 
--- a map that holds the definitions so far, and one that has one more
+-- inserting the next definition into the map of the definitions so far
 pub defined_more : {F : Type 0} (f : F → List Piece) (pairs : List Pair) (i : ℕ) (p : Pair) (field : F) (name : List ℕ) (before after : Option F)
     → i < length pairs → p ≡ get_or pairs i p → f field ≡ pieces_of p → option_map f before ≡ last_definition (take i pairs) name
     → after ≡ cond (bytes_eq p.key.v.now name) (Some field) before → option_map f after ≡ last_definition (take (i + 1) pairs) name
@@ -47,7 +47,7 @@ defined_more f pairs i p field name before after within here same so_far updated
     ∙ ap (λ l. last_definition l name) (ap (λ q. take i pairs ++ q ∷ []) here ∙ sym (take_more pairs i p within))
 
 module _ {A B : Type 0} (R : A → B → Type 0) where
-  -- one more at the ends
+  -- two lists related element by element stay so after adding related elements at the end
   pub AllZip-push : (xs : List A) (ys : List B) (x : A) (y : B) → AllZip R xs ys → R x y → AllZip R (xs ++ x ∷ []) (ys ++ y ∷ [])
   AllZip-push [] [] x y all last = (last, tt)
   AllZip-push [] (b ∷ ys) x y all last = absurd all
@@ -60,19 +60,19 @@ module _ {A B : Type 0} (R : A → B → Type 0) where
   turned_onto (a ∷ xs) xs₂ [] ys₂ all onto = absurd all
   turned_onto (a ∷ xs) xs₂ (b ∷ ys) ys₂ all onto = turned_onto xs (a ∷ xs₂) ys (b ∷ ys₂) all.1 (all.0, onto)
 
-  -- both from the end
+  -- and after reversing both
   pub AllZip-reverse : (xs : List A) (ys : List B) → AllZip R xs ys → AllZip R (reverse xs) (reverse ys)
   AllZip-reverse xs ys all = turned_onto xs [] ys [] all tt
 
 module _ (definitions : Definitions) where
-  -- fields that are read can be read
+  -- parsed fields can be parsed
   pub are_readable : (ps : List Pair) (pairs : List (List ℕ × List (Spanned Chunk))) → AllZip (IsRead definitions) ps pairs → AreReadable definitions ps
   are_readable [] [] all = tt
   are_readable [] (pair ∷ pairs) all = absurd all
   are_readable (p ∷ ps) [] all = absurd all
   are_readable (p ∷ ps) (pair ∷ pairs) all = (all.0.readable, are_readable ps pairs all.1)
 
-  -- an error after fields that are read is the first
+  -- an error after parsed fields is the first error
   pub error_after : (ps : List Pair) (pairs : List (List ℕ × List (Spanned Chunk))) (rest : List Pair) (e : ParseError)
       → AllZip (IsRead definitions) ps pairs → IsFieldsError definitions rest e → IsFieldsError definitions (ps ++ rest) e
   error_after [] [] rest e all error = error
@@ -80,27 +80,27 @@ module _ (definitions : Definitions) where
   error_after (p ∷ ps) [] rest e all error = absurd all
   error_after (p ∷ ps) (pair ∷ pairs) rest e all error = IsFieldsError.following all.0.readable (error_after ps pairs rest e all.1 error)
 
-  -- the error of a field after fields that are read is the first
+  -- the error of the field at an index after parsed fields is the first error
   pub error_at_field : (fields : List Pair) (i : ℕ) (d : Pair) (pairs : List (List ℕ × List (Spanned Chunk))) (e : ParseError) → i < length fields
       → AllZip (IsRead definitions) (take i fields) pairs → IsFieldError definitions (get_or fields i d) e → IsFieldsError definitions fields e
   error_at_field fields i d pairs e within all error =
       subst (λ l. IsFieldsError definitions l e) (ap (λ l. take i fields ++ l) (sym (drop-cons fields i d within)) ∙ take-append-drop i fields)
       (error_after (take i fields) pairs (get_or fields i d ∷ drop (suc i) fields) e all (IsFieldsError.here error.0 error.1))
 
-  -- the refusal of a field after fields that are read
+  -- the same, if the error may also be out of memory
   pub refused_at : (fields : List Pair) (i : ℕ) (p : Pair) (pairs : List (List ℕ × List (Spanned Chunk))) (e : ParseError) → i < length fields → p ≡ get_or fields i p
       → AllZip (IsRead definitions) (take i fields) pairs → (e ≡ out_of_memory) ⊎ IsFieldError definitions p e → (e ≡ out_of_memory) ⊎ IsFieldsError definitions fields e
   refused_at fields i p pairs e within here all (inl memory) = inl memory
   refused_at fields i p pairs e within here all (inr error) = inr (error_at_field fields i p pairs e within all (subst (λ q. IsFieldError definitions q e) here error))
 
-  -- one more field that is read
+  -- one more parsed field
   pub read_more : (fields : List Pair) (i : ℕ) (p : Pair) (pairs more : List (List ℕ × List (Spanned Chunk))) (pair : List ℕ × List (Spanned Chunk)) → i < length fields → p ≡ get_or fields i p
       → AllZip (IsRead definitions) (take i fields) pairs → IsRead definitions p pair → more ≡ pairs ++ pair ∷ [] → AllZip (IsRead definitions) (take (i + 1) fields) more
   read_more fields i p pairs more pair within here all read pushed =
       subst (λ l. AllZip (IsRead definitions) l more) (ap (λ q. take i fields ++ q ∷ []) here ∙ sym (take_more fields i p within))
       (subst (AllZip (IsRead definitions) (take i fields ++ p ∷ [])) (sym pushed) (AllZip-push (IsRead definitions) (take i fields) pairs p pair all read))
 
-  -- what a name has among names and chunks
+  -- the contents of a name, given its raw field
   abbrev pub IsFound : List ℕ → Option Pair → Option (List (Spanned Chunk)) → Type 0
   IsFound name field value = MatchOption field (value ≡ None) (λ p. (chunks : List (Spanned Chunk)) × (value ≡ Some chunks) × IsFieldOf definitions p chunks)
 
@@ -116,7 +116,7 @@ module _ (definitions : Definitions) where
         | false ↦ λ e. subst (λ b. IsFound name (cond b (Some p) (find (λ q. bytes_eq name (field_name q)) ps)) (by_name.find by_bytes name pairs)) (sym e) (found_first name ps pairs all.1)
       ] same
 
-  -- each name has the last field with it
+  -- each name has the contents of the last field with it
   pub found_last : (name : List ℕ) (fields : List Pair) (pairs : List (List ℕ × List (Spanned Chunk))) → AllZip (IsRead definitions) fields pairs
       → IsFound name (last_field fields name) (by_name.get (by_name.from_entries {R = by_bytes} (reverse pairs)) name)
   found_last name fields pairs all =

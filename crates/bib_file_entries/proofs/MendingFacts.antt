@@ -1,9 +1,9 @@
--- Facts on the names of a field that become texts, one element after another.
+-- Replacing the undefined abbreviations of a field by text, one piece after another.
 use Rattle.std.proofs.Common.{◌≡◌, ℕ, ◌+◌, ◌<◌, Bool, true, false, cond, List, [], ◌∷◌, ◌++◌, length, map, take, get_or, refl, sym, ap, subst, ◌∙◌, append_assoc, Option, None, Some, Bor}
 use Rattle.std.specs.Option.{option_copied, unwrap_or}
 use Rattle.std.proofs.lemmas.List.{append-nil, map-append, take_more}
 use Rattle.bib_abbreviations.specs.Abbreviations.{Definitions, IsFirstError, error_at, is_known}
-use Rattle.bib_entry_types.specs.VerbatimFields.{is_verbatim_field}
+use Rattle.bib_tables.specs.VerbatimFields.{is_verbatim_field}
 use Rattle.bib_file_entries.specs.Keeping.{IsLeftOut}
 use Rattle.bib_file_entries.specs.Kept.{mended, mended_piece, unknown_names}
 use Rattle.bib_file_entries.specs.Loaded.{CanBeRead, name_of}
@@ -22,7 +22,7 @@ chosen_append : {A : Type 0} (b : Bool) (e : A) (xs ys zs : List A) → xs ≡ y
 chosen_append true e xs ys zs is = is
 chosen_append false e xs ys zs is = ap (λ l. e ∷ l) is
 
--- the unknown names of elements after others
+-- the errors of the undefined abbreviations in a concatenation are those of its two lists
 pub unknown_names-append : (definitions : Definitions) (first rest : List Piece) → unknown_names definitions (first ++ rest) ≡ unknown_names definitions first ++ unknown_names definitions rest
 unknown_names-append definitions [] rest = refl
 unknown_names-append definitions (literal p ∷ first) rest = unknown_names-append definitions first rest
@@ -30,7 +30,7 @@ unknown_names-append definitions (abbreviation p ∷ first) rest =
     chosen_append (is_known definitions p.text) (error_at p (UnknownAbbreviation p.text)) (unknown_names definitions (first ++ rest)) (unknown_names definitions first) (unknown_names definitions rest)
     (unknown_names-append definitions first rest)
 
--- where no name stands for nothing, no element changes
+-- pieces without undefined abbreviations are not changed
 pub known_stay : (definitions : Definitions) (pieces : List Piece) → unknown_names definitions pieces ≡ [] → map (mended_piece definitions) pieces ≡ pieces
 known_stay definitions [] none = refl
 known_stay definitions (literal p ∷ rest) none = ap (λ l. literal p ∷ l) (known_stay definitions rest none)
@@ -41,18 +41,18 @@ known_stay definitions (abbreviation p ∷ rest) none =
       | false ↦ λ e. cc
     ] none
 
--- a field without such a name stays as it is
+-- a field without undefined abbreviations is not changed
 pub field_stays : (definitions : Definitions) (p : Pair) → unknown_names definitions (pieces_of p) ≡ [] → field_of p ≡ mended definitions (field_of p)
 field_stays definitions p none =
     let build : List Piece → FieldReading = λ pieces. record { name = part_of p.key; value = record { pieces = pieces; start = p.value.span.start; end = p.value.span.end } } in
     ap build (sym (known_stay definitions (pieces_of p) none))
 
--- a mended field, or else the field itself, as borrows
+-- the value of a borrowed copy of a field, or else of the borrowed field itself
 pub now_or : {A : Type 0} (o : Option (Bor A)) (d : Bor A) → (unwrap_or o d).now ≡ unwrap_or (option_copied o) d.now
 now_or None d = refl
 now_or (Some x) d = refl
 
--- a mended field that can't be read is left out
+-- a field that can't be parsed after the replacement is left out
 pub left_out : (definitions : Definitions) (said kept : Pair) (old errors new : List ParseError) (e : ParseError) → field_of kept ≡ mended definitions (field_of said) → IsFieldError definitions kept e
     → errors ≡ old ++ unknown_names definitions (pieces_of said) → new ≡ errors ++ e ∷ [] → IsLeftOut definitions said old new
 left_out definitions said kept old errors new e is error noted pushed = record {
@@ -62,7 +62,7 @@ left_out definitions said kept old errors new e is error noted pushed = record {
   errors = pushed ∙ ap (λ l. l ++ e ∷ []) noted ∙ append_assoc old (unknown_names definitions (pieces_of said)) (e ∷ []);
 }
 
--- one more element that is no unknown name
+-- one more piece that is no undefined abbreviation
 pub none_next : (definitions : Definitions) (field : List (Spanned RawChunk)) (i : ℕ) (d : Spanned RawChunk) → i < length field
     → unknown_names definitions (map piece_of (take i field)) ≡ [] → unknown_names definitions (piece_of (get_or field i d) ∷ []) ≡ []
     → unknown_names definitions (map piece_of (take (i + 1) field)) ≡ []
@@ -72,15 +72,16 @@ none_next definitions field i d within before here =
     ∙ unknown_names-append definitions (map piece_of (take i field)) (piece_of (get_or field i d) ∷ [])
     ∙ ap (λ l. l ++ unknown_names definitions (piece_of (get_or field i d) ∷ [])) before ∙ here
 
--- so many elements of a field were mended
+-- the undefined abbreviations in the first `i` pieces of a field were replaced
 pub record MendedSoFar (definitions : Definitions) (field : List (Spanned RawChunk)) (i : ℕ) (pieces : List (Spanned RawChunk)) (before errors : List ParseError) : Type 0 where
   pub mended : map piece_of pieces ≡ map (mended_piece definitions) (map piece_of (take i field))
   pub noted : errors ≡ before ++ unknown_names definitions (map piece_of (take i field))
 
+-- before the first piece, nothing was replaced
 pub mended_none : (definitions : Definitions) (field : List (Spanned RawChunk)) (before : List ParseError) → MendedSoFar definitions field 0 [] before before
 mended_none definitions field before = record { mended = refl; noted = sym (append-nil before) }
 
--- one more element was mended
+-- one more piece was copied or replaced
 pub mended_next : (definitions : Definitions) (field pieces : List (Spanned RawChunk)) (i : ℕ) (d x : Spanned RawChunk) (before errors more : List ParseError)
     → i < length field → MendedSoFar definitions field i pieces before errors
     → piece_of x ≡ mended_piece definitions (piece_of (get_or field i d))

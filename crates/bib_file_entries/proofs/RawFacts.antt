@@ -1,4 +1,4 @@
--- What is read of raw entries is what the file says of them.
+-- Entries in terms of the data structures are entries in terms of the grammar.
 use Rattle.std.proofs.Common.{◌≡◌, ℕ, Bool, List, [], ◌∷◌, map, refl, sym, ap, ◌∙◌, subst, Option, None, Some, MatchOption, inl, inr}
 use Rattle.std.specs.Prelude.{reverse, find, bytes_eq, option_map}
 use mathlib.Core.List.{reverse_aux}
@@ -16,7 +16,7 @@ use Rattle.bib_entry.specs.declared.entry.Entry.{Entry}
 use Rattle.bib_file_entries.specs.Loading.{IsEntryOf, IsFieldsError, AreReadable, IsFieldOf, last_definition, last_field}
 use Rattle.bib_file_entries.specs.Loaded.{IsEntry, IsFirstErrorOfFields, AllCanBeRead, FieldSays, definition_in, field_in, name_of}
 
--- finding goes through what each element is taken for
+-- finding an element of a mapped list
 find_map : {A B : Type 0} (test : B → Bool) (f : A → B) (xs : List A) → find test (map f xs) ≡ option_map f (find (λ x. test (f x)) xs)
 find_map test f [] = refl
 find_map test f (x ∷ xs) =
@@ -36,7 +36,7 @@ found_map : {A B C : Type 0} (g : B → C) (f : A → B) (o : Option A) → opti
 found_map g f None = refl
 found_map g f (Some x) = refl
 
--- the definition of a name
+-- the definition of an abbreviation
 pub definition_same : (pairs : List Pair) (name : List ℕ) → last_definition pairs name ≡ definition_in (map field_of pairs) name
 definition_same pairs name =
     sym (
@@ -45,14 +45,12 @@ definition_same pairs name =
     ∙ found_map (λ (f : FieldReading). f.value.pieces) field_of (find (λ p. bytes_eq name p.key.v.now) (reverse pairs))
     )
 
--- two definitions that agree on each name are one
-pub definitions_same : {one two : Definitions} → ((name : List ℕ) → one name ≡ two name) → one ≡ two
-definitions_same same = λ i. λ name. same name i
-
+-- fields that can be parsed
 pub readable_same : (definitions : Definitions) (pairs : List Pair) → AreReadable definitions pairs → AllCanBeRead definitions (map field_of pairs)
 readable_same definitions [] all = tt
 readable_same definitions (p ∷ rest) all = (all.0, readable_same definitions rest all.1)
 
+-- the first error of fields
 pub error_same : {definitions : Definitions} {pairs : List Pair} {e : ParseError} → IsFieldsError definitions pairs e → IsFirstErrorOfFields definitions (map field_of pairs) e
 error_same (IsFieldsError.here error unread) = IsFirstErrorOfFields.here error unread
 error_same (IsFieldsError.following read error) = IsFirstErrorOfFields.following read (error_same error)
@@ -63,7 +61,7 @@ field_same : (definitions : Definitions) (o : Option Pair) (at : Option (List (S
 field_same definitions None at found = found
 field_same definitions (Some p) at found = found
 
--- what a name has among fields
+-- the contents of a name among fields
 pub found_same : (definitions : Definitions) (fields : List Pair) (name : List ℕ) (at : Option (List (Spanned Chunk)))
     → MatchOption (last_field fields name) (at ≡ None) (λ p. (chunks : List (Spanned Chunk)) × (at ≡ Some chunks) × IsFieldOf definitions p chunks)
     → MatchOption (field_in (map field_of fields) name) (at ≡ None) (λ f. (chunks : List (Spanned Chunk)) × (at ≡ Some chunks) × FieldSays definitions f chunks)
@@ -73,7 +71,7 @@ found_same definitions fields name at found =
     subst (λ o. MatchOption o (at ≡ None) (λ f. (chunks : List (Spanned Chunk)) × (at ≡ Some chunks) × FieldSays definitions f chunks)) (sym same)
     (field_same definitions (last_field fields name) at found)
 
--- an entry
+-- the entry of a raw entry
 pub entry_same : {definitions : Definitions} {raw : Spanned RawEntry} {entry : Entry} → IsEntryOf definitions raw.v entry → IsEntry definitions (entry_reading_of raw) entry
 entry_same {definitions} {raw} {entry} read = record {
   key = read.key;

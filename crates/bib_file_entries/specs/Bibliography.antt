@@ -8,11 +8,11 @@ use Rattle.std.specs.Coded.{Coded, code_by, coded×, coded_list, coded_ℕ}
 use Rattle.bib_chunks.specs.Styled.{styled}
 use Rattle.bib_entry.specs.declared.entry.Entry.{Entry}
 use Rattle.bib_entry.specs.contracts.entry.Entry as entry
-use Rattle.bib_maps.specs.Sorted.{ByText}
-use Rattle.bib_maps.specs.Names.{claimed, claims_for, without_index}
-use Rattle.bib_styled.specs.Lists.{comma_texts}
+use Rattle.bib_collections.specs.Sorted.{ByText}
+use Rattle.bib_collections.specs.Names.{claimed, claims_for, without_index}
+use Rattle.bib_chunks.specs.Lists.{comma_texts}
 
--- entries in order, and the indices of names
+-- entries in order, and names, each pointing to the index of an entry
 pub record Bibliography : Type 0 where
   pub entries : List Entry
   pub names : ByText ℕ
@@ -22,7 +22,7 @@ abbrev pub bibliography_code : Coded Bibliography
 bibliography_code =
     code_by (List Entry × ByText ℕ) (coded× (coded_list entry.the_row.coded) (by_name.code (coded_list coded_ℕ) coded_ℕ)) (λ l. (l.entries, l.names)) (λ p. record { entries = p.0; names = p.1 }) (λ _. refl)
 
--- other names of an entry: the parts of its field `ids`, a comma list
+-- the other names of an entry: the items of its field `ids`, a comma-separated list
 abbrev pub aliases : Entry → List (List ℕ)
 aliases entry = option_map_or (λ chunks. comma_texts (styled chunks)) (by_name.get entry.fields (codes "ids")) []
 
@@ -30,7 +30,7 @@ aliases entry = option_map_or (λ chunks. comma_texts (styled chunks)) (by_name.
 abbrev pub claims : Entry → List (List ℕ)
 claims entry = entry.key ∷ aliases entry
 
--- the bibliography of no entries
+-- the bibliography without entries and names
 abbrev pub empty_bibliography : Bibliography
 empty_bibliography = record { entries = []; names = by_name.empty }
 
@@ -42,44 +42,44 @@ index_of bibliography name = by_name.get bibliography.names name
 abbrev pub entry_of : Bibliography → List ℕ → Option Entry
 entry_of bibliography name = option_and_then (λ index. slice_get bibliography.entries index) (index_of bibliography name)
 
--- an entry after the others, to which the names that it claims point
+-- a bibliography with an entry added at the end; the names that the entry claims point to it
 abbrev pub appended : Bibliography → Entry → Bibliography
 appended bibliography entry = record {
   entries = bibliography.entries ++ entry ∷ [];
   names = claimed bibliography.names (claims_for (claims entry) (length bibliography.entries));
 }
 
--- another entry at an index, with all names as they were
+-- a bibliography with the entry at an index replaced, and the names unchanged
 abbrev pub exchanged : Bibliography → ℕ → Entry → Bibliography
 exchanged bibliography index entry = record bibliography { entries = slice_set bibliography.entries index entry }
 
--- an entry added at the index that its key points to, or after the others
+-- a bibliography with an entry added: in place of the entry at the index, if there is one, and at the end otherwise
 abbrev pub inserted_at : Bibliography → Entry → Option ℕ → Bibliography
 inserted_at bibliography entry (Some index) = exchanged bibliography index entry
 inserted_at bibliography entry None = appended bibliography entry
 
--- an entry added: at the index that its key points to, or after the others
+-- a bibliography with an entry added: in place of the entry that its key points to, if there is one, and at the end otherwise
 abbrev pub inserted : Bibliography → Entry → Bibliography
 inserted bibliography entry = inserted_at bibliography entry (index_of bibliography entry.key)
 
--- an index taken out, with the names that point to it; greater indices become one less
+-- a bibliography without the entry at an index, and without the names that point to it; greater indices decrease by one
 abbrev pub without_entry : Bibliography → ℕ → Bibliography
 without_entry bibliography index = record { entries = remove bibliography.entries index; names = without_index bibliography.names index }
 
--- a name's entry taken out, if it has one
+-- a bibliography without the entry at an index; unchanged if there is no index
 abbrev pub removed_at : Bibliography → Option ℕ → Bibliography
 removed_at bibliography (Some index) = without_entry bibliography index
 removed_at bibliography None = bibliography
 
--- the entry that a name points to taken out, with all names that point to it
+-- a bibliography without the entry that a name points to, and without all names that point to it; unchanged if there is none
 abbrev pub removed : Bibliography → List ℕ → Bibliography
 removed bibliography name = removed_at bibliography (index_of bibliography name)
 
--- another name for a name's entry, if it has one
+-- a bibliography with another name that points to an index; unchanged if there is no index
 abbrev pub aliased_at : Bibliography → List ℕ → Option ℕ → Bibliography
 aliased_at bibliography alias (Some index) = record bibliography { names = by_name.insert bibliography.names alias index }
 aliased_at bibliography alias None = bibliography
 
--- another name for the entry that a name points to, if there is one
+-- a bibliography with another name (`alias`) for the entry that a name points to; unchanged if there is none
 abbrev pub aliased : Bibliography → List ℕ → List ℕ → Bibliography
 aliased bibliography name alias = aliased_at bibliography alias (index_of bibliography name)

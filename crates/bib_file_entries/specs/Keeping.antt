@@ -1,11 +1,11 @@
 -- Machinery: words of private contracts.
--- What is kept of one field and of the fields of an entry, on the values of the program.
+-- Kept fields and entries, in terms of the data structures. `old` and `new` are the errors before and after.
 use Rattle.std.specs.Prelude.{◌≡◌, ℕ, List, [], ◌∷◌, ◌++◌, map, Option, Some, None}
 use Rattle.std.specs.List.{AllZip}
 use Rattle.bib_abbreviations.specs.Abbreviations.{Definitions, IsFirstError}
 use Rattle.bib_chunks.specs.declared.chunk.Chunk.{Chunk}
 use Rattle.bib_entry.specs.declared.entry.Entry.{Entry}
-use Rattle.bib_entry_types.specs.VerbatimFields.{is_verbatim_field}
+use Rattle.bib_tables.specs.VerbatimFields.{is_verbatim_field}
 use Rattle.bib_file_entries.specs.Kept.{FieldsKept, mended, unknown_names, with_fields}
 use Rattle.bib_file_entries.specs.Loaded.{CanBeRead, IsEntry, name_of}
 use Rattle.bib_file_entries.specs.Loading.{IsRead, pieces_of}
@@ -15,26 +15,27 @@ use Rattle.bib_syntax.specs.declared.raw.Pair.{Pair}
 use Rattle.bib_syntax.specs.declared.raw.ParseError.{ParseError}
 use Rattle.bib_text.specs.declared.spanned.Spanned.{Spanned}
 
--- a name and chunks are what a field says, with unknown names as texts
+-- a name and chunks are the parsed field, with undefined abbreviations replaced by text; an error is added for each of these
 pub record IsKeptField (definitions : Definitions) (said : Pair) (old new : List ParseError) (pair : List ℕ × List (Spanned Chunk)) : Type 0 where
   pub kept : Pair
   pub is : field_of kept ≡ mended definitions (field_of said)
   pub read : IsRead definitions kept pair
   pub errors : new ≡ old ++ unknown_names definitions (pieces_of said)
 
--- a field can't be read, even with unknown names as texts
+-- a field can't be parsed, even with undefined abbreviations replaced by text; an error is added for each of these, and then
+-- its own error
 pub record IsLeftOut (definitions : Definitions) (said : Pair) (old new : List ParseError) : Type 0 where
   pub error : ParseError
   pub first : IsFirstError definitions (is_verbatim_field (name_of (field_of said))) [] (mended definitions (field_of said)).value.pieces error
   pub unread : CanBeRead definitions (mended definitions (field_of said)) → ⊥
   pub errors : new ≡ old ++ (unknown_names definitions (pieces_of said) ++ error ∷ [])
 
--- a field is kept or left out
+-- a field is parsed, or left out
 abbrev pub IsTried : Definitions → Pair → List ParseError → List ParseError → Option (List ℕ × List (Spanned Chunk)) → Type 0
 IsTried definitions said old new (Some pair) = IsKeptField definitions said old new pair
 IsTried definitions said old new None = IsLeftOut definitions said old new
 
--- names and chunks are what is kept of fields
+-- names and chunks are the parsed fields that are kept of the raw fields; the errors are added
 pub record AreKeptFields (definitions : Definitions) (said : List Pair) (old new : List ParseError) (pairs : List (List ℕ × List (Spanned Chunk))) : Type 0 where
   pub kept : List Pair
   pub more : List ParseError
@@ -42,7 +43,7 @@ pub record AreKeptFields (definitions : Definitions) (said : List Pair) (old new
   pub read : AllZip (IsRead definitions) kept pairs
   pub errors : new ≡ old ++ more
 
--- an entry is what is kept of what a file says of it
+-- an entry is the kept part of a raw entry; the errors are added
 pub record IsKeptEntry (definitions : Definitions) (said : EntryReading) (old new : List ParseError) (entry : Entry) : Type 0 where
   pub fields : List FieldReading
   pub more : List ParseError

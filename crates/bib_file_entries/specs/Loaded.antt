@@ -1,5 +1,6 @@
 -- Meaning: words of public contracts.
--- What a file says of the entries of a bibliography: each with its own fields read, and the first error if they can't be.
+-- The entries of a file, each with its own fields, and the first error if a field can't be parsed or a key was claimed
+-- before.
 use Rattle.std.specs.Prelude.{◌≡◌, ◌+◌, length, ℕ, Bool, true, false, List, [], ◌∷◌, ◌++◌, map, reverse, find, bytes_eq, option_map, Option, Some, None, MatchOption}
 use Rattle.std.specs.Char.{to_ascii_lowercase}
 use Rattle.std.specs.FinMap as by_name
@@ -8,50 +9,50 @@ use Rattle.bib_chunks.specs.Styled.{styled}
 use Rattle.bib_chunks.specs.declared.chunk.Chunk.{Chunk}
 use Rattle.bib_text.specs.declared.spanned.Spanned.{Spanned}
 use Rattle.bib_abbreviations.specs.Abbreviations.{Definitions, Evaluates, IsFirstError, IsReadable}
-use Rattle.bib_entry_types.specs.VerbatimFields.{is_verbatim_field}
-use Rattle.bib_styled.specs.Joined.{AreJoined, ArePlaced}
+use Rattle.bib_tables.specs.VerbatimFields.{is_verbatim_field}
+use Rattle.bib_chunks.specs.Joined.{AreJoined, ArePlaced}
 use Rattle.bib_syntax.specs.Reading.{Part, Piece, FieldReading, EntryReading}
 use Rattle.bib_syntax.specs.Reading.Piece.{literal}
 use Rattle.bib_syntax.specs.declared.raw.ParseError.{ParseError}
 use Rattle.bib_syntax.specs.declared.raw.ParseErrorKind.TheVariants.{DuplicateKey}
-use Rattle.bib_entry_types.specs.EntryType.{entry_type_of}
+use Rattle.bib_tables.specs.EntryType.{entry_type_of}
 use Rattle.bib_entry.specs.declared.entry.Entry.{Entry}
 use Rattle.bib_file_entries.specs.Bibliography.{Bibliography, claims, appended}
 
--- the definition of an abbreviation is its last one in the file, wherever it stands
+-- the definition of an abbreviation: the last one in the file, even after its use
 abbrev pub definition_in : List FieldReading → Definitions
 definition_in abbreviations name = option_map (λ f. f.value.pieces) (find (λ f. bytes_eq name f.name.text) (reverse abbreviations))
 
--- the name of a field, in lowercase letters
+-- the name of a raw field, in lowercase ASCII letters
 abbrev pub name_of : FieldReading → List ℕ
 name_of f = map to_ascii_lowercase f.name.text
 
--- the field that stands for a name: of two with one name the last
+-- the field of a name: the last one with the name
 abbrev pub field_in : List FieldReading → List ℕ → Option FieldReading
 field_in fields name = find (λ f. bytes_eq name (name_of f)) (reverse fields)
 
--- chunks are the contents of a field: their styled text is what its elements say, no two neighbours are both normal or
--- both verbatim; if the field is one literal whose span is as long as its text, the chunks lie in that span, in order
+-- chunks are the contents of a field: they have the styled text of its pieces, and no two neighbours are both normal or both
+-- verbatim. If the field is one literal whose span is as long as its text, the chunks lie in that span, in order
 pub record AreContents (definitions : Definitions) (is_verbatim : Bool) (pieces : List Piece) (chunks : List (Spanned Chunk)) : Type 0 where
   pub says : Evaluates definitions is_verbatim pieces (styled chunks)
   pub joined : AreJoined chunks
   pub placed : (p : Part) → pieces ≡ literal p ∷ [] → p.end ≡ p.start + length p.text → ArePlaced p.start p.end chunks
 
--- chunks are what a field says
+-- chunks are the contents of a raw field
 abbrev pub FieldSays : Definitions → FieldReading → List (Spanned Chunk) → Type 0
 FieldSays definitions f chunks = AreContents definitions (is_verbatim_field (name_of f)) f.value.pieces chunks
 
--- a field can be read
+-- a raw field can be parsed
 abbrev pub CanBeRead : Definitions → FieldReading → Type 0
 CanBeRead definitions f = IsReadable definitions (is_verbatim_field (name_of f)) f.value.pieces
 
--- each field can be read
+-- each raw field can be parsed
 abbrev pub AllCanBeRead : Definitions → List FieldReading → Type 0
 AllCanBeRead definitions [] = Unit {0}
 AllCanBeRead definitions (f ∷ rest) = CanBeRead definitions f × AllCanBeRead definitions rest
 
--- an entry is what a file says of it: the key, the type of its kind, and for each name the last field with it, in
--- whatever case the file has it; each field can be read
+-- `entry` is the entry of a raw entry: it has its key, its type, and for each name the contents of the last field with the
+-- name, in any case of letters. Each field can be parsed
 pub record IsEntry (definitions : Definitions) (said : EntryReading) (entry : Entry) : Type 0 where
   pub key : entry.key ≡ said.key.text
   pub kind : entry.entry_type ≡ entry_type_of said.kind.text
@@ -59,11 +60,12 @@ pub record IsEntry (definitions : Definitions) (said : EntryReading) (entry : En
       → MatchOption (field_in said.fields name) (by_name.get entry.fields name ≡ None) (λ f. (chunks : List (Spanned Chunk)) × (by_name.get entry.fields name ≡ Some chunks) × FieldSays definitions f chunks)
   pub readable : AllCanBeRead definitions said.fields
 
--- whether a name is among those that were claimed
+-- whether a name was claimed
 abbrev pub is_claimed : List (List ℕ) → List ℕ → Bool
 is_claimed claimed name = list_any (bytes_eq name) claimed
 
--- entries are what a file says, in order, after claims of earlier ones: no key is a name that was claimed before
+-- `AreEntries` relates raw entries to entries in order, after the claims of earlier ones: no key is a name that was claimed
+-- before
 pub data AreEntries (definitions : Definitions) : List (List ℕ) → List EntryReading → List Entry → Type 0 where
   none : {claimed : List (List ℕ)} → AreEntries definitions claimed [] []
   next : {claimed : List (List ℕ)} {said : EntryReading} {rest : List EntryReading} {entry : Entry} {entries : List Entry}
@@ -71,15 +73,15 @@ pub data AreEntries (definitions : Definitions) : List (List ℕ) → List Entry
       → AreEntries definitions (claimed ++ claims entry) rest entries
       → AreEntries definitions claimed (said ∷ rest) (entry ∷ entries)
 
--- the first error of fields, in order
+-- the error of the first field that can't be parsed
 pub data IsFirstErrorOfFields (definitions : Definitions) : List FieldReading → ParseError → Type 0 where
   here : {f : FieldReading} {rest : List FieldReading} {e : ParseError} → IsFirstError definitions (is_verbatim_field (name_of f)) [] f.value.pieces e
       → (CanBeRead definitions f → ⊥) → IsFirstErrorOfFields definitions (f ∷ rest) e
   following : {f : FieldReading} {rest : List FieldReading} {e : ParseError} → CanBeRead definitions f → IsFirstErrorOfFields definitions rest e
       → IsFirstErrorOfFields definitions (f ∷ rest) e
 
--- the first error of entries, in order, after claims of earlier ones: a key that was claimed before, and then a field
--- that can't be read
+-- the first error of raw entries in order, after the claims of earlier ones: a key that was claimed before, or a field that
+-- can't be parsed. The key of an entry is checked before its fields
 pub data IsFirstErrorOfEntries (definitions : Definitions) : List (List ℕ) → List EntryReading → ParseError → Type 0 where
   duplicate : {claimed : List (List ℕ)} {said : EntryReading} {rest : List EntryReading} {e : ParseError} → is_claimed claimed said.key.text ≡ true
       → e ≡ record { span = record { start = said.start; end = said.end }; kind = DuplicateKey said.key.text }
@@ -90,7 +92,7 @@ pub data IsFirstErrorOfEntries (definitions : Definitions) : List (List ℕ) →
       → IsEntry definitions said entry → IsFirstErrorOfEntries definitions (claimed ++ claims entry) rest e
       → IsFirstErrorOfEntries definitions claimed (said ∷ rest) e
 
--- entries one after another, each with the names that it claims
+-- a bibliography with entries added at the end, in order, each with the names that it claims
 abbrev pub loaded_after : Bibliography → List Entry → Bibliography
 loaded_after bibliography [] = bibliography
 loaded_after bibliography (entry ∷ entries) = loaded_after (appended bibliography entry) entries

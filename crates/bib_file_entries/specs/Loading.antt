@@ -1,57 +1,58 @@
 -- Machinery: words of private contracts.
--- What a file's entries are as entries of a bibliography, and the first error if they can't be.
+-- Loaded entries and the first error, in terms of the data structures.
 use Rattle.std.specs.Prelude.{◌≡◌, ℕ, List, [], ◌∷◌, map, reverse, find, bytes_eq, option_map, Option, Some, None, MatchOption}
 use Rattle.std.specs.Char.{to_ascii_lowercase}
 use Rattle.std.specs.FinMap as by_name
 use Rattle.bib_chunks.specs.declared.chunk.Chunk.{Chunk}
 use Rattle.bib_text.specs.declared.spanned.Spanned.{Spanned}
 use Rattle.bib_abbreviations.specs.Abbreviations.{Definitions, IsFirstError, IsReadable}
-use Rattle.bib_entry_types.specs.VerbatimFields.{is_verbatim_field}
+use Rattle.bib_tables.specs.VerbatimFields.{is_verbatim_field}
 use Rattle.bib_syntax.specs.Reading.{Piece}
 use Rattle.bib_syntax.specs.Views.{piece_of}
 use Rattle.bib_syntax.specs.declared.raw.Pair.{Pair}
 use Rattle.bib_syntax.specs.declared.raw.ParseError.{ParseError}
 use Rattle.bib_syntax.specs.declared.raw.RawEntry.{RawEntry}
-use Rattle.bib_entry_types.specs.EntryType.{entry_type_of}
+use Rattle.bib_tables.specs.EntryType.{entry_type_of}
 use Rattle.bib_entry.specs.declared.entry.Entry.{Entry}
 use Rattle.bib_file_entries.specs.Loaded.{AreContents}
 
--- the elements of a value
+-- the pieces of a value
 abbrev pub pieces_of : Pair → List Piece
 pieces_of p = map piece_of p.value.v.items
 
--- the definition of an abbreviation is its last one in the file, wherever it stands
+-- the definition of an abbreviation: the last one in the file, even after its use
 abbrev pub last_definition : List Pair → Definitions
 last_definition pairs name = option_map pieces_of (find (λ p. bytes_eq name p.key.v.now) (reverse pairs))
 
--- the name of a field, in lowercase letters
+-- the name of a field, in lowercase ASCII letters
 abbrev pub field_name : Pair → List ℕ
 field_name p = map to_ascii_lowercase p.key.v.now
 
--- the field that stands for a name: of two with one name the last
+-- the field of a name: the last one with the name
 abbrev pub last_field : List Pair → List ℕ → Option Pair
 last_field fields name = find (λ p. bytes_eq name (field_name p)) (reverse fields)
 
--- these chunks are what a field says
+-- chunks are the contents of a field
 abbrev pub IsFieldOf : Definitions → Pair → List (Spanned Chunk) → Type 0
 IsFieldOf definitions p chunks = AreContents definitions (is_verbatim_field (field_name p)) (pieces_of p) chunks
 
--- a field can be read
+-- a field can be parsed
 abbrev pub IsFieldReadable : Definitions → Pair → Type 0
 IsFieldReadable definitions p = IsReadable definitions (is_verbatim_field (field_name p)) (pieces_of p)
 
--- a name and chunks are a field, which can be read
+-- a name and chunks are a parsed field
 pub record IsRead (definitions : Definitions) (p : Pair) (pair : List ℕ × List (Spanned Chunk)) : Type 0 where
   pub name : pair.0 ≡ field_name p
   pub value : IsFieldOf definitions p pair.1
   pub readable : IsFieldReadable definitions p
 
--- each field can be read
+-- each field can be parsed
 abbrev pub AreReadable : Definitions → List Pair → Type 0
 AreReadable definitions [] = Unit {0}
 AreReadable definitions (p ∷ rest) = IsFieldReadable definitions p × AreReadable definitions rest
 
--- an entry is read from its raw form: the same key, the type of that kind, and for each name the last field with it
+-- `entry` is the entry of a raw entry: it has its key, its type, and for each name the contents of the last field with the
+-- name
 pub record IsEntryOf (definitions : Definitions) (raw : RawEntry) (entry : Entry) : Type 0 where
   pub key : entry.key ≡ raw.key.v.now
   pub kind : entry.entry_type ≡ entry_type_of raw.kind.v.now
@@ -59,7 +60,7 @@ pub record IsEntryOf (definitions : Definitions) (raw : RawEntry) (entry : Entry
       → MatchOption (last_field raw.fields.items name) (by_name.get entry.fields name ≡ None) (λ p. (chunks : List (Spanned Chunk)) × (by_name.get entry.fields name ≡ Some chunks) × IsFieldOf definitions p chunks)
   pub readable : AreReadable definitions raw.fields.items
 
--- the first error of fields in order
+-- the error of the first field that can't be parsed
 pub data IsFieldsError (definitions : Definitions) : List Pair → ParseError → Type 0 where
   here : {p : Pair} {rest : List Pair} {e : ParseError} → IsFirstError definitions (is_verbatim_field (field_name p)) [] (pieces_of p) e
       → (IsFieldReadable definitions p → ⊥) → IsFieldsError definitions (p ∷ rest) e

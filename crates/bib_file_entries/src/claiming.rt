@@ -3,12 +3,12 @@
 ghost use Rattle.std.specs.Prelude.{◌≡◌, IfOk};
 ghost use Rattle.bib_file_entries.specs.Bibliography.{aliases, claims};
 
+use bib_chunks::lists::comma_texts;
 use bib_entry::entry::Entry;
-use bib_styled::lists::comma_texts;
 use bib_text::text::Text;
 use std::alloc::{AllocError, Global};
 
-// The other names of an entry: the parts of its field `ids`. Does not allocate where it has none.
+// Returns the other names of an entry: the items of its field `ids`. Does not allocate if there is no such field.
 pub(crate) fn aliases(alloc: Global, entry: &Entry) -> Result<Vec<Text>, AllocError>
     ensures { IfOk result (λ names. names.items ≡ aliases entry.now) }
 {
@@ -18,7 +18,7 @@ pub(crate) fn aliases(alloc: Global, entry: &Entry) -> Result<Vec<Text>, AllocEr
     }
 }
 
-/// The names that an entry claims: its key, then the parts of its field `ids`. Refused only when out of memory.
+/// Returns the names that an entry claims: its key, then the items of its field `ids`. The only error is out of memory.
 pub fn claims(alloc: Global, entry: &Entry) -> Result<Vec<Text>, AllocError>
     ensures { IfOk result (λ names. names.items ≡ claims entry.now) }
 {

@@ -1,4 +1,4 @@
-//! What is kept of a file's entries where not all of it can be read.
+//! Loads the entries of a file with errors.
 
 ghost use Rattle.std.specs.Bool.{OnFalse};
 ghost use Rattle.std.specs.Option.{unwrap_or};
@@ -11,16 +11,16 @@ ghost use Rattle.bib_file_entries.specs.Keeping.{AreKeptFields, IsKeptEntry, IsT
 ghost use Rattle.bib_file_entries.specs.Kept.{mended, mended_piece, unknown_names};
 ghost use Rattle.bib_file_entries.specs.Loaded.{definition_in};
 ghost use Rattle.bib_file_entries.specs.Loading.{pieces_of};
-ghost use Rattle.bib_maps.specs.Names.{AreIndicesBelow};
+ghost use Rattle.bib_collections.specs.Names.{AreIndicesBelow};
 
 use crate::claiming::claims;
 use crate::loading::{definitions, entry_with, read_field};
 use crate::reading::duplicate;
-use bib_abbreviations::resolve::FieldReader;
+use bib_abbreviations::reader::FieldReader;
 use bib_chunks::chunk::{Chunks, Span, Spanned};
+use bib_collections::claims::Claims;
+use bib_collections::names::Names;
 use bib_entry::entry::Entry;
-use bib_maps::claims::Claims;
-use bib_maps::names::Names;
 use bib_syntax::raw::{
     Field, Pair, ParseError, ParseErrorKind, RawBibliography, RawChunk, RawEntry,
 };
@@ -28,23 +28,23 @@ use bib_text::text::Text;
 use std::alloc::{AllocError, Global};
 use std::collections::BTreeMap;
 
-/// What is kept of a file's entries.
+/// The entries of a file with errors, as far as they can be loaded.
 #[derive(Drop)]
 pub struct KeptEntries {
     /// The entries, each with its own fields.
     pub entries: Vec<Entry>,
-    /// The names that they claim.
+    /// The names that the entries claim.
     pub names: Names,
-    /// Where each entry stands in the file, in bytes.
+    /// The span of each entry in the file, in bytes.
     pub spans: Vec<Span>,
-    /// The index of each entry among the entries of the file.
+    /// The index of each entry among the raw entries of the file.
     pub origins: Vec<usize>,
-    /// The error of each name that stands for nothing, and of each field and entry that is left out, in the order of the
-    /// file.
+    /// The errors in the order of the file: one for each undefined abbreviation, and one for each field and entry that is
+    /// left out.
     pub errors: Vec<ParseError>,
 }
 
-// The error of a name that stands for nothing, in its place.
+// Returns the error of an undefined abbreviation, at its span.
 fn unknown(alloc: Global, name: &str, span: &Span) -> Result<ParseError, AllocError>
     ensures { IfOk result (λ e. e ≡
         record { span = span.now; kind = UnknownAbbreviation name.now }) }
@@ -56,7 +56,7 @@ fn unknown(alloc: Global, name: &str, span: &Span) -> Result<ParseError, AllocEr
     })
 }
 
-// Whether an element is a name that stands for nothing.
+// Returns whether a piece is an undefined abbreviation.
 fn is_unknown(piece: &Spanned<RawChunk<'_>>, reader: &FieldReader<'_, '_>) -> bool
     ensures { OnFalse result (unknown_names (given_by reader.now) (piece_of piece.now ∷ []) ≡ []) }
 {
@@ -66,7 +66,7 @@ fn is_unknown(piece: &Spanned<RawChunk<'_>>, reader: &FieldReader<'_, '_>) -> bo
     }
 }
 
-// Whether a field has a name that stands for nothing.
+// Returns whether a field contains an undefined abbreviation.
 fn has_unknown(field: &[Spanned<RawChunk<'_>>], reader: &FieldReader<'_, '_>) -> bool
     ensures { OnFalse result (unknown_names (given_by reader.now) (map piece_of field.now) ≡ []) }
 {
@@ -78,7 +78,7 @@ fn has_unknown(field: &[Spanned<RawChunk<'_>>], reader: &FieldReader<'_, '_>) ->
     false
 }
 
-// An element, as a text where it is a name that stands for nothing, whose error is kept.
+// Returns a copy of a piece, and replaces an undefined abbreviation by its name as text. Appends an error for it.
 fn mended_piece<'s>(
     alloc: Global,
     piece: &Spanned<RawChunk<'s>>,
@@ -101,7 +101,8 @@ fn mended_piece<'s>(
     Ok(Spanned::new(v, piece.span.start..piece.span.end))
 }
 
-// The elements of a field, each name that stands for nothing as a text, and its error is kept.
+// Returns copies of the pieces of a field, and replaces each undefined abbreviation by its name as text. Appends an error for
+// each.
 fn mended_pieces<'s>(
     alloc: Global,
     field: &[Spanned<RawChunk<'s>>],
@@ -120,7 +121,8 @@ fn mended_pieces<'s>(
     Ok(pieces)
 }
 
-// A field with each name that stands for nothing as a text, whose error is kept; None where it has no such name.
+// Returns a copy of a field with each undefined abbreviation replaced by its name as text, or `None` if it has none. Appends
+// an error for each.
 fn mended<'s>(
     alloc: Global,
     field: &Pair<'s>,
@@ -143,7 +145,8 @@ fn mended<'s>(
     }))
 }
 
-// Reads a field with such names as texts; None where it can't be read even so.
+// Parses a field with undefined abbreviations replaced by text. Returns `None` if it can't be parsed even so, and appends the
+// errors.
 fn keep_field<'s>(
     alloc: Global,
     field: &Pair<'s>,
@@ -164,7 +167,7 @@ fn keep_field<'s>(
     }
 }
 
-// Reads the fields of an entry that can be read.
+// Parses the fields of an entry, except those that can't be parsed. Appends the errors.
 fn keep_fields<'s>(
     alloc: Global,
     fields: &[Pair<'s>],
@@ -186,7 +189,7 @@ fn keep_fields<'s>(
     Ok(pairs)
 }
 
-// Reads what can be read of an entry.
+// Converts a raw entry to an entry with the fields that can be parsed. Appends the errors.
 fn keep_entry<'s>(
     alloc: Global,
     raw: &Spanned<RawEntry<'s>>,
@@ -202,7 +205,7 @@ fn keep_entry<'s>(
     Ok(entry)
 }
 
-// What is kept of a file's entries with these definitions of abbreviations.
+// Loads the entries of a file as far as possible, with these definitions of abbreviations.
 fn keep_entries<'f, 's>(
     alloc: Global,
     raw: &[Spanned<RawEntry<'s>>],
@@ -243,9 +246,9 @@ fn keep_entries<'f, 's>(
     })
 }
 
-/// What is kept of the entries of a file: each entry but those whose key an earlier one claimed, with each field that can be
-/// read, and each name pointing to the last kept entry that claims it. A name that stands for nothing is read as text.
-/// Each of these has its error. Refused only when out of memory.
+/// Loads the entries of a file as far as possible. An entry is left out if its key was claimed by an earlier entry that was
+/// kept, and a field if it can't be parsed. An undefined abbreviation is replaced by its name as text. Each of these adds an
+/// error. Each name points to the last kept entry that claims it. The only returned error is out of memory.
 pub fn keep(alloc: Global, raw: &RawBibliography<'_>) -> Result<KeptEntries, AllocError>
     ensures kept { IfOk result (λ found. IsKeptSoFar (definition_in (file_of raw.now).abbreviations)
         (file_of raw.now).entries found.entries.items found.names found.spans.items

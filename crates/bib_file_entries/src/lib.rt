@@ -1,16 +1,15 @@
-//! What a file says of the entries of a bibliography, each by itself, and the names that they claim.
+//! Loads the entries of a file, each with its own fields, and the names that they claim.
 //!
-//! `loading` makes an entry of a raw one: the definitions of abbreviations are collected first, each field is read with
-//! them by one `FieldReader`, and the pairs are sorted once into a map. `reading` goes over the raw entries, each of
-//! which is given up once it is read, and refuses a key that was claimed. `claims` has the names that were claimed so
-//! far, in a tree, and gives them in order at the end; so loading is not quadratic in whatever order the keys come, and
-//! each name is kept once. Definitions of what is loaded are written on readings (`Loaded`), which say nothing of how
-//! the program keeps a file; the private ones (`Loading`) say the same on its values, and one file of lemmas goes
-//! between them.
+//! `loading` converts a raw entry to an entry. It first collects the definitions of abbreviations. It parses each field with
+//! one `FieldReader`, and sorts the fields once into a map. `reading` converts all raw entries, frees each afterwards, and
+//! reports a key that was claimed before. `claims` keeps the claimed names in a tree, and returns them in order at the end.
+//! Loading is therefore not quadratic for any order of the keys, and each name is stored once. The definitions in `Loaded`
+//! describe the entries in terms of the grammar, not of the data structures. The private definitions in `Loading` say the
+//! same in terms of the data structures, and one file of lemmas connects them.
 //!
-//! `keeping` does the same of a file with errors: it goes on after a key that was claimed and a field that can't be read, keeps
-//! each error, and takes a name that stands for nothing as text. It borrows the raw entries, which have the places of what is
-//! wrong; of them only a field with such a name is copied.
+//! `keeping` does the same for a file with errors. It continues after a key that was claimed before and after a field that
+//! can't be parsed. It collects each error, and replaces an undefined abbreviation by its name as text. It borrows the raw
+//! entries, which contain the spans of the errors. It copies only the fields with an undefined abbreviation.
 #![tactic(auto)]
 
 pub mod claiming;

@@ -1,26 +1,26 @@
-//! A file's entries as entries of a bibliography.
+//! Converts raw entries to entries of a bibliography.
 
 ghost use Rattle.std.specs.Prelude.{◌≡◌, ◌⊎◌, OnOk, IfOk, IfErr, List, ℕ, reverse};
 ghost use Rattle.std.specs.FinMap as by_name;
 ghost use Rattle.bib_abbreviations.specs.Abbreviations.{given_by, sorted_in};
-ghost use Rattle.bib_entry_types.specs.EntryType.{entry_type_of};
-ghost use Rattle.bib_maps.specs.Sorted.{by_bytes};
+ghost use Rattle.bib_tables.specs.EntryType.{entry_type_of};
+ghost use Rattle.bib_collections.specs.Sorted.{by_bytes};
 ghost use Rattle.bib_syntax.specs.Errors.{out_of_memory};
 ghost use Rattle.bib_file_entries.specs.Loading.{IsEntryOf, IsFieldOf, IsFieldReadable, IsFieldsError, field_name, last_definition};
 ghost use Rattle.bib_file_entries.specs.Reading.{IsFieldError};
 
-use bib_abbreviations::resolve::FieldReader;
+use bib_abbreviations::reader::FieldReader;
 use bib_chunks::chunk::Chunks;
+use bib_collections::text_map::TextMap;
 use bib_entry::entry::Entry;
-use bib_entry_types::mechanics::EntryType;
-use bib_maps::text_map::TextMap;
 use bib_syntax::raw::{Field, Pair, ParseError, RawEntry};
+use bib_tables::mechanics::EntryType;
 use bib_text::items::Items;
 use bib_text::text::Text;
 use std::alloc::{AllocError, Global};
 use std::collections::BTreeMap;
 
-// The definitions of abbreviations: of two for one name the last stands.
+// Returns the definitions of abbreviations. If a name is defined twice, the last definition counts.
 pub(crate) fn definitions<'f, 's>(
     alloc: Global,
     pairs: &'f [Pair<'s>],
@@ -35,7 +35,8 @@ pub(crate) fn definitions<'f, 's>(
     Ok(definitions)
 }
 
-// Reads an entry: its fields in order, with names in lowercase letters; of two with one name the last stands.
+// Converts a raw entry to an entry, parsing its fields in order. Field names are converted to lowercase. If two fields have
+// the same name, the last one counts.
 pub(crate) fn read_entry<'f, 's>(
     alloc: Global,
     raw: &RawEntry<'s>,
@@ -53,7 +54,7 @@ pub(crate) fn read_entry<'f, 's>(
     Ok(entry_with(alloc, raw.key.v, raw.kind.v, pairs)?)
 }
 
-// The entry with this key, kind and fields; of two with one name the last stands.
+// Returns the entry with this key, type and fields. If two fields have the same name, the last one counts.
 pub(crate) fn entry_with(
     alloc: Global,
     key: &str,
@@ -75,7 +76,7 @@ pub(crate) fn entry_with(
     })
 }
 
-// Reads a field: its name in lowercase letters, and what its value says.
+// Parses a field: returns its name in lowercase, and the chunks of its value.
 pub(crate) fn read_field<'f, 's>(
     alloc: Global,
     field: &Pair<'s>,
@@ -93,7 +94,8 @@ pub(crate) fn read_field<'f, 's>(
     Ok((Text::from_string(name), fitted(chunks)))
 }
 
-// The same chunks, without room for more: most fields are one chunk, and a list that grew has room for four.
+// Returns the same chunks without spare capacity. Most fields have one chunk, and a list that has grown has capacity for
+// four.
 fn fitted(chunks: Chunks) -> Chunks
     ensures { result ≡ chunks }
 {

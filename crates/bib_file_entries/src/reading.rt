@@ -1,29 +1,27 @@
-//! A file's entries with the names that they claim.
+//! Loads the entries of a file and the names that they claim.
 
 ghost use Rattle.std.specs.Prelude.{◌≡◌, ◌⊎◌, [], map, length, IfOk, IfErr};
 ghost use Rattle.bib_abbreviations.specs.Abbreviations.{sorted_in};
 ghost use Rattle.bib_syntax.specs.Errors.{out_of_memory};
 ghost use Rattle.bib_syntax.specs.Views.{entry_reading_of, file_of};
 ghost use Rattle.bib_syntax.specs.declared.raw.ParseErrorKind.TheVariants.{DuplicateKey};
-ghost use Rattle.bib_entry.specs.Parents.{has_references};
 ghost use Rattle.bib_file_entries.specs.Claiming.{IsLoadedSoFar};
 ghost use Rattle.bib_file_entries.specs.Loaded.{IsFirstErrorOfEntries, definition_in};
-ghost use Rattle.bib_maps.specs.Names.{AreIndicesBelow};
+ghost use Rattle.bib_collections.specs.Names.{AreIndicesBelow};
 
 use crate::claiming::aliases;
 use crate::loading::{definitions, read_entry};
-use bib_abbreviations::resolve::FieldReader;
+use bib_abbreviations::reader::FieldReader;
 use bib_chunks::chunk::{Span, Spanned};
+use bib_collections::claims::Claims;
+use bib_collections::names::Names;
 use bib_entry::entry::Entry;
-use bib_entry::parents::has_references;
-use bib_maps::claims::Claims;
-use bib_maps::names::Names;
 use bib_syntax::raw::{Field, ParseError, ParseErrorKind, RawBibliography, RawEntry};
 use bib_text::text::Text;
 use std::alloc::{AllocError, Global};
 use std::collections::BTreeMap;
 
-// The error of a key that an earlier entry claimed.
+// Returns the error of an entry whose key an earlier entry claimed.
 pub(crate) fn duplicate(
     alloc: Global,
     raw: &Spanned<RawEntry<'_>>,
@@ -38,23 +36,21 @@ pub(crate) fn duplicate(
     })
 }
 
-// What a file's entries are with these definitions of abbreviations, the names that they claim, and whether each may take
-// over from others. The memory of each raw entry is free once it is read.
+// Loads the entries of a file with these definitions of abbreviations. Returns the entries and the names that they claim.
+// Frees each raw entry after its conversion.
 fn load_entries<'f, 's>(
     alloc: Global,
     raw: Vec<Spanned<RawEntry<'s>>>,
     definitions: BTreeMap<&'s str, &'f Field<'s>>,
-) -> Result<(Vec<Entry>, Names, Vec<bool>), ParseError>
+) -> Result<(Vec<Entry>, Names), ParseError>
     ensures loaded { IfOk result (λ all. IsLoadedSoFar (sorted_in definitions.entry)
         (map entry_reading_of raw.entry.items) all.0.items all.1) }
-    ensures marked { IfOk result (λ all. all.2.items ≡ map has_references all.0.items) }
     ensures below { IfOk result (λ all. AreIndicesBelow (length all.0.items) all.1) }
     ensures refused { IfErr result (λ e. (e ≡ out_of_memory) ⊎
         IsFirstErrorOfEntries (sorted_in definitions.entry) [] (map entry_reading_of raw.entry.items) e) }
 {
     let mut reader = FieldReader::new(alloc, definitions);
     let mut entries = Vec::with_capacity(alloc, raw.len())?;
-    let mut marks = Vec::with_capacity(alloc, raw.len())?;
     let mut names = Claims::new(alloc);
     'entries: for said in raw {
         let key = Text::from_str(alloc, said.v.key.v)?;
@@ -63,13 +59,12 @@ fn load_entries<'f, 's>(
         }
         let entry = read_entry(alloc, &said.v, &mut reader)?;
         names.claim_all(aliases(alloc, &entry)?, entries.len())?;
-        marks.push(has_references(&entry))?;
         entries.push(entry)?;
     }
-    Ok((entries, names.into_names(alloc)?, marks))
+    Ok((entries, names.into_names(alloc)?))
 }
 
-/// Where each entry stands in the file. Refused only when out of memory.
+/// Returns the span of each entry in the file. The only error is out of memory.
 pub fn spans(alloc: Global, raw: &[Spanned<RawEntry<'_>>]) -> Result<Vec<Span>, AllocError>
     ensures { IfOk result (λ spans. spans.items ≡ map (λ said. said.span) raw.now) }
 {
@@ -78,19 +73,15 @@ pub fn spans(alloc: Global, raw: &[Spanned<RawEntry<'_>>]) -> Result<Vec<Span>, 
         .collect(alloc)
 }
 
-/// The entries of a file that was read already, each with its own fields, the names that they claim, and whether each has
-/// a field by which it takes over from others. Each name points to the last entry that claims it.
+/// Loads the entries of a raw bibliography. Returns the entries with their own fields, and the names that they claim. Each
+/// name points to the last entry that claims it.
 ///
-/// Refused, in the order of the file, for the first entry whose key an earlier one claimed (`DuplicateKey`, at the entry)
-/// or which has a field that can't be read.
-pub fn load_marked(
-    alloc: Global,
-    raw: RawBibliography<'_>,
-) -> Result<(Vec<Entry>, Names, Vec<bool>), ParseError>
+/// The error is the first in the order of the file: a key that an earlier entry claimed (`DuplicateKey`, at the entry), or a
+/// field that can't be parsed.
+pub fn load(alloc: Global, raw: RawBibliography<'_>) -> Result<(Vec<Entry>, Names), ParseError>
     ensures loaded { IfOk result (λ all. IsLoadedSoFar
         (definition_in (file_of raw.entry).abbreviations)
         (file_of raw.entry).entries all.0.items all.1) }
-    ensures marked { IfOk result (λ all. all.2.items ≡ map has_references all.0.items) }
     ensures below { IfOk result (λ all. AreIndicesBelow (length all.0.items) all.1) }
     ensures refused { IfErr result (λ e. (e ≡ out_of_memory) ⊎ IsFirstErrorOfEntries
         (definition_in (file_of raw.entry).abbreviations) [] (file_of raw.entry).entries e) }
@@ -102,17 +93,4 @@ pub fn load_marked(
     } = raw;
     let definitions = definitions(alloc, abbreviations.as_slice())?;
     load_entries(alloc, entries, definitions)
-}
-
-/// The same, without the marks.
-pub fn load(alloc: Global, raw: RawBibliography<'_>) -> Result<(Vec<Entry>, Names), ParseError>
-    ensures loaded { IfOk result (λ all. IsLoadedSoFar
-        (definition_in (file_of raw.entry).abbreviations)
-        (file_of raw.entry).entries all.0.items all.1) }
-    ensures below { IfOk result (λ all. AreIndicesBelow (length all.0.items) all.1) }
-    ensures refused { IfErr result (λ e. (e ≡ out_of_memory) ⊎ IsFirstErrorOfEntries
-        (definition_in (file_of raw.entry).abbreviations) [] (file_of raw.entry).entries e) }
-{
-    let (entries, names, _marks) = load_marked(alloc, raw)?;
-    Ok((entries, names))
 }

@@ -8,10 +8,10 @@ use Rattle.bib_text.specs.declared.spanned.Spanned.{Spanned}
 use Rattle.bib_syntax.specs.Views.{entry_reading_of}
 use Rattle.bib_syntax.specs.declared.raw.RawEntry.{RawEntry}
 use Rattle.bib_findings.proofs.ListFacts.{get_mapped, more}
-use Rattle.bib_enums.specs.declared.type_error.TypeError.{TypeError}
+use Rattle.bib_tables.specs.declared.type_error.TypeError.{TypeError}
 use Rattle.bib_entry.specs.Reports.{AreMalformed, missing_of, superfluous_of}
 use Rattle.bib_entry.specs.declared.entry.Entry.{Entry}
-use Rattle.bib_entry_types.specs.Requirements.{Names}
+use Rattle.bib_tables.specs.Requirements.{Names}
 use Rattle.bib_syntax.specs.Reading.{EntryReading}
 use Rattle.bib_findings.specs.Adding.{Adds}
 use Rattle.bib_findings.specs.Entries.{AreOfEach, AreOfReport, field_finding, malformed_finding, report_findings}

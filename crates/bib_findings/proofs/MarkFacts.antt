@@ -23,16 +23,13 @@ use Rattle.bib_findings.specs.Duplicates.{duplicate_after, duplicate_finding, du
 use Rattle.bib_findings.specs.Identities.{doi_of, has_any, has_identity, identities, identity, isbn_of, title_of, work_of, work_text}
 use Rattle.bib_findings.specs.Marks.{AreMetMarks, before_brace, chosen, has_repeated, is_repeated, listed, listed_all, mark, marks_of, may_share, met_mark}
 use Rattle.bib_findings.specs.declared.marks.Marks.{Marks}
+use Rattle.std.proofs.lemmas.Bool.{or_cases}
 
 same_number : (one : ℕ) → nat_eq one one ≡ true
 same_number one = grind (arith, nat_tests)
 
 numbers_alike : (one other : ℕ) → nat_eq one other ≡ true → one ≡ other
 numbers_alike one other is = grind (arith, nat_tests, is)
-
-either : (p q : Bool) → (p || q) ≡ true → (p ≡ true) ⊎ (q ≡ true)
-either true q is = inl refl
-either false q is = inr is
 
 or_left : (p q : Bool) → p ≡ true → (p || q) ≡ true
 or_left p q is = ap (λ b. b || q) is
@@ -78,8 +75,8 @@ kind_of test said is =
     ⊎_elim (λ p. let it = in_identity test (codes "doi ") (doi_of said) p in is_doi it.0 it.1)
     (λ q. ⊎_elim (λ p. let it = in_identity test (codes "isbn ") (isbn_of said) p in is_isbn it.0 it.1)
     (λ p. let it = in_identity test (codes "work ") (work_of said) p in is_work it.0 it.1)
-    (either (list_any test isbns) (list_any test works) (sym (list_any-append test isbns works) ∙ q)))
-    (either (list_any test dois) (list_any test (isbns ++ works)) (sym (list_any-append test dois (isbns ++ works)) ∙ is))
+    (or_cases (list_any test isbns) (list_any test works) (sym (list_any-append test isbns works) ∙ q)))
+    (or_cases (list_any test dois) (list_any test (isbns ++ works)) (sym (list_any-append test dois (isbns ++ works)) ∙ is))
 
 -- what stands after the first letters of a text
 abbrev after_four : List ℕ → List ℕ
@@ -206,7 +203,7 @@ any_passes test one [] is passes = absurd (let clash : false ≡ true = is in cc
 any_passes test one (first ∷ all) is passes =
     ⊎_elim (λ here. or_left (test first) (list_any test all) (subst (λ n. test n ≡ true) (numbers_alike one first here) passes))
     (λ later. or_right (test first) (list_any test all) (any_passes test one all later passes))
-    (either (nat_eq one first) (list_any (nat_eq one) all) is)
+    (or_cases (nat_eq one first) (list_any (nat_eq one) all) is)
 
 -- a mark that two entries have is repeated
 twice : (one : ℕ) (before between rest : List EntryReading) (first second : EntryReading) → HasMark first one → HasMark second one

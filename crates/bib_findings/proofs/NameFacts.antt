@@ -6,7 +6,7 @@ use Rattle.std.proofs.lemmas.List.Elements.{All-nil, All-cons, All-append, All-p
 use Rattle.std.proofs.lemmas.Slice.Eq.{bytes_eq-Decides}
 use Rattle.std.specs.Map.{update}
 use Rattle.std.specs.Prelude.{bytes_eq}
-use Rattle.bib_entry_types.specs.Requirements.{Names}
+use Rattle.bib_tables.specs.Requirements.{Names}
 use Rattle.bib_syntax.specs.Reading.{FieldReading}
 use Rattle.bib_syntax.specs.Views.{field_of}
 use Rattle.bib_syntax.specs.declared.raw.Pair.{Pair}

@@ -9,7 +9,7 @@ use Rattle.bib_abbreviations.specs.Abbreviations.{Definitions}
 use Rattle.bib_entry.specs.declared.entry.Entry.{Entry}
 use Rattle.bib_file_entries.specs.Claiming.{IsKeptSoFar, place_of}
 use Rattle.bib_file_entries.specs.Kept.{EntriesKept, IsKeptFrom}
-use Rattle.bib_maps.specs.Sorted.{ByText}
+use Rattle.bib_collections.specs.Sorted.{ByText}
 use Rattle.bib_syntax.specs.Reading.{EntryReading}
 use Rattle.bib_syntax.specs.declared.raw.ParseError.{ParseError}
 use Rattle.bib_syntax.specs.declared.raw.recovery.SkippedBlock.{SkippedBlock}

@@ -11,7 +11,7 @@ use Rattle.std.proofs.lemmas.List.Folds.{list_any-append}
 use Rattle.std.proofs.lemmas.Slice.Eq.{bytes_eq-Decides}
 use Rattle.std.specs.List.{All, cons_option, list_any, position_from}
 use Rattle.std.specs.Option.{option_map_or, option_or}
-use Rattle.bib_entry_types.specs.Requirements.{Names}
+use Rattle.bib_tables.specs.Requirements.{Names}
 use Rattle.bib_text.specs.declared.spanned.Spanned.{Spanned}
 use Rattle.bib_syntax.specs.Reading.{EntryReading}
 use Rattle.bib_syntax.specs.Views.{entry_reading_of}

@@ -4,8 +4,8 @@ use Rattle.std.specs.Prelude.{◌≡◌, ℕ, List, [], ◌∷◌, ◌++◌, byt
 use Rattle.std.specs.List.{find}
 use Rattle.std.specs.Str.{str_eq_ignore_ascii_case}
 use Rattle.std.specs.declared.ops.Range.{Range}
-use Rattle.bib_enums.specs.TypeError.{type_kind_text}
-use Rattle.bib_enums.specs.declared.type_error.TypeError.{TypeError}
+use Rattle.bib_tables.specs.TypeError.{type_kind_text}
+use Rattle.bib_tables.specs.declared.type_error.TypeError.{TypeError}
 use Rattle.bib_entry.specs.Reports.{AreMalformed, missing_of, superfluous_of}
 use Rattle.bib_entry.specs.declared.entry.Entry.{Entry}
 use Rattle.bib_syntax.specs.Reading.{Part, EntryReading, FieldReading}

@@ -2,7 +2,7 @@
 -- The findings of what recovery reports: of the blocks that are passed over, and of errors.
 use Rattle.std.specs.Prelude.{ℕ, List, ◌++◌, codes}
 use Rattle.std.specs.declared.ops.Range.{Range}
-use Rattle.bib_enums.specs.TypeError.{type_kind_text}
+use Rattle.bib_tables.specs.TypeError.{type_kind_text}
 use Rattle.bib_syntax.specs.Errors.{token_text}
 use Rattle.bib_syntax.specs.declared.raw.ParseError.{ParseError}
 use Rattle.bib_syntax.specs.declared.raw.ParseErrorKind.{ParseErrorKind}

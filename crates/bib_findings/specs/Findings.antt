@@ -7,7 +7,7 @@ use Rattle.std.specs.Ordering.{nat_cmp}
 use Rattle.bib_entry.specs.declared.entry.Entry.{Entry}
 use Rattle.bib_file_entries.specs.Claiming.{IsKeptSoFar}
 use Rattle.bib_file_entries.specs.Loaded.{definition_in}
-use Rattle.bib_references.specs.Recovered.{AreRecovered}
+use Rattle.bib_inheritance.specs.Recovered.{AreRecovered}
 use Rattle.bib_syntax.specs.Reading.{EntryReading, FileReading}
 use Rattle.bib_syntax.specs.Recovery.{IsRecovery}
 use Rattle.bib_syntax.specs.Views.{entry_reading_of}
@@ -15,7 +15,7 @@ use Rattle.bib_syntax.specs.declared.raw.ParseError.{ParseError}
 use Rattle.bib_syntax.specs.declared.raw.RawEntry.{RawEntry}
 use Rattle.bib_text.specs.declared.spanned.Spanned.{Spanned}
 use Rattle.bib_syntax.specs.declared.raw.recovery.SkippedBlock.{SkippedBlock}
-use Rattle.bib_maps.specs.Sorted.{ByText}
+use Rattle.bib_collections.specs.Sorted.{ByText}
 use Rattle.bib_findings.specs.Duplicates.{duplicates, entries_at}
 use Rattle.bib_findings.specs.Entries.{AreOfEach, AreOfReport}
 use Rattle.bib_findings.specs.Errors.{block_finding, error_finding}

@@ -6,7 +6,7 @@ use Rattle.std.specs.Char.{is_whitespace}
 use Rattle.std.specs.List.{flat_map, list_any, slice_split, starts_with, take_while}
 use Rattle.std.specs.StrCase.Lower.{str_to_lowercase}
 use Rattle.bib_text.specs.Characters as char
-use Rattle.bib_entry_types.specs.Requirements.{Names, fields}
+use Rattle.bib_tables.specs.Requirements.{Names, fields}
 use Rattle.bib_syntax.specs.Reading.{EntryReading, FieldReading, Piece}
 use Rattle.bib_syntax.specs.Reading.Piece.{literal}
 use Rattle.bib_findings.specs.Entries.{last_named}

@@ -4,7 +4,7 @@ use Rattle.std.specs.Prelude.{◌≡◌, ℕ, ◌<◌, ◌≤◌, Bool, not, Lis
 use Rattle.std.specs.List.{All, AllZip, filter, list_any}
 use Rattle.std.specs.Str.{chars, str_eq_ignore_ascii_case, str_to_ascii_lowercase}
 use Rattle.strsim.specs.Edits.{levenshtein_row}
-use Rattle.bib_entry_types.specs.Requirements.{Names, fields}
+use Rattle.bib_tables.specs.Requirements.{Names, fields}
 use Rattle.bib_syntax.specs.Reading.{EntryReading, FieldReading}
 use Rattle.bib_findings.specs.Entries.{part_range}
 use Rattle.bib_findings.specs.Errors.{finding_at}

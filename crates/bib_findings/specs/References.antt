@@ -6,10 +6,10 @@ use Rattle.std.specs.Option.{option_map_or}
 use Rattle.std.specs.FinMap as by_name
 use Rattle.bib_chunks.specs.Styled.{Atom, styled}
 use Rattle.bib_entry.specs.declared.entry.Entry.{Entry}
-use Rattle.bib_entry_types.specs.Requirements.{Names, fields}
+use Rattle.bib_tables.specs.Requirements.{Names, fields}
 use Rattle.bib_inheritance.specs.References.{plain}
-use Rattle.bib_maps.specs.Sorted.{ByText}
-use Rattle.bib_styled.specs.Lists.{comma_texts}
+use Rattle.bib_collections.specs.Sorted.{ByText}
+use Rattle.bib_chunks.specs.Lists.{comma_texts}
 use Rattle.bib_syntax.specs.Reading.{EntryReading}
 use Rattle.bib_findings.specs.Entries.{field_place}
 use Rattle.bib_findings.specs.Errors.{finding_at}

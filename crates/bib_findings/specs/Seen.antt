@@ -3,7 +3,7 @@
 use Rattle.std.specs.Prelude.{◌≡◌, ℕ, List, [], ◌∷◌, bytes_eq, min, slice_get, option_and_then, Option, Some, None, if◌then◌else◌}
 use Rattle.std.specs.List.{list_any, position_from}
 use Rattle.std.specs.Option.{option_map_or, option_or}
-use Rattle.bib_entry_types.specs.Requirements.{Names}
+use Rattle.bib_tables.specs.Requirements.{Names}
 use Rattle.bib_syntax.specs.Reading.{EntryReading}
 use Rattle.bib_findings.specs.Duplicates.{duplicate_finding}
 use Rattle.bib_findings.specs.Identities.{has_identity}

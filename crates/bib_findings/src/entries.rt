@@ -2,7 +2,7 @@
 
 ghost use Rattle.std.specs.Prelude.{◌≡◌, ◌++◌, map, IfOk, OnOk};
 ghost use Rattle.std.specs.String.{string_bytes};
-ghost use Rattle.bib_entry_types.specs.Requirements.{texts};
+ghost use Rattle.bib_tables.specs.Requirements.{texts};
 ghost use Rattle.bib_syntax.specs.Views.{entry_reading_of};
 ghost use Rattle.bib_findings.specs.Adding.{Adds};
 ghost use Rattle.bib_findings.specs.Entries.{AreOfReport, field_finding, field_message, malformed_finding};
@@ -11,8 +11,8 @@ use crate::codes::Code;
 use crate::finding::Finding;
 use crate::places::{field_place, malformed_place};
 use bib_entry::entry::Entry;
-use bib_enums::type_error::TypeError;
 use bib_syntax::raw::RawEntry;
+use bib_tables::type_error::TypeError;
 use bib_text::spanned::Spanned;
 use bib_text::text::Text;
 use std::alloc::{AllocError, Global};

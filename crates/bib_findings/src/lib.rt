@@ -1,4 +1,4 @@
-//! What is wrong in a bibliography file: each thing with a code, a place and a text.
+//! Finds errors and likely mistakes in a bibliography file, each with a code, a place and a message.
 //!
 //! It is made of what `Bibliography::recover` does, step by step, and of what each step answers: the blocks that are passed
 //! over, the errors of entries and references, and then, entry by entry as it stands in the file, what the report on the entry

@@ -5,7 +5,7 @@ ghost use Rattle.std.specs.BTreeMap.{get_by_text};
 ghost use Rattle.std.specs.List.{list_any};
 ghost use Rattle.std.specs.Str.{str_eq_ignore_ascii_case, str_to_ascii_lowercase};
 ghost use Rattle.std.specs.String.{string_bytes};
-ghost use Rattle.bib_entry_types.specs.Requirements.{texts};
+ghost use Rattle.bib_tables.specs.Requirements.{texts};
 ghost use Rattle.bib_syntax.specs.Views.{entry_reading_of, field_of};
 ghost use Rattle.bib_findings.specs.Adding.{Adds};
 ghost use Rattle.bib_findings.specs.Met.{AreFieldNames, IsFieldName};

@@ -18,10 +18,10 @@ use Rattle.bib_syntax.specs.Grammar.{Fields as fields}
 use Rattle.bib_syntax.specs.Grammar.{File as file}
 use Rattle.bib_syntax.proofs.FieldFacts.{ahead_identifier, ahead_element, ahead_field, ahead_gap, ahead_fields}
 use Rattle.bib_syntax.proofs.FileFacts.{ahead_head}
-use Rattle.bib_documents.proofs.BoundaryFacts.{char_boundary}
 use Rattle.bib_documents.proofs.SplitFacts.{EntryBlock, ahead_file_before}
 use Rattle.bib_format.specs.Cuts.{AreEntriesCut, AreGapsCut, ArePiecesCut, CanBeCut, IsEntryCut, IsPieceCut}
 use Rattle.bib_format.proofs.SplitFacts.{ByEntries, by_entries}
+use Rattle.bib_text.proofs.BoundaryFacts.{char_boundary}
 
 -- ---- a character stands where a rule begins that another character ends
 

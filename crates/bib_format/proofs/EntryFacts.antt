@@ -17,7 +17,7 @@ use Rattle.bib_syntax.specs.Grammar.{Fields as fields}
 use Rattle.bib_syntax.proofs.FieldFacts.{ahead_identifier, ahead_field, ahead_fields, ahead_gap}
 use Rattle.bib_syntax.proofs.FileFacts.{ahead_head}
 use Rattle.bib_documents.specs.Edits.{moved_entry, moved_field}
-use Rattle.bib_documents.proofs.BoundaryFacts.{not_over}
+use Rattle.bib_text.proofs.BoundaryFacts.{not_over}
 use Rattle.bib_documents.proofs.GrammarFacts.{block_there}
 use Rattle.bib_documents.proofs.MovedFacts.{char_within}
 use Rattle.bib_documents.proofs.SplitFacts.{EntryBlock, block_of}
@@ -34,6 +34,7 @@ use Rattle.bib_format.proofs.LowerFacts.{kind_lower, lower_lower}
 use Rattle.bib_format.proofs.NameFacts.{name_read}
 use Rattle.bib_format.proofs.OrderFacts.{in_order_all, in_order_twice, in_order_zip, last_ordered, padded_ordered}
 use Rattle.bib_format.proofs.StandsFacts.{Stands, ascii, between_stands, copied, copied_before, copy_frame, first_part, last_part, past}
+use Rattle.bib_syntax.proofs.LawFacts.{key_dark}
 
 abbrev contents : List FieldReading → List FieldReading
 contents fs = map (moved_field (λ n. 0)) (map field_in_lowercase fs)
@@ -62,13 +63,6 @@ pub record EntryRead (line_end : List ℕ) (style : Style) (bytes : List ℕ) (e
   pub again : entry_in_style line_end style u.text reading ≡ bytes
   pub starts : reading.start ≡ u.at
   pub ends : reading.end + 1 ≡ v.at
-
-and_right : (b c : Bool) → (b && c) ≡ true → c ≡ true
-and_right true c is = is
-and_right false c is = absurd (cc)
-
-key_dark : (c : ℕ) → is_key c ≡ true → is_whitespace c ≡ false
-key_dark c key = not-true (is_whitespace c) (and_right (not (c == 44 || c == 125) && not (is_control c)) (not (is_whitespace c)) key)
 
 stops_key : {u v : Place} → Run is_key u v → Stops is_whitespace v → Stops is_whitespace u
 stops_key stop stops = stops

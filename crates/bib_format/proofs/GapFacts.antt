@@ -4,7 +4,7 @@ use Rattle.std.specs.Prelude.{◌==◌, ◌&&◌, encode_utf8, not}
 use Rattle.std.specs.Char.{is_ascii_whitespace}
 use Rattle.std.specs.List.{list_all, prefix_len}
 use Rattle.std.proofs.lemmas.Bool.Decides.{nat_tests}
-use Rattle.std.proofs.lemmas.Bool.{ne_eqb}
+use Rattle.std.proofs.lemmas.Bool.{ne_eqb, and_parts}
 use Rattle.std.proofs.lemmas.List.{append-nil}
 use Rattle.std.proofs.lemmas.List.Folds.{list_all-append}
 use Rattle.std.proofs.lemmas.Str.{encode_ascii}
@@ -28,12 +28,8 @@ use Rattle.bib_format.proofs.StandsFacts.{Stands, ascii, copied_before, copy_fra
 abbrev pub are_blank : List ℕ → Bool
 are_blank bytes = list_all is_ascii_whitespace bytes
 
-and_both : (x y : Bool) → (x && y) ≡ true → (x ≡ true) × (y ≡ true)
-and_both true y is = (refl, is)
-and_both false y is = absurd (cc)
-
 blank_both : (xs ys : List ℕ) → are_blank (xs ++ ys) ≡ true → (are_blank xs ≡ true) × (are_blank ys ≡ true)
-blank_both xs ys all = and_both (are_blank xs) (are_blank ys) (sym (list_all-append is_ascii_whitespace xs ys) ∙ all)
+blank_both xs ys all = and_parts (are_blank xs) (are_blank ys) (sym (list_all-append is_ascii_whitespace xs ys) ∙ all)
 
 -- one end of a line more, at the end or at the start
 pub one_more : (line_end : List ℕ) (count : ℕ) → line_ends line_end count ++ line_end ≡ line_ends line_end (suc count)
@@ -66,14 +62,14 @@ blank_skipped b is = grind (arith, nat_tests)
 blank_read : {u v : Place} (bytes : List ℕ) → are_blank bytes ≡ true → Stands u bytes v → FileBefore u empty_reading v
 blank_read {u} {v} [] all s = subst (λ p. FileBefore u empty_reading p) (nothing s) FileBefore.none
 blank_read {u} {v} (b ∷ bs) all s =
-    let is = and_both (is_ascii_whitespace b) (are_blank bs) all in
+    let is = and_parts (is_ascii_whitespace b) (are_blank bs) all in
     FileBefore.skipped (ascii b (blank_small b is.0) (first_part (b ∷ []) bs s)) (blank_skipped b is.0) (blank_read {u = past u (b ∷ [])} {v = v} bs is.1 (last_part (b ∷ []) bs s))
 
 not_blank : (c : ℕ) (rest : List ℕ) → c < 128 → is_ascii_whitespace c ≡ false → are_blank (encode_utf8 c ++ rest) ≡ true → ⊥
 not_blank c rest small dark all =
     let first : are_blank (encode_utf8 c) ≡ true = (blank_both (encode_utf8 c) rest all).0 in
     let byte : (is_ascii_whitespace c && true) ≡ true = sym (ap are_blank (encode_ascii c small)) ∙ first in
-    let clash : true ≡ false = sym (and_both (is_ascii_whitespace c) true byte).0 ∙ dark in
+    let clash : true ≡ false = sym (and_parts (is_ascii_whitespace c) true byte).0 ∙ dark in
     absurd (cc)
 
 blank_says : {u v : Place} {says : FileReading} → FileBefore u says v → v.at ≤ length u.text → are_blank (between u v) ≡ true → says ≡ empty_reading

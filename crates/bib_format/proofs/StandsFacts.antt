@@ -8,7 +8,7 @@ use Rattle.std.proofs.lemmas.Str.{encode_ascii, length-encode}
 use Rattle.bib_text.specs.Places.{Place, place, CharAt, Run, between}
 use Rattle.bib_text.specs.Places.Run.{stop, step}
 use Rattle.bib_text.proofs.PlaceFacts.{Ahead, same_place}
-use Rattle.bib_documents.proofs.BoundaryFacts.{Border, not_over}
+use Rattle.bib_text.proofs.BoundaryFacts.{Border, not_over}
 use Rattle.bib_documents.proofs.EditFacts.{text_stands}
 use Rattle.bib_documents.proofs.ZoneFacts.{Frame, Zone, Inside, there}
 

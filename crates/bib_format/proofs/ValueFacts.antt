@@ -21,7 +21,7 @@ use Rattle.bib_syntax.specs.Grammar.{Elements as elements}
 use Rattle.bib_syntax.proofs.FieldFacts.{ahead_element, ahead_elements}
 use Rattle.bib_syntax.proofs.LawFacts.{start_not_white}
 use Rattle.bib_documents.specs.Edits.{moved_piece}
-use Rattle.bib_documents.proofs.BoundaryFacts.{not_over}
+use Rattle.bib_text.proofs.BoundaryFacts.{not_over}
 use Rattle.bib_documents.proofs.EditFacts.{ascii_stands}
 use Rattle.bib_documents.proofs.MovedFacts.{char_within}
 use Rattle.bib_format.specs.Delimited.{piece_as_written}

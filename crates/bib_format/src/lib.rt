@@ -1,5 +1,5 @@
-//! One style for a bibliography file: each entry is laid out anew, and everything else stays byte for byte, but for white space between
-//! entries where blank lines are asked for.
+//! The layout of a bibliography file: each entry is written in one style, and the text between entries is kept. Only the blank
+//! lines between entries change, if the style asks for it.
 //!
 //! The text is copied up to each entry, the entry is written from its raw reading, and the copying goes on after its closing brace; the
 //! new text isn't read. What it says is proved of the file grammar: what stands between entries is a zone of both texts (`ZoneFacts` of

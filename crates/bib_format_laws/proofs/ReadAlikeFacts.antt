@@ -12,28 +12,29 @@ use Rattle.bib_chunks.specs.Styled.{styled}
 use Rattle.bib_chunks.specs.declared.chunk.Chunk.{Chunk}
 use Rattle.bib_documents.specs.Edits.{moved_field, moved_piece}
 use Rattle.bib_entry.specs.declared.entry.Entry.{Entry}
-use Rattle.bib_entry_types.specs.EntryType.{entry_type_of, named_or_alias}
-use Rattle.bib_entry_types.specs.VerbatimFields.{is_verbatim_field}
-use Rattle.bib_entry_types.specs.declared.mechanics.EntryType.TheVariants.{Unknown}
+use Rattle.bib_tables.specs.EntryType.{entry_type_of, named_or_alias}
+use Rattle.bib_tables.specs.VerbatimFields.{is_verbatim_field}
+use Rattle.bib_tables.specs.declared.mechanics.EntryType.TheVariants.{Unknown}
 use Rattle.bib_file_entries.specs.Bibliography.{Bibliography, aliases, appended, claims, empty_bibliography}
 use Rattle.bib_file_entries.specs.Loaded.{AllCanBeRead, AreEntries, FieldSays, IsEntry, IsFirstErrorOfEntries, IsFirstErrorOfFields, definition_in, field_in, is_claimed, loaded_after, name_of}
 use Rattle.bib_format.specs.Formatted.{content, entry_content, entry_in_order, field_in_lowercase, says_in_order}
 use Rattle.bib_format.specs.declared.style.Style.{Style}
-use Rattle.bib_graph.specs.Graph.{Graph, Leads, refs_of}
+use Rattle.bib_collections.specs.Graph.{Graph, Leads, refs_of}
 use Rattle.bib_inheritance.specs.InheritableDate.{looks_for_date}
-use Rattle.bib_inheritance.specs.Sources.{Source, fields_of}
-use Rattle.bib_maps.specs.Names.{claimed, claims_for}
-use Rattle.bib_references.specs.Resolving.{AreDatesRead, Inherits, at_index, is_bad_date, source_of_entry, sources_of}
-use Rattle.bib_styled.specs.Lists.{comma_texts}
+use Rattle.bib_inheritance.specs.EntryTexts.{EntryTexts, fields_of}
+use Rattle.bib_collections.specs.Names.{claimed, claims_for}
+use Rattle.bib_inheritance.specs.Resolving.{AreDatesRead, Inherits, at_index, is_bad_date, texts_of_entries, texts_of_entry}
+use Rattle.bib_chunks.specs.Lists.{comma_texts}
 use Rattle.bib_syntax.specs.Reading.{EntryReading, FieldReading, FileReading, Part, Piece}
 use Rattle.bib_syntax.specs.Reading.Piece.{abbreviation, literal}
 use Rattle.bib_syntax.specs.declared.raw.ParseError.{ParseError}
 use Rattle.bib_text.specs.declared.spanned.Spanned.{Spanned}
 use Rattle.biblatex.specs.Resolved.{AreOwn, IsAccepted, IsFirstErrorOf, IsLoaded, graph_of, names_of}
-use Rattle.biblatex.proofs.ResolvedFacts.{graphs_by, solutions_same, source_same}
+use Rattle.biblatex.proofs.ResolvedFacts.{graphs_by, solutions_same, entry_texts_same, bad_apart}
 use Rattle.bib_format_laws.proofs.AlikeFacts.{Alike, AreAlikeAbbreviations, AreAlikeFields, DefineAlike, FoundAlike, definitions_alike, evaluates_alike, field_alike, readable_alike}
 use Rattle.bib_format_laws.proofs.ReorderedFacts.{IsReordered, entry_reordered}
 use Rattle.bib_format_laws.specs.Alike.{AreAlike}
+use Rattle.bib_text.proofs.ListFacts.{found_any}
 
 -- an entry with the same key, a type of the same name in any case, and fields alike, in some order
 pub record AreAlikeEntries (one other : EntryReading) : Type 0 where
@@ -123,7 +124,7 @@ files_alike style text one other is = record {
 
 -- entries with the same key, type and styled texts, which claim the same names
 pub record AreAlikeOwn (one other : Entry) : Type 0 where
-  pub source : source_of_entry one ≡ source_of_entry other
+  pub texts : texts_of_entry one ≡ texts_of_entry other
   pub key : one.key ≡ other.key
   pub claims : claims one ≡ claims other
 
@@ -145,8 +146,8 @@ module _ {one other : Definitions} (both : DefineAlike one other) where
         found_alike (by_name.get a.fields name) (by_name.get b.fields name)
         (subst (λ o. FoundAlike AreAlikeFields o (field_in tells.fields name)) (are.reordered.found name) (field_alike are.ordered tells.fields name are.fields)) (first.fields name) (second.fields name)
 
-    source_alike : source_of_entry a ≡ source_of_entry b
-    source_alike = source_same a.entry_type b.entry_type (fields_of a.fields) (fields_of b.fields) (first.kind ∙ are.kind ∙ sym second.kind) texts_alike
+    entry_texts_alike : texts_of_entry a ≡ texts_of_entry b
+    entry_texts_alike = entry_texts_same a.entry_type b.entry_type (fields_of a.fields) (fields_of b.fields) (first.kind ∙ are.kind ∙ sym second.kind) texts_alike
 
     key_alike : a.key ≡ b.key
     key_alike = first.key ∙ are.key ∙ sym second.key
@@ -167,7 +168,7 @@ module _ {one other : Definitions} (both : DefineAlike one other) where
   all_alike earlier (s ∷ said) [] are first second = absurd are
   all_alike earlier (s ∷ said) (t ∷ tells) are (AreEntries.next {entry = a} fresh is following) (AreEntries.next {entry = b} {entries = bs} fresh' is' following') =
       let same = claims_alike a b are.0 is is' in (
-        record { source = source_alike a b are.0 is is'; key = key_alike a b are.0 is is'; claims = same },
+        record { texts = entry_texts_alike a b are.0 is is'; key = key_alike a b are.0 is is'; claims = same },
         all_alike (earlier ++ claims a) said tells are.1 following (subst (λ names. AreEntries other (earlier ++ names) tells bs) (sym same) following'),
       )
 
@@ -192,11 +193,11 @@ module _ {one other : Definitions} (both : DefineAlike one other) where
 
 -- ---- files
 
-sources_zip : (as' bs : List Entry) → AllZip AreAlikeOwn as' bs → sources_of as' ≡ sources_of bs
-sources_zip [] [] all = refl
-sources_zip [] (b ∷ bs) all = absurd all
-sources_zip (a ∷ as') [] all = absurd all
-sources_zip (a ∷ as') (b ∷ bs) all = ap (λ x. x ∷ sources_of as') all.0.source ∙ ap (λ xs. source_of_entry b ∷ xs) (sources_zip as' bs all.1)
+all_texts_zip : (as' bs : List Entry) → AllZip AreAlikeOwn as' bs → texts_of_entries as' ≡ texts_of_entries bs
+all_texts_zip [] [] all = refl
+all_texts_zip [] (b ∷ bs) all = absurd all
+all_texts_zip (a ∷ as') [] all = absurd all
+all_texts_zip (a ∷ as') (b ∷ bs) all = ap (λ x. x ∷ texts_of_entries as') all.0.texts ∙ ap (λ xs. texts_of_entry b ∷ xs) (all_texts_zip as' bs all.1)
 
 keys_zip : (as' bs : List Entry) → AllZip AreAlikeOwn as' bs → map (λ (e : Entry). e.key) as' ≡ map (λ (e : Entry). e.key) bs
 keys_zip [] [] all = refl
@@ -215,16 +216,6 @@ names_zip l m (a ∷ as') (b ∷ bs) count names all =
     (ap (λ n. claimed n (claims_for (claims a) (length l.entries))) names ∙ ap (λ cs. claimed m.names (claims_for cs (length l.entries))) all.0.claims ∙ ap (λ k. claimed m.names (claims_for (claims b) k)) count)
     all.1
 
-bad_apart : (own : List Source) (graph : Graph) (values : List Source) (index : ℕ) → looks_for_date (at_index own index) ≡ true → list_any (is_bad_date values) (refs_of graph index) ≡ true → AreDatesRead own graph values → ⊥
-bad_apart own graph values index looks bad read = false≢true (sym (read index) ∙ ap (λ b. b && list_any (is_bad_date values) (refs_of graph index)) looks ∙ bad)
-
-found_any : {A : Type 0} (test : A → Bool) (xs : List A) (x : A) → find test xs ≡ Some x → list_any test xs ≡ true
-found_any test [] x found = cc
-found_any {A} test (y ∷ xs) x found = go (test y) (find test xs) found (found_any test xs x) where
-  go : (b : Bool) (rest : Option A) → cond b (Some y) rest ≡ Some x → (rest ≡ Some x → list_any test xs ≡ true) → (b || list_any test xs) ≡ true
-  go true rest is later = refl
-  go false rest is later = later is
-
 module _ {says tells : FileReading} (are : AreAlikeFiles says tells) where
   both_define : DefineAlike (definition_in says.abbreviations) (definition_in tells.abbreviations)
   both_define = definitions_alike says.abbreviations tells.abbreviations are.abbreviations
@@ -237,7 +228,7 @@ module _ {says tells : FileReading} (are : AreAlikeFiles says tells) where
     names_alike = names_zip empty_bibliography empty_bibliography own others refl refl own_alike
 
     graph_alike : graph_of own ≡ graph_of others
-    graph_alike = graphs_by (names_of own) (names_of others) own others names_alike (sources_zip own others own_alike)
+    graph_alike = graphs_by (names_of own) (names_of others) own others names_alike (all_texts_zip own others own_alike)
 
   -- where the one file can be a bibliography, the other has no error
   pub faultless : {e : ParseError} → IsAccepted says → IsFirstErrorOf tells e → ⊥
@@ -246,11 +237,11 @@ module _ {says tells : FileReading} (are : AreAlikeFiles says tells) where
       let same = sym (graph_alike accepted.own own accepted.entries read) in
       accepted.no_cycle index (subst (λ g. index < length g) same first.within) (subst (λ g. Leads g index index) same first.cycle)
   faultless accepted (IsFirstErrorOf.date {own = own} {values = values} {index = index} read none solves looks earlier is) =
-      let sources = sym (sources_zip accepted.own own (own_alike accepted.own own accepted.entries read)) in
+      let all_texts = sym (all_texts_zip accepted.own own (own_alike accepted.own own accepted.entries read)) in
       let graph = sym (graph_alike accepted.own own accepted.entries read) in
-      let moved : Inherits (sources_of accepted.own) (graph_of accepted.own) values =
-      subst (λ g. Inherits (sources_of accepted.own) g values) graph (subst (λ s. Inherits s (graph_of own) values) sources solves) in
-      bad_apart (sources_of accepted.own) (graph_of accepted.own) values index (subst (λ s. looks_for_date (at_index s index) ≡ true) sources looks)
+      let moved : Inherits (texts_of_entries accepted.own) (graph_of accepted.own) values =
+      subst (λ g. Inherits (texts_of_entries accepted.own) g values) graph (subst (λ s. Inherits s (graph_of own) values) all_texts solves) in
+      bad_apart (texts_of_entries accepted.own) (graph_of accepted.own) values index (subst (λ s. looks_for_date (at_index s index) ≡ true) all_texts looks)
       (subst (λ g. list_any (is_bad_date values) (refs_of g index) ≡ true) graph (found_any (is_bad_date values) (refs_of (graph_of own) index) is.reference is.first))
       (accepted.dates values moved)
 
@@ -260,12 +251,12 @@ module _ {says tells : FileReading} (are : AreAlikeFiles says tells) where
       let own = first.accepted.own in
       let others = second.accepted.own in
       let zip = own_alike own others first.accepted.entries second.accepted.entries in
-      let sources = sym (sources_zip own others zip) in
+      let all_texts = sym (all_texts_zip own others zip) in
       let graph = sym (graph_alike own others first.accepted.entries second.accepted.entries) in
-      let moved : Inherits (sources_of own) (graph_of own) (sources_of other.entries) =
-      subst (λ g. Inherits (sources_of own) g (sources_of other.entries)) graph (subst (λ s. Inherits s (graph_of others) (sources_of other.entries)) sources second.inherits) in
+      let moved : Inherits (texts_of_entries own) (graph_of own) (texts_of_entries other.entries) =
+      subst (λ g. Inherits (texts_of_entries own) g (texts_of_entries other.entries)) graph (subst (λ s. Inherits s (graph_of others) (texts_of_entries other.entries)) all_texts second.inherits) in
       record {
         keys = first.keys ∙ keys_zip own others zip ∙ sym second.keys;
-        entries = solutions_same own (sources_of one.entries) (sources_of other.entries) first.accepted.no_cycle first.inherits moved;
+        entries = solutions_same own (texts_of_entries one.entries) (texts_of_entries other.entries) first.accepted.no_cycle first.inherits moved;
         names = first.names ∙ names_alike own others first.accepted.entries second.accepted.entries ∙ sym second.names;
       }

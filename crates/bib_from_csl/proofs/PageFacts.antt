@@ -30,6 +30,7 @@ use Rattle.bib_values.specs.Ranges.EndsRange.{lone, dashed}
 use Rattle.bib_values.proofs.RangeGrammar.{range_read_of}
 use Rattle.bib_csl.specs.Numbers.{pages, pages_after, pages_of, pages_text}
 use Rattle.bib_csl.specs.Texts.{joined}
+use Rattle.bib_values.proofs.RangeLaws.{decimal_digits}
 
 -- ---- the characters of pages
 
@@ -60,16 +61,6 @@ weaker p q each [] all = refl
 weaker p q each (c ∷ cs) all =
     let parts = and_parts (p c) (list_all p cs) all in
     and_from _ _ (each c parts.0) (weaker p q each cs parts.1)
-
-digits_all : (ds : List ℕ) → AllDigits 10 ds → list_all is_ascii_digit ds ≡ true
-digits_all [] all = refl
-digits_all (d ∷ ds) all =
-    let range = digit_from_value d all.0 in
-    let here : is_ascii_digit d ≡ true = grind (arith, nat_tests) in
-    and_from _ _ here (digits_all ds all.1)
-
-decimal_digits : (n : ℕ) → n < 2 ^ 32 → list_all is_ascii_digit (decimal n) ≡ true
-decimal_digits n small = digits_all _ (decimal_is_IsNumeral n (omega arith)).0.1
 
 number_decimal : (n : ℕ) → n < 2 ^ 32 → IsNumber (decimal n) n
 number_decimal n small =

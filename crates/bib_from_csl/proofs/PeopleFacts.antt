@@ -7,7 +7,7 @@ use Rattle.std.specs.List.{flat_map, list_all, list_any, slice_split, onto_first
 use Rattle.std.specs.Char.{is_whitespace}
 use Rattle.std.specs.Str.{chars, IsAscii, IsUtf8}
 use Rattle.unicode.specs.Binary.{is_lowercase, is_uppercase}
-use Rattle.std.proofs.lemmas.Bool.{and_parts, and_from, not-true, false≢true, ne_eqb, both_ways}
+use Rattle.std.proofs.lemmas.Bool.{and_parts, and_from, not-true, false≢true, ne_eqb, both_ways, or_parts}
 use Rattle.std.proofs.lemmas.List.Folds.{list_all-append}
 use Rattle.std.proofs.lemmas.List.Splits.{slice_split-cons_no}
 use Rattle.std.proofs.lemmas.Slice.Eq.{bytes_eq-Decides}
@@ -23,10 +23,10 @@ use Rattle.bib_people.specs.Names.{person, person_of}
 use Rattle.bib_people.specs.People.{people_chunks, people_of, person_chunks, plain_chunks, suffix_text}
 use Rattle.bib_people.specs.Kept.{AreWords, after_words, is_capital_letter, is_kept_word, is_name_byte, is_small_letter, is_word_and, name_begins, spaced, IsKeptPerson}
 use Rattle.bib_people.proofs.AndLists.{AllParts, IsPart, and_list_written, empties, before_and, after_and, formatted_empties, padded, padded_parts, written_after}
-use Rattle.bib_people.proofs.ByteFacts.{all_follow, ascii_fact, ascii_of, capital_not_low, is_line_byte, line_open, name_small, none_of, small_low}
+use Rattle.bib_people.proofs.ByteFacts.{all_follow, ascii_fact, ascii_of, capital_not_low, is_line_byte, line_open, name_small, none_of, small_low, implied}
 use Rattle.bib_people.proofs.LineFacts.{AllWords, all_any, is_line_item, items_ascii, items_bytes, items_part, line_all, line_items, line_spelt, more_some, plain_line, spaced_then}
 use Rattle.bib_people.proofs.SpacedFacts.{spaced_all}
-use Rattle.bib_people.proofs.SurviveFacts.{is_text, people_survive}
+use Rattle.bib_people.proofs.SurviveFacts.{is_text, people_survive, some_words}
 use Rattle.bib_csl.specs.declared.item.Name.{Name}
 use Rattle.bib_csl.specs.declared.item.Name.TheVariants.{Literal, Parts}
 use Rattle.bib_csl.specs.declared.item.NameParts.{NameParts}
@@ -36,10 +36,6 @@ use Rattle.bib_from_csl.specs.PlainPeople.{ArePlainNames, IsPlainLiteral, IsPlai
 use Rattle.bib_from_csl.specs.WrittenPeople.{are_plain_words, begins_small, begins_with_small, extended_chunks, has_no_small_word, has_small_words, is_bibtex_name, is_nothing_or_words, is_one_word, is_plain_particle, is_plain_word, may_stand_in_name, name_chunks, names_chunks, names_from, particle, parts_chunks, plain_text_of, with_separator, words_in}
 
 -- words
-
-implied : (a b : Bool) → (not a || b) ≡ true → a ≡ true → b ≡ true
-implied true b both is = both
-implied false b both is = absurd (both_ways false refl is)
 
 stands_table : list_all (λ b. not (is_name_byte b) || may_stand_in_name b) (range_with_len 0 128) ≡ true
 stands_table = refl
@@ -131,11 +127,6 @@ no_small [] all = refl
 no_small (w ∷ ws) all =
     let both = and_parts (is_kept_word is_capital_letter w) (list_all (is_kept_word is_capital_letter) ws) all in
     rw (capital_word w both.0) (no_small ws both.1)
-
--- the words of a text that isn't empty
-some_words : (words : List (List ℕ)) → 0 < length (spaced words) → 0 < length words
-some_words [] some = some
-some_words (w ∷ ws) some = omega arith
 
 spaced_some : (words : List (List ℕ)) → AllWords is_name_byte words → 0 < length words → (length (spaced words) == 0) ≡ false
 spaced_some [] all some = absurd (omega arith)
@@ -309,10 +300,6 @@ shown_verbatim t false following utf8 =
     ap encode_utf8_all (ap (λ b. chars t ++ b) (formatted_empties before_and (space_after false (Verbatim t)) following) ∙ append-nil (chars t)) ∙ encodes-chars t utf8
 shown_verbatim t true following utf8 =
     ap encode_utf8_all (ap (λ b. chars t ++ b) (formatted_empties before_and (space_after false (Verbatim t)) following) ∙ append-nil (chars t)) ∙ encodes-chars t utf8
-
-or_parts : (a b : Bool) → (a || b) ≡ false → (a ≡ false) × (b ≡ false)
-or_parts true b none = absurd (false≢true (sym none))
-or_parts false b none = (refl, none)
 
 -- a text without a tilde has no ties
 untied_same : (cs : List ℕ) → list_any (λ c. c == 126) cs ≡ false → untied cs ≡ encode_utf8_all cs

@@ -5,7 +5,7 @@ use Rattle.std.specs.List.{flat_map, list_any}
 use Rattle.std.specs.Str.{chars}
 use Rattle.bib_text.specs.Characters as char
 use Rattle.bib_syntax.specs.Characters.{is_key}
-use Rattle.bib_entry_types.specs.EntryType.{entry_type_name}
+use Rattle.bib_tables.specs.EntryType.{entry_type_name}
 use Rattle.bib_csl.specs.declared.item.Content.{Content}
 use Rattle.bib_csl.specs.declared.item.Content.TheVariants as content
 use Rattle.bib_from_csl.specs.declared.given.Given.{Given}

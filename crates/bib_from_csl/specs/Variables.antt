@@ -1,8 +1,8 @@
 -- Meaning: words of public contracts.
 -- Which field has what a variable of an item holds.
 use Rattle.std.specs.Prelude.{ℕ, Bool, true, false, ◌==◌, ◌&&◌, ◌||◌, if◌then◌else◌, List, [], length, codes, bytes_eq}
-use Rattle.bib_entry_types.specs.declared.mechanics.EntryType.{EntryType}
-use Rattle.bib_entry_types.specs.declared.mechanics.EntryType.TheVariants as entry_type
+use Rattle.bib_tables.specs.declared.mechanics.EntryType.{EntryType}
+use Rattle.bib_tables.specs.declared.mechanics.EntryType.TheVariants as entry_type
 use Rattle.bib_from_csl.specs.EntryTypes.{numbers_issues, numbers_series, stands_in_book, is_of_institution, is_among_words, may_be_volume}
 
 -- whether a variable holds people

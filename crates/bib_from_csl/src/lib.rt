@@ -1,4 +1,4 @@
-//! Items of CSL-JSON as entries of BibLaTeX (Citation Style Language 1.0.2).
+//! Items of CSL-JSON as entries (Citation Style Language 1.0.2).
 //!
 //! `objects` looks into JSON, and `reading`, over `names` and `dates`, reads each object of an array as an item, with its members in
 //! their order. `writing` writes each item as an entry, whose fields are named by `variables` and `types` and whose values are written by

@@ -3,7 +3,7 @@
 ghost use Rattle.std.specs.Prelude.{◌≡◌};
 ghost use Rattle.bib_from_csl.specs.EntryTypes as spec;
 
-use bib_entry_types::mechanics::EntryType;
+use bib_tables::mechanics::EntryType;
 
 // The type of the entry of an item that is part of another work, or one issue of a periodical.
 fn part_type(kind: &str) -> Option<EntryType>

@@ -9,7 +9,7 @@ ghost use Rattle.bib_from_csl.specs.Values as spec;
 use crate::tags::tagged;
 use bib_chunks::chunk::making::normal;
 use bib_chunks::chunk::value_text;
-use bib_entry_types::fields::is_verbatim_field;
+use bib_tables::fields::is_verbatim_field;
 use bib_text::scanner::Scanner;
 use bib_text::text::Text;
 use std::alloc::{AllocError, Global};

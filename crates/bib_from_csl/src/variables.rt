@@ -4,7 +4,7 @@ ghost use Rattle.std.specs.Prelude.{◌≡◌};
 ghost use Rattle.bib_from_csl.specs.Variables as spec;
 
 use crate::types::{counts_issues, counts_series, is_in_book, is_of_institution, is_volume};
-use bib_entry_types::mechanics::EntryType;
+use bib_tables::mechanics::EntryType;
 
 // Whether a variable holds people.
 pub(crate) fn is_names(name: &str) -> bool

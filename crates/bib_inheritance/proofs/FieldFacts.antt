@@ -1,4 +1,4 @@
--- The fields of a map that was made, and changed.
+-- The fields of the map after inheriting.
 use Rattle.std.proofs.Common.{◌≡◌, ℕ, List, ◌++◌, Bool, true, false, cond, ◌||◌, reverse, refl, sym, ap, ◌∙◌, Option, Some, None, option_map, is_some, codes}
 use Rattle.std.specs.Str.{bytes_eq}
 use Rattle.std.specs.FinMap.{get, find, entries, insert, remove, from_entries, get-from_entries, get-insert, get-remove, get-entries}
@@ -6,24 +6,26 @@ use Rattle.std.proofs.lemmas.Cmp.{nat_list_cmp_total}
 use Rattle.std.proofs.lemmas.List.{reverse-reverse}
 use Rattle.std.proofs.lemmas.Map.Text.{is_eq-slice_cmp}
 use Rattle.bib_chunks.specs.Styled.{Atom, styled}
-use Rattle.bib_maps.specs.Sorted.{ByText, by_bytes}
-use Rattle.bib_entry_types.specs.Requirements.{is_one_of}
-use Rattle.bib_entry_types.specs.declared.mechanics.EntryType.{EntryType}
+use Rattle.bib_collections.specs.Sorted.{ByText, by_bytes}
+use Rattle.bib_tables.specs.Requirements.{is_one_of}
+use Rattle.bib_tables.specs.declared.mechanics.EntryType.{EntryType}
 use Rattle.bib_inheritance.specs.InheritableDate.{date_for}
 use Rattle.bib_inheritance.specs.Inherited.{date_parts, field_by, inherited, plain_field, inherited_field}
-use Rattle.bib_inheritance.specs.Sources.{FieldTexts, Source, fields_of, first_named, first_some, source_of}
-use Rattle.bib_inheritance.proofs.GatheredFacts.{Value, bytes_turned, first_after}
+use Rattle.bib_inheritance.specs.EntryTexts.{EntryTexts, FieldTexts, fields_of, first_named, first_some, texts_of_fields}
+use Rattle.bib_inheritance.proofs.GatheredFacts.{Value, bytes_turned, first_after, styled_first}
 
 abbrev pub Map : Type 0
 Map = ByText Value
 
+-- the field of a name in a map after removing a key
 removed_at : (m : Map) (k q : List ℕ) → get (remove m k) q ≡ cond (bytes_eq q k) None (get m q)
 removed_at m k q = get-remove nat_list_cmp_total m k q ∙ ap (λ b. cond b None (get m q)) (is_eq-slice_cmp q k)
 
--- own fields count before those that are given
+-- the map of a list of fields
 abbrev pub made : List (List ℕ × Value) → Map
 made pairs = from_entries pairs
 
+-- the field of a name after adding fields and removing one: the own field counts before the added one
 pub field_gathered : (own : Map) (given : List (List ℕ × Value)) (gone q : List ℕ) → get (remove (made (reverse (reverse (entries own ++ given)))) gone) q ≡ cond (bytes_eq q gone) None (first_some (get own q) (first_named given q))
 field_gathered own given gone q =
     removed_at (made (reverse (reverse (entries own ++ given)))) gone q
@@ -43,10 +45,11 @@ three false true false x = refl
 three false false true x = refl
 three false false false x = refl
 
+-- the field of a name in a map after inserting one
 inserted_at : (m : Map) (k : List ℕ) (v : Value) (q : List ℕ) → get (insert m k v) q ≡ cond (bytes_eq q k) (Some v) (get m q)
 inserted_at m k v q = get-insert nat_list_cmp_total m k v q ∙ ap (λ b. cond b (Some v) (get m q)) (is_eq-slice_cmp q k)
 
--- a field where three names are taken out and another is set
+-- a field of a map after removing three names and setting another
 pub field_dated : (m : Map) (a b c k : List ℕ) (v : Value) (q : List ℕ) → get (insert (remove (remove (remove m a) b) c) k v) q ≡ cond (bytes_eq q k) (Some v) (cond (bytes_eq a q || (bytes_eq b q || (bytes_eq c q || false))) None (get m q))
 field_dated m a b c k v q =
     inserted_at (remove (remove (remove m a) b) c) k v q
@@ -58,19 +61,17 @@ field_dated m a b c k v q =
     ∙ ap (λ x. cond (bytes_eq a q || (x || (bytes_eq q c || false))) None (get m q)) (bytes_turned q b)
     ∙ ap (λ x. cond (bytes_eq a q || (bytes_eq b q || (x || false))) None (get m q)) (bytes_turned q c))
 
--- The rule
-
-styled_first : (a b : Option Value) → option_map styled (first_some a b) ≡ first_some (option_map styled a) (option_map styled b)
-styled_first None b = refl
-styled_first (Some x) b = refl
+-- The rule of inheritance
 
 styled_if : (b : Bool) (x y : Option Value) → option_map styled (cond b x y) ≡ cond b (option_map styled x) (option_map styled y)
 styled_if true x y = refl
 styled_if false x y = refl
 
+-- the rule for a field commutes with taking styled texts
 styled_plain : (own given : List ℕ → Option Value) (name : List ℕ) → option_map styled (plain_field own given name) ≡ plain_field (λ n. option_map styled (own n)) (λ n. option_map styled (given n)) name
 styled_plain own given name = styled_if (bytes_eq name (codes "xdata")) None (first_some (own name) (given name)) ∙ ap (cond (bytes_eq name (codes "xdata")) None) (styled_first (own name) (given name))
 
+-- the rule for a field with an inherited date commutes with taking styled texts
 styled_by : (date : Option Value) (own given : List ℕ → Option Value) (name : List ℕ) → option_map styled (field_by date own given name) ≡ field_by (option_map styled date) (λ n. option_map styled (own n)) (λ n. option_map styled (given n)) name
 styled_by None own given name = styled_plain own given name
 styled_by (Some date) own given name =
@@ -78,26 +79,27 @@ styled_by (Some date) own given name =
     ∙ ap (cond (bytes_eq name (codes "date")) (Some (styled date)))
     (styled_if (is_one_of date_parts name) None (plain_field own given name) ∙ ap (cond (is_one_of date_parts name) None) (styled_plain own given name))
 
--- what an entry has itself isn't looked for
+-- a field that an entry has itself isn't searched for
 plain_lacked : {A : Type 0} (own given : Option A) → first_some own (cond (is_some own) None given) ≡ first_some own given
 plain_lacked None given = refl
 plain_lacked (Some x) given = refl
 
+-- the rule needs only the given fields that the entry lacks
 by_lacked : (date : Option (List Atom)) (own given : FieldTexts) (name : List ℕ) → field_by date own (λ n. cond (is_some (own n)) None (given n)) name ≡ field_by date own given name
 by_lacked None own given name = ap (cond (bytes_eq name (codes "xdata")) None) (plain_lacked (own name) (given name))
 by_lacked (Some date) own given name =
     ap (λ o. cond (bytes_eq name (codes "date")) (Some date) (cond (is_one_of date_parts name) None (cond (bytes_eq name (codes "xdata")) None o))) (plain_lacked (own name) (given name))
 
--- an entry with what it takes over is what the rule says
-pub inherits : (kind : EntryType) (own fields : Map) (refs : List Source) (given : List (List ℕ × Value)) (date : Option Value)
-    → ((name : List ℕ) → option_map styled (first_named given name) ≡ cond (is_some (fields_of own name)) None (inherited_field kind name refs))
-    → option_map styled date ≡ date_for (source_of kind own) refs → ((name : List ℕ) → get fields name ≡ field_by date (get own) (first_named given) name)
-    → source_of kind fields ≡ inherited (source_of kind own) refs
-inherits kind own fields refs given date gives dated h =
-    let same : (name : List ℕ) → fields_of fields name ≡ field_by (date_for (source_of kind own) refs) (fields_of own) (λ n. inherited_field kind n refs) name =
+-- the entry after inheriting satisfies the rule
+pub inherits : (entry_type : EntryType) (own fields : Map) (refs : List EntryTexts) (given : List (List ℕ × Value)) (date : Option Value)
+    → ((name : List ℕ) → option_map styled (first_named given name) ≡ cond (is_some (fields_of own name)) None (inherited_field entry_type name refs))
+    → option_map styled date ≡ date_for (texts_of_fields entry_type own) refs → ((name : List ℕ) → get fields name ≡ field_by date (get own) (first_named given) name)
+    → texts_of_fields entry_type fields ≡ inherited (texts_of_fields entry_type own) refs
+inherits entry_type own fields refs given date gives dated h =
+    let same : (name : List ℕ) → fields_of fields name ≡ field_by (date_for (texts_of_fields entry_type own) refs) (fields_of own) (λ n. inherited_field entry_type n refs) name =
     λ name. ap (option_map styled) (h name) ∙ styled_by date (get own) (first_named given) name
     ∙ ap (λ d. field_by d (fields_of own) (λ n. option_map styled (first_named given n)) name) dated
-    ∙ ap (λ (f : FieldTexts). field_by (date_for (source_of kind own) refs) (fields_of own) f name) (λ i n. gives n i)
-    ∙ by_lacked (date_for (source_of kind own) refs) (fields_of own) (λ n. inherited_field kind n refs) name
+    ∙ ap (λ (f : FieldTexts). field_by (date_for (texts_of_fields entry_type own) refs) (fields_of own) f name) (λ i n. gives n i)
+    ∙ by_lacked (date_for (texts_of_fields entry_type own) refs) (fields_of own) (λ n. inherited_field entry_type n refs) name
     in
-    λ i. record { kind = kind; fields = λ name. same name i }
+    λ i. record { entry_type = entry_type; fields = λ name. same name i }

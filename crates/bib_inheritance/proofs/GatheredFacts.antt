@@ -1,4 +1,4 @@
--- Fields that are gathered.
+-- Collecting fields from references.
 use Rattle.std.proofs.Common.{◌≡◌, ℕ, ◌+◌, ◌<◌, ◌-◌, List, [], ◌∷◌, ◌++◌, Bool, true, false, not, cond, ◌&&◌, ◌||◌, length, get_or, take, drop, refl, sym, ap, ◌∙◌, subst, arith, inl, inr, ◌⊎◌, Option, Some, None, option_map, is_some, map, append-nil}
 use Rattle.std.specs.List.{flat_map}
 use Rattle.std.specs.Str.{bytes_eq}
@@ -19,17 +19,19 @@ use denote.Ref.{Bor}
 use Rattle.bib_chunks.specs.declared.chunk.Chunk.{Chunk}
 use Rattle.bib_chunks.specs.Styled.{Atom, styled}
 use Rattle.bib_text.specs.declared.spanned.Spanned.{Spanned}
-use Rattle.bib_maps.specs.Sorted.{ByText, by_bytes}
-use Rattle.bib_entry_types.specs.Requirements.{Names, texts, rules_of, author_names, page_names, inheritable, is_container, is_one_of, never_inherited}
-use Rattle.bib_entry_types.specs.declared.mechanics.EntryType.{EntryType}
+use Rattle.bib_collections.specs.Sorted.{ByText, by_bytes}
+use Rattle.bib_tables.specs.Requirements.{Names, texts, rules_of, author_names, page_names, inheritable, is_container, is_one_of, never_inherited}
+use Rattle.bib_tables.specs.declared.mechanics.EntryType.{EntryType}
 use Rattle.bib_inheritance.specs.Inherited.{offer, offered_field, inherited_field}
 use Rattle.bib_inheritance.specs.Gathering.{gathered_text, gathered_text_in, offered_among}
-use Rattle.bib_inheritance.specs.Sources.{Source, fields_of, first_named, first_some, has, source_at, sources}
+use Rattle.bib_inheritance.specs.EntryTexts.{EntryTexts, fields_of, first_named, first_some, has, texts_of_reference, texts_of_references}
 use Rattle.bib_inheritance.specs.declared.offers.Reference.{Reference}
+use Rattle.std.proofs.Math.Bool.{and-false, or-false, or-true}
 
 abbrev pub Value : Type 0
 Value = List (Spanned Chunk)
 
+-- a collected field: the borrowed name and chunks
 abbrev pub Loan : Type 0
 Loan = Bor (List ℕ) × Bor Value
 
@@ -43,42 +45,34 @@ mapped_if : {A B : Type 0} (f : A → B) (b : Bool) (x y : Option A) → option_
 mapped_if f true x y = refl
 mapped_if f false x y = refl
 
--- a name that something was gathered for
+-- a collected field after one more insertion
 pub gathered_inserted : (m n : Gathered) (bs : List ℕ) (c : Bor Value) → tree.UpdatesBy (λ x y. slice_cmp nat_cmp x.now y.now) (λ k. slice_cmp nat_cmp bs k.now) m n (Some c)
     → (q : List ℕ) → gathered_text n q ≡ cond (bytes_eq bs q) (Some (styled c.now)) (gathered_text m q)
 gathered_inserted m n bs c h q =
     ap (option_map text_of_loan) (btree_map_updates_str bs m n (Some c) h q)
     ∙ mapped_if text_of_loan (bytes_eq bs q) (Some c) (tree.get_by (λ k. slice_cmp nat_cmp q k.now) m)
 
+-- two names are equal or different, by comparing their bytes
 pub bytes_decides : (n q : List ℕ) → ((bytes_eq n q ≡ true) × (n ≡ q)) ⊎ ((bytes_eq n q ≡ false) × (n ≡ q → ⊥))
 bytes_decides n q = go (bytes_eq n q) refl where
   go : (b : Bool) → bytes_eq n q ≡ b → ((bytes_eq n q ≡ true) × (n ≡ q)) ⊎ ((bytes_eq n q ≡ false) × (n ≡ q → ⊥))
   go true t = inl (t, (bytes_eq-Decides n q).0 t)
   go false t = inr (t, λ e. false≢true (sym t ∙ (bytes_eq-Decides n q).1 e))
 
--- what the first of some names have gathered
-abbrev pub IsGathered : Names → ℕ → Source → Gathered → Gathered → Type 0
+-- the fields collected for the first `i` names
+abbrev pub IsGathered : Names → ℕ → EntryTexts → Gathered → Gathered → Type 0
 IsGathered names i s old new = (q : List ℕ) → gathered_text new q ≡ first_some (offered_among (take i names) s q) (gathered_text old q)
 
+-- a name is among the first `i + 1` names if it is among the first `i` or is the next
 among_more : (names : Names) (i : ℕ) (q : List ℕ) (b : Bool) → i < length names → bytes_eq (get_or names i []) q ≡ b → is_one_of (take (i + 1) names) q ≡ (is_one_of (take i names) q || b)
 among_more names i q b h e = list_any_more (λ each. bytes_eq each q) names i [] h ∙ ap (λ v. is_one_of (take i names) q || v) e
 
-or_false : (b : Bool) → (b || false) ≡ b
-or_false true = refl
-or_false false = refl
+-- the next name adds no offer for another name
+among_other : (names : Names) (i : ℕ) (s : EntryTexts) (q : List ℕ) → i < length names → bytes_eq (get_or names i []) q ≡ false → offered_among (take (i + 1) names) s q ≡ offered_among (take i names) s q
+among_other names i s q h e = ap (λ b. cond (not (is_one_of never_inherited q) && b) (offer s q) None) (among_more names i q false h e ∙ or-false (is_one_of (take i names) q))
 
-or_true : (b : Bool) → (b || true) ≡ true
-or_true true = refl
-or_true false = refl
-
-and_false : (b : Bool) → (b && false) ≡ false
-and_false true = refl
-and_false false = refl
-
-among_other : (names : Names) (i : ℕ) (s : Source) (q : List ℕ) → i < length names → bytes_eq (get_or names i []) q ≡ false → offered_among (take (i + 1) names) s q ≡ offered_among (take i names) s q
-among_other names i s q h e = ap (λ b. cond (not (is_one_of never_inherited q) && b) (offer s q) None) (among_more names i q false h e ∙ or_false (is_one_of (take i names) q))
-
-among_none : (names : Names) (s : Source) (q : List ℕ) → (is_one_of never_inherited q ≡ true) ⊎ (offer s q ≡ None) → offered_among names s q ≡ None
+-- nothing is offered for a name that is never inherited or has no offer
+among_none : (names : Names) (s : EntryTexts) (q : List ℕ) → (is_one_of never_inherited q ≡ true) ⊎ (offer s q ≡ None) → offered_among names s q ≡ None
 among_none names s q (inl k) = ap (λ k. cond (not k && is_one_of names q) (offer s q) None) k
 among_none names s q (inr o) =
     ap (λ v. cond (not (is_one_of never_inherited q) && is_one_of names q) v None) o ∙ both (not (is_one_of never_inherited q) && is_one_of names q)
@@ -87,11 +81,12 @@ among_none names s q (inr o) =
     both true = refl
     both false = refl
 
-pub gathered_none : (names : Names) (s : Source) (gathered : Gathered) → IsGathered names 0 s gathered gathered
-gathered_none names s gathered q = ap (λ b. first_some (cond b (offer s q) None) (gathered_text gathered q)) (sym (and_false (not (is_one_of never_inherited q))))
+-- before the first name, nothing is collected
+pub gathered_none : (names : Names) (s : EntryTexts) (gathered : Gathered) → IsGathered names 0 s gathered gathered
+gathered_none names s gathered q = ap (λ b. first_some (cond b (offer s q) None) (gathered_text gathered q)) (sym (and-false (not (is_one_of never_inherited q))))
 
--- a name that no entry takes over, or for which nothing is offered
-pub gathered_skip : (names : Names) (i : ℕ) (s : Source) (n : List ℕ) (old new : Gathered) → i < length names → n ≡ get_or names i [] → (is_one_of never_inherited n ≡ true) ⊎ (offer s n ≡ None) → IsGathered names i s old new → IsGathered names (i + 1) s old new
+-- the next name is never inherited, or the reference offers nothing for it
+pub gathered_skip : (names : Names) (i : ℕ) (s : EntryTexts) (n : List ℕ) (old new : Gathered) → i < length names → n ≡ get_or names i [] → (is_one_of never_inherited n ≡ true) ⊎ (offer s n ≡ None) → IsGathered names i s old new → IsGathered names (i + 1) s old new
 gathered_skip names i s n old new within at none h q =
     elim (bytes_decides n q) [
       | inl t ↦
@@ -100,13 +95,13 @@ gathered_skip names i s n old new within at none h q =
       | inr t ↦ h q ∙ ap (λ o. first_some o (gathered_text old q)) (sym (among_other names i s q within (ap (λ x. bytes_eq x q) (sym at) ∙ t.0)))
     ]
 
--- a name for which something is offered
-pub gathered_more : (names : Names) (i : ℕ) (s : Source) (n : List ℕ) (c : Bor Value) (old mid new : Gathered) → i < length names → n ≡ get_or names i [] → is_one_of never_inherited n ≡ false → offer s n ≡ Some (styled c.now)
+-- the next name has an offer
+pub gathered_more : (names : Names) (i : ℕ) (s : EntryTexts) (n : List ℕ) (c : Bor Value) (old mid new : Gathered) → i < length names → n ≡ get_or names i [] → is_one_of never_inherited n ≡ false → offer s n ≡ Some (styled c.now)
     → tree.UpdatesBy (λ x y. slice_cmp nat_cmp x.now y.now) (λ k. slice_cmp nat_cmp n k.now) mid new (Some c) → IsGathered names i s old mid → IsGathered names (i + 1) s old new
 gathered_more names i s n c old mid new within at free gives updates h q =
     elim (bytes_decides n q) [
       | inl t ↦
-          let among = among_more names i q true within (ap (λ x. bytes_eq x q) (sym at) ∙ t.0) ∙ or_true (is_one_of (take i names) q) in
+          let among = among_more names i q true within (ap (λ x. bytes_eq x q) (sym at) ∙ t.0) ∙ or-true (is_one_of (take i names) q) in
           let is : offered_among (take (i + 1) names) s q ≡ Some (styled c.now) =
           ap (λ b. cond (not (is_one_of never_inherited q) && b) (offer s q) None) among
           ∙ ap (λ k. cond (not k && true) (offer s q) None) (subst (λ x. is_one_of never_inherited x ≡ false) t.1 free)
@@ -118,6 +113,7 @@ gathered_more names i s n c old mid new within at free gives updates h q =
           ∙ ap (λ o. first_some o (gathered_text old q)) (sym (among_other names i s q within (ap (λ x. bytes_eq x q) (sym at) ∙ t.0)))
     ]
 
+-- collecting for two conditions one after the other is collecting for either
 twice : {A : Type 0} (n a b : Bool) (o x : Option A) → first_some (cond (n && b) o None) (first_some (cond (n && a) o None) x) ≡ first_some (cond (n && (a || b)) o None) x
 twice false a b o x = refl
 twice true false false o x = refl
@@ -126,8 +122,8 @@ twice true true false o x = refl
 twice true true true None x = refl
 twice true true true (Some v) x = refl
 
--- what one list of names gathers after another
-pub offered_both : (a b : Names) (s : Source) (q : List ℕ) (x : Option (List Atom)) → first_some (offered_among b s q) (first_some (offered_among a s q) x) ≡ first_some (offered_among (a ++ b) s q) x
+-- collecting for one list of names and then for another is collecting for both
+pub offered_both : (a b : Names) (s : EntryTexts) (q : List ℕ) (x : Option (List Atom)) → first_some (offered_among b s q) (first_some (offered_among a s q) x) ≡ first_some (offered_among (a ++ b) s q) x
 offered_both a b s q x =
     twice (not (is_one_of never_inherited q)) (is_one_of a q) (is_one_of b q) (offer s q) x
     ∙ ap (λ v. first_some (cond (not (is_one_of never_inherited q) && v) (offer s q) None) x) (sym (list_any-append (λ each. bytes_eq each q) a b))
@@ -147,7 +143,7 @@ bytes_turned q n =
     other true never = absurd (never refl)
     other false never = refl
 
-flipped : (q n : List ℕ) → eq_by_cmp by_bytes q n ≡ bytes_eq n q
+pub flipped : (q n : List ℕ) → eq_by_cmp by_bytes q n ≡ bytes_eq n q
 flipped q n = is_eq-slice_cmp q n ∙ bytes_turned q n
 
 found_or : (v : Value) (found : Option Value) (later b : Bool) → is_some found ≡ later → is_some (cond b (Some v) found) ≡ (b || later)
@@ -158,50 +154,50 @@ is_some-find : (q : List ℕ) (es : List (List ℕ × Value)) → is_some (find 
 is_some-find q [] = refl
 is_some-find q (e ∷ es) = ap (λ b. is_some (cond b (Some e.1) (find by_bytes q es))) (flipped q e.0) ∙ found_or e.1 (find by_bytes q es) (is_one_of (map (λ x. x.0) es) q) (bytes_eq e.0 q) (is_some-find q es)
 
--- the names of a map are those of its fields
+-- a map has a field of a name exactly if the name is among its names
 pub has_names : (m : ByText Value) (q : List ℕ) → is_one_of (map (λ e. e.0) (entries m)) q ≡ is_some (fields_of m q)
 has_names m q = sym (is_some-find q (entries m)) ∙ ap is_some (sym (get-entries m q)) ∙ same_some styled (get m q)
 
--- of a container's reference each field is offered
-pub given_container : (kind : EntryType) (reference : Reference) (names : Names) (q : List ℕ) → is_container kind ≡ true → names ≡ map (λ e. e.0) (entries reference.fields.now) → offered_among names (source_at reference) q ≡ offered_field kind (source_at reference) q
-given_container kind reference names q is all =
-    let s = source_at reference in
+-- a container is offered each field of its reference
+pub given_container : (entry_type : EntryType) (reference : Reference) (names : Names) (q : List ℕ) → is_container entry_type ≡ true → names ≡ map (λ e. e.0) (entries reference.fields.now) → offered_among names (texts_of_reference reference) q ≡ offered_field entry_type (texts_of_reference reference) q
+given_container entry_type reference names q is all =
+    let s = texts_of_reference reference in
     ap (λ b. cond (not (is_one_of never_inherited q) && b) (offer s q) None) (ap (λ l. is_one_of l q) all ∙ has_names reference.fields.now q)
     ∙ same (not (is_one_of never_inherited q)) (has s q) (offer s q)
-    ∙ ap (λ b. cond ((not (is_one_of never_inherited q) && (b || is_one_of (inheritable kind) q)) && (not b || has s q)) (offer s q) None) (sym is)
+    ∙ ap (λ b. cond ((not (is_one_of never_inherited q) && (b || is_one_of (inheritable entry_type) q)) && (not b || has s q)) (offer s q) None) (sym is)
   where
     same : {A : Type 0} (n h : Bool) (o : Option A) → cond (n && h) o None ≡ cond ((n && true) && h) o None
     same true h o = refl
     same false h o = refl
 
--- of any other entry's reference those of its type
-pub given_other : (kind : EntryType) (s : Source) (q : List ℕ) → is_container kind ≡ false → offered_among (inheritable kind) s q ≡ offered_field kind s q
-given_other kind s q is =
-    same (not (is_one_of never_inherited q)) (is_one_of (inheritable kind) q) (offer s q)
-    ∙ ap (λ b. cond ((not (is_one_of never_inherited q) && (b || is_one_of (inheritable kind) q)) && (not b || has s q)) (offer s q) None) (sym is)
+-- any other entry is offered the fields that its type inherits
+pub given_other : (entry_type : EntryType) (s : EntryTexts) (q : List ℕ) → is_container entry_type ≡ false → offered_among (inheritable entry_type) s q ≡ offered_field entry_type s q
+given_other entry_type s q is =
+    same (not (is_one_of never_inherited q)) (is_one_of (inheritable entry_type) q) (offer s q)
+    ∙ ap (λ b. cond ((not (is_one_of never_inherited q) && (b || is_one_of (inheritable entry_type) q)) && (not b || has s q)) (offer s q) None) (sym is)
   where
     same : {A : Type 0} (n h : Bool) (o : Option A) → cond (n && h) o None ≡ cond ((n && h) && true) o None
     same true true o = refl
     same true false o = refl
     same false h o = refl
 
--- what one reference more gives, the last first
-pub given_more : (kind : EntryType) (refs : List Reference) (done : ℕ) (r : Reference) (old new : Gathered) → done < length refs → r ≡ get_or refs (length refs - 1 - done) r
-    → ((q : List ℕ) → gathered_text new q ≡ first_some (offered_field kind (source_at r) q) (gathered_text old q)) → ((q : List ℕ) → gathered_text old q ≡ inherited_field kind q (sources (drop (length refs - done) refs)))
-    → (q : List ℕ) → gathered_text new q ≡ inherited_field kind q (sources (drop (length refs - (done + 1)) refs))
-given_more kind refs done r old new within at adds h q =
+-- the fields collected after one more reference from the end
+pub given_more : (entry_type : EntryType) (refs : List Reference) (done : ℕ) (r : Reference) (old new : Gathered) → done < length refs → r ≡ get_or refs (length refs - 1 - done) r
+    → ((q : List ℕ) → gathered_text new q ≡ first_some (offered_field entry_type (texts_of_reference r) q) (gathered_text old q)) → ((q : List ℕ) → gathered_text old q ≡ inherited_field entry_type q (texts_of_references (drop (length refs - done) refs)))
+    → (q : List ℕ) → gathered_text new q ≡ inherited_field entry_type q (texts_of_references (drop (length refs - (done + 1)) refs))
+given_more entry_type refs done r old new within at adds h q =
     let k : ℕ = length refs - (done + 1) in
     let here : length refs - 1 - done ≡ k = omega arith in
     let following : length refs - done ≡ k + 1 = omega arith in
-    let next = at_drop_more (λ l. inherited_field kind q (sources l)) refs k r (omega arith) in
+    let next = at_drop_more (λ l. inherited_field entry_type q (texts_of_references l)) refs k r (omega arith) in
     let is : r ≡ get_or refs k r = at ∙ ap (λ n. get_or refs n r) here in
     adds q
-    ∙ ap (first_some (offered_field kind (source_at r) q)) (h q ∙ ap (λ n. inherited_field kind q (sources (drop n refs))) following)
-    ∙ ap (λ x. first_some (offered_field kind (source_at x) q) (inherited_field kind q (sources (drop (k + 1) refs)))) is
+    ∙ ap (first_some (offered_field entry_type (texts_of_reference r) q)) (h q ∙ ap (λ n. inherited_field entry_type q (texts_of_references (drop n refs))) following)
+    ∙ ap (λ x. first_some (offered_field entry_type (texts_of_reference x) q) (inherited_field entry_type q (texts_of_references (drop (k + 1) refs)))) is
     ∙ sym next
 
--- what one group more gathers
-pub groups_more : (groups : List (Bor (List (Bor (List ℕ))))) (i : ℕ) (d : Bor (List (Bor (List ℕ)))) (s : Source) (old mid new : Gathered) → i < length groups
+-- the fields collected after one more group of names
+pub groups_more : (groups : List (Bor (List (Bor (List ℕ))))) (i : ℕ) (d : Bor (List (Bor (List ℕ)))) (s : EntryTexts) (old mid new : Gathered) → i < length groups
     → ((q : List ℕ) → gathered_text new q ≡ first_some (offered_among (texts (get_or groups i d).now) s q) (gathered_text mid q))
     → ((q : List ℕ) → gathered_text mid q ≡ first_some (offered_among (flat_map (λ group. texts group.now) (take i groups)) s q) (gathered_text old q))
     → (q : List ℕ) → gathered_text new q ≡ first_some (offered_among (flat_map (λ group. texts group.now) (take (i + 1) groups)) s q) (gathered_text old q)
@@ -216,29 +212,30 @@ groups_more groups i d s old mid new within adds h q =
     adds q ∙ ap (first_some (offered_among (texts g.now) s q)) (h q) ∙ offered_both before (texts g.now) s q (gathered_text old q)
     ∙ ap (λ l. first_some (offered_among l s q) (gathered_text old q)) (sym all)
 
--- what the names of a type lend, in four steps
-pub inheritable_gathered : (kind : EntryType) (s : Source) (required optional pages author : Names) (q : List ℕ) (x : Option (List Atom))
-    → required ≡ (rules_of kind).required → optional ≡ (rules_of kind).optional → pages ≡ page_names (rules_of kind).pages → author ≡ author_names (rules_of kind).author
-    → first_some (offered_among author s q) (first_some (offered_among pages s q) (first_some (offered_among optional s q) (first_some (offered_among required s q) x))) ≡ first_some (offered_among (inheritable kind) s q) x
-inheritable_gathered kind s required optional pages author q x a b c d =
+-- the fields collected for the names of a type, in four steps
+pub inheritable_gathered : (entry_type : EntryType) (s : EntryTexts) (required optional pages author : Names) (q : List ℕ) (x : Option (List Atom))
+    → required ≡ (rules_of entry_type).required → optional ≡ (rules_of entry_type).optional → pages ≡ page_names (rules_of entry_type).pages → author ≡ author_names (rules_of entry_type).author
+    → first_some (offered_among author s q) (first_some (offered_among pages s q) (first_some (offered_among optional s q) (first_some (offered_among required s q) x))) ≡ first_some (offered_among (inheritable entry_type) s q) x
+inheritable_gathered entry_type s required optional pages author q x a b c d =
     ap (λ o. first_some (offered_among author s q) (first_some (offered_among pages s q) o)) (offered_both required optional s q x)
     ∙ ap (first_some (offered_among author s q)) (offered_both (required ++ optional) pages s q x)
     ∙ offered_both ((required ++ optional) ++ pages) author s q x
     ∙ ap (λ l. first_some (offered_among l s q) x) same
   where
-    same : ((required ++ optional) ++ pages) ++ author ≡ inheritable kind
+    same : ((required ++ optional) ++ pages) ++ author ≡ inheritable entry_type
     same =
         ap (λ l. ((l ++ optional) ++ pages) ++ author) a
-        ∙ ap (λ l. (((rules_of kind).required ++ l) ++ pages) ++ author) b
-        ∙ ap (λ l. (((rules_of kind).required ++ (rules_of kind).optional) ++ l) ++ author) c
-        ∙ ap (λ l. (((rules_of kind).required ++ (rules_of kind).optional) ++ page_names (rules_of kind).pages) ++ l) d
+        ∙ ap (λ l. (((rules_of entry_type).required ++ l) ++ pages) ++ author) b
+        ∙ ap (λ l. (((rules_of entry_type).required ++ (rules_of entry_type).optional) ++ l) ++ author) c
+        ∙ ap (λ l. (((rules_of entry_type).required ++ (rules_of entry_type).optional) ++ page_names (rules_of entry_type).pages) ++ l) d
 
 -- Copies
 
--- what is copied of some loans
+-- the copied field of a name: the collected one, if the entry lacks it
 abbrev pub copied : ByText Value → List Loan → List ℕ → Option (List Atom)
 copied own gathered q = cond (is_some (fields_of own q)) None (gathered_text_in gathered q)
 
+-- the styled text of a name in a list of collected fields
 gathered_next : (n : Bor (List ℕ)) (c : Bor Value) (rest : List Loan) (q : List ℕ) → gathered_text_in ((n, c) ∷ rest) q ≡ cond (bytes_eq n.now q) (Some (styled c.now)) (gathered_text_in rest q)
 gathered_next n c rest q =
     ap (λ b. option_map text_of_loan (cond b (Some c) (lookup (tree.is_at (λ key. slice_cmp nat_cmp q key.now)) rest))) (flipped q n.now)
@@ -251,10 +248,11 @@ found-following q (x ∷ xs) ys = step x.1 (find by_bytes q (xs ++ ys)) (find by
   step v all one other true h = refl
   step v all one other false h = h
 
+-- the first field of a name in a concatenation
 pub first_after : (q : List ℕ) (xs ys : List (List ℕ × Value)) → first_named (xs ++ ys) q ≡ first_some (first_named xs q) (first_named ys q)
 first_after q xs ys = found-following q xs ys
 
-styled_first : (a b : Option Value) → option_map styled (first_some a b) ≡ first_some (option_map styled a) (option_map styled b)
+pub styled_first : (a b : Option Value) → option_map styled (first_some a b) ≡ first_some (option_map styled a) (option_map styled b)
 styled_first None b = refl
 styled_first (Some x) b = refl
 
@@ -262,14 +260,15 @@ first_last : {A : Type 0} (a b c : Option A) → first_some a (first_some b c) �
 first_last None b c = refl
 first_last (Some x) b c = refl
 
--- the copies so far, and what is copied of the loans that are left, are what is copied
+-- the copies so far, together with those of the remaining fields, are all copies
 abbrev pub AreCopied : ByText Value → List Loan → List Loan → List (List ℕ × Value) → Type 0
 AreCopied own all left copies = (q : List ℕ) → copied own all q ≡ first_some (option_map styled (first_named copies q)) (copied own left q)
 
+-- before the first collected field, nothing is copied
 pub copied_none : (own : ByText Value) (all : List Loan) → AreCopied own all all []
 copied_none own all q = refl
 
--- a loan of a field that the entry has
+-- a collected field that the entry has is skipped
 pub copied_skip : (own : ByText Value) (all rest left : List Loan) (n : Bor (List ℕ)) (c : Bor Value) (copies : List (List ℕ × Value)) → left ≡ (n, c) ∷ rest → is_some (get own n.now) ≡ true → AreCopied own all left copies → AreCopied own all rest copies
 copied_skip own all rest left n c copies is had h q =
     h q ∙ ap (first_some (option_map styled (first_named copies q))) (ap (λ l. copied own l q) is ∙ ap (cond (is_some (fields_of own q)) None) (gathered_next n c rest q)
@@ -280,7 +279,7 @@ copied_skip own all rest left n c copies is had h q =
       | inr t ↦ ap (λ b. cond (is_some (fields_of own q)) None (cond b (Some (styled c.now)) (gathered_text_in rest q))) t.0
     ])
 
--- a loan of a field that the entry lacks
+-- a collected field that the entry lacks is copied
 pub copied_more : (own : ByText Value) (all rest left : List Loan) (n : Bor (List ℕ)) (c : Bor Value) (v : Value) (copies : List (List ℕ × Value)) → left ≡ (n, c) ∷ rest → is_some (get own n.now) ≡ false → v ≡ c.now → AreCopied own all left copies → AreCopied own all rest (copies ++ (n.now, v) ∷ [])
 copied_more own all rest left n c v copies is lacks same h q =
     let one : option_map styled (first_named ((n.now, v) ∷ []) q) ≡ cond (bytes_eq n.now q) (Some (styled c.now)) None =
@@ -310,7 +309,7 @@ pub copied_some : {A : Type 0} (o : Option (Bor A)) → is_some (option_copied o
 copied_some None = refl
 copied_some (Some x) = refl
 
--- no loan is left
+-- no collected field remains
 pub copied_all : (own : ByText Value) (all left : List Loan) (copies : List (List ℕ × Value)) → left ≡ [] → AreCopied own all left copies → (q : List ℕ) → option_map styled (first_named copies q) ≡ copied own all q
 copied_all own all left copies none h q =
     sym (h q ∙ ap (λ l. first_some (option_map styled (first_named copies q)) (copied own l q)) none ∙ ap (first_some (option_map styled (first_named copies q))) (nothing (is_some (fields_of own q))) ∙ alone (option_map styled (first_named copies q)))

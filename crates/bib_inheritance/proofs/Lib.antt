@@ -1,3 +1,13 @@
 pub mod FieldFacts
 pub mod GatheredFacts
 pub mod OfferFacts
+pub mod CutFacts
+pub mod DateErrors
+pub mod DateFacts
+pub mod DatesRead
+pub mod ExistenceFacts
+pub mod FlagFacts
+pub mod RangeFacts
+pub mod RecoveredFacts
+pub mod TurnFacts
+pub mod UnreadFacts

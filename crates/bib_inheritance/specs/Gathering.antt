@@ -1,5 +1,5 @@
 -- Machinery: words of private contracts.
--- Fields while they are gathered.
+-- Fields collected from references.
 use Rattle.std.specs.Prelude.{ℕ, not, ◌&&◌, List, option_map, Option, None, if◌then◌else◌}
 use Rattle.std.specs.BTreeMap as tree
 use Rattle.std.specs.BTreeMap.{BTreeMap}
@@ -10,17 +10,18 @@ use denote.Ref.{Bor}
 use Rattle.bib_text.specs.declared.spanned.Spanned.{Spanned}
 use Rattle.bib_chunks.specs.declared.chunk.Chunk.{Chunk}
 use Rattle.bib_chunks.specs.Styled.{Atom, styled}
-use Rattle.bib_entry_types.specs.Requirements.{Names, is_one_of, never_inherited}
+use Rattle.bib_tables.specs.Requirements.{Names, is_one_of, never_inherited}
 use Rattle.bib_inheritance.specs.Inherited.{offer}
-use Rattle.bib_inheritance.specs.Sources.{Source}
+use Rattle.bib_inheritance.specs.EntryTexts.{EntryTexts}
 
--- the styled text of the field that is gathered for a name
+-- the styled text of the collected field of a name
 abbrev pub gathered_text_in : List (Bor (List ℕ) × Bor (List (Spanned Chunk))) → List ℕ → Option (List Atom)
 gathered_text_in gathered name = option_map (λ chunks. styled chunks.now) (lookup (tree.is_at (λ key. slice_cmp nat_cmp name key.now)) gathered)
 
+-- the same for the map of the collected fields
 abbrev pub gathered_text : BTreeMap (Bor (List ℕ)) (Bor (List (Spanned Chunk))) → List ℕ → Option (List Atom)
 gathered_text gathered name = gathered_text_in gathered.entries name
 
--- what an entry offers for a name that is one of these, and none of those that no entry takes over
-abbrev pub offered_among : Names → Source → List ℕ → Option (List Atom)
+-- the field that an entry offers for a name, if the name is one of these and may be inherited at all
+abbrev pub offered_among : Names → EntryTexts → List ℕ → Option (List Atom)
 offered_among names reference name = if not (is_one_of never_inherited name) && is_one_of names name then offer reference name else None

@@ -2,4 +2,8 @@ pub mod InheritableDate
 pub mod Inherited
 pub mod Gathering
 pub mod References
-pub mod Sources
+pub mod EntryTexts
+pub mod Cutting
+pub mod Recovered
+pub mod Resolving
+pub mod Turning

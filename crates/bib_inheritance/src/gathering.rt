@@ -1,23 +1,23 @@
-//! Fields that references give, gathered until it is known which of them are taken over.
+//! Collects the fields that the references of an entry offer, and copies those that the entry inherits.
 
 ghost use Rattle.std.specs.Prelude.{◌≡◌, ℕ, List, OnOk, IfOk, map, if◌then◌else◌, is_some, option_map, None};
 ghost use Rattle.std.specs.FinMap as by_name;
 ghost use Rattle.std.specs.List.{flat_map};
 ghost use Rattle.bib_chunks.specs.Styled.{styled};
-ghost use Rattle.bib_entry_types.specs.Requirements.{texts, inheritable, is_container, is_one_of, never_inherited};
+ghost use Rattle.bib_tables.specs.Requirements.{texts, inheritable, is_container, is_one_of, never_inherited};
 ghost use Rattle.bib_inheritance.specs.Inherited.{offered_field, inherited_field};
 ghost use Rattle.bib_inheritance.specs.Gathering.{gathered_text, offered_among};
-ghost use Rattle.bib_inheritance.specs.Sources.{fields_of, first_named, first_some, source_at, sources};
+ghost use Rattle.bib_inheritance.specs.EntryTexts.{fields_of, first_named, first_some, texts_of_reference, texts_of_references};
 
 use crate::offers::{Reference, offer};
 use bib_chunks::chunk::Chunks;
-use bib_entry_types::mechanics::EntryType;
-use bib_maps::text_map::TextMap;
+use bib_collections::text_map::TextMap;
+use bib_tables::mechanics::EntryType;
 use bib_text::text::Text;
 use std::alloc::{AllocError, Global};
 use std::collections::BTreeMap;
 
-// Fields by name. The field that is gathered last for a name stands.
+// Offered fields by name. A field that is inserted later replaces an earlier one of the same name.
 type Gathered<'a> = BTreeMap<&'a str, &'a Chunks>;
 
 fn is_kept_back(name: &str) -> bool
@@ -26,20 +26,20 @@ fn is_kept_back(name: &str) -> bool
     matches!(name, "title" | "addendum" | "note")
 }
 
-fn is_container(kind: &EntryType) -> bool
-    ensures { result ≡ is_container kind.now }
+fn is_container(entry_type: &EntryType) -> bool
+    ensures { result ≡ is_container entry_type.now }
 {
-    matches!(kind, EntryType::XData)
+    matches!(entry_type, EntryType::XData)
 }
 
-// Gathers what a reference offers for some names.
+// Inserts the fields that `reference` offers for `names`, except for names that are never inherited.
 fn gather_offers<'a>(
     reference: &Reference<'a>,
     names: &[&'a str],
     gathered: &mut Gathered<'a>,
 ) -> Result<(), AllocError>
     ensures { OnOk result ((name : List ℕ) → gathered_text gathered.new name ≡
-        first_some (offered_among (texts names.now) (source_at reference.now) name)
+        first_some (offered_among (texts names.now) (texts_of_reference reference.now) name)
         (gathered_text gathered.old name)) }
 {
     'names: for name in names {
@@ -53,7 +53,7 @@ fn gather_offers<'a>(
     Ok(())
 }
 
-// Gathers what a reference offers for the names of some groups.
+// Inserts the fields that `reference` offers for the names in `groups`.
 fn gather_groups<'a>(
     reference: &Reference<'a>,
     groups: &[&'static [&'static str]],
@@ -61,7 +61,7 @@ fn gather_groups<'a>(
 ) -> Result<(), AllocError>
     ensures { OnOk result ((name : List ℕ) → gathered_text gathered.new name ≡
         first_some (offered_among (flat_map (λ group. texts group.now) groups.now)
-        (source_at reference.now) name) (gathered_text gathered.old name)) }
+        (texts_of_reference reference.now) name) (gathered_text gathered.old name)) }
 {
     'groups: for group in groups {
         gather_offers(reference, group, gathered)?;
@@ -69,17 +69,17 @@ fn gather_groups<'a>(
     Ok(())
 }
 
-// Gathers what a reference offers for the names that an entry of a type inherits.
+// Inserts the fields that `reference` offers for the names that an entry of type `entry_type` inherits.
 fn gather_inheritable<'a>(
-    kind: &EntryType,
+    entry_type: &EntryType,
     reference: &Reference<'a>,
     gathered: &mut Gathered<'a>,
 ) -> Result<(), AllocError>
     ensures { OnOk result ((name : List ℕ) → gathered_text gathered.new name ≡
-        first_some (offered_among (inheritable kind.now) (source_at reference.now) name)
+        first_some (offered_among (inheritable entry_type.now) (texts_of_reference reference.now) name)
         (gathered_text gathered.old name)) }
 {
-    let row = kind.row();
+    let row = entry_type.row();
     gather_offers(reference, row.required, gathered)?;
     gather_groups(reference, row.optional, gathered)?;
     gather_offers(reference, row.pages.possible(), gathered)?;
@@ -87,7 +87,7 @@ fn gather_inheritable<'a>(
     Ok(())
 }
 
-// The names of all fields.
+// Returns the names of all fields.
 fn names_of<'a>(alloc: Global, fields: &'a TextMap<Chunks>) -> Result<Vec<&'a str>, AllocError>
     ensures { IfOk result (λ names. texts names.items ≡ map (λ e. e.0) (by_name.entries fields.now)) }
 {
@@ -98,43 +98,50 @@ fn names_of<'a>(alloc: Global, fields: &'a TextMap<Chunks>) -> Result<Vec<&'a st
     Ok(names)
 }
 
-// Gathers what a reference gives to an entry of a type.
+// Inserts the fields that an entry of type `entry_type` inherits from `reference`. An `xdata` entry inherits any field that
+// the reference has, except for those that are never inherited.
 fn gather_reference<'a>(
     alloc: Global,
-    kind: &EntryType,
+    entry_type: &EntryType,
     reference: &Reference<'a>,
     gathered: &mut Gathered<'a>,
 ) -> Result<(), AllocError>
     ensures { OnOk result ((name : List ℕ) → gathered_text gathered.new name ≡
-        first_some (offered_field kind.now (source_at reference.now) name) (gathered_text gathered.old name)) }
+        first_some (offered_field entry_type.now (texts_of_reference reference.now) name) (gathered_text gathered.old name)) }
 {
-    if is_container(kind) {
+    if is_container(entry_type) {
         let names = names_of(alloc, reference.fields)?;
         gather_offers(reference, &names, gathered)?;
         return Ok(());
     }
-    gather_inheritable(kind, reference, gathered)?;
+    gather_inheritable(entry_type, reference, gathered)?;
     Ok(())
 }
 
-// What references give to an entry of a type: for each name what the first one gives, which is gathered last.
+// Returns the fields that an entry of type `entry_type` inherits from its references. For each name the first reference that
+// offers a field counts, so it is inserted last.
 fn gathered<'a>(
     alloc: Global,
-    kind: &EntryType,
+    entry_type: &EntryType,
     references: &[Reference<'a>],
 ) -> Result<Gathered<'a>, AllocError>
     ensures { IfOk result (λ gathered. (name : List ℕ) →
-        gathered_text gathered name ≡ inherited_field kind.now name (sources references.now)) }
+        gathered_text gathered name ≡ inherited_field entry_type.now name (texts_of_references references.now)) }
 {
     let mut gathered = BTreeMap::new(alloc);
     let count = references.len();
     'references: for done in 0..count {
-        gather_reference(alloc, kind, &references[count - 1 - done], &mut gathered)?;
+        gather_reference(
+            alloc,
+            entry_type,
+            &references[count - 1 - done],
+            &mut gathered,
+        )?;
     }
     Ok(gathered)
 }
 
-// Copies of the fields that are gathered and that an entry lacks.
+// Copies the fields in `gathered` that the entry lacks.
 fn copies(
     alloc: Global,
     own: &TextMap<Chunks>,
@@ -153,17 +160,18 @@ fn copies(
     Ok(copies)
 }
 
-/// Copies of the fields that an entry of a type lacks and that its references give: of each name what the first gives
-/// that gives one.
+/// Copies the fields that an entry of type `entry_type` with the fields `own` lacks and inherits from `references`. For each
+/// name the first reference that offers a field counts.
 pub fn gathered_fields(
     alloc: Global,
-    kind: &EntryType,
+    entry_type: &EntryType,
     own: &TextMap<Chunks>,
     references: &[Reference<'_>],
 ) -> Result<Vec<(Text, Chunks)>, AllocError>
     ensures { IfOk result (λ copies. (name : List ℕ) → option_map styled (first_named copies.items name) ≡
-        (if is_some (fields_of own.now name) then None else inherited_field kind.now name (sources references.now))) }
+        (if is_some (fields_of own.now name) then None
+        else inherited_field entry_type.now name (texts_of_references references.now))) }
 {
-    let gathered = gathered(alloc, kind, references)?;
+    let gathered = gathered(alloc, entry_type, references)?;
     copies(alloc, own, gathered)
 }

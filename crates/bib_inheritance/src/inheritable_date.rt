@@ -1,4 +1,4 @@
-//! What an entry has as a date for those that inherit it.
+//! The date of an entry that other entries can inherit.
 
 ghost use Rattle.std.specs.Prelude.{◌≡◌, Some, IfOk, codes, option_map};
 ghost use Rattle.std.specs.FinMap as by_name;
@@ -6,26 +6,26 @@ ghost use Rattle.std.specs.Option.{option_copied};
 ghost use Rattle.bib_chunks.specs.Styled.{styled};
 ghost use Rattle.bib_dates.specs.Rewritten.{rewritten_date};
 ghost use Rattle.bib_dates.specs.Chunks.{AnswersReading, three_fields_place};
-ghost use Rattle.bib_enums.specs.ReadAs.{LiesAt};
+ghost use Rattle.bib_tables.specs.ReadAs.{LiesAt};
 ghost use Rattle.bib_dates.specs.Readings.{Reading, readable_value};
 ghost use Rattle.bib_dates.specs.Written.{date_text};
 ghost use Rattle.bib_dates.specs.declared.date.Date.{Date as ADate};
 ghost use Rattle.bib_inheritance.specs.InheritableDate.{IsInheritableDate, LiesAtDate, as_text, dated_text, looks_for_date, of_one_field, three_fields, written_date};
 ghost use Rattle.bib_inheritance.specs.References.{plain};
-ghost use Rattle.bib_inheritance.specs.Sources.{fields_of, source_of};
+ghost use Rattle.bib_inheritance.specs.EntryTexts.{fields_of, texts_of_fields};
 ghost use Rattle.bib_chunks.specs.Values.{text};
 
 use bib_chunks::chunk::{Chunk, Chunks, ChunksRef, Spanned, format_styled, whole_span};
+use bib_collections::text_map::TextMap;
 use bib_dates::chunks::date_chunks;
 use bib_dates::date::Date;
-use bib_entry_types::mechanics::EntryType;
-use bib_enums::type_error::TypeError;
-use bib_maps::text_map::TextMap;
+use bib_tables::mechanics::EntryType;
+use bib_tables::type_error::TypeError;
 use bib_text::items::Items;
 use bib_text::text::Text;
 use std::alloc::{AllocError, Global};
 
-// Returns the styled text as one verbatim chunk with the span of all chunks. It is read as its plain text.
+// Returns the plain text of `chunks` as one verbatim chunk with the span of all chunks.
 fn as_text(alloc: Global, chunks: &Chunks) -> Result<Chunks, AllocError>
     ensures read { IfOk result (λ one. text one ≡ plain (styled chunks.now)) }
     ensures one { IfOk result (λ one. one ≡ as_text chunks.now) }
@@ -39,7 +39,7 @@ fn as_text(alloc: Global, chunks: &Chunks) -> Result<Chunks, AllocError>
     Ok(one)
 }
 
-// A field as such a chunk, if it is there.
+// Returns the plain text of a field as one verbatim chunk, if the field exists.
 fn field_as_text(
     alloc: Global,
     fields: &TextMap<Chunks>,
@@ -65,7 +65,7 @@ fn lent_chunks(chunks: &Option<Chunks>) -> Option<ChunksRef<'_>>
     }
 }
 
-// What the year, the month and the day of an entry are read as.
+// Parses the year, the month and the day of an entry as a date.
 fn three_fields(alloc: Global, year: &Chunks, fields: &TextMap<Chunks>) -> Result<Date, TypeError>
     ensures reads { AnswersReading (three_fields (fields_of fields.now) (plain (styled year.now))) result }
     ensures place { LiesAt (three_fields_place (as_text year.now)
@@ -83,7 +83,7 @@ fn three_fields(alloc: Global, year: &Chunks, fields: &TextMap<Chunks>) -> Resul
     )
 }
 
-// A date that was read, written anew; None where it can't be read.
+// Returns the chunks of a parsed date, or `None` if it couldn't be parsed.
 fn rewritten(alloc: Global, read: Result<Date, TypeError>) -> Result<Option<Chunks>, AllocError>
     ensures { IfOk result (λ date. (reading : Reading ADate) → AnswersReading reading read →
         option_map styled date ≡ option_map (λ d. written_date (date_text d)) (readable_value reading)) }
@@ -97,7 +97,7 @@ fn rewritten(alloc: Global, read: Result<Date, TypeError>) -> Result<Option<Chun
     }
 }
 
-// The date in a field `date`: written anew, or copied where it can't be read.
+// Returns the date in a field `date`: rewritten, or copied if it can't be parsed.
 fn from_one_field(alloc: Global, date: &Chunks) -> Result<Chunks, AllocError>
     ensures { IfOk result (λ chunks. Some (styled chunks) ≡
         dated_text (of_one_field (styled date.now) (rewritten_date (plain (styled date.now))))) }
@@ -110,19 +110,20 @@ fn from_one_field(alloc: Global, date: &Chunks) -> Result<Chunks, AllocError>
     }
 }
 
-/// What an entry has as a date for those that inherit it.
+/// The date of an entry that other entries can inherit.
 #[derive(Drop)]
 pub enum InheritableDate {
-    /// It has no date.
+    /// The entry has no date.
     Undated,
-    /// Its year, month and day can't be read, for this reason.
+    /// The year, month and day can't be parsed, because of this error.
     Unreadable(TypeError),
-    /// It has this date: a readable one without its time, or a field `date` that can't be read as it is.
+    /// The entry has this date. A date that can be parsed is rewritten without its time. A field `date` that can't be parsed
+    /// is copied.
     Dated(Chunks),
 }
 
 impl InheritableDate {
-    /// Reads what an entry with these fields has as a date. A field `date` counts before `year`, `month` and `day`.
+    /// Returns the date of an entry with these fields. A field `date` takes precedence over `year`, `month` and `day`.
     pub fn of(alloc: Global, fields: &TextMap<Chunks>) -> Result<InheritableDate, AllocError>
         ensures read { IfOk result (IsInheritableDate (fields_of fields.now)) }
         ensures placed { IfOk result (LiesAtDate (by_name.get fields.now)) }
@@ -140,9 +141,10 @@ impl InheritableDate {
     }
 }
 
-/// Whether an entry looks for a date to those that it refers to. It does not allocate.
-pub fn looks_for_date(kind: &EntryType, own: &TextMap<Chunks>) -> bool
-    ensures { result ≡ looks_for_date (source_of kind.now own.now) }
+/// Returns whether an entry lacks a required date: its type requires one, and it has neither `date` nor `year`. Does not
+/// allocate.
+pub fn looks_for_date(entry_type: &EntryType, own: &TextMap<Chunks>) -> bool
+    ensures { result ≡ looks_for_date (texts_of_fields entry_type.now own.now) }
 {
-    kind.row().needs_date && own.get("date").is_none() && own.get("year").is_none()
+    entry_type.row().needs_date && own.get("date").is_none() && own.get("year").is_none()
 }

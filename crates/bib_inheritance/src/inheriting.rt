@@ -1,18 +1,17 @@
-//! An entry with what it takes over.
+//! The fields of an entry with those that it inherits.
 
 ghost use Rattle.std.specs.Prelude.{◌≡◌, ℕ, List, OnOk, IfOk, Some, None, codes, bytes_eq, if◌then◌else◌};
 ghost use Rattle.std.specs.FinMap as by_name;
-ghost use Rattle.bib_entry_types.specs.Requirements.{is_one_of};
+ghost use Rattle.bib_tables.specs.Requirements.{is_one_of};
 ghost use Rattle.bib_inheritance.specs.Inherited.{date_parts, field_by, plain_field};
-ghost use Rattle.bib_inheritance.specs.Sources.{first_named};
+ghost use Rattle.bib_inheritance.specs.EntryTexts.{first_named};
 
 use bib_chunks::chunk::Chunks;
-use bib_maps::text_map::TextMap;
+use bib_collections::text_map::TextMap;
 use bib_text::text::Text;
 use std::alloc::{AllocError, Global};
 
-// Fields, with those of others that they lack, and without `xdata`, which has done its work. There is room for as many
-// more as are said.
+// Adds the fields in `given` that `own` lacks, and removes `xdata`. Reserves room for `more` further fields.
 fn with_fields(
     own: TextMap<Chunks>,
     given: Vec<(Text, Chunks)>,
@@ -31,7 +30,7 @@ fn with_fields(
     Ok(fields)
 }
 
-// Sets a date that stands for all that the fields say of dates.
+// Sets the field `date`, and removes `year`, `month` and `day`.
 fn set_date(alloc: Global, fields: &mut TextMap<Chunks>, date: Chunks) -> Result<(), AllocError>
     ensures { OnOk result ((name : List ℕ) → by_name.get fields.new name ≡
         (if bytes_eq name (codes "date") then Some date
@@ -45,8 +44,8 @@ fn set_date(alloc: Global, fields: &mut TextMap<Chunks>, date: Chunks) -> Result
     Ok(())
 }
 
-/// An entry's fields with what it takes over, fields that it lacks and perhaps a date: its own ones stand, but that the
-/// date stands for all that it says of dates, and that `xdata` is gone.
+/// Returns the fields of an entry after inheriting: its own fields, and those in `given` that it lacks. `xdata` is removed.
+/// If there is an inherited `date`, it replaces the field `date`, and `year`, `month` and `day` are removed.
 pub fn inherit(
     alloc: Global,
     own: TextMap<Chunks>,

@@ -1,13 +1,30 @@
-//! What an entry takes over from the entries that it refers to.
+//! Inheritance through `crossref` and `xdata`. Each entry is resolved once.
 //!
-//! Contracts see entries as *sources*, types with functions from names to styled texts, so that the equation of
-//! inheritance is one of lists of values, whatever the order of fields and the borders of chunks; what stays of own
-//! fields stays chunk for chunk. What references give is gathered, the first one last, into a map, and what the entry lacks
-//! is copied from it; references that are named twice lend once.
+//! Contracts see an entry as its `EntryTexts`: its type, and a function from field names to styled texts. The inheritance
+//! equation is therefore an equation between lists of `EntryTexts`. It doesn't depend on the order of fields or on the
+//! borders of chunks. Own fields that an entry keeps have the same chunks as before.
+//!
+//! For one entry, `reference_names` finds the entries that it refers to. `offers` decides which field of a parent provides a
+//! missing field. `gathering` collects the fields that all references offer in a map, from the last reference to the first.
+//! `inheritable_date` finds the date that can be inherited, and `inheriting` copies the fields that the entry lacks. A
+//! repeated reference counts once.
+//!
+//! For a bibliography, `reference_indices` builds the graph of references, and `turning` resolves the entries in topological
+//! order. An entry without references and without `xdata` is left unchanged. `dates` computes the date of an entry when
+//! another entry first needs it, and caches it by the index of the entry. The entry was resolved before, so its date doesn't
+//! change afterwards. When all entries are resolved, `unread` searches for dates that can't be parsed; most of them are
+//! cached by then. `resolving` and `recovering` are the entry points: the first stops at an error, and the second collects
+//! the errors.
 #![tactic(auto)]
 
+mod dates;
 pub mod gathering;
 pub mod inheritable_date;
 pub mod inheriting;
 pub mod offers;
-pub mod references;
+pub mod recovering;
+mod reference_indices;
+pub mod reference_names;
+pub mod resolving;
+mod turning;
+mod unread;

@@ -1,30 +1,30 @@
-//! What an entry offers to those that refer to it.
+//! The fields that an entry offers to the entries that refer to it.
 
 ghost use Rattle.std.specs.Prelude.{◌≡◌, Some, option_map};
 ghost use Rattle.std.specs.Option.{option_copied};
 ghost use Rattle.bib_text.specs.Enums.{named};
 ghost use Rattle.bib_chunks.specs.Styled.{styled};
-ghost use Rattle.bib_entry_types.specs.Requirements.{texts};
+ghost use Rattle.bib_tables.specs.Requirements.{texts};
 ghost use Rattle.bib_inheritance.specs.Inherited.{is_periodical, journal_titles, book_titles, main_titles, title_for, same_meaning, first_offer, offer};
-ghost use Rattle.bib_inheritance.specs.Sources.{fields_of, source_at};
+ghost use Rattle.bib_inheritance.specs.EntryTexts.{fields_of, texts_of_reference};
 
 use bib_chunks::chunk::Chunks;
-use bib_entry_types::mechanics::EntryType;
-use bib_maps::text_map::TextMap;
+use bib_collections::text_map::TextMap;
+use bib_tables::mechanics::EntryType;
 
-/// An entry that another refers to.
+/// An entry that another entry refers to.
 #[derive(Clone, Copy)]
 pub struct Reference<'a> {
     /// The type of the entry.
     pub entry_type: &'a EntryType,
-    /// The fields of the entry, with those that it inherits.
+    /// The fields of the entry, including those that it inherits.
     pub fields: &'a TextMap<Chunks>,
 }
 
-fn is_periodical(kind: &EntryType) -> bool
-    ensures { result ≡ is_periodical kind.now }
+fn is_periodical(entry_type: &EntryType) -> bool
+    ensures { result ≡ is_periodical entry_type.now }
 {
-    matches!(kind, EntryType::Periodical)
+    matches!(entry_type, EntryType::Periodical)
 }
 
 fn journal_title(name: &str) -> Option<&'static [&'static str]>
@@ -59,27 +59,27 @@ fn main_title(name: &str) -> Option<&'static [&'static str]>
     }
 }
 
-// The field that an entry offers for a name, where that is one of its own titles.
-fn title_for(kind: &EntryType, name: &str) -> Option<&'static [&'static str]>
-    ensures { option_map (λ names. texts names.now) result ≡ title_for kind.now name.now }
+// Returns the field that an entry offers for `name`, if that is one of its own titles.
+fn title_for(entry_type: &EntryType, name: &str) -> Option<&'static [&'static str]>
+    ensures { option_map (λ names. texts names.now) result ≡ title_for entry_type.now name.now }
 {
-    if is_periodical(kind) {
+    if is_periodical(entry_type) {
         if let Some(names) = journal_title(name) {
             return Some(names);
         }
     }
-    if kind.is_collection() {
+    if entry_type.is_collection() {
         if let Some(names) = book_title(name) {
             return Some(names);
         }
     }
-    if kind.is_multi_volume() {
+    if entry_type.is_multi_volume() {
         return main_title(name);
     }
     None
 }
 
-// The fields that an entry offers for one of the same meaning: the first that it has.
+// Returns the names of the fields with the same meaning that an entry offers for `name`, in order of preference.
 fn same_meaning(name: &str) -> Option<&'static [&'static str]>
     ensures { option_map (λ names. texts names.now) result ≡ named same_meaning name.now }
 {
@@ -92,7 +92,7 @@ fn same_meaning(name: &str) -> Option<&'static [&'static str]>
     }
 }
 
-// The first of some fields that is there.
+// Returns the first of these fields that exists.
 #[tactic(auto, using(crate::proofs::OfferFacts::first_of_more, crate::proofs::OfferFacts::first_of_none))]
 fn first_offer<'a>(fields: &'a TextMap<Chunks>, names: &[&str]) -> Option<&'a Chunks>
     ensures { option_map styled (option_copied result) ≡ first_offer (fields_of fields.now) (texts names.now) }
@@ -105,9 +105,9 @@ fn first_offer<'a>(fields: &'a TextMap<Chunks>, names: &[&str]) -> Option<&'a Ch
     None
 }
 
-/// What an entry offers for a name.
+/// Returns the field that an entry offers for `name`, if it has one.
 pub fn offer<'a>(reference: &Reference<'a>, name: &str) -> Option<&'a Chunks>
-    ensures { option_map styled (option_copied result) ≡ offer (source_at reference.now) name.now }
+    ensures { option_map styled (option_copied result) ≡ offer (texts_of_reference reference.now) name.now }
 {
     if let Some(names) = title_for(reference.entry_type, name) {
         return first_offer(reference.fields, names);

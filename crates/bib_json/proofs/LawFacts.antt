@@ -9,23 +9,16 @@ use Rattle.std.specs.Option.{option_or}
 use Rattle.std.specs.Ordering.{is_eq, is_lt}
 use Rattle.std.specs.Prelude.{◌&&◌, bytes_eq, T}
 use Rattle.bib_chunks.specs.Values.{Value}
-use Rattle.bib_maps.specs.Sorted.{ByText, by_bytes}
+use Rattle.bib_collections.specs.Sorted.{ByText, by_bytes}
 use Rattle.serde_json.proofs.Views.{get_member-put, get_member-put_other}
 use Rattle.serde_json.specs.Data.{Members, no_members, put}
 use Rattle.serde_json.specs.Find.{get, get_member}
 use Rattle.bib_json.specs.Fields.{field_json, field_member, fields_json}
 use Rattle.bib_json.specs.Objects.{with_members}
+use Rattle.bib_collections.proofs.SortedFacts.{first, second}
 
 abbrev Field : Type 0
 Field = List ℕ × Value
-
-first : (a b : Bool) → T (a && b) → T a
-first true b p = tt
-first false b p = p
-
-second : (a b : Bool) → T (a && b) → T b
-second true b p = p
-second false b p = absurd p
 
 passed : (o : Ordering) (v : Value) (rest : Option Value) → T (is_lt o) → cond (is_eq o) (Some v) rest ≡ rest
 passed Less v rest p = refl

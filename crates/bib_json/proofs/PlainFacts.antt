@@ -13,7 +13,7 @@ use Rattle.bib_dates.specs.declared.date.Date.{Date}
 use Rattle.bib_dates.specs.declared.date.Datetime.{Datetime}
 use Rattle.bib_dates.specs.declared.date.Time.{Time}
 use Rattle.bib_entry.specs.declared.entry.Entry.{Entry}
-use Rattle.bib_enums.specs.declared.types.lang.Language.{Language as ALanguage}
+use Rattle.bib_tables.specs.declared.types.lang.Language.{Language as ALanguage}
 use Rattle.bib_people.specs.People.{people_of}
 use Rattle.bib_people.specs.declared.person.Person.{Person}
 use Rattle.bib_text.specs.declared.spanned.Spanned.{Spanned}

@@ -2,9 +2,9 @@
 -- Entries of a bibliography in JSON.
 use Rattle.std.specs.Prelude.{◌≡◌, ℕ, List, [], ◌∷◌, codes, Some}
 use Rattle.bib_entry.specs.declared.entry.Entry.{Entry}
-use Rattle.bib_entry_types.specs.EntryType.{entry_type_name}
-use Rattle.bib_entry_types.specs.declared.mechanics.EntryType.{EntryType}
-use Rattle.bib_entry_types.specs.declared.mechanics.EntryType.TheVariants.{Unknown}
+use Rattle.bib_tables.specs.EntryType.{entry_type_name}
+use Rattle.bib_tables.specs.declared.mechanics.EntryType.{EntryType}
+use Rattle.bib_tables.specs.declared.mechanics.EntryType.TheVariants.{Unknown}
 use Rattle.serde_json.specs.Data.{Data, string}
 use Rattle.json.specs.Lex.{tokens}
 use Rattle.json.specs.Tree.{json_tokens}

@@ -3,7 +3,7 @@
 use Rattle.std.specs.Prelude.{ℕ, List, [], ◌∷◌, map, codes, Some}
 use Rattle.std.specs.FinMap.{entries}
 use Rattle.bib_chunks.specs.Values.{Value}
-use Rattle.bib_maps.specs.Sorted.{ByText}
+use Rattle.bib_collections.specs.Sorted.{ByText}
 use Rattle.serde_json.specs.Data.{Data}
 use Rattle.bib_json.specs.Chunks.{chunks_json}
 use Rattle.bib_json.specs.Objects.{Member, object_of}

@@ -5,11 +5,11 @@ use Rattle.std.specs.declared.ops.Range.{Range}
 use Rattle.bib_chunks.specs.Cuts.{and_list}
 use Rattle.bib_chunks.specs.Values.{Value, text}
 use Rattle.bib_dates.specs.Chunks.{date_read}
-use Rattle.bib_enums.specs.EditorType.{editor_type_name}
-use Rattle.bib_enums.specs.Gender.{gender_name}
-use Rattle.bib_enums.specs.Language.{language_row}
-use Rattle.bib_enums.specs.Pagination.{pagination_name}
-use Rattle.bib_enums.specs.declared.types.lang.Language.{Language as ALanguage}
+use Rattle.bib_tables.specs.EditorType.{editor_type_name}
+use Rattle.bib_tables.specs.Gender.{gender_name}
+use Rattle.bib_tables.specs.Language.{language_row}
+use Rattle.bib_tables.specs.Pagination.{pagination_name}
+use Rattle.bib_tables.specs.declared.types.lang.Language.{Language as ALanguage}
 use Rattle.bib_people.specs.People.{people_of}
 use Rattle.bib_people.specs.declared.person.Person.{Person}
 use Rattle.bib_values.specs.Enumerations.{pagination_read, gender_read, editor_type_read, language_read}

@@ -9,7 +9,7 @@ ghost use Rattle.bib_json.specs.Entries.{IsReadBack};
 use crate::fields::fields_object;
 use crate::members::put_text;
 use bib_entry::entry::Entry;
-use bib_entry_types::mechanics::EntryType;
+use bib_tables::mechanics::EntryType;
 use serde_json::{Map, Value};
 use std::alloc::{AllocError, Global};
 

@@ -8,7 +8,7 @@ use crate::chunks::chunks_value;
 use crate::members::put_given;
 use crate::values::field_value;
 use bib_chunks::chunk::{Chunks, ChunksRef};
-use bib_maps::text_map::TextMap;
+use bib_collections::text_map::TextMap;
 use serde_json::{Map, Value};
 use std::alloc::{AllocError, Global};
 

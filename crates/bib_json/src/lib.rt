@@ -1,4 +1,4 @@
-//! Entries of a bibliography as JSON, for programs.
+//! Entries as JSON, for other programs.
 //!
 //! A definition lists the members of an object in the order in which a reader looks for them, those without a value too; `members`
 //! puts a value at its name, if there is one, so that code and definition go the same way. `types` says by the name of a field what

@@ -7,7 +7,7 @@ ghost use Rattle.bib_json.specs.Objects.{array_of};
 ghost use Rattle.bib_json.specs.Values.{range_json, part_json, language_json, language_or_part};
 
 use bib_chunks::chunk::{Chunks, ChunksRef, format_verbatim};
-use bib_enums::types::lang::Language;
+use bib_tables::types::lang::Language;
 use bib_values::enums::read_language;
 use serde_json::{Map, Value};
 use std::alloc::{AllocError, Global};

@@ -1,4 +1,4 @@
--- Chunks that are written as an `and` list are read as its parts again, with empty chunks round them.
+-- Chunks that are written as an `and` list are its parts again, with empty chunks around them.
 use Rattle.std.proofs.Common.{◌≡◌, ℕ, Bool, true, false, List, [], ◌∷◌, ◌++◌, refl, sym, ap, ◌∙◌}
 use Rattle.std.proofs.lemmas.Bool.{eq-eqb}
 use Rattle.std.specs.Prelude.{codes, encode_utf8_all, length}
@@ -25,7 +25,7 @@ abbrev pub AllParts : List Chunk → Type 0
 AllParts [] = Unit {0}
 AllParts (chunk ∷ chunks) = IsPart chunk × AllParts chunks
 
--- a piece that is the whole text stands where the text does
+-- a piece that is the whole text keeps the detached span
 whole_part : (text left : List ℕ) (at : ℕ) → left ≡ text → chunk_part text no_place at left ≡ normal text
 whole_part text left at same = ap (chunk_part text no_place at) same ∙ (rw (eq-eqb (length text) (length text) refl) refl)
 
@@ -38,31 +38,31 @@ whole_piece text true false start end = whole_part text _ _ start
 whole_piece text false true start end = whole_part text _ _ end
 whole_piece text false false start end = untouched text
 
--- a normal chunk is one where its ends don't trim and no such word stands in it
+-- a normal chunk is one part if trimming doesn't change it and it contains no word `and`
 pub normal_part : (text : List ℕ) → between_ands false (chars text) ≡ chars text ∷ [] → encode_utf8_all (chars text) ≡ text → trim_start text ≡ text → trim_end text ≡ text → IsPart (Normal text)
 normal_part text one spelt start end = record {
   one = ap (pieces_between 3 text no_place 0 false) one ∙ ap (λ t. piece text no_place 0 false false t ∷ []) spelt ∙ ap (λ c. c ∷ []) (whole_piece text false false start end);
   ends = λ first last. whole_piece text first last start end;
 }
 
--- chunks that are written as a list: what follows the first one
+-- the chunks after the first one of a written list
 abbrev pub written_after : List Chunk → Value
 written_after [] = []
 written_after (chunk ∷ chunks) = normal (codes " and ") ∷ nowhere chunk ∷ written_after chunks
 
--- an empty chunk in these bytes, or none
+-- an empty chunk with this span, or none
 abbrev pub empties : Range ℕ → Bool → Value
 empties span false = []
 empties span true = placed (Normal []) span.start span.end ∷ []
 
--- what is left of a separator before and after it
+-- the span of the empty chunk before a separator
 abbrev pub before_and : Range ℕ
 before_and = and_separates.before
 
 abbrev pub after_and : Range ℕ
 after_and = and_separates.after
 
--- a part as it is read
+-- a part as it is parsed
 abbrev pub padded : Bool → Bool → Chunk → Value
 padded before following chunk = empties after_and before ++ (nowhere chunk ∷ empties before_and following)
 
@@ -105,7 +105,7 @@ onto_nothing : (chunk : Chunk) (ps : List Value) → onto [] (onto (alone chunk)
 onto_nothing chunk [] = refl
 onto_nothing chunk (p ∷ ps) = refl
 
--- what was written is read
+-- a written list is parsed as its parts, with empty chunks around them
 pub and_list_written : (chunk : Chunk) (chunks : List Chunk) → IsPart chunk → AllParts chunks → and_list (nowhere chunk ∷ written_after chunks) ≡ padded_parts false chunk chunks
 and_list_written chunk chunks part all =
     ap parts (trimmed_whole chunk chunks part all)
@@ -113,7 +113,7 @@ and_list_written chunk chunks part all =
     ∙ sym (onto_nothing chunk (parts (written_after chunks)))
     ∙ onto_one false chunk chunks all
 
--- the empty chunks change nothing that is formatted
+-- empty chunks format to nothing
 pub formatted_empties : (span : Range ℕ) (space following : Bool) → formatted_after space (empties span following) ≡ []
 unfolding chars
 formatted_empties span space true = refl

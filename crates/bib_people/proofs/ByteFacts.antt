@@ -1,4 +1,4 @@
--- Facts on the bytes of kept names.
+-- Facts about the bytes of kept names.
 use Rattle.std.proofs.Common.{◌≡◌, ℕ, ◌<◌, Bool, true, false, List, [], ◌∷◌, length, get_or, refl, ap, ◌∙◌, arith, suc, zero, ⊎_elim, take, cond}
 use Rattle.std.specs.Prelude.{not, ◌&&◌, ◌||◌, ◌==◌, encode_utf8_all}
 use Rattle.std.specs.List.{list_all, list_any, range_with_len}
@@ -17,7 +17,7 @@ use Rattle.std.proofs.lemmas.Str.{chars-IsAscii, encodes-IsAscii}
 use Rattle.bib_chunks.proofs.FormattedFacts.{goes_on}
 use Rattle.bib_people.specs.Kept.{is_capital_letter, is_small_letter, is_name_byte}
 
--- a test that passes at each byte of ASCII
+-- a test that passes for the list of all ASCII bytes passes for each of them
 pub ascii_fact : (test : ℕ → Bool) → list_all test (range_with_len 0 128) ≡ true → (b : ℕ) → b < 128 → test b ≡ true
 ascii_fact test all b below =
     let here : get_or (range_with_len 0 128) b 0 ≡ b = get_or-range_with_len 0 128 b 0 below ∙ omega arith in
@@ -25,10 +25,11 @@ ascii_fact test all b below =
     (λ fails. absurd (both_ways (list_all test (range_with_len 0 128)) (list_all_at test (range_with_len 0 128) b 0 (omega (arith, length-range_with_len 0 128)) (ap test here ∙ fails)) all))
     (cases_Bool (test b))
 
-implied : (a b : Bool) → (not a || b) ≡ true → a ≡ true → b ≡ true
+pub implied : (a b : Bool) → (not a || b) ≡ true → a ≡ true → b ≡ true
 implied true b both is = both
 implied false b both is = absurd (both_ways false refl is)
 
+-- a byte of a name is ASCII
 pub name_small : (b : ℕ) → is_name_byte b ≡ true → b < 128
 name_small b name = grind (arith, nat_tests)
 
@@ -38,7 +39,7 @@ capital_small b name = grind (arith, nat_tests)
 pub letter_small : (b : ℕ) → is_small_letter b ≡ true → b < 128
 letter_small b name = grind (arith, nat_tests)
 
--- what a byte of a name is not
+-- a byte that is neither white space, a comma, an equals sign nor a line break
 abbrev pub is_plain : ℕ → Bool
 is_plain b = not (is_whitespace b) && (not (b == 44) && (not (b == 61) && goes_on b))
 
@@ -52,6 +53,7 @@ capital_table : list_all (λ b. not (is_capital_letter b) || not (is_lowercase b
 unfolding is_lowercase in_ranges lowercase_ranges
 capital_table = refl
 
+-- an uppercase letter is not in lower case
 pub capital_not_low : (b : ℕ) → is_capital_letter b ≡ true → is_lowercase b ≡ false
 capital_not_low b capital = not-true (is_lowercase b) (implied (is_capital_letter b) (not (is_lowercase b)) (ascii_fact (λ x. not (is_capital_letter x) || not (is_lowercase x)) capital_table b (capital_small b capital)) capital)
 
@@ -59,6 +61,7 @@ small_table : list_all (λ b. not (is_small_letter b) || (is_lowercase b && not 
 unfolding is_lowercase is_uppercase in_ranges lowercase_ranges uppercase_ranges
 small_table = refl
 
+-- a lowercase letter is in lower case
 pub small_low : (b : ℕ) → is_small_letter b ≡ true → (is_lowercase b && not (is_uppercase b)) ≡ true
 small_low b small = implied (is_small_letter b) (is_lowercase b && not (is_uppercase b)) (ascii_fact (λ x. not (is_small_letter x) || (is_lowercase x && not (is_uppercase x))) small_table b (letter_small b small)) small
 
@@ -75,6 +78,7 @@ is_open b = not (b == 61) && goes_on b
 line_table : list_all (λ b. not (is_line_byte b) || is_open b) (range_with_len 0 128) ≡ true
 line_table = refl
 
+-- a byte of a written name is neither an equals sign nor a line break
 pub line_open : (b : ℕ) → is_line_byte b ≡ true → is_open b ≡ true
 line_open b line = implied (is_line_byte b) (is_open b) (ascii_fact (λ x. not (is_line_byte x) || is_open x) line_table b (line_small b line)) line
 
@@ -88,7 +92,7 @@ ascii_of test small [] all k = omega arith
 ascii_of test small (b ∷ bs) all zero = small b (and_parts (test b) (list_all test bs) all).0
 ascii_of test small (b ∷ bs) all (suc k) = ascii_of test small bs (and_parts (test b) (list_all test bs) all).1 k
 
--- a test that passes throughout, and so does what follows from it
+-- if a test implies another one, so does passing it throughout
 pub all_follow : {A : Type 0} (one two : A → Bool) → ((b : A) → one b ≡ true → two b ≡ true) → (bs : List A) → list_all one bs ≡ true → list_all two bs ≡ true
 all_follow one two follows [] all = refl
 all_follow one two follows (b ∷ bs) all =
@@ -109,10 +113,12 @@ cond_second true true x y is = absurd (both_ways true is refl)
 cond_second true false x y is = refl
 cond_second false b x y is = refl
 
+-- a text that does not begin with white space is unchanged by trimming its start
 pub skip_none : (bs : List ℕ) → list_all (λ b. not (is_whitespace b)) (take 1 bs) ≡ true → skip_leading_whitespace bs ≡ bs
 skip_none [] first = refl
 skip_none (b ∷ bs) first = let fails = not-true (is_whitespace b) (and_parts (not (is_whitespace b)) true first).0 in rw fails refl
 
+-- a text that does not end in white space is unchanged by trimming its end
 pub drop_none : (bs : List ℕ) → ends_in_space false bs ≡ false → drop_trailing_whitespace bs ≡ bs
 drop_none [] last = refl
 drop_none (b ∷ []) last = rw last refl

@@ -1,4 +1,4 @@
--- Where names with commas are cut.
+-- Facts about the cuts of names with commas.
 use Rattle.std.proofs.Common.{◌≡◌, ℕ, ◌+◌, Bool, true, false, List, [], ◌∷◌, ◌++◌, length, refl, ap, ◌∙◌, ⊎_elim, Some, None}
 use Rattle.std.specs.Prelude.{◌==◌, encode_utf8_all, option_map}
 use Rattle.std.specs.Char.{len_utf8}
@@ -16,7 +16,7 @@ use Rattle.bib_people.proofs.AndLists.{empties}
 abbrev pub is_comma : ℕ → Bool
 is_comma b = b == 44
 
--- a normal chunk in these bytes
+-- a normal chunk with this span
 abbrev pub stands : Range ℕ → List ℕ → Spanned Chunk
 stands span text = placed (Normal text) span.start span.end
 
@@ -34,14 +34,14 @@ cut_none (b ∷ bs) none =
     let here = both.0 in
     rw here (ap (option_map (λ cut. (b ∷ cut.0, cut.1))) (cut_none bs both.1))
 
--- a part of a text is normal, wherever it stands
+-- a part of a text is a normal chunk
 part_is : (whole : List ℕ) (span : Range ℕ) (at : ℕ) (text : List ℕ) → (chunk_part whole span at text).v ≡ Normal text
 part_is whole span at text = ⊎_elim (λ yes. rw yes refl) (λ other. rw other refl) (cases_Bool (length text == length whole))
 
 piece_is : (whole : List ℕ) (span : Range ℕ) (at : ℕ) (first last : Bool) (text left : List ℕ) → (piece whole span at first last text).v ≡ Normal left → piece whole span at first last text ≡ stands (piece whole span at first last text).span left
 piece_is whole span at first last text left is = ap (λ v. placed v (piece whole span at first last text).span.start (piece whole span at first last text).span.end) is
 
--- the halves of a chunk, wherever they stand
+-- the halves of a chunk, with any spans
 pub record AreHalves (leading_run rest : List ℕ) (span : Range ℕ) : Type 0 where
   pub left : Range ℕ
   pub right : Range ℕ
@@ -70,13 +70,13 @@ halves_none : (text : List ℕ) (span : Range ℕ) → list_any is_comma text �
 halves_none text span none same =
     ap (λ cs. option_map (both_pieces (len_utf8 44) text span) (cut_characters 44 cs)) same ∙ ap (option_map (both_pieces (len_utf8 44) text span)) (cut_none text none)
 
--- no comma stands in empty chunks
+-- empty chunks contain no comma
 empties_none : (span : Range ℕ) (following : Bool) → cut_at (empties span following) 44 ≡ None
 unfolding chars
 empties_none span true = refl
 empties_none span false = refl
 
--- the cut of a chunk, with an empty one before it or not
+-- the cut of a chunk at its first comma, with or without an empty chunk before it
 pub cut_first_comma : (at : Range ℕ) (before : Bool) (leading_run rest : List ℕ) (span : Range ℕ) (more : List (Spanned Chunk)) (cut : AreHalves leading_run rest span)
     → cut_at (empties at before ++ (stands span (leading_run ++ (44 ∷ rest)) ∷ more)) 44
     ≡ Some (empties at before ++ (stands cut.left (trim_end leading_run) ∷ []), stands cut.right (trim_start rest) ∷ more)
@@ -85,6 +85,7 @@ cut_first_comma at true leading_run rest span more cut =
     ap (λ h. cut_first (stands at []) (stands span (leading_run ++ (44 ∷ rest)) ∷ more) h (cut_at (stands span (leading_run ++ (44 ∷ rest)) ∷ more) 44)) (halves_none [] at refl chars-nil)
     ∙ ap (cut_after (stands at [] ∷ [])) (ap (λ h. cut_first (stands span (leading_run ++ (44 ∷ rest))) more h (cut_at more 44)) cut.cut)
 
+-- a chunk without commas is not cut
 pub cut_no_comma : (text : List ℕ) (span at : Range ℕ) (following : Bool) → list_any is_comma text ≡ false → chars text ≡ text → cut_at (stands span text ∷ empties at following) 44 ≡ None
 cut_no_comma text span at following none same =
     ap (λ h. cut_first (stands span text) (empties at following) h (cut_at (empties at following) 44)) (halves_none text span none same)

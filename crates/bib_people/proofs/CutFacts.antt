@@ -1,4 +1,4 @@
--- Facts on where names are cut.
+-- Facts about the cuts of names.
 use Rattle.std.proofs.Common.{◌≡◌, ℕ, ◌+◌, ◌-◌, ◌<◌, ◌≤◌, Bool, true, false, List, [], ◌∷◌, length, take, drop, get_or, refl, sym, ap, ◌∙◌, cond, suc, arith, ⊎_elim, ◌≢◌, Option, Some, None}
 use Rattle.std.proofs.lemmas.List.Folds.{list_any_at}
 use Rattle.std.proofs.lemmas.Str.Pattern.{rfind_char}
@@ -14,7 +14,8 @@ use Rattle.bib_people.specs.Letters.{Word}
 use Rattle.bib_people.specs.Names.{through_last, is_space_byte}
 use Rattle.bib_people.specs.WordKinds.{IsLastSpace}
 
--- the last word that passes is among those to come, or is the last one before `end`
+-- the invariant of the search: the last word that passes is among those left or, if none of them passes, right before
+-- `end`
 pub record Through (test : Word → Bool) (words : List Word) (i end : ℕ) : Type 0 where
   pub is : through_last test words ≡ cond (list_any test (drop i words)) (i + through_last test (drop i words)) end
   pub within : end ≤ i
@@ -31,10 +32,11 @@ one_cond : (test : Word → Bool) (words : List Word) → through_last test word
 one_cond test [] = refl
 one_cond test (word ∷ words) = ⊎_elim (λ yes. rw yes refl) (λ no. rw no refl) (cases_Bool (list_any test (word ∷ words)))
 
+-- at the start of the search no word has passed
 pub through_init : (test : Word → Bool) (words : List Word) → Through test words 0 0
 through_init test words = record { is = cond_at (list_any test words) (through_last test words) (one_cond test words); within = omega arith }
 
--- one more word
+-- a step of the search: one more word
 step_yes : (n i t : ℕ) (b : Bool) → (b ≡ false → t ≡ 0) → n ≡ cond true (i + cond true (1 + t) 0) 0 → n ≡ cond b (i + 1 + t) (i + 1)
 step_yes n i t true none is = is ∙ omega arith
 step_yes n i t false none is = let zero : t ≡ 0 = none refl in is ∙ omega arith
@@ -46,19 +48,21 @@ step_no n i t end false is = is
 at_word : (test : Word → Bool) (words : List Word) (i : ℕ) (word : Word) → i < length words → word ≡ get_or words i word → drop i words ≡ word ∷ drop (i + 1) words
 at_word test words i word within is = drop_more words i word within ∙ ap (λ w. w ∷ drop (i + 1) words) (sym is)
 
+-- a step of the search: a word that passes
 pub through_yes : (test : Word → Bool) (words : List Word) (i end : ℕ) (word : Word) → i < length words → word ≡ get_or words i word → test word ≡ true → Through test words i end → Through test words (i + 1) (i + 1)
 through_yes test words i end word within is passes so_far =
     let here = so_far.is in
     let more = rw (at_word test words i word within is, passes) at here in
     record { is = step_yes (through_last test words) i (through_last test (drop (i + 1) words)) (list_any test (drop (i + 1) words)) (through_none test (drop (i + 1) words)) more; within = omega arith }
 
+-- a step of the search: a word that fails
 pub through_no : (test : Word → Bool) (words : List Word) (i end : ℕ) (word : Word) → i < length words → word ≡ get_or words i word → test word ≡ false → Through test words i end → Through test words (i + 1) end
 through_no test words i end word within is fails so_far =
     let here = so_far.is in
     let more = rw (at_word test words i word within is, fails) at here in
     record { is = step_no (through_last test words) i (through_last test (drop (i + 1) words)) end (list_any test (drop (i + 1) words)) more; within = omega arith }
 
--- the last space
+-- a text without spaces
 pub no_space : (text : List ℕ) → ((i : ℕ) → i < length text → get_or text i 0 ≢ 32) → list_any is_space_byte text ≡ false
 no_space [] none = refl
 no_space (b ∷ bs) none = rw (ne_eqb b 32 (none 0 (omega arith)), no_space bs (λ i within. none (suc i) (omega arith))) refl

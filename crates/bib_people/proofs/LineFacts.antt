@@ -1,4 +1,4 @@
--- How a kept person is spelt.
+-- The written form of a kept person.
 use Rattle.std.proofs.Common.{◌≡◌, ℕ, ◌<◌, Bool, true, false, List, [], ◌∷◌, ◌++◌, length, refl, sym, ap, ◌∙◌, arith, suc, append_assoc}
 use Rattle.std.specs.Prelude.{not, ◌&&◌, ◌==◌, encode_utf8_all}
 use Rattle.std.specs.List.{list_all}
@@ -16,8 +16,9 @@ use Rattle.bib_people.specs.Names.{person}
 use Rattle.bib_people.specs.People.{suffix_text, begins_capital, plain_chunks, after_prefix}
 use Rattle.bib_people.specs.Kept.{is_small_letter, is_name_byte, is_word_and, is_kept_word, after_words, spaced}
 use Rattle.bib_people.proofs.ByteFacts.{name_plain, name_line, is_line_byte, line_small, all_follow, ascii_of, small_low, skip_none, start_none, end_none}
-use Rattle.bib_people.proofs.SpacedFacts.{is_solid, is_item, spaced_ends, spaced_begins, spaced_all, spaced_one}
+use Rattle.bib_people.proofs.SpacedFacts.{is_solid, is_item, spaced_ends, spaced_begins, spaced_all, spaced_one, after_append}
 use Rattle.bib_people.proofs.AndLists.{IsPart, normal, normal_part}
+use Rattle.std.proofs.Math.Bool.{and-false}
 
 -- words
 
@@ -37,7 +38,7 @@ all_any test words all = all_follow (is_kept_word test) (is_kept_word is_name_by
 pub name_no_space : (b : ℕ) → is_name_byte b ≡ true → not (is_whitespace b) ≡ true
 name_no_space b name = (and_parts (not (is_whitespace b)) _ (name_plain b name)).0
 
--- a word, perhaps with a comma after it
+-- a word with or without a comma after it
 abbrev pub is_line_item : List ℕ → Bool
 is_line_item word = is_item word && list_all is_line_byte word
 
@@ -70,7 +71,7 @@ items_bytes items all = spaced_all is_line_byte refl items (all_follow is_line_i
 pub items_ascii : (items : List (List ℕ)) → list_all is_line_item items ≡ true → IsAscii (spaced items)
 items_ascii items all = ascii_of is_line_byte line_small (spaced items) (items_bytes items all)
 
--- such a text is one part of an `and` list
+-- a text of such words is one part of an `and` list
 pub items_part : (items : List (List ℕ)) → list_all is_line_item items ≡ true → IsPart (Normal (spaced items))
 items_part items all =
     let ascii : IsAscii (spaced items) = items_ascii items all in
@@ -100,14 +101,10 @@ comma_some : (word : List ℕ) (words : List (List ℕ)) → 0 < length (comma (
 comma_some word [] = omega arith
 comma_some word (next ∷ more) = omega arith
 
-and_last : (a : Bool) → (a && false) ≡ false
-and_last true = refl
-and_last false = refl
-
 no_word : (word : List ℕ) → is_word_and (word ++ 44 ∷ []) ≡ false
 no_word [] = refl
 no_word (a ∷ []) = refl
-no_word (a ∷ n ∷ []) = and_last (a == 97 && n == 110)
+no_word (a ∷ n ∷ []) = and-false (a == 97 && n == 110)
 no_word (a ∷ n ∷ d ∷ []) = refl
 no_word (a ∷ n ∷ d ∷ e ∷ more) = refl
 
@@ -129,16 +126,13 @@ comma_items (word ∷ next ∷ more) all =
 
 -- a person
 
-after_append : (xs ys : List (List ℕ)) → after_words (xs ++ ys) ≡ after_words xs ++ after_words ys
-after_append [] ys = refl
-after_append (x ∷ xs) ys = ap (λ l. 32 ∷ (x ++ l)) (after_append xs ys) ∙ ap (λ l. 32 ∷ l) (sym (append_assoc x (after_words xs) (after_words ys)))
-
+-- appended lists of words have a space between them
 pub spaced_then : (xs ys : List (List ℕ)) → 0 < length xs → 0 < length ys → spaced (xs ++ ys) ≡ spaced xs ++ (32 ∷ spaced ys)
 spaced_then [] ys some more = absurd (omega arith)
 spaced_then (x ∷ xs) [] some more = absurd (omega arith)
 spaced_then (x ∷ xs) (y ∷ ys) some more = ap (λ l. x ++ l) (after_append xs (y ∷ ys)) ∙ sym (append_assoc x (after_words xs) (after_words (y ∷ ys)))
 
--- the words of a suffix, with a comma after the last
+-- the words of a person, with a comma after the family name and one after the suffix
 abbrev pub line_items : List (List ℕ) → List (List ℕ) → List (List ℕ) → List (List ℕ)
 line_items leading_run suffix given = comma leading_run ++ (comma suffix ++ given)
 
@@ -152,6 +146,7 @@ first_some : (word : List ℕ) (words : List (List ℕ)) → AllWords is_name_by
 first_some [] words all = absurd (false≢true all)
 first_some (b ∷ bs) words all = ne_eqb (suc (length (bs ++ after_words words))) 0 (λ none. omega arith)
 
+-- the text of a suffix and a given name, as words
 pub suffix_line : (suffix given : List (List ℕ)) → AllWords is_name_byte suffix → 0 < length given → suffix_text (spaced suffix) ++ spaced given ≡ spaced (comma suffix ++ given)
 suffix_line [] given all some = refl
 suffix_line (s ∷ ss) given all some =
@@ -166,6 +161,7 @@ pub more_some : (xs ys : List (List ℕ)) → 0 < length ys → 0 < length (xs +
 more_some [] ys some = some
 more_some (x ∷ xs) ys some = omega arith
 
+-- the text of the words of a person
 pub line_spelt : (leading_run suffix given : List (List ℕ)) → 0 < length leading_run → AllWords is_name_byte suffix → 0 < length given
     → spaced (line_items leading_run suffix given) ≡ spaced leading_run ++ (44 ∷ 32 ∷ (suffix_text (spaced suffix) ++ spaced given))
 line_spelt [] suffix given none all some = absurd (omega arith)

@@ -1,4 +1,4 @@
--- Facts on words separated by single spaces.
+-- Facts about words separated by single spaces.
 use Rattle.std.proofs.Common.{◌≡◌, ℕ, Bool, true, false, List, [], ◌∷◌, ◌++◌, map, take, refl, sym, ap, ◌∙◌, cond, append_assoc}
 use Rattle.std.specs.Prelude.{not, ◌&&◌, ◌==◌}
 use Rattle.std.specs.List.{list_all}
@@ -13,8 +13,10 @@ use Rattle.bib_people.specs.declared.person.words.Letter.{Letter}
 use Rattle.bib_people.specs.Letters.{is_gap, Word, a_word, words_of, word_letters}
 use Rattle.bib_people.specs.Kept.{name_begins, is_word_and, after_words, spaced}
 use Rattle.bib_people.proofs.WordFacts.{letter, words_gap, words_word, apart_end, apart_gap, stand_apart}
+use Rattle.std.proofs.Math.Bool.{and-false}
+use Rattle.bib_chunks.proofs.AndFacts.{between_other, word_here}
 
--- a word that white space does not stand in
+-- a non-empty word without white space
 abbrev pub is_solid : List ℕ → Bool
 is_solid word = name_begins (λ b. true) word && list_all (λ b. not (is_whitespace b)) word
 
@@ -37,12 +39,14 @@ after_ends (word ∷ words) all =
     let both = and_parts (is_solid word) (list_all is_solid words) all in
     ends-append true word (after_words words) ∙ ap (λ e. ends_in_space e (after_words words)) (word_ends true word both.0) ∙ after_ends words both.1
 
+-- words do not end in white space
 pub spaced_ends : (words : List (List ℕ)) → list_all is_solid words ≡ true → ends_in_space false (spaced words) ≡ false
 spaced_ends [] all = refl
 spaced_ends (word ∷ words) all =
     let both = and_parts (is_solid word) (list_all is_solid words) all in
     ends-append false word (after_words words) ∙ ap (λ e. ends_in_space e (after_words words)) (word_ends false word both.0) ∙ after_ends words both.1
 
+-- words do not begin with white space
 pub spaced_begins : (words : List (List ℕ)) → list_all is_solid words ≡ true → list_all (λ b. not (is_whitespace b)) (take 1 (spaced words)) ≡ true
 spaced_begins [] all = refl
 spaced_begins ([] ∷ words) all = absurd (false≢true all)
@@ -52,14 +56,14 @@ spaced_begins ((b ∷ bs) ∷ words) all =
 
 -- two lists of words
 
-after_append : (xs ys : List (List ℕ)) → after_words (xs ++ ys) ≡ after_words xs ++ after_words ys
+pub after_append : (xs ys : List (List ℕ)) → after_words (xs ++ ys) ≡ after_words xs ++ after_words ys
 after_append [] ys = refl
 after_append (x ∷ xs) ys = ap (λ l. 32 ∷ (x ++ l)) (after_append xs ys) ∙ ap (λ l. 32 ∷ l) (sym (append_assoc x (after_words xs) (after_words ys)))
 
 pub spaced_append : (x : List ℕ) (xs : List (List ℕ)) (y : List ℕ) (ys : List (List ℕ)) → spaced ((x ∷ xs) ++ (y ∷ ys)) ≡ spaced (x ∷ xs) ++ (32 ∷ spaced (y ∷ ys))
 spaced_append x xs y ys = ap (λ l. x ++ l) (after_append xs (y ∷ ys)) ∙ sym (append_assoc x (after_words xs) (after_words (y ∷ ys)))
 
--- a test that passes in each word, and at a space
+-- a test that passes for each word and for a space passes for the text
 after_all : (test : ℕ → Bool) → test 32 ≡ true → (words : List (List ℕ)) → list_all (λ w. list_all test w) words ≡ true → list_all test (after_words words) ≡ true
 after_all test space [] all = refl
 after_all test space (word ∷ words) all =
@@ -74,17 +78,7 @@ spaced_all test space (word ∷ words) all =
 
 -- the word `and`
 
-and_last : (a : Bool) → (a && false) ≡ false
-and_last true = refl
-and_last false = refl
-
--- whether the word stands at the start of these characters, with white space round it
-word_here : Bool → List ℕ → Bool
-word_here space (a ∷ n ∷ d ∷ rest) = space && is_and a n d && begins_with_space rest
-word_here space rest = false
-
 not_spaced : (cs : List ℕ) → word_here false cs ≡ false
-unfolding word_here
 not_spaced [] = refl
 not_spaced (a ∷ []) = refl
 not_spaced (a ∷ n ∷ []) = refl
@@ -94,13 +88,7 @@ either : (space : Bool) (cs : List ℕ) → word_here true cs ≡ false → word
 either true cs none = none
 either false cs none = not_spaced cs
 
-between_other : (space : Bool) (c : ℕ) (cs : List ℕ) → word_here space (c ∷ cs) ≡ false → between_ands space (c ∷ cs) ≡ prepend (c ∷ []) (between_ands (is_whitespace c) cs)
-unfolding word_here
-between_other space c [] here = refl
-between_other space c (n ∷ []) here = refl
-between_other space c (n ∷ d ∷ rest) here = cond-false (space && is_and c n d && begins_with_space rest) _ _ here
-
--- a character that is no place of a cut
+-- there is no cut at a character where no such word is
 step : (space : Bool) (c : ℕ) (cs : List ℕ) → word_here space (c ∷ cs) ≡ false → between_ands (is_whitespace c) cs ≡ cs ∷ [] → between_ands space (c ∷ cs) ≡ (c ∷ cs) ∷ []
 step space c cs here more = between_other space c cs here ∙ ap (prepend (c ∷ [])) more
 
@@ -110,20 +98,19 @@ run (b ∷ bs) rest all more =
     let both = and_parts (not (is_whitespace b)) (list_all (λ x. not (is_whitespace x)) bs) all in
     step false b (bs ++ rest) (not_spaced (b ∷ (bs ++ rest))) (ap (λ s. between_ands s (bs ++ rest)) (not-true (is_whitespace b) both.0) ∙ run bs rest both.1 more)
 
--- the word does not stand where another word begins, after which a space follows, or nothing
+-- the word isn't where another word begins that a space or nothing follows
 no_space : (a d s : Bool) → (((a && false) && d) && s) ≡ false
 no_space true d s = refl
 no_space false d s = refl
 
 no_and : (b : ℕ) (bs : List ℕ) (words : List (List ℕ)) → list_all (λ x. not (is_whitespace x)) (b ∷ bs) ≡ true → is_word_and (b ∷ bs) ≡ false → word_here true (b ∷ (bs ++ after_words words)) ≡ false
-unfolding word_here
 no_and b [] [] all other = refl
 no_and b [] ([] ∷ []) all other = refl
 no_and b [] ([] ∷ w ∷ words) all other = no_space (b == 97) (32 == 100) (begins_with_space (w ++ after_words words))
 no_and b [] ((c ∷ w) ∷ words) all other = no_space (b == 97) (c == 100) (begins_with_space (w ++ after_words words))
 no_and b (c ∷ []) [] all other = refl
-no_and b (c ∷ []) (w ∷ words) all other = ap (λ x. x && begins_with_space (w ++ after_words words)) (and_last (b == 97 && c == 110))
-no_and b (c ∷ d ∷ []) [] all other = and_last (is_and b c d)
+no_and b (c ∷ []) (w ∷ words) all other = ap (λ x. x && begins_with_space (w ++ after_words words)) (and-false (b == 97 && c == 110))
+no_and b (c ∷ d ∷ []) [] all other = and-false (is_and b c d)
 no_and b (c ∷ d ∷ []) (w ∷ words) all other = rw other refl
 no_and b (c ∷ d ∷ e ∷ bs) words all other =
     let one = and_parts (not (is_whitespace b)) _ all in
@@ -131,7 +118,7 @@ no_and b (c ∷ d ∷ e ∷ bs) words all other =
     let three = and_parts (not (is_whitespace d)) _ two.1 in
     let four = and_parts (not (is_whitespace e)) _ three.1 in
     let last = not-true (is_whitespace e) four.0 in
-    rw last (and_last (is_and b c d))
+    rw last (and-false (is_and b c d))
 
 item : (space : Bool) (b : ℕ) (bs : List ℕ) (words : List (List ℕ)) → is_item (b ∷ bs) ≡ true → between_ands false (after_words words) ≡ after_words words ∷ [] → between_ands space (b ∷ (bs ++ after_words words)) ≡ (b ∷ (bs ++ after_words words)) ∷ []
 item space b bs words is more =
@@ -148,6 +135,7 @@ after_one ((b ∷ bs) ∷ words) all =
     let both = and_parts (is_item (b ∷ bs)) (list_all is_item words) all in
     step false 32 (b ∷ (bs ++ after_words words)) (not_spaced (32 ∷ b ∷ (bs ++ after_words words))) (item true b bs words both.0 (after_one words both.1))
 
+-- words that contain no word `and` are one part of an `and` list
 pub spaced_one : (words : List (List ℕ)) → list_all is_item words ≡ true → between_ands false (spaced words) ≡ spaced words ∷ []
 spaced_one [] all = refl
 spaced_one ([] ∷ words) all = absurd (false≢true all)
@@ -157,7 +145,7 @@ spaced_one ((b ∷ bs) ∷ words) all =
 
 -- the words of a name
 
--- words after a gap of one space, but for the first
+-- words with a gap of one space before each, except the first
 abbrev pub gap_of : Bool → List Letter
 gap_of first = cond first [] (letter false 32 ∷ [])
 
@@ -172,7 +160,7 @@ solid_letters (b ∷ bs) all =
     let here : is_gap (letter false b) ≡ false = let fails = not-true (is_whitespace b) both.0 in rw fails refl in
     rw here (solid_letters bs both.1)
 
-abbrev letters_of : List ℕ → List Letter
+abbrev pub letters_of : List ℕ → List Letter
 letters_of = map (letter false)
 
 apart_after : (words : List (List ℕ)) → stand_apart (words_of (letters_of (after_words words))) ≡ true
@@ -194,6 +182,7 @@ after_words_of ((b ∷ bs) ∷ words) all =
     let both = and_parts (is_solid (b ∷ bs)) (list_all is_solid words) all in
     words_gap (letter false 32 ∷ []) (letters_of (b ∷ (bs ++ after_words words))) (letters_of (b ∷ bs)) (words_at false words) refl (one_word b bs words both.0 (after_words_of words both.1))
 
+-- the words of a text of words
 pub spaced_words_of : (words : List (List ℕ)) → list_all is_solid words ≡ true → words_of (letters_of (spaced words)) ≡ words_at true words
 spaced_words_of [] all = refl
 spaced_words_of ([] ∷ words) all = absurd (false≢true all)
@@ -201,7 +190,7 @@ spaced_words_of ((b ∷ bs) ∷ words) all =
     let both = and_parts (is_solid (b ∷ bs)) (list_all is_solid words) all in
     one_word b bs words both.0 (after_words_of words both.1)
 
--- what such words spell
+-- the letters of such words
 pub letters_after : (words : List (List ℕ)) → word_letters false (words_at false words) ≡ letters_of (after_words words)
 letters_after [] = refl
 letters_after (word ∷ words) =

@@ -1,11 +1,11 @@
--- What is written of kept people is read again.
+-- Kept people parse from their written form.
 use Rattle.std.proofs.Common.{Some, ◌≡◌, ℕ, ◌+◌, ◌-◌, ◌<◌, Bool, true, false, List, [], ◌∷◌, ◌++◌, length, map, take, drop, refl, sym, ap, subst, ◌∙◌, arith, suc, cond, append_assoc, length-append, None, zero, ◌⊎◌, inl, inr}
 use Rattle.std.specs.Prelude.{not, ◌&&◌, ◌||◌, ◌==◌, codes, encode_utf8_all}
 use Rattle.std.specs.List.{list_all, list_any, prefix_len}
 use Rattle.std.specs.Char.{is_whitespace}
 use Rattle.unicode.specs.Binary.{is_lowercase}
 use Rattle.std.specs.Str.{chars, trim_start, trim_end, trim, IsAscii, skip_leading_whitespace}
-use Rattle.std.proofs.lemmas.Bool.{and_parts, and_from, not-true, not_from_false, false≢true, ne_eqb, eqb-true}
+use Rattle.std.proofs.lemmas.Bool.{and_parts, and_from, not-true, not_from_false, false≢true, ne_eqb, eqb-true, or_cases}
 use Rattle.std.proofs.lemmas.List.{append-nil, take_at, drop_at}
 use Rattle.std.proofs.lemmas.List.Folds.{list_all-append}
 use Rattle.std.proofs.lemmas.Str.{chars-IsAscii, encodes-IsAscii, chars-nil}
@@ -22,7 +22,7 @@ use Rattle.bib_people.specs.People.{people_of, people_chunks, people_from, perso
 use Rattle.bib_people.specs.Kept.{is_capital_letter, is_small_letter, is_name_byte, is_kept_word, name_begins, after_words, spaced, IsKeptPerson, AllKept, ArePeople}
 use Rattle.bib_people.proofs.WordFacts.{letter, spelt}
 use Rattle.bib_people.proofs.ByteFacts.{name_plain, line_open, is_line_byte, all_follow, none_of, small_low, capital_not_low, skip_none, start_none, start_one, end_none}
-use Rattle.bib_people.proofs.SpacedFacts.{spaced_ends, spaced_begins, spaced_all, words_at, spaced_words_of, letters_spaced, gap_of}
+use Rattle.bib_people.proofs.SpacedFacts.{spaced_ends, spaced_begins, spaced_all, words_at, spaced_words_of, letters_spaced, gap_of, letters_of}
 use Rattle.bib_people.proofs.LineFacts.{comma, comma_items, suffix_line, more_some, is_line_item, AllWords, all_any, all_line, items_solid, items_ascii, items_bytes, items_part, line_items, line_all, line_spelt, plain_line}
 use Rattle.std.specs.declared.ops.Range.{Range}
 use Rattle.bib_chunks.proofs.SeparatedFacts.{no_place}
@@ -34,12 +34,8 @@ use Rattle.bib_people.proofs.CommaFacts.{is_comma, stands, AreHalves, halves_at,
 abbrev is_text_byte : ℕ → Bool
 is_text_byte b = is_name_byte b || b == 32
 
-or_true : (a b : Bool) → (a || b) ≡ true → (a ≡ true) ⊎ (b ≡ true)
-or_true true b is = inl refl
-or_true false b is = inr is
-
 text_plain : (b : ℕ) → is_text_byte b ≡ true → (not (is_comma b) && goes_on b) ≡ true
-text_plain b text = elim (or_true (is_name_byte b) (b == 32) text) [
+text_plain b text = elim (or_cases (is_name_byte b) (b == 32) text) [
   | inl name ↦ let plain = name_plain b name in
       let one = and_parts (not (is_whitespace b)) _ plain in
       let two = and_parts (not (is_comma b)) _ one.1 in
@@ -88,7 +84,7 @@ is_text words all =
 trim_same : (text : List ℕ) → IsText text → trim text ≡ text
 trim_same text is = ap trim_end is.start ∙ is.end
 
--- after a space
+-- ASCII text after a space is ASCII
 space_small : (text : List ℕ) → IsAscii text → IsAscii (32 ∷ text)
 space_small text ascii zero = omega arith
 space_small text ascii (suc k) = ascii k
@@ -96,7 +92,7 @@ space_small text ascii (suc k) = ascii k
 pub after_space : (text : List ℕ) → IsText text → trim_start (32 ∷ text) ≡ text
 after_space text is = start_one text (space_small text is.ascii) is.ascii is.skips
 
--- parts of a name, perhaps with empty chunks round them
+-- parts of a name, with or without empty chunks around them
 
 formatted_text : (text : List ℕ) (span : Range ℕ) (following : Bool) → IsText text → formatted (stands span text ∷ empties before_and following) ≡ text
 formatted_text text span following is =
@@ -112,9 +108,6 @@ and_no false b no_b = refl
 not_blank : (text : List ℕ) (span : Range ℕ) (following : Bool) → IsText text → 0 < length text → formats_to_nothing (stands span text ∷ empties before_and following) ≡ false
 not_blank text span following is some =
     and_no (length (stands span text ∷ empties before_and following) == 1) _ (ap (λ cs. length cs == 0) (formatted_text text span following is) ∙ ne_eqb (length text) 0 (λ none. omega arith))
-
-abbrev letters_of : List ℕ → List Letter
-letters_of = map (letter false)
 
 letters_text : (before : Bool) (text : List ℕ) (span : Range ℕ) → IsText text → letters (empties after_and before ++ (stands span text ∷ [])) ≡ letters_of text
 letters_text false text span is = append-nil (letters_of (chars text)) ∙ ap letters_of is.same
@@ -212,7 +205,7 @@ no_equals items all before following =
     let none : list_any (λ b. b == 61) (spaced items) ≡ false = none_of (λ b. b == 61) (spaced items) (all_follow is_line_byte (λ b. not (b == 61)) (λ b line. (and_parts (not (b == 61)) (goes_on b) (line_open b line)).0) (spaced items) (items_bytes items all)) in
     padded_no_equals before following (spaced items) none
 
--- a name cut at its comma
+-- a name that is cut at its comma
 with_comma_read : (before following : Bool) (prefix name given : List (List ℕ)) (suffix : List ℕ) (a c : Range ℕ) → AllWords is_small_letter prefix → AllWords is_capital_letter name → AllWords is_name_byte given → 0 < length name → 0 < length (spaced given)
     → with_comma (empties after_and before ++ (stands a (spaced (prefix ++ name)) ∷ [])) (stands c (spaced given) ∷ empties before_and following) suffix ≡ person (spaced name) (spaced given) (spaced prefix) suffix
 with_comma_read before following prefix name given suffix a c small capital any has_name has_given =
@@ -237,11 +230,11 @@ with_comma_read before following prefix name given suffix a c small capital any 
     ∙ ap (λ q. person (spaced name) (shown second) q suffix) prefix_is
     ∙ ap (λ g. person (spaced name) g (spaced prefix) suffix) (shown_text (spaced given) c following last)
 
-some_words : (words : List (List ℕ)) → 0 < length (spaced words) → 0 < length words
+pub some_words : (words : List (List ℕ)) → 0 < length (spaced words) → 0 < length words
 some_words [] some = some
 some_words (w ∷ ws) some = omega arith
 
--- what stands after the first comma
+-- the chunks after the first comma
 after_read : (before following : Bool) (prefix name suffix given : List (List ℕ)) (a c : Range ℕ) → AllWords is_small_letter prefix → AllWords is_capital_letter name → AllWords is_name_byte suffix → AllWords is_name_byte given → 0 < length name → 0 < length (spaced given)
     → with_commas_of (empties after_and before ++ (stands a (spaced (prefix ++ name)) ∷ [])) (stands c (trim_start (32 ∷ (suffix_text (spaced suffix) ++ spaced given))) ∷ empties before_and following) ≡ person (spaced name) (spaced given) (spaced prefix) (spaced suffix)
 after_read before following prefix name [] given a c small capital tail any has_name has_given =
@@ -355,7 +348,7 @@ parts_read before p (next ∷ more) k all =
     ap (λ x. x ∷ map person_of (padded_parts true (Normal (spaced (line_of next all.0))) (lines more all.1))) (person_read p k before true)
     ∙ ap (λ l. p ∷ l) (parts_read true next more all.0 all.1)
 
--- kept people are read back from what is written of them
+-- kept people parse from their written form
 pub people_survive : (people : List Person) → ArePeople people → people_of (people_chunks people) ≡ people
 people_survive [] are = absurd (omega (arith, are.some))
 people_survive (p ∷ people) are =

@@ -1,4 +1,4 @@
--- Facts on the words of a name.
+-- Facts about the words of a name.
 use Rattle.std.proofs.Common.{◌≡◌, ℕ, ◌+◌, ◌<◌, Bool, true, false, List, [], ◌∷◌, ◌++◌, length, map, take, drop, get_or, refl, sym, ap, ◌∙◌, cond, suc, arith, append_assoc, ⊎_elim, length-drop, length-append, ◌-◌}
 use Rattle.std.proofs.lemmas.List.{append-nil, take-append-drop, drop_more, map-append}
 use Rattle.std.specs.Prelude.{not, ◌==◌, encode_utf8_all}
@@ -11,7 +11,7 @@ use Rattle.bib_people.specs.Letters.{Letter, is_gap, gap_len, word_len, Word, a_
 abbrev pub letter : Bool → ℕ → Letter
 letter is_verbatim c = record { char = c; is_verbatim = is_verbatim }
 
--- what stands at the start of a list up to the first element that fails
+-- the run at the start of a list
 
 one_passes : {A : Type 0} (p : A → Bool) (x : A) (xs : List A) → p x ≡ true → prefix_len p (x ∷ xs) ≡ suc (prefix_len p xs)
 one_passes p x xs passes = rw passes (omega arith)
@@ -19,6 +19,7 @@ one_passes p x xs passes = rw passes (omega arith)
 none_passes : {A : Type 0} (p : A → Bool) (x : A) (xs : List A) → p x ≡ false → prefix_len p (x ∷ xs) ≡ 0
 none_passes p x xs fails = rw fails refl
 
+-- the run at the start of a list passes the test
 pub prefix_passes : {A : Type 0} (p : A → Bool) (xs : List A) → list_all p (take (prefix_len p xs) xs) ≡ true
 prefix_passes p [] = refl
 prefix_passes p (x ∷ xs) =
@@ -26,6 +27,7 @@ prefix_passes p (x ∷ xs) =
     (λ no. ap (λ n. list_all p (take n (x ∷ xs))) (none_passes p x xs no))
     (cases_Bool (p x))
 
+-- the first element after the run fails the test
 pub after_fails : {A : Type 0} (p : A → Bool) (xs : List A) (b : A) (bs : List A) → drop (prefix_len p xs) xs ≡ b ∷ bs → p b ≡ false
 after_fails p [] b bs is = cc
 after_fails p (x ∷ xs) b bs is =
@@ -35,12 +37,12 @@ after_fails p (x ∷ xs) b bs is =
 
 -- words
 
--- words that don't begin right where the letters begin
+-- words with a gap before the first one
 abbrev pub stand_apart : List Word → Bool
 stand_apart [] = true
 stand_apart (word ∷ words) = not (length word.gap == 0)
 
--- what stands after a gap
+-- the words after a gap
 pub words_gap : (gap rest inside : List Letter) (words : List Word) → list_all is_gap gap ≡ true → words_of rest ≡ a_word [] inside ∷ words → words_of (gap ++ rest) ≡ a_word gap inside ∷ words
 words_gap [] rest inside words all is = is
 words_gap (l ∷ gap) rest inside words all is =
@@ -49,6 +51,7 @@ words_gap (l ∷ gap) rest inside words all is =
     let more = words_gap gap rest inside words both.1 is in
     rw (more, here) refl
 
+-- a gap contains no words
 pub words_none : (gap : List Letter) → list_all is_gap gap ≡ true → words_of gap ≡ []
 words_none [] all = refl
 words_none (l ∷ gap) all =
@@ -68,7 +71,7 @@ words_word l (m ∷ inside) after no_gap all apart =
     let more = words_word m inside after (not-true (is_gap m) both.0) both.1 apart in
     rw (more, no_gap) refl
 
--- after a word a gap follows, or nothing
+-- after a word comes a gap or nothing
 pub apart_end : stand_apart (words_of []) ≡ true
 apart_end = refl
 
@@ -83,7 +86,7 @@ apart_after : (following after : List Letter) → after ≡ drop (word_len follo
 apart_after following [] is = apart_end
 apart_after following (l ∷ rest) is = apart_gap l rest (not-false (is_gap l) (after_fails (λ x. not (is_gap x)) following l rest (sym is)))
 
--- the first word, cut off as the code does it
+-- the first word, as the program finds it
 next : (rest before following inside after : List Letter) → list_all is_gap before ≡ true → rest ≡ before ++ following → ((b : Letter) (bs : List Letter) → following ≡ b ∷ bs → is_gap b ≡ false) → 0 < length following → inside ≡ take (word_len following) following → after ≡ drop (word_len following) following
     → (words_of rest ≡ a_word before inside ∷ words_of after) × (length after < length rest)
 next rest before [] inside after gap whole first some in_word out = absurd (omega arith)
@@ -113,6 +116,7 @@ pub some_left : {A : Type 0} (xs : List A) (is_empty : Bool) → is_empty ≡ (l
 some_left [] is_empty is not_empty = absurd (both_ways is_empty not_empty is)
 some_left (x ∷ xs) is_empty is not_empty = omega arith
 
+-- no word is left if only a gap is
 pub last_word : (rest following : List Letter) → following ≡ drop (gap_len rest) rest → length following ≡ 0 → words_of rest ≡ []
 last_word rest following is none =
     let gap = prefix_passes is_gap rest in
@@ -120,6 +124,7 @@ last_word rest following is none =
     let whole : rest ≡ take (gap_len rest) rest = sym (take-append-drop (gap_len rest) rest) ∙ ap (λ l. take (gap_len rest) rest ++ l) nothing ∙ append-nil _ in
     words_none rest (rw (← whole) at gap)
 
+-- a step of the loop: one more word was added
 pub word_pushed : (all new : List Word) (word : Word) (words rest total : List Word) → new ≡ all ++ word ∷ [] → rest ≡ word ∷ words → all ++ rest ≡ total → new ++ words ≡ total
 word_pushed all new word words rest total pushed here is = ap (λ l. l ++ words) pushed ∙ append_assoc all (word ∷ []) words ∙ ap (λ l. all ++ l) (sym here) ∙ is
 
@@ -131,14 +136,15 @@ spelt letters = encode_utf8_all (map (λ l. l.char) letters)
 spelt_append : (xs ys : List Letter) → spelt (xs ++ ys) ≡ spelt xs ++ spelt ys
 spelt_append xs ys = ap encode_utf8_all (map-append (λ l. l.char) xs ys) ∙ encodes-append (map (λ l. l.char) xs) (map (λ l. l.char) ys)
 
--- the gap before a word, but for the first one
+-- the gap before a word is written, except before the first one
 pub gap_written : (was middle : List ℕ) (first : Bool) (gap : List Letter) → first ≡ false → middle ≡ was ++ spelt gap → middle ≡ was ++ spelt (cond first [] gap)
 gap_written was middle first gap following is = rw following is
 
+-- the gap before the first word is not written
 pub gap_passed : (was middle : List ℕ) (first : Bool) (gap : List Letter) → first ≡ true → middle ≡ was → middle ≡ was ++ spelt (cond first [] gap)
 gap_passed was middle first gap leading_run is = rw leading_run (is ∙ sym (append-nil was))
 
--- one more word was written
+-- a step of the loop: one more word was written
 pub word_written : (was middle now total : List ℕ) (first : Bool) (words : List Word) (i : ℕ) (word : Word) (gap inside : List Letter) → i < length words → word ≡ get_or words i word → word ≡ a_word gap inside → middle ≡ was ++ spelt (cond first [] gap) → now ≡ middle ++ spelt inside
     → was ++ spelt (word_letters first (drop i words)) ≡ total → now ++ spelt (word_letters false (drop (i + 1) words)) ≡ total
 word_written was middle now total first words i word gap inside within here is before following so_far =
@@ -151,7 +157,7 @@ word_written was middle now total first words i word gap inside within here is b
     ∙ append_assoc was (spelt (cond first [] gap)) (spelt inside ++ spelt rest)
     ∙ ap (λ l. was ++ l) (sym all) ∙ so_far
 
--- a text without bytes is one without characters
+-- a text has bytes exactly if it has characters
 pub is_nothing : (cs : List ℕ) → (length (encode_utf8_all cs) == 0) ≡ (length cs == 0)
 is_nothing [] = refl
 is_nothing (c ∷ cs) =

@@ -1,5 +1,5 @@
 -- Meaning: words of public contracts.
--- The words of a name, after "Tame the BeaST" by Nicolas Markey and as the Rust crate `biblatex` has them.
+-- The words of a name, after "Tame the BeaST" by Nicolas Markey and as in the Rust crate `biblatex`.
 use Rattle.std.specs.Prelude.{ℕ, Bool, true, false, not, ◌&&◌, ◌==◌, if◌then◌else◌, List, [], ◌∷◌, ◌++◌, length, map, encode_utf8_all}
 use Rattle.std.specs.List.{flat_map, prefix_len}
 use Rattle.std.specs.Char.{is_whitespace}
@@ -14,28 +14,29 @@ pub record Letter : Type 0 where
   pub char : ℕ
   pub is_verbatim : Bool
 
--- the characters of a text, each verbatim or not
+-- the characters of a text as letters, all verbatim if the flag says so
 abbrev pub as_letters : Bool → List ℕ → List Letter
 as_letters is_verbatim text = map (λ c. record { char = c; is_verbatim = is_verbatim }) (chars text)
 
--- math counts as not verbatim
+-- whether a chunk is verbatim; math isn't
 abbrev pub is_verbatim : Chunk → Bool
 is_verbatim (Normal text) = false
 is_verbatim (Verbatim text) = true
 is_verbatim (Math text) = false
 
--- the characters of chunks; the dollar signs round math are not among them
+-- the letters of chunks, without the dollar signs around math
 abbrev pub letters : List (Spanned Chunk) → List Letter
 letters = flat_map (λ c. as_letters (is_verbatim c.v) (text_of c.v))
 
--- words are separated by white space that is not verbatim
+-- a letter that separates words: white space that isn't verbatim
 abbrev pub is_gap : Letter → Bool
 is_gap l = is_whitespace l.char && not l.is_verbatim
 
--- how many letters stand in the gap, or in the word, at the start
+-- the length of the gap at the start, in letters
 abbrev pub gap_len : List Letter → ℕ
 gap_len letters = prefix_len is_gap letters
 
+-- the length of the word at the start, in letters
 abbrev pub word_len : List Letter → ℕ
 word_len letters = prefix_len (λ l. not (is_gap l)) letters
 
@@ -44,12 +45,12 @@ pub record Word : Type 0 where
   pub gap : List Letter
   pub letters : List Letter
 
--- the word of these letters and of the gap before it
+-- the word of these letters and this gap
 abbrev pub a_word : List Letter → List Letter → Word
 a_word gap letters = record { gap = gap; letters = letters }
 
--- words after one more letter: it belongs to the gap before the first word, is the first letter of that word, or is a
--- word where a gap or nothing follows
+-- the words of a letter followed by the letters of these words. The letter belongs to the gap before the first word, is
+-- the first letter of that word, or is a word by itself if a gap or nothing comes after it.
 abbrev pub words_with_letter : Letter → List Word → List Word
 words_with_letter l [] = if is_gap l then [] else a_word [] (l ∷ []) ∷ []
 words_with_letter l (word ∷ words) =
@@ -57,16 +58,16 @@ words_with_letter l (word ∷ words) =
     else if length word.gap == 0 then a_word [] (l ∷ word.letters) ∷ words
     else a_word [] (l ∷ []) ∷ word ∷ words
 
--- the words of some letters; a gap at the end is left out
+-- the words of letters; a gap at the end is dropped
 abbrev pub words_of : List Letter → List Word
 words_of [] = []
 words_of (l ∷ rest) = words_with_letter l (words_of rest)
 
--- what neighbouring words are in the source, but for the gap before the first of them
+-- the letters of neighbouring words with the gaps before them, except the gap before the first word if the flag says so
 abbrev pub word_letters : Bool → List Word → List Letter
 word_letters first [] = []
 word_letters first (word ∷ words) = (if first then [] else word.gap) ++ (word.letters ++ word_letters false words)
 
--- what stands from the first letter of neighbouring words to the last one, in bytes, without the white space at its ends
+-- the text from the first letter of neighbouring words to the last one, in bytes, without the white space at its ends
 abbrev pub text_of_words : List Word → List ℕ
 text_of_words words = trim (encode_utf8_all (map (λ l. l.char) (word_letters true words)))

@@ -1,5 +1,6 @@
 -- Meaning: words of public contracts.
--- Names of people, after "Tame the BeaST" by Nicolas Markey and, for names in parts, the BibLaTeX manual on name parts.
+-- Names of people, after "Tame the BeaST" by Nicolas Markey and, for names in the extended format, the BibLaTeX manual
+-- on name parts.
 use Rattle.std.specs.Prelude.{◌++◌, ℕ, ◌+◌, ◌-◌, Bool, false, not, ◌&&◌, ◌||◌, ◌==◌, if◌then◌else◌, List, [], ◌∷◌, length, map, take, drop, codes, encode_utf8_all, Option, Some, None, bytes_eq}
 use Rattle.std.specs.List.{list_any, prefix_len, before_last, after_last}
 use Rattle.std.specs.Option.{unwrap_or, option_map}
@@ -14,39 +15,41 @@ use Rattle.bib_people.specs.declared.person.Person.{Person}
 use Rattle.bib_people.specs.Letters.{Letter, letters, Word, words_of, text_of_words}
 use Rattle.bib_text.specs.Characters as char
 
--- whether there is a first letter, and it passes
+-- whether there is a first letter and it passes the test
 abbrev pub first_passes : (Letter → Bool) → List Letter → Bool
 first_passes test [] = false
 first_passes test (l ∷ rest) = test l
 
--- in a name without a comma a word is capital where it begins with a capital or verbatim letter, else lower
+-- whether a word is capital in a name without a comma: it begins with an uppercase or a verbatim letter
 abbrev pub is_capital : Word → Bool
 is_capital word = first_passes (λ l. l.is_verbatim || is_uppercase l.char) word.letters
 
+-- whether a word is lower in a name without a comma: it is not capital
 abbrev pub is_lower : Word → Bool
 is_lower word = not (is_capital word)
 
--- before a comma a word is low where it begins with a small or verbatim letter
+-- whether a word before a comma is low: it begins with a lowercase or a verbatim letter
 abbrev pub is_low : Word → Bool
 is_low word = first_passes (λ l. l.is_verbatim || is_lowercase l.char) word.letters
 
--- how many words stand at the start up to the first that fails
+-- the number of words before the first one that fails the test
 abbrev pub leading : (Word → Bool) → List Word → ℕ
 leading test words = prefix_len test words
 
--- how many words stand at the start up to the last that passes, this one included
+-- the number of words up to the last one that passes the test, this one included
 abbrev pub through_last : (Word → Bool) → List Word → ℕ
 through_last test [] = 0
 through_last test (word ∷ words) = if list_any test (word ∷ words) then 1 + through_last test words else 0
 
--- of how many words the given name is, and of how many after them the prefix; the rest are the name
+-- the number of words of the given name, and of the prefix after it; the other words are the family name
 pub record Cuts : Type 0 where
   pub given : ℕ
   pub prefix : ℕ
 
--- a name without a comma. The capital words at the start are the given name. If all are capital, the last is the name.
--- If a capital word follows in the rest, the name begins with the last run of capital words there: the prefix ends with the
--- last lower word before the last capital one. If none does, the last word is the name
+-- where a name without a comma is cut. The capital words at the start are the given name. If all words are capital, the
+-- last one is the family name. Otherwise, if another capital word comes later, the prefix ends with the last lower word
+-- before the last capital one. If no capital word comes later, the last word is the family name and those before it are
+-- the prefix.
 unfoldable pub whole_name : List Word → Cuts
 whole_name words =
     let given = leading is_capital words in
@@ -56,27 +59,30 @@ whole_name words =
     else if end == 0 then record { given = given; prefix = length more - 1 }
     else record { given = given; prefix = through_last is_lower (take end more) }
 
--- what stands before a comma: the prefix goes through the last low word; where all are low, the last word is the name
+-- where the words before a comma are cut: the prefix ends with the last low word. If all words are low, the last one is
+-- the family name.
 unfoldable pub before_comma : List Word → Cuts
 before_comma words =
     if leading is_low words == length words then record { given = 0; prefix = length words - 1 }
     else record { given = 0; prefix = through_last is_low words }
 
--- the texts of the parts of a name that is cut so
+-- the text of the given name of a name with these cuts
 abbrev pub given_text : Cuts → List Word → List ℕ
 given_text cuts words = text_of_words (take cuts.given words)
 
+-- the text of the prefix of a name with these cuts
 abbrev pub prefix_text : Cuts → List Word → List ℕ
 prefix_text cuts words = text_of_words (take cuts.prefix (drop cuts.given words))
 
+-- the text of the family name of a name with these cuts
 abbrev pub name_text : Cuts → List Word → List ℕ
 name_text cuts words = text_of_words (drop cuts.prefix (drop cuts.given words))
 
--- a text in bytes, without the white space at its ends
+-- the formatted text of chunks, in bytes, without the white space at its ends
 abbrev pub shown : List (Spanned Chunk) → List ℕ
 shown chunks = trim (encode_utf8_all (formatted chunks))
 
--- a person of the four parts alone
+-- a person with only the four parts of BibTeX
 abbrev pub person : List ℕ → List ℕ → List ℕ → List ℕ → Person
 person name given prefix suffix = record {
   name = name;
@@ -89,77 +95,91 @@ person name given prefix suffix = record {
   use_prefix = None;
 }
 
+-- the person of a name without a comma that has these cuts
 abbrev pub whole_person : Cuts → List Word → Person
 whole_person cuts words = person (name_text cuts words) (given_text cuts words) (prefix_text cuts words) []
 
+-- the person of the words of a name without a comma
 abbrev pub person_of_words : List Word → Person
 person_of_words words = whole_person (whole_name words) words
 
+-- the person of a name without a comma
 abbrev pub without_comma : List (Spanned Chunk) → Person
 without_comma chunks = person_of_words (words_of (letters chunks))
 
+-- whether a byte is a space
 abbrev pub is_space_byte : ℕ → Bool
 is_space_byte b = b == char.space
 
--- a name whose second part is blank: the text before the comma is cut at its last space
+-- the person of a name whose given name is empty: the text before the comma is cut at its last space
 abbrev pub at_last_space : List ℕ → List ℕ → Person
 at_last_space text suffix =
     if list_any is_space_byte text
     then person (trim (after_last is_space_byte text)) [] (trim (before_last is_space_byte text)) suffix
     else person (trim text) [] [] suffix
 
--- whether chunks are a single one that formats to nothing
+-- whether there is a single chunk and it formats to the empty text
 abbrev pub formats_to_nothing : List (Spanned Chunk) → Bool
 formats_to_nothing chunks = length chunks == 1 && length (formatted chunks) == 0
 
+-- the person of a name that has these cuts before its comma
 abbrev pub cut_person : Cuts → List Word → List ℕ → List ℕ → Person
 cut_person cuts words given suffix = person (name_text cuts words) given (prefix_text cuts words) suffix
 
+-- the person of the words before a comma, the given name and the suffix
 abbrev pub before_comma_person : List Word → List ℕ → List ℕ → Person
 before_comma_person words given suffix = cut_person (before_comma words) words given suffix
 
--- a name with a comma: what stands before the first one, and after the first or, with a suffix, the second
+-- the person of a name with a comma. `first` is the chunks before the first comma. `second` is the chunks of the given
+-- name: those after the first comma, or after the second one if there is a suffix.
 abbrev pub with_comma : List (Spanned Chunk) → List (Spanned Chunk) → List ℕ → Person
 with_comma first second suffix =
     if formats_to_nothing second then at_last_space (encode_utf8_all (formatted first)) suffix
     else before_comma_person (words_of (letters first)) (shown second) suffix
 
+-- the person of a name with a comma, given the chunks before and after the first one, and their cut at a second one
 abbrev pub with_commas : List (Spanned Chunk) → List (Spanned Chunk) → Option (List (Spanned Chunk) × List (Spanned Chunk)) → Person
 with_commas first second None = with_comma first second []
 with_commas first second (Some cut) = with_comma first cut.1 (shown cut.0)
 
+-- the person of a name, given its cut at the first comma
 abbrev pub cut_by_commas : List (Spanned Chunk) → Option (List (Spanned Chunk) × List (Spanned Chunk)) → Person
 cut_by_commas chunks None = without_comma chunks
 cut_by_commas chunks (Some cut) = with_commas cut.0 cut.1 (cut_at cut.1 char.comma)
 
+-- the person of a name that is cut by commas
 abbrev pub by_commas : List (Spanned Chunk) → Person
 by_commas chunks = cut_by_commas chunks (cut_at chunks char.comma)
 
--- names in parts: a comma list of `key=value`
+-- names in the extended format: a comma list of `key=value`
 
 -- a key and a value
 abbrev pub KeyValue : Type 0
 KeyValue = List ℕ × List ℕ
 
--- without an equals sign the value is empty
+-- a key and a value, given the chunks and their cut at the equals sign; without an equals sign the value is empty
 abbrev pub part_cut : List (Spanned Chunk) → Option (List (Spanned Chunk) × List (Spanned Chunk)) → KeyValue
 part_cut chunks None = (shown chunks, [])
 part_cut chunks (Some cut) = (shown cut.0, shown cut.1)
 
+-- the key and the value of a part
 abbrev pub key_value_of : List (Spanned Chunk) → KeyValue
 key_value_of chunks = part_cut chunks (cut_at chunks char.equals)
 
+-- the keys of a name with their values
 abbrev pub parts_of : List (Spanned Chunk) → List KeyValue
 parts_of chunks = map key_value_of (comma_list chunks)
 
--- the value of a key, given the one that was found before; of two the last stands
+-- the value of a key, given the one that was found before; the last one counts
 abbrev pub value_after : Option (List ℕ) → List ℕ → List KeyValue → Option (List ℕ)
 value_after found key [] = found
 value_after found key (part ∷ parts) = value_after (if bytes_eq part.0 key then Some part.1 else found) key parts
 
+-- the value of a key, the last one if the key occurs more than once
 abbrev pub last_value : List ℕ → List KeyValue → Option (List ℕ)
 last_value = value_after None
 
+-- the person with these parts
 unfoldable pub person_of_parts : List KeyValue → Person
 person_of_parts parts = record {
   name = unwrap_or (last_value (codes "family") parts) [];
@@ -172,23 +192,25 @@ person_of_parts parts = record {
   use_prefix = option_map (λ v. bytes_eq v (codes "true")) (last_value (codes "useprefix") parts);
 }
 
+-- the person of a name in the extended format
 abbrev pub in_parts : List (Spanned Chunk) → Person
 in_parts chunks = person_of_parts (parts_of chunks)
 
--- whether an equals sign stands in a chunk of any kind
+-- whether a chunk of any kind contains an equals sign
 abbrev pub is_in_parts : List (Spanned Chunk) → Bool
 is_in_parts chunks = list_any (λ c. list_any (λ b. b == char.equals) (text_of c.v)) chunks
 
--- the person that chunks name
+-- the person that chunks name: in the extended format if a chunk contains an equals sign, otherwise cut by commas
 unfoldable pub person_of : List (Spanned Chunk) → Person
 person_of chunks = if is_in_parts chunks then in_parts chunks else by_commas chunks
 
--- a name as it is shown
+-- the display form of a name
 
--- one space beside a text, or nothing beside an empty one
+-- one space, or nothing if the text is empty
 abbrev pub gap_beside : List ℕ → List ℕ
 gap_beside text = if length text == 0 then [] else char.space ∷ []
 
--- given name, prefix, name and suffix, those that are not empty separated by single spaces; the name stands there always
+-- given name, prefix, family name and suffix: a space comes after a given name or a prefix that isn't empty, and before
+-- a suffix that isn't empty
 abbrev pub shown_person : Person → List ℕ
 shown_person p = p.given_name ++ (gap_beside p.given_name ++ (p.prefix ++ (gap_beside p.prefix ++ (p.name ++ (gap_beside p.suffix ++ p.suffix)))))

@@ -1,5 +1,5 @@
 -- Meaning: words of public contracts.
--- Lists of people, as they are read and written.
+-- Lists of people, as they are parsed and written.
 use Rattle.std.specs.Prelude.{ℕ, ◌==◌, ◌||◌, Bool, true, false, if◌then◌else◌, List, [], ◌∷◌, ◌++◌, length, map, codes, Option, Some, None, is_some}
 use Rattle.std.specs.Str.{chars}
 use Rattle.unicode.specs.Binary.{is_uppercase}
@@ -9,72 +9,80 @@ use Rattle.bib_chunks.specs.Values.{Value, nowhere}
 use Rattle.bib_people.specs.declared.person.Person.{Person}
 use Rattle.bib_people.specs.Names.{person_of}
 
--- the people that chunks name
+-- the people in an `and` list, one for each part of it
 abbrev pub people_of : Value → List Person
 people_of chunks = map person_of (and_list chunks)
 
--- a person of the four parts alone
+-- a person with only the four parts of BibTeX
 
--- a suffix and the comma after it, if there is one
+-- a suffix and a comma after it; nothing if the suffix is empty
 abbrev pub suffix_text : List ℕ → List ℕ
 suffix_text suffix = if length suffix == 0 then [] else suffix ++ codes ", "
 
--- name, suffix and given name
+-- family name, suffix and given name, with commas between them
 abbrev pub after_prefix : Person → List ℕ
 after_prefix p = p.name ++ (codes ", " ++ (suffix_text p.suffix ++ p.given_name))
 
+-- whether characters begin with an uppercase letter
 abbrev pub begins_capital : List ℕ → Bool
 begins_capital [] = false
 begins_capital (c ∷ cs) = is_uppercase c
 
--- one normal chunk; a prefix that begins with a capital is a verbatim one before it
+-- the chunks of such a person: one normal chunk, with a verbatim one before it for a prefix that begins in upper case
 abbrev pub plain_chunks : Person → Value
 plain_chunks p =
     if length p.prefix == 0 then nowhere (Normal (after_prefix p)) ∷ []
     else if begins_capital (chars p.prefix) then nowhere (Verbatim p.prefix) ∷ nowhere (Normal (codes " " ++ after_prefix p)) ∷ []
     else nowhere (Normal (p.prefix ++ (codes " " ++ after_prefix p))) ∷ []
 
--- a person in parts
+-- a person in the extended format
 
--- a key, with what stands before it and the equals sign, and its value
+-- a key and its value: a normal chunk and a verbatim one. `key` contains the comma before the key and the equals sign.
 unfoldable pub keyed : List ℕ → List ℕ → Value
 keyed key value = nowhere (Normal key) ∷ nowhere (Verbatim value) ∷ []
 
+-- a key and its value, if there is a value
 abbrev pub keyed_some : List ℕ → Option (List ℕ) → Value
 keyed_some key None = []
 keyed_some key (Some value) = keyed key value
 
+-- the text of a flag
 abbrev pub flag_text : Bool → List ℕ
 flag_text true = codes "true"
 flag_text false = codes "false"
 
+-- a key and its flag, if there is a flag
 abbrev pub keyed_flag : List ℕ → Option Bool → Value
 keyed_flag key None = []
 keyed_flag key (Some flag) = keyed key (flag_text flag)
 
+-- the four parts of a person with their keys
 abbrev pub four_keys : Person → Value
 four_keys p = keyed (codes "given=") p.given_name ++ (keyed (codes ", family=") p.name ++ (keyed (codes ", prefix=") p.prefix ++ keyed (codes ", suffix=") p.suffix))
 
+-- the optional parts of a person with their keys
 abbrev pub more_keys : Person → Value
 more_keys p = keyed_some (codes ", id=") p.id ++ (keyed_some (codes ", prefix-i=") p.prefix_initials ++ (keyed_some (codes ", given-i=") p.given_initials ++ keyed_flag (codes ", useprefix=") p.use_prefix))
 
--- whether one of the optional parts is there
+-- whether a person has one of the optional parts
 abbrev pub has_more : Person → Bool
 has_more p = is_some p.id || (is_some p.prefix_initials || (is_some p.given_initials || is_some p.use_prefix))
 
 -- people
 
+-- the chunks of a person, with keys if it has one of the optional parts
 abbrev pub person_chunks : Person → Value
 person_chunks p = if has_more p then four_keys p ++ more_keys p else plain_chunks p
 
--- the same, after the word `and` for all but the first
+-- the chunks of a person, after the word `and` unless it is the first
 abbrev pub joined_person : Bool → Person → Value
 joined_person first p = if first then person_chunks p else nowhere (Normal (codes " and ")) ∷ person_chunks p
 
+-- the chunks of people; the flag says whether the first of them is the first of the list
 abbrev pub people_from : Bool → List Person → Value
 people_from first [] = []
 people_from first (p ∷ people) = joined_person first p ++ people_from false people
 
--- the chunks that are written for people
+-- people as an `and` list
 abbrev pub people_chunks : List Person → Value
 people_chunks = people_from true

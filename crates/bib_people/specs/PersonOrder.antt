@@ -7,12 +7,12 @@ use Rattle.std.specs.Ordering.{bool_cmp, nat_cmp, ordering_then}
 use Rattle.std.specs.declared.cmp.Ordering.{Ordering}
 use Rattle.bib_people.specs.declared.person.Person.{Person}
 
--- texts in the order of their bytes
+-- the order of texts, by their bytes
 abbrev pub text_cmp : List ℕ → List ℕ → Ordering
 text_cmp = slice_cmp nat_cmp
 
--- the order of two people: the first of these fields in which they differ decides. An absent optional field comes before a
--- present one, and `false` before `true`
+-- the order of two people: the first of these fields in which they differ decides. An absent optional field comes
+-- before a present one, and `false` before `true`
 abbrev pub person_cmp : Person → Person → Ordering
 person_cmp p q =
     ordering_then (text_cmp p.name q.name)

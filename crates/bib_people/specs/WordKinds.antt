@@ -1,5 +1,5 @@
 -- Machinery: words of private contracts.
--- What the code's own types stand for.
+-- The types of the program as those of the definitions.
 use Rattle.std.specs.Prelude.{◌≡◌, ℕ, ◌+◌, ◌<◌, Bool, true, List, length, take, drop}
 use Rattle.std.specs.List.{list_any, before_last, after_last}
 use Rattle.std.specs.Str.{IsCharBoundary}
@@ -9,17 +9,17 @@ use Rattle.bib_people.specs.declared.person.cuts.Cuts.{Cuts as TheCuts}
 use Rattle.bib_people.specs.Letters.{Word}
 use Rattle.bib_people.specs.Names.{Cuts, is_capital, is_lower, is_low, is_space_byte}
 
--- the test for words of a kind
+-- the test of words for a kind
 abbrev pub is_of : Kind → Word → Bool
 is_of Capital = is_capital
 is_of Lower = is_lower
 is_of Low = is_low
 
--- where the code cuts a name
+-- where the program cuts a name
 abbrev pub cuts_of : TheCuts → Cuts
 cuts_of cuts = record { given = cuts.given; prefix = cuts.prefix }
 
--- where the last space of a text stands
+-- `at` is the position of the last space of a text, in bytes
 pub record IsLastSpace (text : List ℕ) (at : ℕ) : Type 0 where
   pub some : list_any is_space_byte text ≡ true
   pub within : at < length text

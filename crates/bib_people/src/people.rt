@@ -1,4 +1,4 @@
-//! Lists of people.
+//! Parses and writes lists of people.
 
 ghost use Rattle.std.specs.Prelude.{◌≡◌, ◌++◌, OnOk, IfOk, codes};
 ghost use Rattle.std.specs.Str.{chars};
@@ -13,7 +13,7 @@ use bib_text::text::Text;
 use std::alloc::{AllocError, Global};
 use unicode::properties::is_uppercase;
 
-/// The people that chunks name: the parts of an `and` list.
+/// Returns the people in an `and` list, one for each part of it. The only error is out of memory.
 pub fn read_people(alloc: Global, chunks: ChunksRef<'_>) -> Result<Vec<Person>, AllocError>
     ensures { IfOk result (λ people. people.items ≡ people_of chunks.now) }
 {
@@ -25,7 +25,7 @@ pub fn read_people(alloc: Global, chunks: ChunksRef<'_>) -> Result<Vec<Person>, 
     Ok(people)
 }
 
-// Writes a suffix and the comma after it, if there is one.
+// Writes a suffix and a comma after it, if there is one.
 fn write_suffix(out: &mut Text, suffix: &Text) -> Result<(), AllocError>
     ensures { OnOk result (out.new ≡ out.old ++ suffix_text suffix.now) }
 {
@@ -36,7 +36,7 @@ fn write_suffix(out: &mut Text, suffix: &Text) -> Result<(), AllocError>
     Ok(())
 }
 
-// Writes name, suffix and given name.
+// Writes name, suffix and given name, with commas between them.
 fn write_after_prefix(out: &mut Text, person: &Person) -> Result<(), AllocError>
     ensures { OnOk result (out.new ≡ out.old ++ after_prefix person.now) }
 {
@@ -47,7 +47,7 @@ fn write_after_prefix(out: &mut Text, person: &Person) -> Result<(), AllocError>
     Ok(())
 }
 
-// Whether the text begins with a capital.
+// Returns whether the text begins with an uppercase letter.
 fn begins_capital(text: &str) -> bool
     ensures { result ≡ begins_capital (chars text.now) }
 {
@@ -57,7 +57,7 @@ fn begins_capital(text: &str) -> bool
     is_uppercase(c)
 }
 
-// Writes a person of the four parts alone.
+// Writes a person that has only the four parts of BibTeX.
 fn push_plain(alloc: Global, all: &mut Chunks, person: &Person) -> Result<(), AllocError>
     ensures { OnOk result (all.new ≡ all.old ++ plain_chunks person.now) }
 {
@@ -78,7 +78,7 @@ fn push_plain(alloc: Global, all: &mut Chunks, person: &Person) -> Result<(), Al
     push_normal(all, text)
 }
 
-// Writes a key and its value.
+// Writes a key and its value. `key` contains the comma before the key and the equals sign.
 #[tactic(auto, unfolding(crate::specs::People::keyed))]
 fn push_keyed(alloc: Global, all: &mut Chunks, key: &str, value: &str) -> Result<(), AllocError>
     ensures { OnOk result (all.new ≡ all.old ++ keyed key.now value.now) }
@@ -87,7 +87,7 @@ fn push_keyed(alloc: Global, all: &mut Chunks, key: &str, value: &str) -> Result
     push_verbatim(all, Text::from_str(alloc, value)?)
 }
 
-// Writes a key and its value, if there is one.
+// Writes a key and its value, if there is a value.
 fn push_some(
     alloc: Global,
     all: &mut Chunks,
@@ -102,7 +102,7 @@ fn push_some(
     }
 }
 
-// Writes a key and its flag, if there is one.
+// Writes a key and its flag, if there is a flag.
 fn push_flag(
     alloc: Global,
     all: &mut Chunks,
@@ -138,7 +138,7 @@ fn push_more_keys(alloc: Global, all: &mut Chunks, person: &Person) -> Result<()
     push_flag(alloc, all, ", useprefix=", person.use_prefix)
 }
 
-// Whether one of the optional parts is there.
+// Returns whether the person has one of the optional parts.
 fn has_more(person: &Person) -> bool
     ensures { result ≡ has_more person.now }
 {
@@ -148,7 +148,7 @@ fn has_more(person: &Person) -> bool
         || person.use_prefix.is_some()
 }
 
-// Writes a person.
+// Writes a person, with keys if it has one of the optional parts.
 fn push_person(alloc: Global, all: &mut Chunks, person: &Person) -> Result<(), AllocError>
     ensures { OnOk result (all.new ≡ all.old ++ person_chunks person.now) }
 {
@@ -174,7 +174,8 @@ fn push_joined(
     push_person(alloc, all, person)
 }
 
-/// The chunks of people; they stand nowhere.
+/// Returns people as an `and` list, whose chunks have detached spans: both ends are `usize::MAX`. The only error is out
+/// of memory.
 pub fn people_chunks(alloc: Global, people: &[Person]) -> Result<Chunks, AllocError>
     ensures { IfOk result (λ all. all ≡ people_chunks people.now) }
 {

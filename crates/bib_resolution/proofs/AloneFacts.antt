@@ -4,9 +4,9 @@ use Rattle.std.specs.List.{AllByRecursion}
 use Rattle.bib_entry.specs.declared.entry.Entry.{Entry}
 use Rattle.bib_file_entries.specs.Claiming.{IsLoadedSoFar}
 use Rattle.bib_file_entries.specs.Loaded.{definition_in}
-use Rattle.bib_maps.specs.Sorted.{ByText}
+use Rattle.bib_collections.specs.Sorted.{ByText}
 use Rattle.std.specs.Prelude.{ℕ}
-use Rattle.bib_references.specs.Resolving.{graph_by}
+use Rattle.bib_inheritance.specs.Resolving.{graph_by}
 use Rattle.bib_resolution.specs.Resolutions.{StandsAlone}
 use Rattle.bib_syntax.specs.Grammar.{IsRawReading}
 use Rattle.bib_syntax.specs.Reading.{FileReading}

@@ -11,11 +11,12 @@ use Rattle.std.specs.List.{AllByRecursion, AllZip}
 use Rattle.bib_chunks.specs.Styled.{atoms_of, styled}
 use Rattle.bib_chunks.specs.declared.chunk.Chunk.{Chunk}
 use Rattle.bib_entry.specs.declared.entry.Entry.{Entry}
-use Rattle.bib_inheritance.specs.Sources.{fields_of}
-use Rattle.bib_maps.specs.Sorted.{ByText, by_bytes}
+use Rattle.bib_inheritance.specs.EntryTexts.{fields_of}
+use Rattle.bib_collections.specs.Sorted.{ByText, by_bytes}
 use Rattle.bib_resolution.specs.Pairs.{IsPairKept}
 use Rattle.bib_resolution.specs.Resolutions.{HasSameField, SaysSame}
 use Rattle.bib_text.specs.declared.spanned.Spanned.{Spanned}
+use Rattle.bib_text.proofs.ListFacts.{some_same}
 
 -- ---- chunks
 
@@ -29,9 +30,6 @@ module _ (a b : List (Spanned Chunk)) (i : ℕ) (x y : Spanned Chunk) (within : 
       so_far (chunk_left a x within is ∙ ap (λ v. atoms_of v ++ styled (drop (i + 1) a)) same ∙ ap (λ l. atoms_of y.v ++ l) rest ∙ sym (chunk_left b y within' is'))
 
 -- ---- fields
-
-some_same : {A : Type 0} {x y : A} → Some x ≡ Some y → x ≡ y
-some_same e = cc
 
 -- what holds of each pair holds of the one that is found
 found_holds : {V : Type 0} (P : List ℕ × V → Type 0) (es : List (List ℕ × V)) (name : List ℕ) (v : V) → AllByRecursion P es → find by_bytes name es ≡ Some v → P (name, v)

@@ -2,10 +2,10 @@
 use Rattle.std.proofs.Common.{◌≡◌, ◌+◌, ◌<◌, ◌≤◌, ℕ, zero, suc, Bool, true, false, cond, List, [], ◌∷◌, ◌++◌, length, map, take, get_or, refl, sym, ap, ap₂, ◌∙◌, subst, arith, append_assoc, append-nil}
 use Rattle.std.specs.Borrow.{Bor}
 use Rattle.std.specs.BTreeSet.{BTreeSet}
-use Rattle.std.specs.Cmp.Lexicographic.{pointwise}
+use Rattle.std.specs.Cmp.Lexicographic.{pointwise, same_text}
 use Rattle.std.specs.List.{AllByRecursion, Contains, flat_map}
 use Rattle.std.specs.Prelude.{◌&&◌, IsTrue, bytes_eq, nat_eq}
-use Rattle.std.proofs.lemmas.Bool.{eqb-true}
+use Rattle.std.proofs.lemmas.Bool.{eqb-true, and_parts}
 use Rattle.std.proofs.lemmas.List.{map-append, take_more}
 use Rattle.std.proofs.lemmas.List.Concat.{flat_map-append}
 use Rattle.std.proofs.lemmas.List.Elements.{Contains-append_left, Contains-append_right}
@@ -16,18 +16,6 @@ use Rattle.bib_documents.specs.Placed.{IsPlaced}
 use Rattle.bib_strings.proofs.ExpandFacts.{all_placed}
 use Rattle.bib_syntax.specs.Reading.{EntryReading}
 use Rattle.bib_resolution.specs.ValueSets.{HasOnly}
-
-both : (x y : Bool) → (x && y) ≡ true → (x ≡ true) × (y ≡ true)
-both true y is = (refl, is)
-both false y is = absurd (cc)
-
-same_bytes : (xs ys : List ℕ) → pointwise nat_eq xs ys ≡ true → xs ≡ ys
-same_bytes [] [] is = refl
-same_bytes [] (y ∷ ys) is = absurd (cc)
-same_bytes (x ∷ xs) [] is = absurd (cc)
-same_bytes (x ∷ xs) (y ∷ ys) is =
-    let b = both (nat_eq x y) (pointwise nat_eq xs ys) is in
-    ap₂ (λ z zs. z ∷ zs) (eqb-true x y b.0) (same_bytes xs ys b.1)
 
 pub true_is : (b : Bool) → IsTrue b → b ≡ true
 true_is b is = is
@@ -51,8 +39,8 @@ same_texts [] [] is = refl
 same_texts [] (y ∷ ys) is = absurd (cc)
 same_texts (x ∷ xs) [] is = absurd (cc)
 same_texts (x ∷ xs) (y ∷ ys) is =
-    let b = both (pointwise nat_eq x.now y.now) (pointwise (λ x y. pointwise nat_eq x.now y.now) xs ys) is in
-    ap₂ (λ z zs. z ∷ zs) (same_bytes x.now y.now b.0) (same_texts xs ys b.1)
+    let b = and_parts (pointwise nat_eq x.now y.now) (pointwise (λ x y. pointwise nat_eq x.now y.now) xs ys) is in
+    ap₂ (λ z zs. z ∷ zs) (same_text x.now y.now (sym b.0)) (same_texts xs ys b.1)
 
 -- ---- values in a set
 

@@ -3,8 +3,8 @@
 use Rattle.std.specs.Prelude.{◌≡◌, ◌⊎◌, ℕ, List, None, Some, true}
 use Rattle.bib_chunks.specs.Styled.{styled}
 use Rattle.bib_chunks.specs.declared.chunk.Chunk.{Chunk}
-use Rattle.bib_inheritance.specs.Sources.{fields_of}
-use Rattle.bib_maps.specs.Sorted.{ByText}
+use Rattle.bib_inheritance.specs.EntryTexts.{fields_of}
+use Rattle.bib_collections.specs.Sorted.{ByText}
 use Rattle.bib_resolution.specs.Resolutions.{is_link}
 use Rattle.bib_text.specs.declared.spanned.Spanned.{Spanned}
 

@@ -7,11 +7,11 @@ use Rattle.bib_text.specs.Places.{between, place}
 use Rattle.bib_syntax.specs.Grammar.{IsRawReading}
 use Rattle.bib_syntax.specs.Reading.{EntryReading, FieldReading, FileReading}
 use Rattle.bib_entry.specs.declared.entry.Entry.{Entry}
-use Rattle.bib_entry_types.specs.Requirements.{is_one_of}
-use Rattle.bib_entry_types.specs.contracts.mechanics.EntryTypePartialEq.TheImpl as types
-use Rattle.bib_entry_types.specs.declared.mechanics.EntryType.{EntryType}
+use Rattle.bib_tables.specs.Requirements.{is_one_of}
+use Rattle.bib_tables.specs.contracts.mechanics.EntryTypePartialEq.TheImpl as types
+use Rattle.bib_tables.specs.declared.mechanics.EntryType.{EntryType}
 use Rattle.bib_file_entries.specs.Bibliography.{Bibliography}
-use Rattle.bib_inheritance.specs.Sources.{FieldTexts, fields_of}
+use Rattle.bib_inheritance.specs.EntryTexts.{FieldTexts, fields_of}
 use Rattle.bib_documents.specs.Documents.{Document, IsDocument, has_name, value_stretch}
 use Rattle.bib_resolution.specs.declared.errors.ResolveError.{ResolveError}
 use Rattle.bib_resolution.specs.declared.errors.ResolveError.TheVariants.{File, Differs, Unlike, OutOfMemory}
@@ -33,7 +33,7 @@ is_same_type = types.ghosts.eq
 -- an entry says what another does, with the same styled texts, but that fields which lead to entries may be gone
 pub record SaysSame (old new : Entry) : Type 0 where
   pub key : new.key ≡ old.key
-  pub kind : is_same_type old.entry_type new.entry_type ≡ true
+  pub entry_type : is_same_type old.entry_type new.entry_type ≡ true
   pub fields : (name : List ℕ) → HasSameField (fields_of old.fields) (fields_of new.fields) name
 
 -- no entry of a text refers to one

@@ -2,13 +2,13 @@
 
 ghost use Rattle.std.specs.Prelude.{◌≡◌, [], IfOk, IsTrue};
 ghost use Rattle.std.specs.List.{AllByRecursion};
-ghost use Rattle.bib_references.specs.Resolving.{graph_by};
+ghost use Rattle.bib_inheritance.specs.Resolving.{graph_by};
 ghost use Rattle.bib_resolution.specs.Resolutions.{StandsAlone};
 
+use bib_collections::names::Names;
 use bib_entry::entry::Entry;
 use bib_file_entries::reading::load;
-use bib_inheritance::references::references;
-use bib_maps::names::Names;
+use bib_inheritance::reference_names::references;
 use bib_syntax::raw::{ParseError, RawBibliography};
 use std::alloc::{AllocError, Global};
 

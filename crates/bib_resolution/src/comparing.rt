@@ -9,8 +9,8 @@ ghost use Rattle.bib_resolution.specs.Resolutions.{SaysSame, is_same_type};
 
 use crate::fates::is_link;
 use bib_chunks::chunk::{Chunk, Chunks, ChunksRef};
+use bib_collections::text_map::TextMap;
 use bib_entry::entry::Entry;
-use bib_maps::text_map::TextMap;
 
 // Where two lists of entries differ: at this index, in the field of this name, or where that is empty in the key, in the type, or in
 // that there is no such entry.
@@ -84,7 +84,7 @@ fn added<'f>(fields: &'f TextMap<Chunks>, others: &TextMap<Chunks>) -> Option<&'
 // Whether an entry has the key and the type of another.
 fn is_same_head(old: &Entry, new: &Entry) -> bool
     ensures key { IsTrue result → new.now.key ≡ old.now.key }
-    ensures kind { IsTrue result → is_same_type old.now.entry_type new.now.entry_type ≡ true }
+    ensures entry_type { IsTrue result → is_same_type old.now.entry_type new.now.entry_type ≡ true }
 {
     old.key.as_str() == new.key.as_str() && old.entry_type == new.entry_type
 }

@@ -4,8 +4,8 @@ ghost use Rattle.std.specs.Prelude.{◌≡◌};
 ghost use Rattle.bib_resolution.specs.Resolutions as spec;
 
 use bib_chunks::chunk::{Chunks, format_styled};
+use bib_collections::names::Names;
 use bib_entry::entry::Entry;
-use bib_maps::names::Names;
 use bib_syntax::raw::Pair;
 use std::alloc::{AllocError, Global};
 use std::collections::BTreeSet;

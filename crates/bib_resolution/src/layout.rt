@@ -2,8 +2,8 @@
 
 use crate::stretches::{cut, white_at_end};
 use bib_chunks::chunk::{Chunks, value_text};
-use bib_entry_types::fields::is_verbatim_field;
 use bib_syntax::raw::Pair;
+use bib_tables::fields::is_verbatim_field;
 use std::alloc::{AllocError, Global};
 
 // The layout of the field that gives way: the white space before it, and the equals sign between its name and its value.

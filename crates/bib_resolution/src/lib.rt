@@ -1,4 +1,4 @@
-//! A bibliography file's text in which each entry has what it inherits in fields of its own, and refers to no other.
+//! Writes the fields that entries inherit into the entries of a file.
 //!
 //! What an entry inherits is found by the library's own resolving, over entries whose chunks stand where the value of their field
 //! stands in the file (`places`): so each inherited field leads to the text that it has there. `fates` says what becomes of an entry's

@@ -3,12 +3,12 @@
 ghost use Rattle.std.specs.Prelude.{◌≡◌, IfOk, length};
 
 use bib_chunks::chunk::{Chunk, Chunks, Span, Spanned};
+use bib_collections::names::Names;
+use bib_collections::text_map::TextMap;
 use bib_documents::document::RawDocument;
 use bib_entry::entry::Entry;
 use bib_file_entries::reading::load;
-use bib_maps::names::Names;
-use bib_maps::text_map::TextMap;
-use bib_references::resolving::resolve;
+use bib_inheritance::resolving::resolve;
 use bib_syntax::raw::{Pair, ParseError, RawEntry};
 use bib_text::items::Items;
 use bib_text::text::Text;

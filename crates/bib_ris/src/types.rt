@@ -5,7 +5,7 @@ ghost use Rattle.std.specs.Option.{option_copied};
 ghost use Rattle.bib_ris.specs.Types as spec;
 
 use bib_chunks::chunk::{ChunksRef, format_verbatim};
-use bib_entry_types::mechanics::EntryType;
+use bib_tables::mechanics::EntryType;
 use std::alloc::{AllocError, Global};
 
 // The type of an article, by the text of its `entrysubtype`.

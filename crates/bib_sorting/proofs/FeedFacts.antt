@@ -14,13 +14,14 @@ use Rattle.bib_syntax.specs.Grammar.{Body as body}
 use Rattle.bib_syntax.proofs.FieldFacts.{ahead_fields, ahead_gap, ahead_quoted}
 use Rattle.bib_syntax.proofs.FileFacts.{ahead_block, ahead_head, ahead_line_comment}
 use Rattle.bib_documents.specs.Edits.{moved_file}
-use Rattle.bib_documents.proofs.BoundaryFacts.{not_over}
+use Rattle.bib_text.proofs.BoundaryFacts.{not_over}
 use Rattle.bib_documents.proofs.GrammarFacts.{block_there, line_comment_there, moved-then}
 use Rattle.bib_documents.proofs.SplitFacts.{FileBefore, ahead_file_before}
 use Rattle.bib_documents.proofs.ZoneFacts.{Frame, Zone, Inside, there, inside_between, char_there}
 use Rattle.bib_format.proofs.ElementFacts.{one_byte, parted}
 use Rattle.bib_sorting.specs.Sorted.{has_block_sign}
 use Rattle.bib_sorting.proofs.PlainFacts.{Plain, before_plain, none_in_line}
+use Rattle.std.proofs.Math.Bool.{or-true}
 
 -- ---- a text without signs of blocks
 
@@ -68,10 +69,6 @@ body_end (body.entry {z = z} key_end key white comma gap fs closes) = record {
   is = inl refl;
 }
 
-or_true : (x : Bool) → (x || true) ≡ true
-or_true true = refl
-or_true false = refl
-
 -- a character of ASCII that stands between two places
 byte_there : {m z v s : Place} (c : ℕ) → c < 128 → Ahead m z → CharAt z c v → Ahead v s → s.at ≤ length m.text → has_byte c (between m s) ≡ true
 byte_there {m} {z} {v} {s} c small first char rest within =
@@ -79,7 +76,7 @@ byte_there {m} {z} {v} {s} c small first char rest within =
     let later : has_byte c (between z s) ≡ true =
     ap (has_byte c) (parted (ahead_char char) rest within' ∙ ap (λ t. t ++ between v s) (one_byte c small char)) ∙ ap (λ b. b || has_byte c (between v s)) (eq-eqb c c refl) in
     ap (has_byte c) (parted first (ahead_then (ahead_char char) rest) within) ∙ list_any-append (λ b. b == c) (between m z) (between z s)
-    ∙ ap (λ b. has_byte c (between m z) || b) later ∙ or_true (has_byte c (between m z))
+    ∙ ap (λ b. has_byte c (between m z) || b) later ∙ or-true (has_byte c (between m z))
 
 -- a character that stands at a block's end stands before a line feed in it no more than at it
 sign_over : {l m z v s : Place} (c : ℕ) → c < 128 → (c == 10) ≡ false → l.text ≡ z.text → CharAt l 10 m → CharAt z c v → l.at < v.at → Ahead v s → s.at ≤ length m.text → has_byte c (between m s) ≡ false → ⊥

@@ -6,13 +6,10 @@ use Rattle.std.specs.Char.{is_ascii_whitespace}
 use Rattle.std.specs.List.{after_first, before_first, list_all, position_or_len}
 use Rattle.std.proofs.lemmas.Bool.{eqb-true}
 use Rattle.bib_sorting.specs.Sorted.{after_blank_line, kept_after}
+use Rattle.std.proofs.Math.Bool.{and-true}
 
 abbrev pub is_feed : ℕ → Bool
 is_feed b = eqb b 10
-
-and_true : (b : Bool) → (b && true) ≡ b
-and_true true = refl
-and_true false = refl
 
 and_assoc : (a b c : Bool) → ((a && b) && c) ≡ (a && (b && c))
 and_assoc true b c = refl
@@ -29,7 +26,7 @@ line_passed blank kept (b ∷ bs) within = by_feed (is_feed b) within (λ c less
         → after_blank_line c kept bs ≡ after_blank_line true (kept_after (c && list_all is_ascii_whitespace (before_first is_feed bs)) (after_first is_feed bs) kept) (after_first is_feed bs))
         → cond x (after_blank_line true (kept_after blank bs kept) bs) (after_blank_line (blank && is_ascii_whitespace b) kept bs)
         ≡ after_blank_line true (kept_after (blank && list_all is_ascii_whitespace (take (cond (not x) (1 + position_or_len is_feed bs) 0) (b ∷ bs))) (drop (cond (not x) (1 + position_or_len is_feed bs) 0 + 1) (b ∷ bs)) kept) (drop (cond (not x) (1 + position_or_len is_feed bs) 0 + 1) (b ∷ bs))
-    by_feed true within' more_lines = ap (λ c. after_blank_line true (kept_after c bs kept) bs) (sym (and_true blank))
+    by_feed true within' more_lines = ap (λ c. after_blank_line true (kept_after c bs kept) bs) (sym (and-true blank))
     by_feed false within' more_lines =
         let more : suc (position_or_len is_feed bs) ≡ 1 + position_or_len is_feed bs = omega arith in
         let next : suc (position_or_len is_feed bs + 1) ≡ 1 + position_or_len is_feed bs + 1 = omega arith in

@@ -3,7 +3,7 @@ use Rattle.std.proofs.Common.{◌≡◌, inl, inr, ℕ, ◌<◌, ◌≤◌, Bool
 use Rattle.std.specs.Prelude.{◌==◌, ◌&&◌, ◌||◌, not}
 use Rattle.std.specs.Char.{is_ascii_whitespace}
 use Rattle.std.specs.List.{list_all}
-use Rattle.std.proofs.lemmas.Bool.{cases_lt, eqb-true, not-false}
+use Rattle.std.proofs.lemmas.Bool.{cases_lt, eqb-true, not-false, and_parts}
 use Rattle.std.proofs.lemmas.Bool.Decides.{nat_tests}
 use Rattle.std.proofs.lemmas.List.Folds.{list_any-append}
 use Rattle.bib_text.specs.Places.{Place, CharAt, Run, between}
@@ -14,7 +14,7 @@ use Rattle.bib_syntax.specs.Grammar.{Block, longest}
 use Rattle.bib_syntax.specs.Recovery.{has_byte}
 use Rattle.bib_syntax.proofs.FieldFacts.{ahead_identifier}
 use Rattle.bib_syntax.proofs.FileFacts.{ahead_body}
-use Rattle.bib_documents.proofs.BoundaryFacts.{not_over}
+use Rattle.bib_text.proofs.BoundaryFacts.{not_over}
 use Rattle.bib_documents.proofs.SplitFacts.{FileBefore, ahead_file_before}
 use Rattle.bib_documents.proofs.ZoneFacts.{Frame, Zone, Inside, there, inside_between, char_there, run_there}
 use Rattle.bib_format.proofs.CutFacts.{Stood, stood}
@@ -97,10 +97,6 @@ before_plain {u} {s} (FileBefore.block b others) sign within clear = absurd (tes
 
 -- ---- plain text that is cut after white space at its start
 
-and_both : (x y : Bool) → (x && y) ≡ true → (x ≡ true) × (y ≡ true)
-and_both true y is = (refl, is)
-and_both false y is = absurd (cc)
-
 white_small : (b : ℕ) → is_ascii_whitespace b ≡ true → b < 128
 white_small b is = grind (arith, nat_tests)
 
@@ -111,13 +107,13 @@ pub white_split : {u m s : Place} (white : List ℕ) → list_all is_ascii_white
 white_split {u} {m} {s} [] all stands plain below = (subst (λ p. Plain u p) (nothing stands) Plain.none, subst (λ p. Plain p s) (nothing stands) plain)
 white_split (b ∷ bs) all stands Plain.none below = absurd (omega (arith, stands.next))
 white_split {u} {m} {s} (b ∷ bs) all stands (Plain.skipped char passes rest) below =
-    let is = and_both (is_ascii_whitespace b) (list_all is_ascii_whitespace bs) all in
+    let is = and_parts (is_ascii_whitespace b) (list_all is_ascii_whitespace bs) all in
     let here = ascii b (white_small b is.0) (first_part (b ∷ []) bs stands) in
     let same = same_char char here in
     let others = white_split {u = past u (b ∷ [])} {m = m} {s = s} bs is.1 (last_part (b ∷ []) bs stands) (subst (λ p. Plain p s) same.1 rest) below in
     (Plain.skipped here (white_skipped b is.0) others.0, others.1)
 white_split {u} {m} {s} (b ∷ bs) all stands (Plain.line_comment sign line feed rest) below =
-    let is = and_both (is_ascii_whitespace b) (list_all is_ascii_whitespace bs) all in
+    let is = and_parts (is_ascii_whitespace b) (list_all is_ascii_whitespace bs) all in
     let here = ascii b (white_small b is.0) (first_part (b ∷ []) bs stands) in
     let same : 37 ≡ b = (same_char sign here).0 in
     absurd (test_clash (is_ascii_whitespace b) is.0 (ap is_ascii_whitespace (sym same)))

@@ -13,7 +13,7 @@ use Rattle.bib_syntax.specs.Grammar.{Block, longest}
 use Rattle.bib_syntax.proofs.FieldFacts.{ahead_fields, ahead_gap}
 use Rattle.bib_syntax.proofs.FileFacts.{ahead_head}
 use Rattle.bib_documents.specs.Edits.{moved_entry, moved_file}
-use Rattle.bib_documents.proofs.BoundaryFacts.{not_over}
+use Rattle.bib_text.proofs.BoundaryFacts.{not_over}
 use Rattle.bib_documents.proofs.GrammarFacts.{block_there}
 use Rattle.bib_documents.proofs.MovedFacts.{char_within, file_before_there}
 use Rattle.bib_documents.proofs.SplitFacts.{EntryBlock, FileBefore, ahead_file_before, block_of}

@@ -1,3 +1,4 @@
 pub mod Cuts
+pub mod OrderNames
 pub mod Sets
 pub mod Sorted

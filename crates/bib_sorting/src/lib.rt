@@ -1,5 +1,4 @@
-//! The entries of a bibliography file in an order: each entry moves, with the comment before it, byte for byte, and everything else
-//! stays where it is.
+//! Sorts the entries of a bibliography file. Each entry moves together with the comment before it, and all other text stays.
 //!
 //! What stands between two entries is cut in what stays (`space`) and what moves (`comment`); an at sign there, as of an
 //! `@string`, begins another run, over whose start no entry moves. Before the first entry of a run only what stands after the last blank
@@ -15,4 +14,5 @@ mod crossrefs;
 mod gaps;
 mod items;
 pub mod laws;
+pub mod order;
 pub mod sorting;

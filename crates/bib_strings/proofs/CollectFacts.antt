@@ -32,12 +32,10 @@ use Rattle.bib_strings.proofs.TrimmedFacts.{IsFieldPlaced, edits_in_order}
 use Rattle.bib_strings.proofs.LineFacts.{lines_read, with_placeless}
 use Rattle.bib_strings.proofs.NewValueFacts.{CanBeRead}
 use Rattle.bib_strings.proofs.TrimmedFacts.{trimmed_known}
+use Rattle.bib_text.proofs.ListFacts.{all_push}
+use Rattle.bib_strings.proofs.WrittenFacts.{last_below}
 
 -- ---- what holds of each
-
-all_push : {A : Type 0} (P : A → Type 0) (xs : List A) (x : A) → AllByRecursion P xs → P x → AllByRecursion P (xs ++ x ∷ [])
-all_push P [] x all here = (here, tt)
-all_push P (y ∷ ys) x all here = (all.0, all_push P ys x all.1 here)
 
 pub names_new : (says : FileReading) {names : List (List ℕ)} → AreNewNames says names → AllByRecursion (IsNewName says) names
 names_new says new_names.none = tt
@@ -53,15 +51,6 @@ all_at : {A : Type 0} (P : A → Type 0) (xs : List A) (i : ℕ) (d : A) → All
 all_at P [] i d all within = absurd (omega arith)
 all_at P (x ∷ xs) zero d all within = all.0
 all_at P (x ∷ xs) (suc i) d all within = all_at P xs i d all.1 (omega arith)
-
-last_below : {A : Type 0} (test : A → Bool) (xs : List A) → IfSome (last_position test xs) (λ i. i < length xs)
-last_below test [] = tt
-last_below test (x ∷ xs) = by_case (test x) (last_position test xs) (last_below test xs)
-  where
-    by_case : (b : Bool) (last : Option ℕ) → IfSome last (λ i. i < length xs) → IfSome (or_first b last) (λ i. i < length (x ∷ xs))
-    by_case b (Some i) below = omega arith
-    by_case true None below = omega arith
-    by_case false None below = tt
 
 pub text_below : (texts : List (List ℕ)) (text : List ℕ) → IfSome (text_index texts text) (λ i. i < length texts)
 text_below texts text = last_below (λ t. bytes_eq t text) texts

@@ -31,6 +31,7 @@ use Rattle.bib_syntax.specs.Grammar.{Number as number}
 use Rattle.bib_strings.specs.Expanded.{elements as elements_of, laid_out}
 use Rattle.bib_strings.proofs.StandingFacts.{element_stands, element_written}
 use Rattle.bib_strings.proofs.NewValueFacts.{AreRead, CanBeRead}
+use Rattle.bib_text.proofs.ListFacts.{all_append}
 
 -- an element that stands somewhere in a text, after neither a brace nor a quote
 pub record IsElement (text : List ℕ) (e : Piece) : Type 0 where
@@ -144,10 +145,6 @@ fields_stand text same within (fields.more field g comma g' rest) =
 pub record AreValues (text : List ℕ) (says : FileReading) : Type 0 where
   pub definitions : AllByRecursion (IsValue text) says.abbreviations
   pub entries : AllByRecursion (λ e. AllByRecursion (IsValue text) e.fields) says.entries
-
-all_append : {A : Type 0} (P : A → Type 0) (xs ys : List A) → AllByRecursion P xs → AllByRecursion P ys → AllByRecursion P (xs ++ ys)
-all_append P [] ys first rest = rest
-all_append P (x ∷ xs) ys first rest = (first.0, all_append P xs ys first.1 rest)
 
 body_stands : (text : List ℕ) {start u v : Place} {kind : _} {k : _} {says : FileReading} → u.text ≡ text → v.at ≤ length text → Body longest start kind k u says v → AreValues text says
 body_stands text same within (body.comment brace chars closes) = record { definitions = _; entries = _ }

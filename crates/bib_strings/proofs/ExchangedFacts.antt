@@ -16,6 +16,7 @@ use Rattle.bib_strings.specs.Exchanged.{Exchange, IsReadPlaceless, NewValue, ent
 use Rattle.bib_strings.specs.Tables.{IsTrimmed}
 use Rattle.bib_strings.proofs.NewValueFacts.{CanBeRead, value_exchanged, with_pieces}
 use Rattle.bib_strings.proofs.OrderFacts.{AreEntriesOrdered, AreOrdered, file_ordered}
+use Rattle.bib_text.proofs.ListFacts.{get_here}
 
 -- ---- what is said without places
 
@@ -65,10 +66,6 @@ map_changed view change same each (x ∷ xs) (suc k) = ap (λ ys. view x ∷ ys)
 changed_here : {A : Type 0} (change : A → A) (before : List A) (x : A) (rest : List A) → changed_at (length before) change (before ++ x ∷ rest) ≡ before ++ change x ∷ rest
 changed_here change [] x rest = refl
 changed_here change (y ∷ ys) x rest = ap (λ zs. y ∷ zs) (changed_here change ys x rest)
-
-get_here : {A : Type 0} (before : List A) (x : A) (rest : List A) → slice_get (before ++ x ∷ rest) (length before) ≡ Some x
-get_here [] x rest = refl
-get_here (y ∷ ys) x rest = get_here ys x rest
 
 -- ---- one value changed
 

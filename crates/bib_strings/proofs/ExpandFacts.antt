@@ -17,8 +17,8 @@ use Rattle.bib_documents.proofs.ValueFacts.{field_placed}
 use Rattle.bib_format.specs.Cuts.{IsPieceCut}
 use Rattle.bib_strings.specs.Exchanged.{Exchange, IsReadPlaceless, NewValue, entry_edits, file_exchanged}
 use Rattle.bib_strings.specs.Expanded.{Index, IsExpanded, WritesOut, definition_graph, definition_index, definition_references, elements, has_defined, laid_out}
-use Rattle.bib_graph.specs.Rows.{rows}
-use Rattle.bib_graph.proofs.Rows.{length-rows}
+use Rattle.bib_collections.specs.Rows.{rows}
+use Rattle.bib_collections.proofs.Rows.{length-rows}
 use Rattle.bib_strings.specs.Tables.{AreAllFieldsCut, AreUsedWritten, IsBelow, IsFieldCut, HasMark, expansion_by, lent_pieces, lists_of, values_of, written_by}
 use Rattle.bib_strings.proofs.ElementFacts.{AreValues, IsElement, IsSome, IsValue, can_be_read, file_stands, is_cut}
 use Rattle.bib_strings.proofs.ExchangedFacts.{CanBeExchanged, exchanged_read}

@@ -6,7 +6,7 @@ use Rattle.std.specs.List.{AllByRecursion}
 use Rattle.std.proofs.lemmas.List.{map-append, take_at}
 use Rattle.bib_text.specs.Places.{Place, place, CharAt, Run, Longest, between}
 use Rattle.bib_text.specs.Places.Run.{stop, step}
-use Rattle.bib_text.proofs.PlaceFacts.{ahead_char, ahead_run, stops_at}
+use Rattle.bib_text.proofs.PlaceFacts.{ahead_char, ahead_run, stops_at, one_white}
 use Rattle.bib_syntax.specs.Characters.{is_id_continue}
 use Rattle.bib_syntax.specs.Reading.{Part, FieldReading, FileReading}
 use Rattle.bib_syntax.specs.Reading.Piece.{literal}
@@ -49,9 +49,6 @@ name_stands whole rest name at can here =
       rest = record { run = rest_run; stops = stops_at is_id_continue following refl };
       reading = ap (λ t. let p : Part = record { text = t; start = at; end = at + length name } in p) (sym bytes);
     }
-
-one_white : {u v w : Place} {d : ℕ} → CharAt u 32 v → CharAt v d w → is_whitespace d ≡ false → Longest is_whitespace u v
-one_white space char dark = record { run = step space refl stop; stops = stops_at is_whitespace char dark }
 
 -- ---- a line
 

@@ -4,7 +4,7 @@ use Rattle.std.specs.Prelude.{replicate}
 use Rattle.std.specs.Char.{is_ascii_digit, is_ascii_lowercase, to_ascii_lowercase}
 use Rattle.std.specs.List.{list_all}
 use Rattle.std.specs.Str.{str_to_ascii_lowercase}
-use Rattle.std.proofs.lemmas.Bool.{false≢true, and_parts}
+use Rattle.std.proofs.lemmas.Bool.{false≢true, and_parts, or_parts}
 use Rattle.std.proofs.lemmas.Bool.Decides.{nat_tests}
 use Rattle.std.proofs.lemmas.List.{drop-drop, length-map, length-replicate}
 use Rattle.std.proofs.lemmas.Slice.Eq.{bytes_eq-Decides}
@@ -20,7 +20,7 @@ use Rattle.bib_syntax.specs.Reading.{FileReading}
 use Rattle.bib_strings.specs.Collected.{AreNewNames, is_month, is_one_in_any_case, names_of_file}
 use Rattle.bib_strings.specs.Collecting.{has_lowercase, IsBounded, IsFresh, is_plain_byte, is_plain_name, is_taken}
 use Rattle.bib_strings.specs.declared.taken.Taken.{Taken}
-use Rattle.bib_strings.proofs.TextFacts.{any_push, not_true, or_assoc, or_none}
+use Rattle.bib_strings.proofs.TextFacts.{any_push, not_true, or_assoc}
 
 -- ---- plain names are identifiers
 
@@ -136,7 +136,7 @@ new_fresh taken name is =
 pub names_more : (says : FileReading) (names : List (List ℕ)) (name : List ℕ) (taken : Taken) (initial : List ℕ → Bool) → IsFresh taken name → ((other : List ℕ) → is_taken taken other ≡ (is_one_in_any_case names other || initial other))
     → ((other : List ℕ) → initial other ≡ is_one_in_any_case (names_of_file says) other) → AreNewNames says names → AreNewNames says (names ++ name ∷ [])
 names_more says names name taken initial fresh known file new =
-    let none = or_none (is_one_in_any_case names name) (initial name) (sym (known name) ∙ fresh.free) in
+    let none = or_parts (is_one_in_any_case names name) (initial name) (sym (known name) ∙ fresh.free) in
     let can = plain_can name fresh.plain in
     AreNewNames.more names name new (record { can = can.0; no_digit = can.1; no_month = fresh.no_month; free = sym (file name) ∙ none.1 }) none.0
 

@@ -13,7 +13,7 @@ use Rattle.bib_syntax.specs.Reading.{Piece, FieldReading, EntryReading}
 use Rattle.bib_syntax.specs.Grammar.{Elements, Field, Gap, longest}
 use Rattle.bib_syntax.specs.Grammar.{Elements as elements}
 use Rattle.bib_syntax.specs.Grammar.{Gap as gap}
-use Rattle.bib_syntax.proofs.FieldFacts.{ahead_identifier, ahead_field, ahead_gap}
+use Rattle.bib_syntax.proofs.FieldFacts.{ahead_identifier, ahead_field, ahead_gap, elements_stop}
 use Rattle.bib_syntax.proofs.FileFacts.{ahead_head}
 use Rattle.bib_documents.specs.Edits.{Edit, edited, moved_place, moved_field, moved_piece}
 use Rattle.bib_documents.specs.Documents.{Document, IsDocument, field_edited}
@@ -63,10 +63,6 @@ gap_ending (gap.line_comment white m white') ending = run_ending white.run (reco
 pub after_ending : {u v w : Place} {fs : List FieldReading} → FieldsAfter u fs v → CharAt v 125 w → Ending u
 after_ending (FieldsAfter.last g) closes = gap_ending g (record { char = 125; next = _; here = closes; no_name = refl; no_digit = refl; no_point = refl })
 after_ending (FieldsAfter.more g comma g' rest) closes = gap_ending g (record { char = 44; next = _; here = comma; no_name = refl; no_digit = refl; no_point = refl })
-
-elements_stop : {u v : Place} {es : List Piece} → Elements longest u es v → Stops is_whitespace v × Stops (λ c. c == 35) v
-elements_stop (elements.last e white ends) = (white.stops, ends)
-elements_stop (elements.more e white sign white' rest) = elements_stop rest
 
 -- ---- a field
 

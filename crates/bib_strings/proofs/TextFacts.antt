@@ -66,10 +66,6 @@ pub not_false : (b : Bool) → not b ≡ false → b ≡ true
 not_false true is = refl
 not_false false is = absurd (false≢true (sym is))
 
-pub or_none : (a b : Bool) → (a || b) ≡ false → (a ≡ false) × (b ≡ false)
-or_none true b is = absurd (false≢true (sym is))
-or_none false b is = (refl, is)
-
 pub match_true : (b : Bool) (P Q : Type 0) → MatchBool b P Q → b ≡ true → P
 match_true true P Q holds is = holds
 match_true false P Q holds is = absurd (false≢true is)

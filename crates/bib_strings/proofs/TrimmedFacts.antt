@@ -14,11 +14,11 @@ use Rattle.bib_documents.specs.Documents.{value_stretch}
 use Rattle.bib_documents.specs.Edits.{Edit}
 use Rattle.bib_documents.specs.Placed.{IsPlaced}
 use Rattle.bib_documents.specs.Stretches.{AreEditsInOrder}
-use Rattle.bib_documents.proofs.BoundaryFacts.{char_boundary}
 use Rattle.bib_documents.proofs.TrimFacts.{white_rest}
 use Rattle.bib_strings.specs.Exchanged.{Exchange, NewValue, entry_edits, field_edits, value_edits}
 use Rattle.bib_strings.specs.Tables.{IsTrimmed}
 use Rattle.bib_strings.proofs.OrderFacts.{AreEntriesOrdered, AreOrdered}
+use Rattle.bib_text.proofs.BoundaryFacts.{run_boundary}
 
 -- ---- where a value's stretch ends
 
@@ -53,10 +53,6 @@ trimmed_known text f utf8 placed =
     white_rest text part f.value.start f.value.end (length (trim_end part)) refl placed.ordered placed.end.0 t.0 t.1
 
 -- ---- the stretches stand one after another
-
-run_boundary : {test : ℕ → Bool} {u v : Place} → Run test u v → IsCharBoundary v.text v.at → IsCharBoundary u.text u.at
-run_boundary stop boundary = boundary
-run_boundary (step char passes rest) boundary = char_boundary char
 
 -- where a value's stretch stands
 pub record IsFieldPlaced (text : List ℕ) (f : FieldReading) : Type 0 where

@@ -7,22 +7,16 @@ use Rattle.std.proofs.lemmas.Bool.Decides.{eqb_tells}
 use Rattle.std.proofs.lemmas.List.{get_or_default, get_or_past, length-replicate, take_at}
 use Rattle.std.proofs.lemmas.List.Elements.{All-contains, All-weaker, Contains-append_cases, Contains-append_left, Contains-append_right, Contains-get_or}
 use Rattle.std.proofs.lemmas.List.Sums.{sum_by-append}
-use Rattle.bib_graph.specs.Graph.{Graph, IsTopologicalOrder, refs_of}
-use Rattle.bib_graph.proofs.Work.{as_one, times_from_contains}
+use Rattle.bib_collections.specs.Graph.{Graph, IsTopologicalOrder, refs_of}
+use Rattle.bib_collections.proofs.Work.{as_one, times_from_contains}
 use Rattle.bib_syntax.specs.Reading.{EntryReading, FieldReading}
 use Rattle.bib_strings.specs.Expanded.{Index, definition_graph, definition_index, definition_references, elements}
 use Rattle.bib_strings.specs.Tables.{AreUsedWritten, HasMark, entries_refer_to, fields_refer_to, mark_next, marked_all, marked_back, used_definitions, written_in_order}
 use Rattle.bib_strings.proofs.WrittenFacts.{length-graph, references_below, used_written}
-
-cons_cases : (x p : ℕ) (xs : List ℕ) → Contains (x ∷ xs) p → (x ≡ p) ⊎ Contains xs p
-cons_cases x p xs (zero, within, e) = inl e
-cons_cases x p xs (suc k, within, e) = inr (k, omega arith, e)
+use Rattle.bib_text.proofs.ListFacts.{cons_cases, contains_more}
 
 contains_here : (x : ℕ) (xs : List ℕ) → Contains (x ∷ xs) x
 contains_here x xs = (zero, omega arith, refl)
-
-contains_more : (x p : ℕ) (xs : List ℕ) → Contains xs p → Contains (x ∷ xs) p
-contains_more x p xs (k, within, e) = (suc k, omega arith, e)
 
 -- ---- marks on a list of indices
 

@@ -6,10 +6,10 @@ use Rattle.std.proofs.lemmas.Bool.{false≢true, cases_lt, lt-ltb, le-ltb}
 use Rattle.std.proofs.lemmas.List.{get_or-map, get_or_default, length-map, take_all, take_more}
 use Rattle.std.proofs.lemmas.List.Elements.{All-append, All-contains, All-map, All-nil, Contains-append_right, Contains-get_or, Contains-push_cases}
 use Rattle.std.proofs.lemmas.List.Sums.{fold-append}
-use Rattle.bib_graph.specs.Graph.{IsInRange, IsTopologicalOrder, refs_of}
-use Rattle.bib_graph.proofs.Order.{contains_from_count}
-use Rattle.bib_graph.proofs.Solving.{new_turn}
-use Rattle.bib_graph.proofs.Work.{as_one, times_from_contains}
+use Rattle.bib_collections.specs.Graph.{IsInRange, IsTopologicalOrder, refs_of}
+use Rattle.bib_collections.proofs.Order.{contains_from_count}
+use Rattle.bib_collections.proofs.Solving.{new_turn}
+use Rattle.bib_collections.proofs.Work.{as_one, times_from_contains}
 use Rattle.std.specs.Borrow.{Bor}
 use Rattle.std.specs.Global.{Vec}
 use Rattle.bib_text.specs.declared.spanned.Spanned.{Spanned}
@@ -22,10 +22,12 @@ use Rattle.bib_strings.specs.Expanded.{Index, WritesOut, definition_graph, defin
 use Rattle.bib_strings.specs.Expanded.{WritesOut as writes}
 use Rattle.bib_strings.proofs.ElementFacts.{IsSome}
 use Rattle.bib_strings.specs.Tables.{AreUsedWritten, IsBelow, HasMark, values_of, write_next, written_by, written_in_order, written_piece}
+use Rattle.bib_text.proofs.ListFacts.{all_append}
 
 -- ---- indices
 
-last_below : {A : Type 0} (test : A → Bool) (xs : List A) → IfSome (last_position test xs) (λ i. i < length xs)
+-- the last index that passes a test is one of the list
+pub last_below : {A : Type 0} (test : A → Bool) (xs : List A) → IfSome (last_position test xs) (λ i. i < length xs)
 last_below test [] = tt
 last_below test (x ∷ xs) = by_case (test x) (last_position test xs) (last_below test xs)
   where
@@ -213,10 +215,6 @@ module _ (definitions : List FieldReading) (order : List ℕ) (sorted : IsTopolo
     }
 
 -- ---- what holds of all elements holds of those that are written out
-
-all_append : {A : Type 0} (P : A → Type 0) (xs ys : List A) → AllByRecursion P xs → AllByRecursion P ys → AllByRecursion P (xs ++ ys)
-all_append P [] ys first rest = rest
-all_append P (x ∷ xs) ys first rest = (first.0, all_append P xs ys first.1 rest)
 
 pub elements_all : (P : Piece → Type 0) (definitions : List FieldReading) (i : ℕ) → AllByRecursion (λ f. AllByRecursion P (elements f)) definitions → AllByRecursion P (elements_at definitions i)
 elements_all P [] i all = tt

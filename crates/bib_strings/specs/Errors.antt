@@ -1,7 +1,7 @@
 -- Meaning: words of public contracts.
 -- Errors of a graph of definitions.
-use Rattle.bib_graph.specs.declared.worklist.OrderError.{OrderError}
-use Rattle.bib_graph.specs.declared.worklist.OrderError.TheVariants as graph
+use Rattle.bib_collections.specs.declared.worklist.OrderError.{OrderError}
+use Rattle.bib_collections.specs.declared.worklist.OrderError.TheVariants as graph
 use Rattle.bib_strings.specs.declared.errors.ExpandError.{ExpandError}
 use Rattle.bib_strings.specs.declared.errors.ExpandError.TheVariants.{Cycle, OutOfMemory}
 

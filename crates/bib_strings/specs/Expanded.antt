@@ -2,7 +2,7 @@
 -- Abbreviations written out: a name that a file defines is exchanged for the elements of its definition.
 use Rattle.std.specs.Prelude.{◌≡◌, ℕ, Bool, List, [], ◌∷◌, ◌++◌, if◌then◌else◌, is_some, map, slice_index_or, Option, Some, None, bytes_eq, codes}
 use Rattle.std.specs.List.{AllByRecursion, flat_map, list_any}
-use Rattle.bib_graph.specs.Graph.{Graph, IsFirstOnCycle}
+use Rattle.bib_collections.specs.Graph.{Graph, IsFirstOnCycle}
 use Rattle.bib_syntax.specs.Reading.{Piece, FieldReading, FileReading}
 use Rattle.bib_syntax.specs.Reading.Piece.{literal, abbreviation}
 use Rattle.bib_documents.specs.Documents.{Document, last_position}

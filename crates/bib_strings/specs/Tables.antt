@@ -12,7 +12,7 @@ use Rattle.std.specs.Str.{trim_end}
 use Rattle.std.specs.String.{string_bytes}
 use Rattle.bib_text.specs.Places.{Run, place}
 use Rattle.bib_text.specs.declared.spanned.Spanned.{Spanned}
-use Rattle.bib_graph.specs.Graph.{Graph, refs_of}
+use Rattle.bib_collections.specs.Graph.{Graph, refs_of}
 use Rattle.bib_syntax.specs.Reading.{Piece, EntryReading, FieldReading}
 use Rattle.bib_syntax.specs.Views.{piece_of}
 use Rattle.bib_syntax.specs.declared.raw.RawChunk.{RawChunk}

@@ -1,7 +1,7 @@
 //! The definitions of a file: which one a name has, and which ones each refers to.
 
 ghost use Rattle.std.specs.Prelude.{◌≡◌, IfOk, map};
-ghost use Rattle.bib_graph.specs.Rows.{rows};
+ghost use Rattle.bib_collections.specs.Rows.{rows};
 ghost use Rattle.bib_syntax.specs.Views.{field_of, piece_of};
 ghost use Rattle.bib_strings.specs.Expanded as spec;
 ghost use Rattle.bib_strings.specs.Expanded.{definition_index, piece_index};

@@ -4,7 +4,7 @@ ghost use Rattle.std.specs.Prelude.{◌≡◌, IfOk, OnErr};
 ghost use Rattle.bib_strings.specs.Errors.{expand_error};
 ghost use Rattle.bib_strings.specs.declared.errors.ExpandError.TheVariants.{Cycle, OutOfMemory};
 
-use bib_graph::worklist::OrderError;
+use bib_collections::worklist::OrderError;
 use std::alloc::{AllocError, AllocFailed};
 use thiserror::Error;
 

@@ -3,7 +3,7 @@
 ghost use Rattle.std.specs.Prelude.{◌≡◌, ◌++◌, IfErr, IfOk, OnOk, length, map};
 ghost use Rattle.std.specs.List.{AllByRecursion};
 ghost use Rattle.std.specs.String.{string_bytes};
-ghost use Rattle.bib_graph.specs.Graph.{HasNoCycle};
+ghost use Rattle.bib_collections.specs.Graph.{HasNoCycle};
 ghost use Rattle.bib_syntax.specs.Views.{entry_reading_of, field_of};
 ghost use Rattle.bib_format.specs.Cuts.{IsPieceCut};
 ghost use Rattle.bib_strings.specs.Exchanged.{entry_edits, field_edits, value_edits};
@@ -17,8 +17,8 @@ use crate::errors::ExpandError;
 use crate::used::used;
 use crate::values::value_end;
 use crate::written::{Elements, written_by, written_in_order};
+use bib_collections::worklist::{OrderError, topological_order};
 use bib_documents::document::RawDocument;
-use bib_graph::worklist::{OrderError, topological_order};
 use bib_syntax::raw::{Pair, RawEntry};
 use bib_text::spanned::Spanned;
 use std::alloc::{AllocError, Global};

@@ -1,5 +1,4 @@
-//! Abbreviations of a bibliography file, which `@string` defines: written out where fields of entries use them, and made of texts that
-//! repeat.
+//! Expands the abbreviations of a bibliography file, and collects repeated texts as new abbreviations.
 //!
 //! The file's definitions are a graph over their indices, and those that entries use are written out in a topological order of it,
 //! each once. Which are used is found from the end of that order, since what one refers to comes before it. Texts that repeat are

@@ -2,8 +2,8 @@
 
 ghost use Rattle.std.specs.Prelude.{◌≡◌, ◌<◌, false, replicate, IfOk, length, map};
 ghost use Rattle.std.specs.List.{All};
-ghost use Rattle.bib_graph.specs.Graph.{IsInRange};
-ghost use Rattle.bib_graph.specs.Rows.{rows};
+ghost use Rattle.bib_collections.specs.Graph.{IsInRange};
+ghost use Rattle.bib_collections.specs.Rows.{rows};
 ghost use Rattle.bib_syntax.specs.Views.{entry_reading_of, field_of, piece_of};
 ghost use Rattle.bib_strings.specs.Expanded.{definition_references};
 ghost use Rattle.bib_strings.specs.Tables.{IsBelow, entries_refer_to, fields_refer_to, index_in, marked_all, marked_back, used_definitions};

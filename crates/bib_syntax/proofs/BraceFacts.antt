@@ -1,4 +1,4 @@
--- How the parts of a braced text are passed one after another, with a count of the braces that are open.
+-- How a parser moves past the parts of a braced text one by one, with a count of the open braces.
 use Rattle.std.proofs.Common.{◌≡◌, ◌-◌, arith, ℕ, zero, suc, true, refl, sym, subst, MatchOption, Option, None, Some}
 use Rattle.bib_text.specs.Places.{Place, CharAt, Run, Stops, AtEnd}
 use Rattle.bib_text.specs.Places.Run.{stop, step}
@@ -17,7 +17,7 @@ braced_then first second = record {
   back = λ x y p c. second.back x y (first.back x y p c) c;
 }
 
--- a change of the first parts changes the whole alike
+-- if parts from `u` are parts from `v`, braces that close from `u` also close from `v`
 closes_map : {n : ℕ} {u v x y : Place} → ((a b : Place) → Parts u a → CharAt a 125 b → Parts v a) → ClosesOpen n u x → CharAt x 125 y → ClosesOpen n v x
 closes_map change (last parts) brace = last (change _ _ parts brace)
 closes_map change (level parts close rest) brace = level (change _ _ parts close) close rest
@@ -26,6 +26,7 @@ run_there : {u v x : Place} → Run is_plain u v → Parts v x → Parts u x
 run_there stop parts = parts
 run_there (step char passes rest) parts = plain char passes (run_there rest parts)
 
+-- parts from a plain character up to a closing brace are parts from the place after it
 pub plain_back : {u v x y : Place} {c : ℕ} → CharAt u c v → is_plain c ≡ true → Parts u x → CharAt x 125 y → Parts v x
 plain_back char passes none brace = absurd (pass_clash is_plain char passes brace refl)
 plain_back {u} {v} {x} char passes (plain char' passes' parts) brace = subst (λ p. Parts p x) (same_char char' char).1 parts
@@ -36,7 +37,7 @@ run_back : {u v x y : Place} → Run is_plain u v → Parts u x → CharAt x 125
 run_back stop parts brace = parts
 run_back (step char passes rest) parts brace = run_back rest (plain_back char passes parts brace) brace
 
--- over a run of plain characters
+-- moving past a run of plain characters closes and opens no brace
 pub braced_run : {u v : Place} (n : ℕ) → Run is_plain u v → SameBraced n u n v
 braced_run n run = record {
   there = λ x y p c. closes_map (λ a b parts close. run_there run parts) p c;
@@ -47,7 +48,7 @@ opened_there : {n : ℕ} {u v w x y : Place} → CharAt u 123 v → Parts v w �
 opened_there brace inner close (last parts) = last (nested brace inner close parts)
 opened_there brace inner close (level parts close' rest) = level (nested brace inner close parts) close' rest
 
--- what a brace opens, and what stands after the one that closes it
+-- the parts in a pair of braces, and the parts after the closing brace
 pub record Opened (v x : Place) : Type 0 where
   pub inner_end : Place
   pub following : Place
@@ -55,6 +56,7 @@ pub record Opened (v x : Place) : Type 0 where
   pub close : CharAt inner_end 125 following
   pub rest : Parts following x
 
+-- parts from an opening brace up to a closing brace have a closing brace of their own
 pub opened_parts : {u v x y : Place} → CharAt u 123 v → Parts u x → CharAt x 125 y → Opened v x
 opened_parts brace none closing = absurd (char_clash brace closing refl)
 opened_parts brace (plain char passes parts) closing = absurd (pass_clash is_plain char passes brace refl)
@@ -69,7 +71,7 @@ opened_back brace (level parts close' rest) closing = let o = opened_parts brace
 closes_suc : {n : ℕ} {u v x : Place} → CharAt u 123 v → ClosesOpen (suc n) v x → ClosesOpen n u x
 closes_suc brace (level parts close rest) = opened_there brace parts close rest
 
--- over a brace that opens
+-- moving past an opening brace opens one brace
 pub braced_open : {u v : Place} (n : ℕ) → CharAt u 123 v → SameBraced n u (suc n) v
 braced_open n brace = record { there = λ x y p c. closes_suc brace p; back = λ x y p c. opened_back brace p c }
 
@@ -85,11 +87,11 @@ closed_back {n} {u} {v} {x} close (level {w = w} parts close' rest) =
     let moved : CharAt u 125 w = subst (λ p. CharAt p 125 w) (sym (no_parts close parts)) close' in
     subst (λ p. ClosesOpen n p x) (same_char moved close).1 rest
 
--- over a brace that closes
+-- moving past a closing brace closes one brace
 pub braced_close : {u v : Place} (n : ℕ) → CharAt u 125 v → SameBraced (suc n) u n v
 braced_close n close = record { there = λ x y p c. level none close p; back = λ x y p c. closed_back close p }
 
--- nothing is closed after the end of the text
+-- no parts are after the end of the text
 parts_end : {u x : Place} → AtEnd u → Parts u x → u ≡ x
 parts_end end none = refl
 parts_end end (plain char passes parts) = absurd (no_char_at_end end char)
@@ -100,6 +102,7 @@ pub closes_end : {n : ℕ} {u x y : Place} → AtEnd u → ClosesOpen n u x → 
 closes_end {n} {u} {x} {y} end (last parts) closing = no_char_at_end end (subst (λ p. CharAt p 125 y) (sym (parts_end end parts)) closing)
 closes_end {n} {u} {x} {y} end (level {w = w} parts close rest) closing = no_char_at_end end (subst (λ p. CharAt p 125 w) (sym (parts_end end parts)) close)
 
+-- parts from a backslash up to a closing brace are parts from the place after the character that it escapes
 pub hidden_back : {u v w x y : Place} {c : ℕ} → CharAt u 92 v → CharAt v c w → Parts u x → CharAt x 125 y → Parts w x
 hidden_back slash char none brace = absurd (char_clash slash brace refl)
 hidden_back slash char (plain char' passes' parts) brace = absurd (pass_clash is_plain char' passes' slash refl)
@@ -118,7 +121,7 @@ closes_hidden_end : {n : ℕ} {u v x y : Place} → CharAt u 92 v → AtEnd v �
 closes_hidden_end slash end (last parts) brace = hidden_end slash end parts brace
 closes_hidden_end slash end (level parts close rest) brace = hidden_end slash end parts close
 
--- over a backslash and the character after it, if one stands there
+-- moving past a backslash and the character after it, if there is one, closes and opens no brace
 pub braced_hidden : {u v w : Place} (n : ℕ) (taken : Option ℕ) → CharAt u 92 v → MatchOption taken (AtEnd v × (w ≡ v)) (λ c. CharAt v c w) → SameBraced n u n w
 braced_hidden {u} {v} {w} n None slash ended = record {
   there = λ x y p c. absurd (closes_end ended.0 (subst (λ q. ClosesOpen n q x) ended.1 p) c);
@@ -135,7 +138,7 @@ parts_stuck stops brace close slash (plain char passes parts) closing = pass_cla
 parts_stuck stops brace close slash (hidden char any parts) closing = slash _ char
 parts_stuck stops brace close slash (nested char inner end rest) closing = brace _ char
 
--- nothing is closed where neither a plain character nor a brace nor a backslash stands
+-- no brace closes from a place without a plain character, a brace or a backslash
 pub braced_stuck : {n : ℕ} {u x y : Place} → Stops is_plain u → ((v : Place) → CharAt u 123 v → ⊥) → ((v : Place) → CharAt u 125 v → ⊥) → ((v : Place) → CharAt u 92 v → ⊥) → ClosesOpen n u x → CharAt x 125 y → ⊥
 braced_stuck stops brace close slash (last parts) closing = parts_stuck stops brace close slash parts closing
 braced_stuck stops brace close slash (level parts end rest) closing = parts_stuck stops brace close slash parts end
@@ -143,7 +146,7 @@ braced_stuck stops brace close slash (level parts end rest) closing = parts_stuc
 pub closes_zero : {u x : Place} → ClosesOpen zero u x → Parts u x
 closes_zero (last parts) = parts
 
--- what closes no brace is the parts themselves
+-- the text up to a closing brace with no open brace is parts of a braced text
 pub found_parts : {u v w : Place} {n : ℕ} → SameBraced zero u n v → n ≡ 0 → CharAt v 125 w → Parts u v
 found_parts {u} {v} {w} {n} same none_open close =
     closes_zero (same.there v w (subst (λ k. ClosesOpen k v v) (sym none_open) (last none)) close)
@@ -151,7 +154,7 @@ found_parts {u} {v} {w} {n} same none_open close =
 pub braced_same : {n m : ℕ} {u v w : Place} → SameBraced n u m v → w ≡ v → SameBraced n u m w
 braced_same {n} {m} {u} {v} {w} all same = subst (λ p. SameBraced n u m p) (sym same) all
 
--- one level less is open after a closing brace
+-- one brace less is open after a closing brace
 pub braced_less : {n : ℕ} {u v w : Place} (m : ℕ) → SameBraced n u m v → (m ≡ 0 → ⊥) → CharAt v 125 w → SameBraced n u (m - 1) w
 braced_less {n} {u} {v} {w} m all some close =
     let open' : m ≡ suc (m - 1) = omega arith in

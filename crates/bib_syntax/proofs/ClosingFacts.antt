@@ -1,4 +1,4 @@
--- How what is noted of braces stays right over what stands between them.
+-- How the notes about braces stay true while a scanner moves through the text.
 use Rattle.std.proofs.Common.{◌≡◌, ℕ, zero, suc, List, [], ◌∷◌, ◌++◌, reverse, Option, Some, None, MatchOption, inl, inr, refl, sym, ap, ◌∙◌, subst, arith}
 use Rattle.std.proofs.lemmas.List.{reverse-append}
 use Rattle.std.proofs.lemmas.List.Elements.{All-push}
@@ -11,12 +11,12 @@ use Rattle.bib_syntax.specs.OpenBraces.ClosesOpen.{last}
 use Rattle.bib_syntax.specs.declared.raw.closings.Closing.{Closing}
 use Rattle.bib_syntax.proofs.BraceFacts.{same_braced, braced_then, braced_run, braced_open, braced_close, braced_hidden, found_parts, closes_end}
 
--- over what opens and closes nothing
+-- moving past text that opens and closes no brace
 open_over : {u v : Place} (text : List ℕ) (n : ℕ) (starts : List ℕ) → ((m : ℕ) → SameBraced m u m v) → AreOpen text n starts u → AreOpen text n starts v
 open_over text n [] over opened = _
 open_over text n (start ∷ more) over opened = (braced_then opened.0 (over n), open_over text (suc n) more over opened.1)
 
--- over a brace that opens, and one that closes
+-- moving past an opening brace, and past a closing one
 open_more : {u v : Place} (text : List ℕ) (n : ℕ) (starts : List ℕ) → CharAt u 123 v → AreOpen text n starts u → AreOpen text (suc n) starts v
 open_more text n [] brace opened = _
 open_more text n (start ∷ more) brace opened = (braced_then opened.0 (braced_open n brace), open_more text (suc n) more brace opened.1)
@@ -42,7 +42,7 @@ noted_open {u} {v} text opened opened' found start brace here grown noted =
     let opens : AreOpen text zero (start ∷ reverse opened) v = (subst (λ p. SameBraced zero p zero v) (sym first) (same_braced zero v), open_more text zero (reverse opened) brace noted.opens) in
     record { same = same; closings = noted.closings; opens = subst (λ starts. AreOpen text zero starts v) (sym (ap reverse grown ∙ reverse_push opened start)) opens }
 
--- the last brace that is opened closes here
+-- moving past a closing brace, which closes the last open brace
 pub noted_close : {u v : Place} (text opened opened' : List ℕ) (found found' : List Closing) (at : ℕ) → CharAt u 125 v → at ≡ u.at → Closed opened found at opened' found' → AreNoted text opened found u → AreNoted text opened' found' v
 noted_close {u} {v} text opened opened' found found' at brace here (inl (none, none', same)) noted =
     let opens : AreOpen text zero (reverse []) v = _ in
@@ -54,7 +54,7 @@ noted_close {u} {v} text opened opened' found found' at brace here (inr (start, 
     let closings : AreClosings text (found ++ record { start = start; close = Some at } ∷ []) = All-push (IsClosing text) found (record { start = start; close = Some at }) noted.closings closes in
     record { same = brace.same ∙ noted.same; closings = subst (AreClosings text) (sym grown) closings; opens = open_less text zero (reverse opened') brace opens.1 }
 
--- a backslash and the character after it, if one stands there
+-- moving past a backslash and the character after it, if there is one
 pub noted_hidden : {u v w : Place} (text opened : List ℕ) (found : List Closing) (taken : Option ℕ) → CharAt u 92 v → MatchOption taken (AtEnd v × (w ≡ v)) (λ c. CharAt v c w) → AreNoted text opened found u → AreNoted text opened found w
 noted_hidden {u} {v} {w} text opened found taken slash is noted = record {
   same = taken_text taken is ∙ (slash.same ∙ noted.same);
@@ -65,7 +65,7 @@ noted_hidden {u} {v} {w} text opened found taken slash is noted = record {
   taken_text None ended = ap (λ p. p.text) ended.1
   taken_text (Some c) char = char.same
 
--- where the text ends, what is opened never closes
+-- at the end of the text, an open brace never closes
 pub noted_end : (u : Place) (text opened opened' : List ℕ) (found found' : List Closing) (n start : ℕ) → AtEnd u → AreClosings text found → AreOpen text n (reverse opened) u → opened ≡ opened' ++ start ∷ [] → found' ≡ found ++ record { start = start; close = None } ∷ []
     → AreClosings text found' × AreOpen text (suc n) (reverse opened') u
 noted_end u text opened opened' found found' n start end closings noted was grown =
@@ -76,10 +76,10 @@ noted_end u text opened opened' found found' n start end closings noted was grow
 pub noted_same : {u v : Place} (text opened : List ℕ) (found : List Closing) → v ≡ u → AreNoted text opened found u → AreNoted text opened found v
 noted_same {u} {v} text opened found same noted = subst (λ p. AreNoted text opened found p) (sym same) noted
 
--- at the start of a text nothing is noted
+-- at the start of a text, no brace is open and there are no notes
 pub nothing_noted : (text : List ℕ) → AreNoted text [] [] (place text 0)
 nothing_noted text = record { same = refl; closings = λ k d below. absurd (omega (arith, below)); opens = _ }
 
--- the same from an equal place
+-- `AllBetween` from an equal place
 pub moved_all : {Holds : ℕ → Type 0} {u v w : Place} → u ≡ v → AllBetween Holds u w → AllBetween Holds v w
 moved_all {Holds} {w = w} same between = subst (λ p. AllBetween Holds p w) same between

@@ -1,4 +1,5 @@
--- An error that is reported is one of the grammar, and lies in the text.
+-- Each reported error is an error of the grammar, with a span in the text. Lemmas `.._inside` are about the place after a
+-- rule, and lemmas `.._later` about the place of an error.
 use Rattle.std.proofs.Common.{◌≡◌, ℕ, Bool, ◌+◌, ◌≤◌, List, length, refl, sym, ap, subst, arith}
 use Rattle.std.specs.Prelude.{IsTrue}
 use Rattle.std.specs.Char.{len_utf8}
@@ -67,7 +68,7 @@ body_inside (body.preamble quoted white close is_close) = char_inside close
 body_inside (body.strings fields close) = char_inside close
 body_inside (body.entry a key white comma gap fields close) = char_inside close
 
--- an error of the grammar, reported at a later place of the text
+-- an error of the grammar, reported at a place ahead that isn't after the end of the text
 record IsLater (u : Place) (kind : ParseErrorKind) (v : Place) : Type 0 where
   syntax : IsTrue (is_syntax kind)
   ahead : Ahead u v
@@ -82,7 +83,7 @@ later_at_end u kind syntax i = record { syntax = syntax; ahead = record { text =
 later_from : {u v w : Place} {kind : ParseErrorKind} → Ahead u v → (Inside u → Inside v) → IsLater v kind w → IsLater u kind w
 later_from ahead inside later = record { syntax = later.syntax; ahead = ahead_then ahead later.ahead; inside = λ i. later.inside (inside i) }
 
--- a place where a character stands isn't after the end of the text
+-- the place of a character isn't after the end of the text
 stands_inside : {u v : Place} {c : ℕ} → CharAt u c v → u.at ≤ length u.text
 stands_inside {u} {v} {c} char =
     let left : u.at + len_utf8 c ≤ length u.text = char_left char in
@@ -155,7 +156,7 @@ file_later (file_fail.line_comment m f) = later_from (ahead_line_comment m) (λ 
 file_later (file_fail.more b f) = later_from (ahead_block b) (λ i. body_inside b.body) (file_later f)
 file_later (file_fail.first f) = block_later f
 
--- the error that is reported of a text is one of the grammar, in the text
+-- the error that is reported for a text is an error of the grammar with a span in the text
 pub reported_syntax : (text : List ℕ) (e : ParseError) → IsReported text e → IsSyntaxError text e
 reported_syntax text e r =
     let later = file_later r.fails in

@@ -1,4 +1,4 @@
--- From which places reading fields fails as it does from a later one.
+-- From which offsets parsing fields fails with the same error as from a later place.
 use Rattle.std.proofs.Common.{◌≡◌, ◌≢◌, ℕ, Bool, true, false, cond, List, [], ◌∷◌, ◌++◌, Some, IfSome, BTreeMap, nat_cmp, refl, sym, subst, inl, inr}
 use Rattle.std.specs.BTreeMap as tree
 use Rattle.std.proofs.lemmas.List.Elements.{All-push, All-nil, All-same}
@@ -13,51 +13,52 @@ use Rattle.bib_syntax.specs.declared.raw.ParseError.{ParseError}
 use Rattle.bib_syntax.specs.declared.raw.ParseErrorKind.{ParseErrorKind}
 use Rattle.bib_syntax.proofs.ErrorFacts.{reports_as}
 
--- an error with which reading fields fails here is the one from each of these places too, if it is from those before
+-- if parsing fields fails at `here` with an error, it fails with this error from each of `starts`, if it does from `before`
 pub record FailBefore (text : List ℕ) (before starts : List ℕ) (here : Place) : Type 0 where
   pub each : (e : ParseError) → IsSyntaxError text e → Reports (FieldsFails here) e → AllFail text e before → AllFail text e starts
 
+-- no offset was added yet
 pub none_more : (text before : List ℕ) (here : Place) → FailBefore text before before here
 none_more text before here = record { each = λ e error fails all. all }
 
--- reading fields fails at a place as it does where that stands
+-- parsing fields fails from the offset of a place as it does from the place
 fails_at : {text : List ℕ} {here : Place} {e : ParseError} (at : ℕ) → here.text ≡ text → at ≡ here.at → IsSyntaxError text e → Reports (FieldsFails here) e → FailsAt text e at
 fails_at {text} {here} {e} at same is error fails =
     record { error = error; fails = subst (λ u. Reports (FieldsFails u) e) (same_place {u = here} {v = place text at} same (sym is)) fails }
 
--- this place is one of them
+-- the offset of the current place can be added
 pub here_fails : {text before starts : List ℕ} {here : Place} (at : ℕ) → FailBefore text before starts here → here.text ≡ text → at ≡ here.at
     → FailBefore text before (starts ++ at ∷ []) here
 here_fails {text} {starts = starts} at read same is = record {
   each = λ e error fails all. All-push (FailsAt text e) starts at (read.each e error fails all) (fails_at at same is error fails);
 }
 
--- and so is a later one, from which reading fails no other way
+-- the current place can move to a later one if each failure from there is a failure from here
 pub further_fails : {text before starts : List ℕ} {here there : Place} → FailBefore text before starts here
     → ((kind : ParseErrorKind) (v : Place) → FieldsFails there kind v → FieldsFails here kind v) → FailBefore text before starts there
 further_fails read implies = record { each = λ e error fails all. read.each e error (reports_as implies fails) all }
 
--- where reading is refused with an error of the grammar, that is the error from each place
+-- if parsing fails with an error of the grammar, it fails with this error from each of the offsets
 pub each_fails : {text before starts : List ℕ} {here : Place} {e : ParseError} (P : Type 0) → FailBefore text before starts here → here.text ≡ text → (P → Reports (FieldsFails here) e)
     → Refuses here.text e P → e ≢ out_of_memory → AllFail text e before → AllFail text e starts
 each_fails P read same implies (inl memory) some all = absurd (some memory)
 each_fails {e = e} P read same implies (inr refused) some all = read.each e (subst (λ t. IsSyntaxError t e) same refused.0) (implies refused.1) all
 
--- what fails in the text of a later place fails in that of an earlier one
+-- failures in the text of a place ahead are failures in the text of the place
 pub each_back : {u v : Place} {e : ParseError} (before starts : List ℕ) → Ahead u v → (e ≢ out_of_memory → AllFail v.text e before → AllFail v.text e starts)
     → e ≢ out_of_memory → AllFail u.text e before → AllFail u.text e starts
 each_back {e = e} before starts ahead each some = subst (λ t. AllFail t e before → AllFail t e starts) ahead.text (each some)
 
--- from none each fails
+-- the same if there are no offsets before
 pub each_of_none : {u v : Place} {e : ParseError} (before starts : List ℕ) → before ≡ [] → Ahead u v → (e ≢ out_of_memory → AllFail v.text e before → AllFail v.text e starts)
     → e ≢ out_of_memory → AllFail u.text e starts
 each_of_none {u} {e = e} before starts none ahead each some = each_back before starts ahead each some (All-same (FailsAt u.text e) before [] none (All-nil (FailsAt u.text e)))
 
--- a noted error is the one from here
+-- a noted error is reported for fields from here
 pub noted_here : {here : Place} {e : ParseError} → FailsAt here.text e here.at → Reports (FieldsFails here) e
 noted_here {here} {e} noted = subst (λ u. Reports (FieldsFails u) e) (same_place {u = place here.text here.at} {v = here} refl refl) noted.fails
 
--- what is noted of a place, once an error with which reading fails was noted of another
+-- all notes stay true after the error of one more offset is noted
 pub failure_noted : (text : List ℕ) (m n : BTreeMap ℕ ParseError) (start : ℕ) (e : ParseError) → tree.Updates nat_cmp m n start (Some e) → FailsAt text e start
     → ((at : ℕ) → IfSome (tree.get nat_cmp m at) (λ x. FailsAt text x at)) → (at : ℕ) → IfSome (tree.get nat_cmp n at) (λ x. FailsAt text x at)
 failure_noted text m n start e updates fails before at = subst (λ found. IfSome found (λ x. FailsAt text x at)) (sym (updates.0 at)) (either (tree.is_at (nat_cmp start) at) refl) where

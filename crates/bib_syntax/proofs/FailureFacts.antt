@@ -1,4 +1,4 @@
--- A rule of the grammar that fails isn't read, and fails with one error.
+-- A rule of the grammar that fails doesn't match (lemmas `.._unread`), and fails with at most one error (lemmas `.._once`).
 use Rattle.std.proofs.Common.{◌≡◌, ℕ, Bool, true, false, List, refl, sym, subst}
 use Rattle.std.specs.Prelude.{◌==◌, ◌||◌}
 use Rattle.std.specs.Char.{is_whitespace, is_ascii_digit}
@@ -24,7 +24,7 @@ use Rattle.bib_syntax.specs.SyntaxErrors.{FieldsFails as fields_fail}
 use Rattle.bib_syntax.proofs.LawFacts.{moved, identifier_same, element_same, field_same, gap_same, no_field_closes, start_not_white}
 use Rattle.bib_syntax.proofs.WordFacts.{number_points, not_number, not_name}
 
--- one error: its kind and its place
+-- two errors are the same: they have the same kind and the same place
 abbrev pub OneError : ParseErrorKind → Place → ParseErrorKind → Place → Type 0
 OneError k v l w = (k ≡ l) × (v ≡ w)
 
@@ -54,7 +54,7 @@ quoted_unread (quoted_fail.unclosed quote none) q = none _ _ (moved QuotedParts 
 braced_once : {u v w : Place} {k l : ParseErrorKind} → BracedFails u k v → BracedFails u l w → OneError k v l w
 braced_once (braced_fail.unclosed brace none) (braced_fail.unclosed brace' none') = (refl, refl)
 
--- ---- elements
+-- ---- pieces
 
 digit_passes : (a b c d : Bool) → c ≡ true → a || b || c || d ≡ true
 digit_passes true b c d passes = refl
@@ -117,7 +117,7 @@ element_once (element_fail.quoted quote f) (element_fail.number char digit g) = 
 element_once (element_fail.quoted quote f) (element_fail.braced (braced_fail.unclosed brace none)) = absurd (char_clash brace quote refl)
 element_once (element_fail.quoted quote f) (element_fail.quoted quote' g) = quoted_once f g
 
--- where the next element begins
+-- two matches of a piece, the # after it and white space end at the same place
 next_element : {u a b c d a' b' c' d' : Place} {e e' : Piece} → Element longest u e a → Longest is_whitespace a b → CharAt b 35 c → Longest is_whitespace c d
     → Element longest u e' a' → Longest is_whitespace a' b' → CharAt b' 35 c' → Longest is_whitespace c' d' → d ≡ d'
 next_element e white sign white' f w s w' =
@@ -143,7 +143,7 @@ elements_once {w = v} {l = l} (elements_fail.more e white sign white' f) (elemen
 
 -- ---- fields
 
--- where the sign stands after a field's name, and the value
+-- two matches of a name and white space end at the same place, and so do two that continue to the value of a field
 sign_place : {u a b a' b' : Place} {p q : Part} → Identifier longest u p a → Longest is_whitespace a b → Identifier longest u q a' → Longest is_whitespace a' b' → b ≡ b'
 sign_place name white name' white' = longest_same (moved (Longest is_whitespace) (identifier_same name name').1 white) white'
 
@@ -153,7 +153,7 @@ value_place name white sign more name' white' sign' more' =
     let following = (same_char (moved (λ x y. CharAt x 61 y) (sign_place name white name' white') sign) sign').1 in
     longest_same (moved (Longest is_whitespace) following more) more'
 
--- a sign that is missing doesn't stand at an equal place
+-- a character that is missing at a place isn't at an equal place
 pub missing_clash : {u v w : Place} (test : ℕ → Bool) (c : ℕ) → test c ≡ true → Stops test u → u ≡ v → CharAt v c w → ⊥
 missing_clash {u} {v} {w} test c passes stops same char = test_clash (test c) passes (stops c w (subst (λ x. CharAt x c w) (sym same) char))
 
@@ -186,7 +186,7 @@ fail_not_closed : {u z v w : Place} {k : ParseErrorKind} → FieldFails u k z �
 fail_not_closed (field_fail.equals name more stops) white close = name_not_closed name white close
 fail_not_closed (field_fail.value name more sign more' f) white close = name_not_closed name white close
 
--- where the sign stands after a field, and the next field
+-- two matches of a field and a gap end at the same place, and so do two that continue to the next field
 comma_place : {u a b a' b' : Place} {f g : FieldReading} → Field longest u f a → Gap longest a b → Field longest u g a' → Gap longest a' b' → b ≡ b'
 comma_place f g f' g' = gap_same (moved (Gap longest) (field_same f f').1 g) g'
 
@@ -217,7 +217,7 @@ fields_unread (fields_fail.ended none white end) (fields.none white') close = no
 fields_unread (fields_fail.ended none white end) (fields.last x g) close = field_named x none
 fields_unread (fields_fail.ended none white end) (fields.more x g sign h rest) close = field_named x none
 
--- fields that fail after a field fail where the rest does
+-- fields that fail after a field and a comma fail in the same way as the rest after them
 fails_after : {u a b c d v : Place} {k : ParseErrorKind} {f : FieldReading} → Field longest u f a → Gap longest a b → CharAt b 44 c → Gap longest c d → FieldsFails u k v → FieldsFails d k v
 fails_after x g sign h (fields_fail.first f) = absurd (field_unread f x)
 fails_after {v = v} {k = k} x g sign h (fields_fail.more y g' sign' h' f) = subst (λ p. FieldsFails p k v) (sym (next_field x g sign h y g' sign' h')) f

@@ -1,7 +1,7 @@
--- How elements and fields are read one after another.
-use Rattle.std.proofs.Common.{List, [], ◌∷◌, ◌++◌, subst, append_assoc, append-nil, inl, inr}
+-- How pieces and fields are parsed one by one.
+use Rattle.std.proofs.Common.{List, [], ◌∷◌, ◌++◌, subst, append_assoc, append-nil, inl, inr, ◌==◌}
 use Rattle.std.specs.Char.{is_whitespace}
-use Rattle.bib_text.specs.Places.{Place, CharAt, Longest}
+use Rattle.bib_text.specs.Places.{Place, CharAt, Longest, Stops}
 use Rattle.bib_text.proofs.PlaceFacts.{stops_without, Ahead, ahead_here, ahead_then, ahead_char, ahead_run}
 use Rattle.bib_text.specs.Braces.{Parts}
 use Rattle.bib_text.specs.Braces.{Parts as parts}
@@ -21,10 +21,16 @@ use Rattle.bib_syntax.specs.Errors.{Refuses}
 use Rattle.bib_syntax.specs.declared.raw.ParseErrorKind.{ParseErrorKind}
 use Rattle.bib_syntax.specs.declared.raw.ParseError.{ParseError}
 
+-- after the pieces of a value comes neither white space nor a number sign
+pub elements_stop : {u v : Place} {es : List Piece} → Elements longest u es v → Stops is_whitespace v × Stops (λ c. c == 35) v
+elements_stop (elements.last e white ends) = (white.stops, ends)
+elements_stop (elements.more e white sign white' rest) = elements_stop rest
+
+-- white space without a percent sign after it is a gap
 pub gap_without : {u a : Place} → Longest is_whitespace u a → ((x : Place) → CharAt a 37 x → ⊥) → Gap longest u a
 gap_without white none = gap.white white (stops_without 37 none)
 
--- what was read of the elements from `start`, up to `here`
+-- the pieces parsed from `start` to `here`: pieces from `here` continue them, and a failure from `here` is one from `start`
 pub record ElementsRead (start : Place) (ps : List Piece) (here : Place) : Type 0 where
   pub there : (es : List Piece) (v : Place) → Elements longest here es v → Elements longest start (ps ++ es) v
   pub fails : (kind : ParseErrorKind) (v : Place) → ElementsFails here kind v → ElementsFails start kind v
@@ -32,7 +38,7 @@ pub record ElementsRead (start : Place) (ps : List Piece) (here : Place) : Type 
 pub no_elements_read : (start : Place) → ElementsRead start [] start
 no_elements_read start = record { there = λ es v x. x; fails = λ kind v f. f }
 
--- one element more, with the # after it
+-- one more piece, with the # after it
 pub element_read : {start u a b c d : Place} {ps : List Piece} (e : Piece) → ElementsRead start ps u → Element longest u e a → Longest is_whitespace a b → CharAt b 35 c → Longest is_whitespace c d
     → ElementsRead start (ps ++ e ∷ []) d
 element_read {start} {u} {a} {b} {c} {d} {ps} e read one white sign white' = record {
@@ -40,12 +46,12 @@ element_read {start} {u} {a} {b} {c} {d} {ps} e read one white sign white' = rec
   fails = λ kind v f. read.fails kind v (elements_fail.more one white sign white' f);
 }
 
--- the last element
+-- the last piece
 pub elements_found : {start u a b : Place} {ps : List Piece} (e : Piece) → ElementsRead start ps u → Element longest u e a → Longest is_whitespace a b → ((x : Place) → CharAt b 35 x → ⊥)
     → Elements longest start (ps ++ e ∷ []) b
 elements_found e read one white no_sign = read.there _ _ (elements.last one white (stops_without 35 no_sign))
 
--- what was read of the fields from `start`, up to `here`
+-- the fields parsed from `start` to `here`: fields from `here` continue them, and a failure from `here` is one from `start`
 pub record FieldsRead (start : Place) (fs : List FieldReading) (here : Place) : Type 0 where
   pub there : (gs : List FieldReading) (v : Place) → Fields longest here gs v → Fields longest start (fs ++ gs) v
   pub fails : (kind : ParseErrorKind) (v : Place) → FieldsFails here kind v → FieldsFails start kind v
@@ -53,7 +59,7 @@ pub record FieldsRead (start : Place) (fs : List FieldReading) (here : Place) : 
 pub no_fields_read : (start : Place) → FieldsRead start [] start
 no_fields_read start = record { there = λ gs v x. x; fails = λ kind v f. f }
 
--- one field more, with the comma after it
+-- one more field, with the comma after it
 pub field_read : {start u a b c d : Place} {fs : List FieldReading} (f : FieldReading) → FieldsRead start fs u → Field longest u f a → Gap longest a b → CharAt b 44 c → Gap longest c d
     → FieldsRead start (fs ++ f ∷ []) d
 field_read f read one g sign h = record {
@@ -65,7 +71,7 @@ field_read f read one g sign h = record {
 pub fields_last : {start u a b : Place} {fs : List FieldReading} (f : FieldReading) → FieldsRead start fs u → Field longest u f a → Gap longest a b → Fields longest start (fs ++ f ∷ []) b
 fields_last f read one g = read.there _ _ (fields.last one g)
 
--- where no field begins, the fields end
+-- the fields end after white space
 pub fields_end : {start u v : Place} {fs : List FieldReading} → FieldsRead start fs u → Longest is_whitespace u v → Fields longest start fs v
 fields_end {start} {u} {v} {fs} read white = subst (λ gs. Fields longest start gs v) (append-nil fs) (read.there _ _ (fields.none white))
 
@@ -108,7 +114,7 @@ ahead_fields (fields.none w) = ahead_run w.run
 ahead_fields (fields.last f g) = ahead_then (ahead_field f) (ahead_gap g)
 ahead_fields (fields.more f g s h rest) = ahead_then (ahead_field f) (ahead_then (ahead_gap g) (ahead_then (ahead_char s) (ahead_then (ahead_gap h) (ahead_fields rest))))
 
--- a refusal further on refuses from an earlier place
+-- an error at a place ahead is an error at an earlier place
 pub refuses_from : {u v : Place} {e : ParseError} (P Q : Type 0) → Ahead u v → (P → Q) → Refuses v.text e P → Refuses u.text e Q
 refuses_from P Q ahead implies (inl memory) = inl memory
 refuses_from P Q ahead implies (inr error) = inr (error_back ahead error.0, implies error.1)

@@ -1,5 +1,5 @@
--- Values, fields and lists of fields are read, or fail. A list is decided by recursion on a bound above the number of characters
--- left.
+-- Values, fields and lists of fields match or fail. For a list, this is proved by recursion on a bound above the number of
+-- remaining characters.
 use Rattle.std.proofs.Common.{◌≡◌, ℕ, zero, suc, ◌<◌, ◌≤◌, arith, Bool, false, List, [], ◌∷◌, inl, inr, refl}
 use Rattle.std.specs.Prelude.{not, ◌||◌, ◌==◌}
 use Rattle.std.specs.Char.{is_whitespace}
@@ -20,11 +20,11 @@ use Rattle.bib_syntax.specs.SyntaxErrors.{FieldsFails as fields_fail}
 use Rattle.bib_syntax.proofs.LeftFacts.{Left, end_or_char, Found, found_at, found_as, Outcome, run_found, first, Sign, sign}
 use Rattle.bib_syntax.proofs.WordOutcomes.{NameAt, name_outcome, element_outcome}
 
--- from one place to the other, elements
+-- pieces from one place to the other
 abbrev ElementsAt : Place → Place → Type 0
 ElementsAt u v = (es : List Piece) × Elements longest u es v
 
--- elements are read, or one fails
+-- pieces match, or one fails
 elements_outcome : (bound : ℕ) {n : ℕ} {u : Place} → n < bound → Left n u → Outcome n (ElementsAt u) (ElementsFails u)
 elements_outcome zero below left = absurd (omega (arith, below))
 elements_outcome (suc bound) below left = elim (element_outcome left) [
@@ -44,11 +44,11 @@ elements_outcome (suc bound) below left = elim (element_outcome left) [
       ]
 ]
 
--- from one place to the other, a field
+-- a field from one place to the other
 abbrev FieldAt : Place → Place → Type 0
 FieldAt u v = (f : FieldReading) × Field longest u f v
 
--- a field is read from its name on, or fails
+-- a field whose name matches either matches or fails
 field_outcome : {n : ℕ} {u : Place} → Found n (NameAt u) → Outcome n (FieldAt u) (FieldFails u)
 field_outcome {u = u} name =
     let white = run_found is_whitespace name.rest in
@@ -86,7 +86,7 @@ line_comment_found percent rest =
     let line = run_found (λ c. not (c == 10)) rest in
     found_as (omega arith) line (record { inside = _; sign = percent; line = line.rule })
 
--- a gap begins at each place
+-- a gap matches at each place
 pub gap_found : {n : ℕ} {u : Place} → Left n u → Found n (Gap longest u)
 gap_found left =
     let white = run_found is_whitespace left in
@@ -98,19 +98,19 @@ gap_found left =
           found_as (omega (arith, white.fits, less, line.fits)) white' (gap.line_comment white.rule line.rule white'.rule)
     ]
 
--- fields, and the brace before this place
+-- fields from `u`, and a closing brace after them up to `w`
 abbrev pub FieldsClosed : Place → Place → Type 0
 FieldsClosed u w = (fs : List FieldReading) × (v : Place) × Fields longest u fs v × CharAt v 125 w
 
--- no character begins a name where a name fails
+-- the character at a place can't begin a name if a name is missing there
 name_missing : {u v : Place} {kind : ParseErrorKind} → IdentifierFails u kind v → Stops is_id_start u
 name_missing (identifier_fail.missing stops) = stops
 
--- a character in neither of two classes is not in both together
+-- the disjunction of two false values is false
 neither : (a b : Bool) → a ≡ false → b ≡ false → a || b ≡ false
 neither a b first second = rw (first, second)
 
--- fields end, or fail, where no name begins
+-- fields end or fail if no name begins
 fields_end : {n : ℕ} {u : Place} → Stops is_id_start u → Left n u → Outcome n (FieldsClosed u) (FieldsFails u)
 fields_end no_name left =
     let white = run_found is_whitespace left in
@@ -123,7 +123,7 @@ fields_end no_name left =
       ]
     ]
 
--- fields end, or fail, after a field without a comma
+-- fields end or fail after a field without a comma after it
 field_last : {n m : ℕ} {u : Place} (f : Found n (FieldAt u)) (g : Found m (Gap longest f.place)) → m ≤ n → Stops (λ c. c == 44) g.place
     → Outcome n (FieldsClosed u) (FieldsFails u)
 field_last f g fits no_comma = elim (sign 125 g.rest) [
@@ -135,7 +135,7 @@ field_last f g fits no_comma = elim (sign 125 g.rest) [
       Outcome.fails (fields_fail.comma f.rule.1 g.rule missing)
 ]
 
--- fields and the brace after them are read, or fail
+-- fields and the brace after them match or fail
 pub fields_outcome : (bound : ℕ) {n : ℕ} {u : Place} → n < bound → Left n u → Outcome n (FieldsClosed u) (FieldsFails u)
 fields_outcome zero below left = absurd (omega (arith, below))
 fields_outcome (suc bound) {u = u} below left = elim (name_outcome left) [

@@ -1,7 +1,7 @@
--- How blocks are read one after another.
+-- How blocks are parsed one by one.
 use Rattle.std.proofs.Common.{◌≡◌, ℕ, ◌-◌, ◌<◌, length, Bool, true, List, [], ◌∷◌, ◌++◌, refl, sym, ap, ◌∙◌, subst, append_assoc, append-nil, codes}
 use Rattle.std.proofs.lemmas.Bool.{ne_eqb}
-use Rattle.std.specs.Prelude.{not, ◌==◌, ◌&&◌}
+use Rattle.std.specs.Prelude.{not, ◌==◌, ◌&&◌, ◌||◌}
 use Rattle.std.specs.Char.{is_whitespace}
 use Rattle.bib_text.specs.Places.{Place, CharAt, Run, Longest, AtEnd, between}
 use Rattle.bib_text.specs.Places.Run.{stop, step}
@@ -29,6 +29,7 @@ head_same a b =
 pub ahead_head : {u v : Place} {p : Part} → Head longest u p v → Ahead u v
 ahead_head h = ahead_then (ahead_char h.sign) (ahead_then (ahead_identifier h.name) (ahead_then (ahead_run h.white.run) (ahead_then (ahead_char h.opens) (ahead_run h.white'.run))))
 
+-- whether a character isn't a closing brace
 abbrev pub not_close : ℕ → Bool
 not_close c = not (c == 125)
 
@@ -67,7 +68,7 @@ ahead_body (body.entry a key white comma gap fields close) =
 pub ahead_block : {u v : Place} {r : FileReading} → Block longest u r v → Ahead u v
 ahead_block b = ahead_then (ahead_head b.head) (ahead_body b.body)
 
--- the body of a block whose head was read
+-- the body of a block comes after its head
 pub body_at : {u a v : Place} {p : Part} {r : FileReading} → Head longest u p a → (b : Block longest u r v) → Body longest u p (block_kind p.text) a r v
 body_at {u} {a} {v} {p} {r} head b =
     let same = head_same b.head head in
@@ -76,11 +77,11 @@ body_at {u} {a} {v} {p} {r} head b =
 pub block_same : {u v w : Place} {r s : FileReading} → Block longest u r v → Block longest u s w → (r ≡ s) × (v ≡ w)
 block_same a b = body_same a.body (body_at a.head b)
 
--- a body that fails after a head
+-- a block fails if its body fails after its head
 pub body_fails : {u a v : Place} {p : Part} {kind : ParseErrorKind} (k : BlockKind) → Head longest u p a → k ≡ block_kind p.text → BodyFails k a kind v → BlockFails u kind v
 body_fails {u} {a} {v} {p} {kind} k head is f = block_fail.body head (subst (λ b. BodyFails b a kind v) is f)
 
--- what blocks say is joined in any order of joining
+-- joining preambles is associative, and an empty preamble at the end adds nothing
 joined_preambles-nil : (p : List ℕ) → joined_preambles p [] ≡ p
 joined_preambles-nil [] = refl
 joined_preambles-nil (b ∷ bs) = refl
@@ -111,11 +112,12 @@ then-empty_reading a =
 pub empty_reading-then : (a : FileReading) → then empty_reading a ≡ a
 empty_reading-then a = refl
 
--- what was read of a file from `start`, up to `here`
+-- the content parsed from `start` to `here`: a file from `here` continues it, and a failure from `here` is one from `start`
 pub record FileRead (start : Place) (says : FileReading) (here : Place) : Type 0 where
   pub there : (r : FileReading) → File longest here r → File longest start (then says r)
   pub fails : (kind : ParseErrorKind) (v : Place) → FileFails here kind v → FileFails start kind v
 
+-- whether a character outside of blocks and line comments is skipped
 abbrev pub is_skipped : ℕ → Bool
 is_skipped c = not (c == 64) && not (c == 37)
 
@@ -126,7 +128,7 @@ skip_there : {u v : Place} {r : FileReading} → Run is_skipped u v → File lon
 skip_there stop x = x
 skip_there (step char passes rest) x = file.skipped char passes (skip_there rest x)
 
--- what is left of a file after a character that is skipped, a comment and a block
+-- the rest of a file after a skipped character, and after a line comment, is a file
 pub skipped_rest : {u v : Place} {c : ℕ} {r : FileReading} → CharAt u c v → is_skipped c ≡ true → File longest u r → File longest v r
 skipped_rest char passes (file.end end) = absurd (no_char_at_end end char)
 skipped_rest {r = r} char passes (file.skipped char' passes' x) = subst (λ y. File longest y r) (same_char char' char).1 x
@@ -143,7 +145,7 @@ line_comment_rest m (file.skipped char passes x) = absurd (pass_clash is_skipped
 line_comment_rest {r = r} m (file.line_comment m' x) = subst (λ y. File longest y r) (line_comment_same m' m) x
 line_comment_rest m (file.block b x) = absurd (char_clash m.sign b.head.sign refl)
 
--- a block at its at sign, and what is left after it
+-- the first block of a file, and the rest of the file after it
 pub record FirstBlock (u : Place) (r : FileReading) : Type 0 where
   pub following : Place
   pub first : FileReading
@@ -180,7 +182,7 @@ block_read {start} {u} {v} {says} {first} read b = record {
 pub file_found : {start u : Place} {says : FileReading} → FileRead start says u → AtEnd u → File longest start says
 file_found {start} {u} {says} read end = subst (λ r. File longest start r) (then-empty_reading says) (read.there empty_reading (file.end end))
 
--- a text has one raw reading
+-- a file from one place has at most one raw reading
 pub file_same : {u : Place} {r s : FileReading} → File longest u r → File longest u s → r ≡ s
 file_same (file.end end) (file.end end') = refl
 file_same (file.end end) (file.skipped char passes x) = absurd (no_char_at_end end char)
@@ -194,11 +196,19 @@ file_same {u} {r} {s} (file.block {first = first} {rest = rest} b x) second =
     let left = file_same x (subst (λ z. File longest z f.rest) same.1 f.left) in
     ap (λ q. then q rest) (sym same.0) ∙ ap (then f.first) left ∙ sym f.whole
 
--- what an entry says, from its parts
+-- whether a character may follow the name of a block: { or "
+abbrev pub opens_body : ℕ → Bool
+opens_body c = c == 123 || c == 34
+
+-- whether a character may end a preamble: } or "
+abbrev pub closes_preamble : ℕ → Bool
+closes_preamble c = c == 125 || c == 34
+
+-- the reading of a block with an entry of these parts
 abbrev pub says_entry : Part → Part → List FieldReading → ℕ → ℕ → FileReading
 says_entry key kind fs start end = record { preamble = []; entries = record { key = key; kind = kind; fields = fs; start = start; end = end } ∷ []; abbreviations = [] }
 
--- an entry, from what was read of it
+-- the body of an entry from its parts
 pub entry_found : {u s a b c d z w : Place} {fs : List FieldReading} (kind key : Part) (start end : ℕ) → u.at ≡ start → end ≡ z.at → key ≡ part s a → Longest is_key s a → Longest is_whitespace a b → CharAt b 44 c → Gap longest c d
     → Fields longest d fs z → CharAt z 125 w → Body longest u kind BlockKind.entry s (says_entry key kind fs start end) w
 entry_found {u} {s} {a} {b} {c} {d} {z} {w} {fs} kind key start end starts ends reading run white comma gap fields close =
@@ -206,7 +216,7 @@ entry_found {u} {s} {a} {b} {c} {d} {z} {w} {fs} kind key start end starts ends 
     ap (λ k. says_entry k kind fs u.at z.at) (sym reading) ∙ ap (λ n. says_entry key kind fs n z.at) starts ∙ ap (says_entry key kind fs start) (sym ends) in
     subst (λ r. Body longest u kind BlockKind.entry s r w) same (body.entry a run white comma gap fields close)
 
--- less is left after a block, a comment, and a run of characters that are skipped
+-- fewer bytes are left after a block, after a line comment, and after a run of skipped characters
 pub block_smaller : {u v : Place} {r : FileReading} → Block longest u r v → length v.text - v.at < length u.text - u.at
 block_smaller {u} b =
     let h = b.head in

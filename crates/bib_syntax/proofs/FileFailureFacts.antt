@@ -1,4 +1,4 @@
--- A block that fails isn't read, nor is its file, and each fails with one error.
+-- A block or a file that fails doesn't match (lemmas `.._unread`), and fails with at most one error (lemmas `.._once`).
 use Rattle.std.proofs.Common.{◌≡◌, ℕ, Bool, true, refl, sym, subst, ap, ◌∙◌}
 use Rattle.std.specs.Prelude.{◌==◌, ◌||◌}
 use Rattle.std.specs.Char.{is_whitespace}
@@ -16,22 +16,16 @@ use Rattle.bib_syntax.specs.SyntaxErrors.{BodyFails as body_fail}
 use Rattle.bib_syntax.specs.SyntaxErrors.{BlockFails as block_fail}
 use Rattle.bib_syntax.specs.SyntaxErrors.{FileFails as file_fail}
 use Rattle.bib_syntax.proofs.LawFacts.{moved, identifier_same, quoted_same, gap_same, line_comment_same}
-use Rattle.bib_syntax.proofs.FileFacts.{head_same, body_at, block_same, is_skipped, skipped_rest, line_comment_rest, first_block}
+use Rattle.bib_syntax.proofs.FileFacts.{head_same, body_at, block_same, is_skipped, skipped_rest, line_comment_rest, first_block, closes_preamble, opens_body}
 use Rattle.bib_syntax.proofs.FailureFacts.{OneError, identifier_once, identifier_unread, quoted_once, quoted_unread, fields_once, fields_unread, missing_clash}
 
-abbrev opens_body : ℕ → Bool
-opens_body c = c == 123 || c == 34
-
-abbrev closes_preamble : ℕ → Bool
-closes_preamble c = c == 125 || c == 34
-
--- where the brace stands after a block's name
+-- two matches of an at sign, a name and white space end at the same place
 brace_place : {u x a b x' a' b' : Place} {p q : Part} → CharAt u 64 x → Identifier longest x p a → Longest is_whitespace a b → CharAt u 64 x' → Identifier longest x' q a' → Longest is_whitespace a' b' → b ≡ b'
 brace_place {a' = a'} {q = q} sign name white sign' name' white' =
     let there = identifier_same name (subst (λ y. Identifier longest y q a') (same_char sign' sign).1 name') in
     longest_same (moved (Longest is_whitespace) there.1 white) white'
 
--- a character that passes doesn't stand where one is missing
+-- no passing character is at a place where one is missing
 passes_clash : {u v w : Place} {c : ℕ} (test : ℕ → Bool) → Stops test u → u ≡ v → CharAt v c w → test c ≡ true → ⊥
 passes_clash {c = c} test stops same char passes = missing_clash test c passes stops same char
 
@@ -45,7 +39,7 @@ head_once (head_fail.name sign f) (head_fail.brace {w = a} {name = p} sign' name
 head_once (head_fail.brace {w = a} {name = p} sign' name white stops) (head_fail.name sign f) = absurd (identifier_unread f (subst (λ y. Identifier longest y p a) (same_char sign' sign).1 name))
 head_once (head_fail.brace sign name white stops) (head_fail.brace sign' name' white' stops') = (refl, brace_place sign name white sign' name' white')
 
--- where the comma stands after an entry's key, and the fields
+-- two matches of a key and white space end at the same place, and so do two that continue to the fields
 comma_place : {u a b a' b' : Place} → Longest is_key u a → Longest is_whitespace a b → Longest is_key u a' → Longest is_whitespace a' b' → b ≡ b'
 comma_place key white key' white' = longest_same (moved (Longest is_whitespace) (longest_same key key') white) white'
 
@@ -55,7 +49,7 @@ fields_place key white comma gap key' white' comma' gap' =
     let following = (same_char (moved (λ x y. CharAt x 44 y) (comma_place key white key' white') comma) comma').1 in
     gap_same (moved (Gap longest) following gap) gap'
 
--- where the brace stands after a preamble
+-- two matches of a quoted text and white space end at the same place
 end_place : {u a b a' b' : Place} {p q : Part} → Quoted u p a → Longest is_whitespace a b → Quoted u q a' → Longest is_whitespace a' b' → b ≡ b'
 end_place q white q' white' = longest_same (moved (Longest is_whitespace) (quoted_same q q').1 white) white'
 
@@ -93,13 +87,13 @@ block_once {w = w} {l = l} (block_fail.body {v = a} {name = p} head f) (block_fa
     let same = head_same head' head in
     body_once f (subst (λ x. BodyFails (block_kind p.text) x l w) same.1 (subst (λ n. BodyFails (block_kind n.text) b l w) same.0 g))
 
--- a block has one error
+-- at most one error is reported for a block
 pub block_error : {u : Place} {e f : ParseError} → Reports (BlockFails u) e → Reports (BlockFails u) f → e ≡ f
 block_error first second =
     let same = block_once first.fails second.fails in
     first.is ∙ ap (λ k. error_at_place k first.place) same.0 ∙ ap (error_at_place second.kind) same.1 ∙ sym second.is
 
--- a block that fails has its at sign
+-- a block that fails has an at sign
 fail_sign : {u v : Place} {k : ParseErrorKind} → BlockFails u k v → (x : Place) × CharAt u 64 x
 fail_sign (block_fail.head (head_fail.name sign f)) = (_, sign)
 fail_sign (block_fail.head (head_fail.brace sign name white stops)) = (_, sign)
@@ -115,7 +109,7 @@ file_unread (file_fail.more b f) x =
     file_unread f (subst (λ z. File longest z first.rest) (block_same first.block b).1 first.left)
 file_unread (file_fail.first f) x = let first = first_block (fail_sign f).1 x in block_unread f first.block
 
--- a file that fails after a character that is skipped, a comment or a block fails where the rest does
+-- a file that fails after a skipped character, a line comment or a block fails in the same way as the rest after it
 skipped_fails : {u v w : Place} {c : ℕ} {k : ParseErrorKind} → CharAt u c v → is_skipped c ≡ true → FileFails u k w → FileFails v k w
 skipped_fails {w = w} {k = k} char passes (file_fail.skipped char' passes' f) = subst (λ x. FileFails x k w) (same_char char' char).1 f
 skipped_fails char passes (file_fail.line_comment m f) = absurd (pass_clash is_skipped char passes m.sign refl)
@@ -143,7 +137,7 @@ file_once (file_fail.first f) (file_fail.line_comment m g) = absurd (char_clash 
 file_once (file_fail.first f) (file_fail.more b g) = absurd (block_unread f b)
 file_once (file_fail.first f) (file_fail.first g) = block_once f g
 
--- one error is reported
+-- at most one error is reported for a file
 pub one_error : {u : Place} {e f : ParseError} → Reports (FileFails u) e → Reports (FileFails u) f → e ≡ f
 one_error first second =
     let same = file_once first.fails second.fails in

@@ -24,23 +24,15 @@ use Rattle.bib_syntax.specs.Recovery.{Recovered as recovered}
 use Rattle.bib_syntax.proofs.LeftFacts.{Left, end_or_char, Found, found_at, found_as, Outcome, run_found, First, first, Sign, sign, is_sign}
 use Rattle.bib_syntax.proofs.WordOutcomes.{name_outcome, quoted_outcome}
 use Rattle.bib_syntax.proofs.FieldOutcomes.{line_comment_found, gap_found, fields_outcome}
-use Rattle.bib_syntax.proofs.FileFacts.{is_skipped}
+use Rattle.bib_syntax.proofs.FileFacts.{is_skipped, closes_preamble, opens_body}
 
 -- ---- blocks
 
--- a character that may follow the name of a block
-abbrev opens_body : ℕ → Bool
-opens_body c = c == 123 || c == 34
-
--- a character that may end a preamble
-abbrev closes_preamble : ℕ → Bool
-closes_preamble c = c == 125 || c == 34
-
--- from one place to the other, the head of a block
+-- the head of a block from one place to the other
 abbrev HeadAt : Place → Place → Type 0
 HeadAt u v = (p : Part) × Head longest u p v
 
--- the head of a block is read, or fails
+-- the head of a block matches or fails
 head_outcome : {n : ℕ} {u v : Place} → CharAt u 64 v → Left n v → Outcome n (HeadAt u) (HeadFails u)
 head_outcome at_sign left = elim (name_outcome left) [
   | Outcome.fails f ↦ Outcome.fails (head_fail.name at_sign f)
@@ -69,19 +61,19 @@ head_outcome at_sign left = elim (name_outcome left) [
       ]
 ]
 
--- from one place to the other, the rest of a block
+-- the rest of a block from one place to the other
 abbrev BodyAt : Place → Part → BlockKind → Place → Place → Type 0
 BodyAt start p k u v = (says : FileReading) × Body longest start p k u says v
 
--- a run of other characters does not stop at another character
+-- a run of characters other than one doesn't stop at another character
 other_stops : (b : Bool) → b ≡ false → not b ≡ false → ⊥
 other_stops b fails stops = cc
 
--- the rest of a block of this kind is read, or fails
+-- the rest of a block of this kind matches or fails
 abbrev BodyOutcome : Place → Part → BlockKind → ℕ → Place → Type 0
 BodyOutcome start p k n u = Outcome n (BodyAt start p k u) (BodyFails k u)
 
--- a comment block is read, or fails
+-- the rest of a comment block matches or fails
 comment_outcome : (start : Place) (p : Part) {n : ℕ} {u : Place} → Left n u → BodyOutcome start p BlockKind.comment n u
 comment_outcome start p left =
     let run = run_found (λ c. not (c == 125)) left in
@@ -96,7 +88,7 @@ comment_outcome start p left =
       ]
     ]
 
--- a preamble is read, or fails
+-- the rest of a preamble matches or fails
 preamble_outcome : (start : Place) (p : Part) {n : ℕ} {u : Place} → Left n u → BodyOutcome start p BlockKind.preamble n u
 preamble_outcome start p left = elim (quoted_outcome left) [
   | Outcome.fails f ↦ Outcome.fails (body_fail.preamble f)
@@ -109,14 +101,14 @@ preamble_outcome start p left = elim (quoted_outcome left) [
       ]
 ]
 
--- a list of abbreviations is read, or fails
+-- the rest of a block with definitions of abbreviations matches or fails
 strings_outcome : (start : Place) (p : Part) {n : ℕ} {u : Place} → Left n u → BodyOutcome start p BlockKind.strings n u
 strings_outcome start p {n} left = elim (fields_outcome (suc n) (omega arith) left) [
   | Outcome.fails f ↦ Outcome.fails (body_fail.strings f)
   | Outcome.read fs ↦ Outcome.read (found_as (omega arith) fs (_, body.strings fs.rule.2 fs.rule.3))
 ]
 
--- an entry is read, or fails
+-- the rest of an entry matches or fails
 entry_outcome : (start : Place) (p : Part) {n : ℕ} {u : Place} → Left n u → BodyOutcome start p BlockKind.entry n u
 entry_outcome start p left =
     let key = run_found is_key left in
@@ -133,18 +125,18 @@ entry_outcome start p left =
           ]
     ]
 
--- the rest of a block is read, or fails, whatever the block is
+-- the rest of a block of any kind matches or fails
 body_outcome : (start : Place) (p : Part) (k : BlockKind) {n : ℕ} {u : Place} → Left n u → BodyOutcome start p k n u
 body_outcome start p BlockKind.comment left = comment_outcome start p left
 body_outcome start p BlockKind.preamble left = preamble_outcome start p left
 body_outcome start p BlockKind.strings left = strings_outcome start p left
 body_outcome start p BlockKind.entry left = entry_outcome start p left
 
--- from one place to the other, a block
+-- a block from one place to the other
 abbrev BlockAt : Place → Place → Type 0
 BlockAt u v = (says : FileReading) × Block longest u says v
 
--- a block is read at an at sign, or fails
+-- a block at an at sign matches or fails
 block_outcome : {n : ℕ} {u v : Place} → CharAt u 64 v → Left n v → Outcome n (BlockAt u) (BlockFails u)
 block_outcome {u = u} at_sign left = elim (head_outcome at_sign left) [
   | Outcome.fails f ↦ Outcome.fails (block_fail.head f)
@@ -165,25 +157,25 @@ block_outcome {u = u} at_sign left = elim (head_outcome at_sign left) [
 
 -- ---- files
 
--- a reading from a place on, or the error of the first block that fails
+-- a raw reading from a place on, or the reported error of the first block that fails
 abbrev FileCase : Place → Type 0
 FileCase u = ((says : FileReading) × File longest u says) ⊎ ((e : ParseError) × Reports (FileFails u) e)
 
--- a reading or an error from a later place on makes one from this place on
+-- a reading or an error from a later place gives one from this place
 file_map : {u v : Place} (says : FileReading → FileReading) → ((r : FileReading) → File longest v r → File longest u (says r))
     → ((kind : ParseErrorKind) (w : Place) → FileFails v kind w → FileFails u kind w) → FileCase v → FileCase u
 file_map says found failed (inl r) = inl (says r.0, found r.0 r.1)
 file_map says found failed (inr e) =
     inr (e.0, record { kind = e.1.kind; place = e.1.place; fails = failed e.1.kind e.1.place e.1.fails; is = e.1.is })
 
--- what comes next in a file: its end, a character that is skipped, a line comment or an at sign
+-- what comes next in a file: its end, a skipped character, a line comment or an at sign
 data Step (n : ℕ) (u : Place) : Type 0 where
   ended : AtEnd u → Step n u
   skipped : {m c : ℕ} {v : Place} → CharAt u c v → is_skipped c ≡ true → Left m v → m < n → Step n u
   line_comment : {m : ℕ} {v : Place} → LineComment u v → Left m v → m < n → Step n u
   at_sign : {m : ℕ} {v : Place} → CharAt u 64 v → Left m v → m < n → Step n u
 
--- one of the four comes next
+-- one of these four comes next
 next_step : {n : ℕ} {u : Place} → Left n u → Step n u
 next_step (Left.none end) = Step.ended end
 next_step (Left.more {c = c} char rest) = elim (cases_Bool (c == 64)) [
@@ -196,7 +188,7 @@ next_step (Left.more {c = c} char rest) = elim (cases_Bool (c == 64)) [
   ]
 ]
 
--- from each place on there is a reading or an error
+-- from each place there is a raw reading or a reported error
 pub file_case : (bound : ℕ) {n : ℕ} {u : Place} → n < bound → Left n u → FileCase u
 file_case zero below left = absurd (omega (arith, below))
 file_case (suc bound) below left = elim (next_step left) [
@@ -217,7 +209,7 @@ file_case (suc bound) below left = elim (next_step left) [
 
 -- ---- recovery
 
--- whether an at sign that begins a line occurs at a place
+-- an at sign that begins a line is at a place, or it isn't
 line_case : {u v : Place} (c : ℕ) → CharAt u c v → BeginsLine u ⊎ (BeginsLine u → ⊥)
 line_case {u} {v} c char = elim (cases_Bool (c == 64)) [
   | inr no_at ↦ inr (λ line. char_clash char line.1 no_at)
@@ -227,7 +219,7 @@ line_case {u} {v} c char = elim (cases_Bool (c == 64)) [
   ]
 ]
 
--- reading goes on somewhere
+-- from each place there is a place where recovery continues
 goes_on_found : {n : ℕ} {u : Place} → Left n u → Found n (GoesOnAt u)
 goes_on_found (Left.none end) = found_at (omega arith) (Left.none {n = zero} end) (record { passed = passed.stop; stands = inl end })
 goes_on_found {u = u} (Left.more {c = c} char rest) =
@@ -246,7 +238,7 @@ goes_on_found {u = u} (Left.more {c = c} char rest) =
 abbrev RecoveredFrom : Place → Type 0
 RecoveredFrom u = (says : FileReading) × (errors : List SkippedBlock) × Recovered u says errors
 
--- from each place on there is a recovery
+-- there is a recovery from each place on
 pub recovery_found : (bound : ℕ) {n : ℕ} {u : Place} → n < bound → Left n u → RecoveredFrom u
 recovery_found zero below left = absurd (omega (arith, below))
 recovery_found (suc bound) below left = elim (next_step left) [

@@ -1,14 +1,15 @@
--- A text has one raw reading: from one place each rule, taken with the longest runs, ends at one place with one reading.
+-- A text has at most one raw reading: in the mode `longest`, each rule has at most one end and one reading from a place
+-- (lemmas `.._same`).
 use Rattle.std.proofs.Common.{◌≡◌, ℕ, true, false, List, [], ◌∷◌, refl, sym, ap, ◌∙◌, subst}
 use Rattle.std.specs.Prelude.{not, ◌&&◌, ◌||◌, ◌==◌}
-use Rattle.std.proofs.lemmas.Bool.{and_parts, not-true}
+use Rattle.std.proofs.lemmas.Bool.{and_parts, ne_eqb, not-true}
 use Rattle.std.specs.Char.{is_whitespace, is_control, is_ascii_digit}
 use Rattle.bib_text.specs.Places.{Place, CharAt, Longest}
 use Rattle.bib_text.specs.Places.Run.{stop}
 use Rattle.bib_text.specs.Braces.{Parts}
 use Rattle.bib_text.specs.Braces.{Parts as parts}
 use Rattle.bib_text.proofs.PlaceFacts.{same_char, char_clash, pass_clash, longest_same, test_clash, stops_at}
-use Rattle.bib_syntax.specs.Characters.{is_id_start, is_id_continue, is_delimiter}
+use Rattle.bib_syntax.specs.Characters.{is_id_start, is_id_continue, is_delimiter, is_key}
 use Rattle.bib_syntax.specs.Reading.{Part, part, Piece, FieldReading}
 use Rattle.bib_syntax.specs.Reading.Piece.{literal, abbreviation}
 use Rattle.bib_syntax.specs.Grammar.{Identifier, Number, QuotedParts, Quoted, Braced, Element, Elements, Field, LineComment, Gap, Fields, longest}
@@ -22,7 +23,7 @@ use Rattle.bib_syntax.proofs.BraceFacts as brace
 use Rattle.bib_syntax.proofs.QuoteFacts as quote
 use Rattle.bib_syntax.proofs.WordFacts.{not_number, not_name}
 
--- what stands from one place to another, moved to an equal place
+-- a rule from one place to another also matches from an equal place
 module _ (P : Place → Place → Type 0) where
   pub moved : {u v w : Place} → u ≡ v → P u w → P v w
   moved {u} {v} {w} same p = subst (λ x. P x w) same p
@@ -63,7 +64,7 @@ quoted_parts_same quotes.none c (quotes.hidden slash any rest) d = absurd (char_
 quoted_parts_same (quotes.plain char p rest) c second d = quoted_parts_same rest c (quote.plain_back char p second d) d
 quoted_parts_same (quotes.hidden slash any rest) c second d = quoted_parts_same rest c (quote.hidden_back slash any second d) d
 
--- a part between places, and the place after it
+-- two parts between equal places are equal
 part_same : {u v a b : Place} {p q : Part} → u ≡ a → v ≡ b → p ≡ part u v → q ≡ part a b → p ≡ q
 part_same {u} {v} {a} {b} starts ends first second = first ∙ ap (λ x. part x v) starts ∙ ap (part a) ends ∙ sym second
 
@@ -79,7 +80,7 @@ quoted_same {u} {v} {w} first second =
     let ends = quoted_parts_same (moved QuotedParts starts first.parts) first.closes second.parts second.closes in
     (part_same starts ends first.reading second.reading, (same_char (moved (λ a b. CharAt a 34 b) ends first.closes) second.closes).1)
 
--- a number's first character
+-- the first character of a number, a digit
 record Digit (u : Place) : Type 0 where
   digit : ℕ
   following : Place
@@ -108,7 +109,7 @@ element_same (element.quoted q) (element.named none i) = absurd (not_name q.open
 element_same (element.quoted q) (element.braced b) = absurd (char_clash q.opens b.opens refl)
 element_same (element.quoted q) (element.quoted r) = let same = quoted_same q r in (ap literal same.0, same.1)
 
--- no more elements stand where no # stands
+-- two matches of pieces from one place are equal and end at the same place
 pub elements_same : {u v w : Place} {es fs : List Piece} → Elements longest u es v → Elements longest u fs w → (es ≡ fs) × (v ≡ w)
 elements_same (elements.last e white ends) (elements.last f white' ends') =
     let same = element_same e f in
@@ -127,7 +128,7 @@ elements_same {u} {v} {w} (elements.more {es = es} e white sign white2 rest) (el
     let more = elements_same (subst (λ x. Elements longest x es v) next rest) rest' in
     (ap (λ x. x ∷ es) same.0 ∙ ap (λ x. f ∷ x) more.0, more.1)
 
--- two fields are one where their parts are
+-- two fields are equal if their parts are equal
 field_equal : (f g : FieldReading) → f.name ≡ g.name → f.value.pieces ≡ g.value.pieces → f.value.start ≡ g.value.start → f.value.end ≡ g.value.end → f ≡ g
 field_equal f g names pieces starts ends =
     let build : Part → List Piece → ℕ → ℕ → FieldReading = λ n ps s e. record { name = n; value = record { pieces = ps; start = s; end = e } } in
@@ -155,14 +156,22 @@ gap_same (gap.line_comment a r c) (gap.white b ends) = absurd (test_clash true r
 gap_same (gap.line_comment a r c) (gap.line_comment b s d) =
     longest_same (moved (Longest is_whitespace) (line_comment_same (moved (LineComment) (longest_same a b) r) s) c) d
 
--- an identifier's first character is no white space
+-- an identifier begins with no percent sign
+pub start_plain : (c : ℕ) → is_id_start c ≡ true → (c == 37) ≡ false
+start_plain c starts = ne_eqb c 37 (λ same. test_clash (is_id_start 37) (subst (λ x. is_id_start x ≡ true) same starts) refl)
+
+-- a character of a key is not white space
+pub key_dark : (c : ℕ) → is_key c ≡ true → is_whitespace c ≡ false
+key_dark c passes = not-true (is_whitespace c) (and_parts (not (c == 44 || c == 125) && not (is_control c)) (not (is_whitespace c)) passes).1
+
+-- the first character of an identifier isn't white space
 pub start_not_white : (c : ℕ) → is_id_start c ≡ true → is_whitespace c ≡ false
 start_not_white c starts =
     let continues = (and_parts (not (c == 58 || c == 60 || c == 45 || c == 62)) (is_id_continue c) starts).1 in
     let not_white = (and_parts (not (is_delimiter c) && not (is_control c)) (not (is_whitespace c)) continues).1 in
     not-true (is_whitespace c) not_white
 
--- no white space stands where a field begins
+-- no white space is at the place where a field begins
 pub white_none : {u v : Place} {f : FieldReading} {w : Place} → Longest is_whitespace u v → Field longest u f w → u ≡ v
 white_none {u} {v} white field =
     longest_same (record { run = stop; stops = stops_at is_whitespace field.name.here (start_not_white field.name.first field.name.starts) }) white

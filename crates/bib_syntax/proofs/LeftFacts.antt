@@ -1,4 +1,4 @@
--- The characters from a place to the end of its text, and the outcomes of rules that are tried on them.
+-- The characters from a place to the end of its text, and the outcomes of rules there.
 use Rattle.std.proofs.Common.{◌≡◌, ◌⊎◌, ℕ, zero, suc, ◌+◌, ◌<◌, ◌≤◌, arith, length, drop, Bool, true, List, [], ◌∷◌, inl, inr, sym, ap, subst}
 use Rattle.std.specs.Prelude.{◌==◌, encode_utf8_all}
 use Rattle.std.specs.Char.{len_utf8}
@@ -11,17 +11,17 @@ use Rattle.bib_text.specs.Places.Run.{stop, step}
 use Rattle.bib_text.proofs.PlaceFacts.{char_here, char_left, stops_at, stops_at_end}
 use Rattle.bib_syntax.specs.declared.raw.ParseErrorKind.{ParseErrorKind}
 
--- at most n characters, up to the end of the text
+-- at most this number of characters are from a place to the end of its text
 pub data Left : ℕ → Place → Type 0 where
   none : {n : ℕ} {u : Place} → AtEnd u → Left n u
   more : {n : ℕ} {u v : Place} {c : ℕ} → CharAt u c v → Left n v → Left (suc n) u
 
--- the end of the text, or a character
+-- a place is the end of its text, or a character is there
 pub end_or_char : {n : ℕ} {u : Place} → Left n u → AtEnd u ⊎ ((c : ℕ) × (v : Place) × CharAt u c v)
 end_or_char (Left.none end) = inl end
 end_or_char (Left.more char rest) = inr (_, _, char)
 
--- from the characters that the rest of a text spells
+-- the characters of the rest of a text from an offset
 spelled : (cs text : List ℕ) (at : ℕ) → at ≤ length text → drop at text ≡ encode_utf8_all cs → Left (length cs) (place text at)
 spelled [] text at within rest =
     let left : length (drop at text) ≡ 0 = ap length rest in
@@ -34,7 +34,7 @@ spelled (c ∷ cs) text at within rest =
 pub text_left : (text : List ℕ) → IsUtf8 text → (n : ℕ) × Left n (place text 0)
 text_left text utf8 = (_, spelled utf8.0 text 0 (omega arith) (sym utf8.1.1))
 
--- a place at which this rule ends, with at most n characters after it
+-- a place at which this rule ends, with at most `n` characters after it
 pub record Found (n : ℕ) (Rule : Place → Type 0) : Type 0 where
   pub left : ℕ
   pub place : Place
@@ -42,7 +42,7 @@ pub record Found (n : ℕ) (Rule : Place → Type 0) : Type 0 where
   pub fits : left ≤ n
   pub rule : Rule place
 
--- a rule that ends where characters are left
+-- a rule that ends at a place with at most `n` characters left
 pub found_at : {m n : ℕ} {u : Place} {Rule : Place → Type 0} → m ≤ n → Left m u → Rule u → Found n Rule
 found_at {m} {n} {u} fits rest rule = record { left = m; place = u; rest = rest; fits = fits; rule = rule }
 
@@ -50,18 +50,18 @@ found_at {m} {n} {u} fits rest rule = record { left = m; place = u; rest = rest;
 pub found_as : {m n : ℕ} {Rule Other : Place → Type 0} → m ≤ n → (f : Found m Rule) → Other f.place → Found n Other
 found_as fits f rule = found_at (omega (arith, fits, f.fits)) f.rest rule
 
--- a rule is read, or fails
+-- a rule matches or fails
 pub data Outcome (n : ℕ) (Rule : Place → Type 0) (Fails : ParseErrorKind → Place → Type 0) : Type 0 where
   read : Found n Rule → Outcome n Rule Fails
   fails : {kind : ParseErrorKind} {v : Place} → Fails kind v → Outcome n Rule Fails
 
--- with more characters allowed after it
+-- the same outcome with a greater bound on the characters left
 pub outcome_within : {m n : ℕ} {Rule : Place → Type 0} {Fails : ParseErrorKind → Place → Type 0} → m ≤ n
     → Outcome m Rule Fails → Outcome n Rule Fails
 outcome_within fits (Outcome.read f) = Outcome.read (found_as fits f f.rule)
 outcome_within fits (Outcome.fails f) = Outcome.fails f
 
--- a run of characters has a longest one
+-- a longest run matches at each place
 pub run_found : (test : ℕ → Bool) {n : ℕ} {u : Place} → Left n u → Found n (Longest test u)
 run_found test (Left.none end) = found_at (omega arith) (Left.none {n = zero} end) (record { run = stop; stops = stops_at_end test end })
 run_found test {u = u} (Left.more {c = c} char rest) =
@@ -73,12 +73,12 @@ run_found test {u = u} (Left.more {c = c} char rest) =
       | inr fail ↦ found_at (omega arith) (Left.more char rest) (record { run = stop; stops = stops_at test char fail })
     ]
 
--- a character that passes the test, or none
+-- the character at a place passes the test, or no passing character is there
 pub data First (test : ℕ → Bool) (n : ℕ) (u : Place) : Type 0 where
   passes : {m c : ℕ} {v : Place} → CharAt u c v → test c ≡ true → Left m v → m < n → First test n u
   stops : Stops test u → First test n u
 
--- whether a character that passes the test comes first
+-- one of these two cases applies
 pub first : (test : ℕ → Bool) {n : ℕ} {u : Place} → Left n u → First test n u
 first test (Left.none end) = First.stops (stops_at_end test end)
 first test (Left.more {c = c} char rest) = elim (cases_Bool (test c)) [
@@ -86,20 +86,20 @@ first test (Left.more {c = c} char rest) = elim (cases_Bool (test c)) [
   | inr fail ↦ First.stops (stops_at test char fail)
 ]
 
--- this character, or another one, or none
+-- the character `k` is at a place, or it is missing there
 pub data Sign (k n : ℕ) (u : Place) : Type 0 where
   here : {m : ℕ} {v : Place} → CharAt u k v → Left m v → m < n → Sign k n u
   missing : Stops (λ c. c == k) u → Sign k n u
 
--- a character that is this one
+-- a character that equals `k` is `k`
 pub is_sign : (k : ℕ) {u v : Place} {c : ℕ} → CharAt u c v → c == k ≡ true → CharAt u k v
 is_sign k {u} {v} {c} char same = subst (λ x. CharAt u x v) (eqb-true c k same) char
 
--- a first character that passes the test for this one is this one
+-- a character that passes the test for `k` is `k`
 sign_first : (k : ℕ) {n : ℕ} {u : Place} → First (λ c. c == k) n u → Sign k n u
 sign_first k (First.passes char same rest less) = Sign.here (is_sign k char same) rest less
 sign_first k (First.stops absent) = Sign.missing absent
 
--- whether this character comes first
+-- one of these two cases applies to `k`
 pub sign : (k : ℕ) {n : ℕ} {u : Place} → Left n u → Sign k n u
 sign k left = sign_first k (first (λ c. c == k) left)

@@ -1,4 +1,5 @@
--- The file grammar and the raw reading take the same texts: where runs may end anywhere they may also be longest.
+-- The modes `any` and `longest` accept the same texts. A match with the longest runs is a match with any runs (lemmas
+-- `.._any`). A match with any runs gives one with the longest runs (lemmas `.._longest`).
 use Rattle.std.proofs.Common.{◌≡◌, ℕ, Bool, true, false, List, [], ◌∷◌, refl, subst, inl, inr, arith}
 use Rattle.std.specs.Prelude.{not, ◌&&◌, ◌||◌, ◌==◌}
 use Rattle.std.specs.Char.{is_whitespace, is_control, is_ascii_digit}
@@ -20,7 +21,7 @@ use Rattle.bib_syntax.specs.Grammar.{File as file}
 use Rattle.bib_syntax.specs.Grammar.{BlockKind}
 use Rattle.bib_syntax.proofs.LawFacts.{start_not_white}
 
--- with longest runs, and so with any
+-- a match in the mode `longest` is a match in the mode `any`
 
 identifier_any : {u v : Place} {p : Part} → Identifier longest u p v → Identifier any u p v
 identifier_any i = record { second = i.second; first = i.first; here = i.here; starts = i.starts; rest = i.rest.run; reading = i.reading }
@@ -90,7 +91,7 @@ file_any (file.skipped char passes x) = file.skipped char passes (file_any x)
 file_any (file.line_comment m x) = file.line_comment m (file_any x)
 file_any (file.block b x) = file.block (record { inside = b.inside; kind = b.kind; head = head_any b.head; body = body_any b.body }) (file_any x)
 
--- white space is no other class that the grammar runs over
+-- white space isn't in any other class of characters that the grammar has runs of
 
 digit_not_white : (c : ℕ) → is_whitespace c ≡ true → is_ascii_digit c ≡ false
 digit_not_white c white = grind (arith, nat_tests)
@@ -104,20 +105,20 @@ white_not_key c white = and_right (not (c == 44 || c == 125) && not (is_control 
 white_not_point : (c : ℕ) → is_whitespace c ≡ true → c == 46 ≡ false
 white_not_point c white = grind (arith, nat_tests)
 
--- a run ends where white space stands, and then a character that fails
+-- no character of a class without white space is at the start of white space with a failing character after it
 stops_before : (test : ℕ → Bool) {u v x : Place} {c : ℕ} → ((d : ℕ) → is_whitespace d ≡ true → test d ≡ false) → Run is_whitespace u v → CharAt v c x → test c ≡ false → Stops test u
 stops_before test apart stop char fails = stops_at test char fails
 stops_before test apart (step first white rest) char fails = stops_at test first (apart _ white)
 
--- a run up to a character that fails is longest
+-- a run up to a character that fails is the longest run
 longest_to : (test : ℕ → Bool) {u v x : Place} {c : ℕ} → Run test u v → CharAt v c x → test c ≡ false → Longest test u v
 longest_to test run char fails = record { run = run; stops = stops_at test char fails }
 
--- what may stand after an element and the white space after that: # , } or a comment
+-- whether a character may follow a piece and white space: # , } or the % of a comment
 abbrev is_end : ℕ → Bool
 is_end c = c == 35 || c == 44 || c == 125 || c == 37
 
--- the character after the white space after an element
+-- the character after a piece and white space
 record Following (v : Place) : Type 0 where
   at : Place
   following : Place
@@ -159,7 +160,7 @@ element_longest (element.named none i) b =
 element_longest (element.braced x) b = element.braced x
 element_longest (element.quoted q) b = element.quoted q
 
--- the characters that may stand after a gap between fields
+-- whether a character may follow a field and a gap: , or }
 abbrev is_close : ℕ → Bool
 is_close c = c == 44 || c == 125
 
@@ -175,7 +176,7 @@ close_not_percent c close = grind (arith, nat_tests)
 close_not_sign : (c : ℕ) → is_close c ≡ true → c == 35 ≡ false
 close_not_sign c close = grind (arith, nat_tests)
 
--- white space and a gap after it, cut where the white space ends
+-- white space and a gap after it, cut where the longest white space ends
 record WhiteGap (v x : Place) : Type 0 where
   end : Place
   white : Longest is_whitespace v end
@@ -203,7 +204,7 @@ white_gap {v} {w} {x} {y} {k} white (gap.line_comment {v = a} r m r') char close
       following = record { at = a; following = m.inside; char = 37; white = all.run; here = m.sign; ends = refl };
     }
 
--- a first character that is no white space
+-- the character at a place is neither white space nor a percent sign
 record Visible (u : Place) : Type 0 where
   char : ℕ
   following : Place
@@ -237,6 +238,7 @@ elements_first : {u v : Place} {es : List Piece} → Elements any u es v → Vis
 elements_first (elements.last e w ends) = element_first e
 elements_first (elements.more e w s w' rest) = element_first e
 
+-- pieces with the longest runs, and a gap after them up to `x`
 record ElementsLongest (u : Place) (es : List Piece) (x : Place) : Type 0 where
   end : Place
   elements : Elements longest u es end
@@ -256,7 +258,7 @@ elements_longest (elements.more {w = w} {x = b} e white sign white' rest) g char
       rest = more.rest;
     }
 
--- a name with white space after it, and then a character that is part of no name
+-- a name followed by white space and a character that can't continue a name
 name_longest : {u v w x : Place} {p : Part} {c : ℕ} → Identifier any u p v → Run is_whitespace v w → CharAt w c x → is_id_continue c ≡ false → Identifier longest u p v
 name_longest i white char fails = record {
   second = i.second;
@@ -267,6 +269,7 @@ name_longest i white char fails = record {
   rest = record { run = i.rest; stops = stops_before is_id_continue white_not_continue white char fails };
 }
 
+-- a field with the longest runs, and a gap after it up to `x`
 record FieldLongest (u x : Place) : Type 0 where
   end : Place
   says : FieldReading
@@ -301,7 +304,7 @@ gap_longest : {u v : Place} → Gap any u v → Visible v → Gap longest u v
 gap_longest (gap.white r e) first = gap.white (longest_to is_whitespace r first.here first.visible) (stops_at (λ c. c == 37) first.here first.no_line_comment)
 gap_longest (gap.line_comment r m r') first = gap.line_comment (longest_to is_whitespace r m.sign refl) m (longest_to is_whitespace r' first.here first.visible)
 
--- a gap, and white space up to a visible character
+-- a gap and white space before such a character
 gap_white : {u v w : Place} → Gap any u v → Run is_whitespace v w → Visible w → Gap longest u w
 gap_white (gap.white r e) white first = gap_longest (gap.white (run_append r white) e) first
 gap_white (gap.line_comment r m r') white first = gap_longest (gap.line_comment r m (run_append r' white)) first
@@ -309,12 +312,13 @@ gap_white (gap.line_comment r m r') white first = gap_longest (gap.line_comment 
 close_visible : {v y : Place} {k : ℕ} → CharAt v k y → is_close k ≡ true → Visible v
 close_visible {v} {y} {k} char close = record { char = k; following = y; here = char; visible = close_not_white k close; no_line_comment = close_not_percent k close }
 
--- fields, and where they begin if the white space before them is longest
+-- fields that begin after the longest white space
 record FieldsLongest (v : Place) : Type 0 where
   start : Place
   says : List FieldReading
   fields : Fields longest start says v
 
+-- a gap from `a`, and fields after it up to `v`
 record GapFields (a v : Place) : Type 0 where
   fields : FieldsLongest v
   before : Gap longest a fields.start
@@ -331,6 +335,7 @@ gap_fields {u = u} g (fields.more f h comma h' rest) close =
     let more = gap_fields h' rest close in
     record { fields = record { start = u; says = one.says ∷ more.fields.says; fields = fields.more one.field one.rest comma more.before more.fields.fields }; before = gap_longest g (name_first f.name) }
 
+-- the longest white space from `a`, and fields after it up to `v`
 record WhiteFields (a v : Place) : Type 0 where
   fields : FieldsLongest v
   before : Longest is_whitespace a fields.start
@@ -348,7 +353,7 @@ white_fields {u = u} run (fields.more f h comma h' rest) close =
     let first = name_first f.name in
     record { fields = record { start = u; says = one.says ∷ more.fields.says; fields = fields.more one.field one.rest comma more.before more.fields.fields }; before = longest_to is_whitespace run first.here first.visible }
 
--- white space and a run after it, cut where the white space ends
+-- white space and a run after it, cut where the longest white space ends
 record WhiteRun (test : ℕ → Bool) (u w : Place) : Type 0 where
   end : Place
   white : Longest is_whitespace u end
@@ -389,7 +394,7 @@ head_longest h white = record {
 key_visible : (c : ℕ) → is_key c ≡ true → is_whitespace c ≡ false
 key_visible c key = not-true (is_whitespace c) (and_parts (not (c == 44 || c == 125) && not (is_control c)) (not (is_whitespace c)) key).1
 
--- white space, and a block's body after it
+-- the longest white space, and the body of a block after it
 record WhiteBody (start : Place) (p : Part) (k : BlockKind) (u v : Place) : Type 0 where
   inside : Place
   says : FileReading
@@ -429,7 +434,7 @@ body_longest {u = u} run (body.entry b (step {c = c} first passes rest) white co
           (longest_to is_whitespace white comma refl) comma cut.before cut.fields.fields close;
     }
 
--- a file that any runs read is read by the longest
+-- a file that matches in the mode `any` matches in the mode `longest`
 pub file_longest : {u : Place} {r : FileReading} → File any u r → (s : FileReading) × File longest u s
 file_longest (file.end end) = (empty_reading, file.end end)
 file_longest (file.skipped char passes x) = let more = file_longest x in (more.0, file.skipped char passes more.1)

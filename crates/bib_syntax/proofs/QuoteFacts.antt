@@ -1,4 +1,4 @@
--- How the parts of a quoted text are passed one after another.
+-- How a parser moves past the parts of a quoted text one by one.
 use Rattle.std.proofs.Common.{◌≡◌, ℕ, Bool, true, refl, subst, MatchOption, Option, None, Some}
 use Rattle.std.specs.Prelude.{not, ◌&&◌, ◌==◌}
 use Rattle.bib_text.specs.Places.{Place, CharAt, Run, Stops, AtEnd}
@@ -7,11 +7,11 @@ use Rattle.bib_text.proofs.PlaceFacts.{same_char, char_clash, pass_clash, no_cha
 use Rattle.bib_syntax.specs.Grammar.{QuotedParts}
 use Rattle.bib_syntax.specs.Grammar.QuotedParts.{none, plain, hidden}
 
--- a character that is neither a quote nor a backslash
+-- whether a character is neither a quote nor a backslash
 abbrev pub is_quotable : ℕ → Bool
 is_quotable c = not (c == 34) && not (c == 92)
 
--- the rest of the parts of a quoted text from u stands from v, up to its closing quote, and the other way round
+-- the text from `u` to a quote is parts of a quoted text if and only if the text from `v` to this quote is
 pub record SameQuoted (u v : Place) : Type 0 where
   pub there : (x y : Place) → QuotedParts v x → CharAt x 34 y → QuotedParts u x
   pub back : (x y : Place) → QuotedParts u x → CharAt x 34 y → QuotedParts v x
@@ -29,6 +29,7 @@ run_there : {u v x : Place} → Run is_quotable u v → QuotedParts v x → Quot
 run_there stop parts = parts
 run_there (step char passes rest) parts = plain char passes (run_there rest parts)
 
+-- parts from a plain character up to a quote are parts from the place after it
 pub plain_back : {u v x y : Place} {c : ℕ} → CharAt u c v → is_quotable c ≡ true → QuotedParts u x → CharAt x 34 y → QuotedParts v x
 plain_back char passes none quote = absurd (pass_clash is_quotable char passes quote refl)
 plain_back {u} {v} {x} char passes (plain char' passes' parts) quote = subst (λ p. QuotedParts p x) (same_char char' char).1 parts
@@ -38,16 +39,17 @@ run_back : {u v x y : Place} → Run is_quotable u v → QuotedParts u x → Cha
 run_back stop parts quote = parts
 run_back (step char passes rest) parts quote = run_back rest (plain_back char passes parts quote) quote
 
--- over a run of plain characters
+-- moving past a run of plain characters
 pub quoted_run : {u v : Place} → Run is_quotable u v → SameQuoted u v
 quoted_run run = record { there = λ x y p c. run_there run p; back = λ x y p c. run_back run p c }
 
--- nothing closes a quoted text after the end of the text
+-- no quote closes a quoted text after the end of the text
 quoted_end : {u x y : Place} → AtEnd u → QuotedParts u x → CharAt x 34 y → ⊥
 quoted_end end none quote = no_char_at_end end quote
 quoted_end end (plain char passes parts) quote = no_char_at_end end char
 quoted_end end (hidden slash any parts) quote = no_char_at_end end slash
 
+-- parts from a backslash up to a quote are parts from the place after the character that it escapes
 pub hidden_back : {u v w x y : Place} {c : ℕ} → CharAt u 92 v → CharAt v c w → QuotedParts u x → CharAt x 34 y → QuotedParts w x
 hidden_back slash char none quote = absurd (char_clash slash quote refl)
 hidden_back slash char (plain char' passes' parts) quote = absurd (pass_clash is_quotable char' passes' slash refl)
@@ -60,7 +62,7 @@ hidden_end_back slash end none quote = char_clash slash quote refl
 hidden_end_back slash end (plain char passes parts) quote = pass_clash is_quotable char passes slash refl
 hidden_end_back slash end (hidden {w = w'} {c = c'} slash' char' parts) quote = no_char_at_end end (subst (λ p. CharAt p c' w') (same_char slash' slash).1 char')
 
--- over a backslash and the character after it, if one stands there
+-- moving past a backslash and the character after it, if there is one
 pub quoted_hidden : {u v w : Place} (taken : Option ℕ) → CharAt u 92 v → MatchOption taken (AtEnd v × (w ≡ v)) (λ c. CharAt v c w) → SameQuoted u w
 quoted_hidden {u} {v} {w} None slash ended = record {
   there = λ x y p c. absurd (quoted_end ended.0 (subst (λ q. QuotedParts q x) ended.1 p) c);
@@ -68,7 +70,7 @@ quoted_hidden {u} {v} {w} None slash ended = record {
 }
 quoted_hidden (Some c) slash char = record { there = λ x y p q. hidden slash char p; back = λ x y p q. hidden_back slash char p q }
 
--- no quoted text goes on where neither a plain character nor a backslash nor the closing quote stands
+-- no quote closes a quoted text from a place without a plain character, a backslash or a quote
 pub quoted_stuck : {u x y : Place} → Stops is_quotable u → ((v : Place) → CharAt u 34 v → ⊥) → ((v : Place) → CharAt u 92 v → ⊥) → QuotedParts u x → CharAt x 34 y → ⊥
 quoted_stuck stops quote slash none closing = quote _ closing
 quoted_stuck stops quote slash (plain char passes parts) closing = pass_clash is_quotable char passes char (stops _ _ char)

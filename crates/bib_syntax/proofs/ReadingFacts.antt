@@ -1,4 +1,4 @@
--- Facts on parts of a text and on errors in it.
+-- Facts about parts of a text and about errors in it.
 use Rattle.std.proofs.Common.{Bool, true, false, MatchBool, ◌≡◌, ℕ, ◌-◌, ◌≤◌, List, take, drop, ap, ◌∙◌, subst, arith}
 use Rattle.bib_text.specs.Places.{Place, CharAt, place, between}
 use Rattle.bib_text.proofs.PlaceFacts.{Ahead}
@@ -6,7 +6,7 @@ use Rattle.bib_syntax.specs.Reading.{Part, part}
 use Rattle.bib_syntax.specs.Errors.{IsSyntaxError}
 use Rattle.bib_syntax.specs.declared.raw.ParseError.{ParseError}
 
--- an error in the text is one in the text of an earlier place
+-- an error in the text of a place ahead is one in the text of the place
 pub error_back : {u v : Place} {e : ParseError} → Ahead u v → IsSyntaxError v.text e → IsSyntaxError u.text e
 error_back {u} {v} {e} ahead error = subst (λ t. IsSyntaxError t e) ahead.text error
 
@@ -19,11 +19,11 @@ part_from {u} {v} start end bytes ahead starts ends is =
     ∙ ap (λ s. let p : Part = record { text = between u v; start = s; end = end } in p) starts
     ∙ ap (λ e. let p : Part = record { text = between u v; start = u.at; end = e } in p) ends
 
--- a place that a scanner reported is not after a later one
+-- the offset of a place isn't after the offset of a place ahead
 pub not_after : {u v : Place} (start : ℕ) → Ahead u v → start ≡ u.at → start ≤ v.at
 not_after start ahead starts = omega (arith, ahead.at, starts)
 
--- a character that stands here is taken
+-- a character that is at the place is taken
 pub taken_if : {u v : Place} (c : ℕ) (b : Bool) → MatchBool b (CharAt u c v) ((v ≡ u) × ((w : Place) → CharAt u c w → ⊥)) → ((w : Place) × CharAt u c w) → CharAt u c v
 taken_if c true char here = char
 taken_if c false absent here = absurd (absent.1 here.0 here.1)

@@ -1,4 +1,4 @@
--- How what can be read of a file is read block after block, and that it is read in one way.
+-- How a file is recovered block by block, and that there is only one recovery.
 use Rattle.std.proofs.Common.{◌≡◌, ◌≢◌, ◌⊎◌, ⊎_elim, ℕ, zero, suc, ◌-◌, ◌<◌, ◌≤◌, arith, lit<, length, drop, get_or, Bool, true, false, List, [], ◌∷◌, ◌++◌, inl, inr, Option, Some, None, MatchOption, Result, Ok, Err, OnOk, refl, sym, ap, ◌∙◌, subst, append_assoc, append-nil}
 use Rattle.std.specs.Prelude.{not, ◌==◌, take}
 use Rattle.std.specs.List.{AllByRecursion, Contains}
@@ -22,17 +22,17 @@ use Rattle.bib_syntax.specs.declared.raw.ParseError.{ParseError}
 use Rattle.bib_syntax.specs.declared.raw.recovery.SkippedBlock.{SkippedBlock}
 use Rattle.bib_syntax.proofs.LawFacts.{line_comment_same}
 use Rattle.bib_syntax.proofs.FileFailureFacts.{block_unread, block_error}
-use Rattle.bib_syntax.proofs.SliceFacts.{all_append}
 use Rattle.bib_syntax.proofs.StretchFacts.{order, first_byte, byte_in}
 use Rattle.bib_syntax.proofs.FileFacts.{ahead_block, ahead_line_comment, block_same, is_skipped, then-then, then-empty_reading}
+use Rattle.bib_text.proofs.ListFacts.{all_append}
 
--- ---- where reading goes on
+-- ---- where recovery continues
 
 pub passed_then : {u v w : Place} → Passed u v → Passed v w → Passed u w
 passed_then passed.stop more = more
 passed_then (passed.step char other rest) more = passed.step char other (passed_then rest more)
 
--- other characters than an at sign are passed
+-- a run of characters other than at signs is passed
 pub other_passed : {u v : Place} → Run (λ c. not (c == 64)) u v → Passed u v
 other_passed stop = passed.stop
 other_passed (step char other rest) = passed.step char (λ line. pass_clash (λ c. not (c == 64)) char other line.1 refl) (other_passed rest)
@@ -41,7 +41,7 @@ pub ahead_passed : {u v : Place} → Passed u v → Ahead u v
 ahead_passed passed.stop = ahead_here _
 ahead_passed (passed.step char other rest) = ahead_then (ahead_char char) (ahead_passed rest)
 
--- reading goes on at one place
+-- recovery continues at exactly one place
 no_step : {u v : Place} {c : ℕ} → AtEnd u ⊎ BeginsLine u → CharAt u c v → (BeginsLine u → ⊥) → ⊥
 no_step (inl end) char other = no_char_at_end end char
 no_step (inr line) char other = other line
@@ -56,7 +56,7 @@ passed_same {w = w} (passed.step char other rest) stands (passed.step char' othe
 pub goes_on_same : {u v w : Place} → GoesOnAt u v → GoesOnAt u w → v ≡ w
 goes_on_same first second = passed_same first.passed first.stands second.passed second.stands
 
--- ---- what was recovered up to a place
+-- ---- the recovery up to a place
 
 pub nothing_recovered : (start : Place) → RecoveredTo start empty_reading [] start
 nothing_recovered start more others x = x
@@ -84,18 +84,20 @@ pub all_recovered : {start u : Place} (says : FileReading) (errors : List Skippe
 all_recovered {start} says errors read end =
     subst (λ r. Recovered start r errors) (then-empty_reading says) (subst (λ es. Recovered start (then says empty_reading) es) (append-nil errors) (read empty_reading [] (recovered.end end)))
 
--- less is left after what is passed over
+-- fewer bytes are left after a skipped block
 pub unread_smaller : {u v w : Place} {c : ℕ} → CharAt u c v → GoesOnAt v w → length w.text - w.at < length u.text - u.at
 unread_smaller {u} char on = left_smaller (ahead_here u) char (ahead_passed on.passed)
 
--- ---- a text is read where nothing is passed over
+-- ---- a text has a raw reading if no block is skipped
 
+-- a raw reading is a recovery without skipped blocks
 pub kept : {u : Place} {says : FileReading} → File longest u says → Recovered u says []
 kept (file.end end) = recovered.end end
 kept (file.skipped char other rest) = recovered.skipped char other (kept rest)
 kept (file.line_comment line rest) = recovered.line_comment line (kept rest)
 kept (file.block block rest) = recovered.block block (kept rest)
 
+-- a recovery without skipped blocks is a raw reading
 pub all_read : {u : Place} {says : FileReading} → Recovered u says [] → File longest u says
 all_read (recovered.end end) = file.end end
 all_read (recovered.skipped char other rest) = file.skipped char other (all_read rest)
@@ -104,7 +106,7 @@ all_read (recovered.block block rest) = file.block block (all_read rest)
 
 -- ---- the search for the next line that begins with an at sign
 
--- what stands at the end of a run of other characters
+-- the character at the end of a run of other characters is the one searched for
 no_other : (b : Bool) → false ≡ not b → b ≡ true
 no_other true other = refl
 no_other false other = cc
@@ -112,21 +114,22 @@ no_other false other = cc
 at_sign_here : {u v : Place} (c : ℕ) → CharAt u c v → false ≡ not (c == 64) → (w : Place) × CharAt u 64 w
 at_sign_here {u} {v} c char other = (v, subst (λ x. CharAt u x v) (eqb-true c 64 (no_other (c == 64) other)) char)
 
--- where the text ends, or a line begins with an at sign, reading goes on
+-- recovery continues where the search stops, at the end of the text or at an at sign that begins a line
 stands_here : {u : Place} → EndsOr (λ c. false ≡ not (c == 64)) u → AtEnd u ⊎ (ends_blank (take u.at u.text) ≡ true) → AtEnd u ⊎ BeginsLine u
 stands_here (inl end) blank = inl end
 stands_here (inr here) (inl end) = inl end
 stands_here (inr here) (inr blank) = let sign = at_sign_here here.0 here.2 here.3 in inr (sign.0, sign.1, blank)
 
+-- recovery continues where the search stops
 pub search_ends : {start u v : Place} → Passed start u → Longest (λ c. not (c == 64)) u v → EndsOr (λ c. false ≡ not (c == 64)) v → AtEnd v ⊎ (ends_blank (take v.at v.text) ≡ true) → GoesOnAt start v
 search_ends before run here blank = record { passed = passed_then before (other_passed run.run); stands = stands_here here blank }
 
--- a character is taken before the end of the text
+-- taking a character before the end of the text returns one
 taken_here : {u v : Place} (taken : Option ℕ) → MatchOption taken (AtEnd u × (v ≡ u)) (λ c. CharAt u c v) → (AtEnd u → ⊥) → (c : ℕ) × CharAt u c v
 taken_here None ended going = absurd (going ended.0)
 taken_here (Some c) char going = (c, char)
 
--- the search goes on after an at sign that begins no line
+-- the search continues after an at sign that doesn't begin a line
 no_line : (b : Bool) → b ≡ false → b ≡ true → ⊥
 no_line b fails passes = cc
 
@@ -138,9 +141,9 @@ search_more {v = v} taken before run (going, blank) is =
 pub search_smaller : {u v : Place} (w : Place) (taken : Option ℕ) → Longest (λ c. not (c == 64)) u v → (AtEnd v → ⊥) × (ends_blank (take v.at v.text) ≡ false) → MatchOption taken (AtEnd v × (w ≡ v)) (λ c. CharAt v c w) → length w.text - w.at < length u.text - u.at
 search_smaller w taken run (going, blank) is = let char = taken_here taken is going in left_smaller (ahead_run run.run) char.1 (ahead_here _)
 
--- ---- one block more, or one that is passed over
+-- ---- one more block, or one more skipped block
 
--- where another reader followed
+-- the place after a jump to the offset of another reader is the place of this reader
 pub follows : {u v w : Place} (at : ℕ) → Ahead u v → at ≡ v.at → w ≡ place u.text at → w ≡ v
 follows {u} {v} at ahead is jump = jump ∙ same_place {u = place u.text at} {v = v} (sym ahead.text) is
 
@@ -168,9 +171,9 @@ pub unread_found : {u w : Place} {e : ParseError} (says all : FileReading) (erro
 unread_found {u} {w} {e} says all errors more none (v, sign, on) same grown start read =
     subst (λ r. RecoveredTo start r more w) (sym same) (subst (λ es. RecoveredTo start says es w) (sym grown) (unread_recovered says errors read sign none on))
 
--- ---- a text is recovered in one way
+-- ---- a text has at most one recovery
 
--- what is left after a character that is skipped, after a comment and after a block
+-- the recovery of the rest after a skipped character, after a line comment and after a block
 skipped_left : {u v : Place} {c : ℕ} {r : FileReading} {errors : List SkippedBlock} → CharAt u c v → is_skipped c ≡ true → Recovered u r errors → Recovered v r errors
 skipped_left char passes (recovered.end end) = absurd (no_char_at_end end char)
 skipped_left {r = r} {errors = errors} char passes (recovered.skipped char' passes' x) = subst (λ y. Recovered y r errors) (same_char char' char).1 x
@@ -185,6 +188,7 @@ comment_left {r = r} {errors = errors} m (recovered.line_comment m' x) = subst (
 comment_left m (recovered.block b x) = absurd (char_clash m.sign b.head.sign refl)
 comment_left m (recovered.unread sign none on x) = absurd (char_clash m.sign sign refl)
 
+-- the recovery of the rest after a block
 record BlockLeft (u v : Place) (first says : FileReading) (errors : List SkippedBlock) : Type 0 where
   rest : FileReading
   left : Recovered v rest errors
@@ -199,6 +203,7 @@ block_left {errors = errors} b (recovered.block {rest = rest} b' x) =
     record { rest = rest; left = subst (λ y. Recovered y rest errors) same.1 x; whole = ap (λ q. then q rest) same.0 }
 block_left b (recovered.unread sign none on x) = absurd (block_unread none.fails b)
 
+-- the recovery of the rest after a skipped block
 record UnreadLeft (u w : Place) (says : FileReading) (errors : List SkippedBlock) : Type 0 where
   error : ParseError
   rest : List SkippedBlock
@@ -233,7 +238,7 @@ recovery_same {u} (recovered.unread {w = w} {e = e} sign none on x) second =
     let error : e ≡ following.error = block_error none following.none in
     (left.0, ap (λ l. skipped_block e u w ∷ l) left.1 ∙ ap (λ y. skipped_block y u w ∷ following.rest) error ∙ sym following.whole)
 
--- ---- each entry that is read is a block of the file grammar
+-- ---- each recovered entry is a block of the file grammar
 
 entry_block : {start a v : Place} {p : Part} {k : BlockKind} {r : FileReading} → Body longest start p k a r v → Block longest start r v → AllByRecursion (IsBlockOf start.text) r.entries
 entry_block (body.comment v inside close) b = _
@@ -249,15 +254,15 @@ entries_stand text same (recovered.block {first = first} {rest = rest} b x) =
     all_append (IsBlockOf text) first.entries rest.entries (subst (λ t. AllByRecursion (IsBlockOf t) first.entries) same (entry_block b.body b)) (entries_stand text ((ahead_block b).text ∙ same) x)
 entries_stand text same (recovered.unread sign none on x) = entries_stand text ((ahead_passed on.passed).text ∙ (sign.same ∙ same)) x
 
--- ---- what could be read is read, or lies in what was passed
+-- ---- each entry that could be parsed is recovered, or it is inside a block, a line comment or a skipped block
 
--- an at sign doesn't stand in another character
+-- an at sign isn't inside another character
 in_character : {w v u x : Place} {c : ℕ} → CharAt w c v → CharAt u 64 x → u.text ≡ w.text → w.at ≤ u.at → u.at < v.at → c ≡ 64
 in_character {w} {v} {u} {x} {c} char sign same before inside =
     let byte : get_or w.text u.at 0 ≡ 64 = ap (λ t. get_or t u.at 0) (sym same) ∙ sym (first_byte u.text u.at) ∙ byte_from_char (drop u.at u.text) (drop x.at u.text) 64 sign.here (lit< tt) in
     byte_in u.at char before inside (subst (λ b. b < 128) (sym byte) (lit< tt)) ∙ byte
 
--- where an at sign stands that isn't passed yet, and what is read next ends
+-- an at sign at `u` is at the start `w` of the next step of recovery, inside the step, or not before its end `v`
 data Next (w v u : Place) : Type 0 where
   reached : w ≡ u → Next w v u
   begun : w.at < u.at → u.at < v.at → Next w v u
@@ -269,6 +274,7 @@ next w v u same ahead before = ⊎_elim
     (λ above. Next.reached (same_place same (omega (arith, above, before))))
     (order w.at u.at)
 
+-- the entry `e` is recovered, or its place `u` is inside a block or a line comment, or in a skipped block
 abbrev pub Found : List SkippedBlock → Place → FileReading → EntryReading → Type 0
 Found errors u says e = Contains says.entries e ⊎ LiesInside u ⊎ IsPassedOver errors u
 
@@ -284,6 +290,7 @@ found_past u says block errors e (inl read) = inl read
 found_past u says block errors e (inr (inl inside)) = inr (inl inside)
 found_past u says block errors e (inr (inr lost)) = inr (inr (passed_later u block errors lost))
 
+-- an entry that could be parsed at the start of a block is in the reading of the block
 same_entry : {u v : Place} {r : FileReading} (text : List ℕ) (e : EntryReading) → u ≡ place text e.start → Block longest u r v → IsBlockOf text e → Contains r.entries e
 same_entry {u} {r = r} text e here b at =
     let same : r ≡ entry_alone e = (block_same b (subst (λ y. Block longest y (entry_alone e) at.0) (sym here) at.1)).0 in
@@ -292,7 +299,7 @@ same_entry {u} {r = r} text e here b at =
 at_not_skipped : (c : ℕ) → is_skipped c ≡ true → c ≡ 64 → ⊥
 at_not_skipped c passes is = let fails : is_skipped 64 ≡ true = subst (λ d. is_skipped d ≡ true) is passes in cc
 
--- from a place that is reached on, an entry that can be read is found
+-- recovery from a reached place on finds each entry that could be parsed and doesn't begin before it
 pub nothing_lost : {w : Place} {says : FileReading} {errors : List SkippedBlock} (text : List ℕ) (e : EntryReading) → Reached (place text 0) w → w.text ≡ text → w.at ≤ e.start → IsBlockOf text e → Recovered w says errors
     → Found errors (place text e.start) says e
 nothing_lost {w} text e onward same before at (recovered.end end) =

@@ -1,4 +1,4 @@
--- Each part of a raw reading stands in its text.
+-- Each part of a raw reading is the text in its span.
 use Rattle.std.proofs.Common.{◌≡◌, ℕ, Bool, ◌-◌, ◌≤◌, List, [], ◌∷◌, ◌++◌, length, drop, sym, ap, ◌∙◌, subst, arith}
 use Rattle.std.specs.Prelude.{min}
 use Rattle.std.proofs.lemmas.List.{length-take, length-drop}
@@ -18,15 +18,16 @@ use Rattle.bib_syntax.specs.Slices.{StandsIn, PieceStandsIn, FieldStandsIn, Entr
 use Rattle.bib_syntax.proofs.FieldFacts.{ahead_fields, ahead_element, ahead_field, ahead_gap, ahead_identifier, ahead_parts, ahead_quoted_parts}
 use Rattle.bib_syntax.proofs.WordFacts.{ahead_number}
 use Rattle.bib_syntax.proofs.FileFacts.{ahead_block, ahead_head, ahead_line_comment}
+use Rattle.bib_text.proofs.ListFacts.{all_append}
 
--- a place before a character is within the text
+-- the offset of a character isn't after the end of the text
 within_before : {u v w : Place} {c : ℕ} → Ahead u v → CharAt v c w → v.at ≤ length u.text
 within_before {u} {v} ahead char =
     let left = char_left char in
     let same : length v.text ≡ length u.text = ap length ahead.text in
     omega (arith, left, same)
 
--- so is a place after one, and the end of a run from there
+-- the offset after a character, and after a run from there, isn't after the end of the text
 within_after : {u v : Place} {c : ℕ} → CharAt u c v → v.at ≤ length v.text
 within_after {u} {v} char =
     let left = char_left char in
@@ -37,7 +38,7 @@ within_run : {test : ℕ → Bool} {u v : Place} → u.at ≤ length u.text → 
 within_run start stop = start
 within_run start (step char passes rest) = within_run (within_after char) rest
 
--- what stands from one place to a later one
+-- the part from a place to a place ahead is the text in its span
 part_stands : {u v : Place} (text : List ℕ) → u.text ≡ text → Ahead u v → v.at ≤ length text → StandsIn text (part u v)
 part_stands {u} {v} text same ahead within =
     let rest : length (drop u.at u.text) ≡ length text - u.at = length-drop u.at u.text ∙ ap (λ t. length t - u.at) same in
@@ -107,7 +108,7 @@ fields_stand text same (fields.more f g sign h rest) =
     let next = ahead_then (ahead_field f) (ahead_then (ahead_gap g) (ahead_then (ahead_char sign) (ahead_gap h))) in
     (field_stands text same f, fields_stand text (next.text ∙ same) rest)
 
--- what stands in a text where nothing else does
+-- a reading with only a preamble has no other parts
 nothing_stands : (text : List ℕ) (preamble : List ℕ) → ReadingStandsIn text (record { preamble = preamble; entries = []; abbreviations = [] })
 nothing_stands text preamble = record { entries = tt; abbreviations = tt }
 
@@ -142,10 +143,6 @@ block_stands text same b =
     let head = ahead_head b.head in
     let kind = identifier_stands text (b.head.sign.same ∙ same) b.head.name in
     body_stands text (head.text ∙ same) head.at kind b.body
-
-pub all_append : {A : Type 0} (P : A → Type 0) (xs ys : List A) → AllByRecursion P xs → AllByRecursion P ys → AllByRecursion P (xs ++ ys)
-all_append P [] ys none rest = rest
-all_append P (x ∷ xs) ys all rest = (all.0, all_append P xs ys all.1 rest)
 
 then_stands : (text : List ℕ) (first rest : FileReading) → ReadingStandsIn text first → ReadingStandsIn text rest → ReadingStandsIn text (then first rest)
 then_stands text first rest one more = record {

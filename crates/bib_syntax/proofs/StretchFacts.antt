@@ -1,4 +1,4 @@
--- Bytes of characters, and how a stretch without a sign goes on from each place in it.
+-- Facts about the bytes of characters, and about stretches without some character, from each place in them.
 use Rattle.std.proofs.Common.{◌≡◌, ◌⊎◌, ⊎_elim, ℕ, zero, suc, ◌+◌, ◌-◌, ◌<◌, ◌≤◌, arith, length, length-drop, drop, get_or, true, List, [], ◌∷◌, inl, inr, sym, ap, ◌∙◌, subst}
 use Rattle.std.specs.Prelude.{not, ◌==◌, encode_utf8, encode_utf8_all}
 use Rattle.std.specs.Char.{len_utf8}
@@ -18,11 +18,11 @@ order zero (suc n) = inl (omega arith)
 order (suc m) zero = inr (omega arith)
 order (suc m) (suc n) = ⊎_elim (λ below. inl (omega (arith, below))) (λ above. inr (omega (arith, above))) (order m n)
 
--- the byte at a place is the first of what is left
+-- the byte at an offset is the first byte of the text from this offset
 pub first_byte : (text : List ℕ) (at : ℕ) → get_or (drop at text) 0 0 ≡ get_or text at 0
 first_byte text at = let sum : at + 0 ≡ at = omega arith in get_or-drop at text 0 0 ∙ ap (λ n. get_or text n 0) sum
 
--- a byte of ASCII in a character is that character
+-- an ASCII byte in a character is this character
 pub byte_in : {u v : Place} {c : ℕ} (k : ℕ) → CharAt u c v → u.at ≤ k → k < v.at → get_or u.text k 0 < 128 → c ≡ get_or u.text k 0
 byte_in {u} {v} {c} k char before inside ascii =
     let left : u.at + (k - u.at) ≡ k = omega (arith, before) in
@@ -33,7 +33,7 @@ byte_in {u} {v} {c} k char before inside ascii =
 passes_other : (c sign : ℕ) → not (c == sign) ≡ true → c ≡ sign → ⊥
 passes_other c sign passes is = let fails : not true ≡ true = subst (λ b. not b ≡ true) (eq-eqb c sign is) passes in cc
 
--- no byte of a run without a sign is that sign
+-- no byte of a run without an ASCII character is this character
 no_sign : (sign : ℕ) {u v : Place} (k : ℕ) → sign < 128 → Run (λ c. not (c == sign)) u v → u.at ≤ k → k < v.at → get_or u.text k 0 ≡ sign → ⊥
 no_sign sign k ascii stop before inside is = absurd (omega (arith, before, inside))
 no_sign sign k ascii (step {v = v} {c = c} char passes rest) before inside is = ⊎_elim
@@ -41,7 +41,7 @@ no_sign sign k ascii (step {v = v} {c = c} char passes rest) before inside is = 
     (λ later. no_sign sign k ascii rest later inside (ap (λ t. get_or t k 0) char.same ∙ is))
     (order k v.at)
 
--- a sign stands here, or the text ends
+-- the byte `sign` is at the offset `end`, or the text ends there
 abbrev EndsAt : ℕ → List ℕ → ℕ → Type 0
 EndsAt sign text end = (end ≡ length text) ⊎ (get_or text end 0 ≡ sign)
 
@@ -51,10 +51,11 @@ ends_at sign text end ascii (inr (c, v, char, is)) =
     let same : c ≡ sign = eqb-true c sign is in
     inr (sym (first_byte text end) ∙ byte_from_char (drop end text) (drop v.at text) c char.here (subst (λ d. d < 128) (sym same) ascii) ∙ same)
 
--- a run from a place up to the next sign, where no byte before is one
+-- no byte from the offset `at` to `end` is `sign`
 abbrev Others : ℕ → List ℕ → ℕ → ℕ → Type 0
 Others sign text at end = (k : ℕ) → at ≤ k → k < end → get_or text k 0 ≡ sign → ⊥
 
+-- a character other than `sign` before the end of a stretch ends at or before it
 not_past : (sign : ℕ) (text : List ℕ) (at end c : ℕ) → sign < 128 → at < end → CharAt (place text at) c (place text (at + len_utf8 c)) → (c ≡ sign → ⊥) → EndsAt sign text end → at + len_utf8 c ≤ end
 not_past sign text at end c ascii below char other (inl ended) = omega (arith, ended, char_left char)
 not_past sign text at end c ascii below char other (inr is) = ⊎_elim
@@ -62,6 +63,7 @@ not_past sign text at end c ascii below char other (inr is) = ⊎_elim
     (λ past. past)
     (order end (at + len_utf8 c))
 
+-- the characters from an offset to the end of a stretch are a run without `sign`
 to_sign : (sign : ℕ) (text cs : List ℕ) (at end : ℕ) → sign < 128 → encode_utf8_all cs ≡ drop at text → at ≤ end → end ≤ length text → Others sign text at end → EndsAt sign text end
     → Run (λ c. not (c == sign)) (place text at) (place text end)
 to_sign sign text [] at end ascii left to within others ends =
@@ -77,14 +79,14 @@ to_sign sign text (c ∷ cs) at end ascii left to within others ends = ⊎_elim
     (λ above. let same : at ≡ end = omega (arith, to, above) in subst (λ n. Run (λ c. not (c == sign)) (place text at) (place text n)) same stop)
     (order at end)
 
--- a stretch goes on from each place in it
+-- a stretch continues from each place in it to its end
 pub from_inside : (sign : ℕ) (u : Place) (noted : Stretch) → sign < 128 → IsStretch sign u.text noted → noted.start ≤ u.at → u.at ≤ noted.end → IsCharBoundary u.text u.at → IsStretchFrom sign u noted.end
 from_inside sign u noted ascii is from to may =
     let rest : IsUtf8 (drop u.at u.text) = IsUtf8-drop u.text u.at is.utf8 may in
     let run = to_sign sign u.text rest.0 u.at noted.end ascii rest.1.1 to is.may_end.0 (λ k before inside. no_sign sign k ascii is.longest.run (omega (arith, from, before)) inside) (ends_at sign u.text noted.end ascii is.stopped) in
     record { longest = record { run = run; stops = is.longest.stops }; stopped = is.stopped; may_end = is.may_end }
 
--- what stands between two places is a stretch
+-- the longest run without `sign` from one place to another is a stretch
 pub stretch_made : (sign start end : ℕ) (text : List ℕ) (u v : Place) → IsUtf8 text → u.text ≡ text → v.text ≡ text → start ≡ u.at → end ≡ v.at → Longest (λ c. not (c == sign)) u v → EndsOr (λ c. c == sign ≡ true) v → IsCharBoundary v.text end
     → IsStretch sign text (record { start = start; end = end })
 stretch_made sign start end text u v utf8 before after from to longest stopped may =

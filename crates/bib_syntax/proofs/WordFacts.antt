@@ -1,4 +1,4 @@
--- Facts on names and numbers.
+-- Facts about names and numbers.
 use Rattle.std.proofs.Common.{List, ◌≡◌, ℕ, Bool, true, false, refl, sym, subst, MatchBool}
 use Rattle.std.specs.Prelude.{not, ◌||◌, ◌==◌}
 use Rattle.std.proofs.lemmas.Bool.{and_parts}
@@ -17,7 +17,7 @@ use Rattle.bib_syntax.specs.Grammar.{Identifier, Number, Braced, Quoted, Element
 use Rattle.bib_syntax.specs.Grammar.Element.{number, named, braced, quoted}
 use Rattle.bib_syntax.specs.Grammar.Number.{whole, broken}
 
--- whether the character that stands here passes
+-- testing the character at a place decides whether a passing character is there
 pub passes_cases : (test : ℕ → Bool) {u v : Place} {c : ℕ} (b : Bool) → CharAt u c v → b ≡ test c
     → MatchBool b ((d : ℕ) × (w : Place) × CharAt u d w × (test d ≡ true)) ((d : ℕ) (w : Place) → CharAt u d w → test d ≡ false)
 passes_cases test {u} {v} {c} true char same = (_, _, char, sym same)
@@ -37,14 +37,16 @@ identifier_from {u} {v} {w} {c} char starts run reading = record {
   reading = reading;
 }
 
+-- a number without a point
 pub number_whole : {u v w : Place} {c : ℕ} → CharAt u c v → is_ascii_digit c ≡ true → Longest is_ascii_digit u w → ((x : Place) → CharAt w 46 x → ⊥) → Number longest u w
 number_whole char digit run no_point = whole char digit (longest_rest run char digit) (stops_without 46 no_point)
 
+-- a number with a point
 pub number_broken : {u v w x y : Place} {c : ℕ} → CharAt u c v → is_ascii_digit c ≡ true → Longest is_ascii_digit u w → CharAt w 46 x → Longest is_ascii_digit x y
     → ((z : Place) → CharAt y 46 z → ⊥) → Number longest u y
 number_broken char digit run point run' no_point = broken char digit (longest_rest run char digit) point run' (stops_without 46 no_point)
 
--- no number goes on over a second point
+-- no number matches before a second point
 pub number_points : {u w x y z : Place} → Longest is_ascii_digit u w → CharAt w 46 x → Longest is_ascii_digit x y → CharAt y 46 z → (v : Place) → Number longest u v → ⊥
 number_points {u} {w} {x} {y} {z} run point more again v (whole char digit rest ends) =
     let moved = subst (λ p. CharAt p 46 x) (longest_same (longest_rest run char digit) rest) point in
@@ -55,7 +57,7 @@ number_points {u} {w} {x} {y} {z} run point more again v (broken char digit rest
     let moved = subst (λ p. CharAt p 46 z) (longest_same inside rest2) again in
     test_clash true refl (ends 46 z moved)
 
--- an identifier that the test for its beginning found
+-- an identifier, from a first character that passes the test and the longest run
 pub identifier_found : {u w : Place} {p : Part} → ((c : ℕ) × (v : Place) × CharAt u c v × (is_id_start c ≡ true)) → Longest is_id_continue u w → p ≡ part u w → Identifier longest u p w
 identifier_found (c, v, char, starts) run reading = identifier_from char starts run reading
 
@@ -66,7 +68,7 @@ not_number char differs v (broken first digit rest dot rest2 ends) = pass_clash 
 pub not_name : {u x : Place} {c : ℕ} → CharAt u c x → is_id_start c ≡ false → (p : Part) (v : Place) → Identifier longest u p v → ⊥
 not_name char differs p v name = pass_clash is_id_start name.here name.starts char differs
 
--- a number's part is an element
+-- the part of a number is a piece
 pub number_element : {u v : Place} (p : Part) → Number longest u v → p ≡ part u v → Element longest u (literal p) v
 number_element {u} {v} p n same = subst (λ q. Element longest u (literal q) v) (sym same) (number n)
 
@@ -74,7 +76,7 @@ pub ahead_number : {u v : Place} → Number longest u v → Ahead u v
 ahead_number (whole first digit rest ends) = ahead_then (ahead_char first) (ahead_run rest.run)
 ahead_number (broken first digit rest dot rest2 ends) = ahead_then (ahead_char first) (ahead_then (ahead_run rest.run) (ahead_then (ahead_char dot) (ahead_run rest2.run)))
 
--- the pieces that a value's element makes
+-- the pieces of the code for a braced text, a quoted text, a number and a name are pieces of the grammar
 pub braced_element : {u v : Place} (s : Spanned RawChunk) (t : Spanned (Bor (List ℕ))) → s.v ≡ Normal t.v → s.span ≡ t.span → Braced u (part_of t) v → Element longest u (piece_of s) v
 braced_element {u} {v} s t same spans b = rw (same, spans) (braced b)
 

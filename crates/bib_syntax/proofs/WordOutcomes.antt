@@ -1,4 +1,4 @@
--- Each word is read or fails: names, numbers, and texts in quotes and braces.
+-- Each word matches or fails: names, numbers, and texts in quotes and braces.
 use Rattle.std.proofs.Common.{◌≡◌, ◌⊎◌, ℕ, zero, suc, ◌≤◌, arith, Bool, true, false, inl, inr, refl, Some, None}
 use Rattle.std.specs.Prelude.{◌||◌, ◌==◌}
 use Rattle.std.specs.Char.{is_ascii_digit}
@@ -26,28 +26,28 @@ use Rattle.bib_syntax.proofs.LeftFacts.{Left, Found, found_at, found_as, Outcome
 
 -- ---- names and numbers
 
--- from one place to the other, a name
+-- a name from one place to the other
 abbrev pub NameAt : Place → Place → Type 0
 NameAt u v = Identifier longest u (part u v) v
 
--- a name from its first character on
+-- a name matches if its first character does
 name_found : {n : ℕ} {u v : Place} {c : ℕ} → CharAt u c v → is_id_start c ≡ true → Left n v → Found n (NameAt u)
 name_found char starts rest =
     let run = run_found is_id_continue rest in
     found_as (omega arith) run (record { second = _; first = _; here = char; starts = starts; rest = run.rule; reading = refl })
 
--- a name, or none if the first character cannot begin one
+-- a name matches, or it is missing if the first character can't begin one
 name_first : {n : ℕ} {u : Place} → First is_id_start n u → Outcome n (NameAt u) (IdentifierFails u)
 name_first (First.passes char starts rest less) =
     let name = name_found char starts rest in
     Outcome.read (found_as (omega (arith, less)) name name.rule)
 name_first (First.stops none) = Outcome.fails (identifier_fail.missing none)
 
--- a name is read, or there is none
+-- a name matches or is missing
 pub name_outcome : {n : ℕ} {u : Place} → Left n u → Outcome n (NameAt u) (IdentifierFails u)
 name_outcome left = name_first (first is_id_start left)
 
--- a number is read from its first digit on, or has a second point
+-- a number whose first digit is known matches or has a second point
 number_outcome : {n : ℕ} {u v : Place} {c : ℕ} → CharAt u c v → is_ascii_digit c ≡ true → Left n v
     → Outcome n (Number longest u) (NumberFails u)
 number_outcome {u = u} char digit rest =
@@ -67,7 +67,7 @@ number_outcome {u = u} char digit rest =
 
 -- ---- texts in quotes
 
--- parts of a quoted text, and the quote before this place
+-- parts of a quoted text from `u`, and a closing quote after them up to `x`
 abbrev QuoteClosed : Place → Place → Type 0
 QuoteClosed u x = (v : Place) × QuotedParts u v × CharAt v 34 x
 
@@ -79,12 +79,12 @@ NoQuote u = (w x : Place) → QuotedParts u w → CharAt w 34 x → ⊥
 abbrev QuoteCase : ℕ → Place → Type 0
 QuoteCase n u = Found n (QuoteClosed u) ⊎ NoQuote u
 
--- the case of a quote at one place, from the case at another with the same closing quote
+-- whether a quote closes the text from one place, from the same at another place with the same closing quote
 quote_moved : {m n : ℕ} {u v : Place} → m ≤ n → SameQuoted u v → QuoteCase m v → QuoteCase n u
 quote_moved fits same (inl f) = inl (found_as fits f (f.rule.0, same.there _ _ f.rule.1 f.rule.2, f.rule.2))
 quote_moved fits same (inr none) = inr (λ w x p c. none w x (same.back w x p c) c)
 
--- from a character on, if it is known after it, and after the character that it hides
+-- whether a quote closes the text from a character, if it is known after this character and after one that it escapes
 quote_step : {m n : ℕ} {u v w : Place} {c : ℕ} → CharAt u c v → Left n v → QuoteCase n v
     → (CharAt u 92 v → SameQuoted u w) → m ≤ n → QuoteCase m w → QuoteCase (suc n) u
 quote_step {u = u} {v = v} {c = c} char rest here hides fits hidden = elim (cases_Bool (c == 34)) [
@@ -101,7 +101,7 @@ quote_step {u = u} {v = v} {c = c} char rest here hides fits hidden = elim (case
 quote_end : {n : ℕ} {u : Place} → AtEnd u → QuoteCase n u
 quote_end end = inr (λ w x. quote.quoted_stuck (stops_at_end is_quotable end) (λ v. no_char_at_end end) (λ v. no_char_at_end end))
 
--- whether a quote closes the text
+-- at each place, a quote closes the text or none does
 quote_case : {n : ℕ} {u : Place} → Left n u → QuoteCase n u
 quote_case (Left.none end) = quote_end end
 quote_case (Left.more {n = n} char (Left.none end)) =
@@ -111,11 +111,11 @@ quote_case (Left.more char (Left.more {c = d} next rest)) =
     let here = quote_case (Left.more next rest) in
     quote_step char (Left.more next rest) here (λ slash. quote.quoted_hidden (Some d) slash next) (omega arith) (quote_case rest)
 
--- from one place to the other, a quoted text
+-- a quoted text from one place to the other
 abbrev pub QuotedAt : Place → Place → Type 0
 QuotedAt u v = (p : Part) × Quoted u p v
 
--- a quoted text from its first quote on
+-- a quoted text whose first quote is known matches or fails
 quoted_opened : {n : ℕ} {u v : Place} → CharAt u 34 v → QuoteCase n v → Outcome n (QuotedAt u) (QuotedFails u)
 quoted_opened {u = u} {v = v} opens (inl f) =
     let quoted : Quoted u (part v f.rule.0) f.place = record {
@@ -129,7 +129,7 @@ quoted_opened {u = u} {v = v} opens (inl f) =
     Outcome.read (found_as (omega arith) f (_, quoted))
 quoted_opened opens (inr none) = Outcome.fails (quoted_fail.unclosed opens none)
 
--- a quoted text is read, or fails
+-- a quoted text matches or fails
 pub quoted_outcome : {n : ℕ} {u : Place} → Left n u → Outcome n (QuotedAt u) (QuotedFails u)
 quoted_outcome left = elim (sign 34 left) [
   | Sign.missing stops ↦ Outcome.fails (quoted_fail.missing stops)
@@ -138,30 +138,30 @@ quoted_outcome left = elim (sign 34 left) [
 
 -- ---- texts in braces
 
--- what closes the braces that are open, and the brace that closes the whole before this place
+-- text that closes `depth` open braces from `u`, and one more closing brace after it up to `y`
 abbrev BraceClosed : ℕ → Place → Place → Type 0
 BraceClosed depth u y = (x : Place) × ClosesOpen depth u x × CharAt x 125 y
 
--- nothing closes them
+-- no closing brace is after text from `u` that closes `depth` open braces
 abbrev NoBrace : ℕ → Place → Type 0
 NoBrace depth u = (x y : Place) → ClosesOpen depth u x → CharAt x 125 y → ⊥
 
--- a brace closes the whole, or none does
+-- one of these two cases applies
 abbrev BraceCase : ℕ → ℕ → Place → Type 0
 BraceCase depth n u = Found n (BraceClosed depth u) ⊎ NoBrace depth u
 
--- the case of a brace at one place, from the case at another with the same closing brace
+-- whether a brace closes the whole from one place, from the same at another place with the same closing brace
 brace_moved : {depth inner m n : ℕ} {u v : Place} → m ≤ n → SameBraced depth u inner v → BraceCase inner m v → BraceCase depth n u
 brace_moved fits same (inl f) = inl (found_as fits f (f.rule.0, same.there _ _ f.rule.1 f.rule.2, f.rule.2))
 brace_moved fits same (inr none) = inr (λ x y p c. none x y (same.back x y p c) c)
 
--- over a closing brace
+-- whether a brace closes the whole from a closing brace, if it is known after it
 brace_closes : (depth : ℕ) {n : ℕ} {u v : Place} → CharAt u 125 v → Left n v → ((inner : ℕ) → BraceCase inner n v)
     → BraceCase depth (suc n) u
 brace_closes zero {u = u} close rest here = inl (found_at (omega arith) rest (u, ClosesOpen.last Parts.none, close))
 brace_closes (suc depth) close rest here = brace_moved (omega arith) (brace.braced_close depth close) (here depth)
 
--- from a character on, if it is known after it, and after the character that it hides
+-- whether a brace closes the whole from a character, if it is known after this character and after one that it escapes
 brace_step : (depth : ℕ) {m n : ℕ} {u v w : Place} {c : ℕ} → CharAt u c v → Left n v → ((inner : ℕ) → BraceCase inner n v)
     → (CharAt u 92 v → SameBraced depth u depth w) → m ≤ n → BraceCase depth m w → BraceCase depth (suc n) u
 brace_step depth {u = u} {v = v} {c = c} char rest here hides fits hidden = elim (cases_Bool (c == 123)) [
@@ -177,11 +177,11 @@ brace_step depth {u = u} {v = v} {c = c} char rest here hides fits hidden = elim
   ]
 ]
 
--- nothing closes a brace at the end of the text
+-- no brace closes the whole at the end of the text
 brace_end : (depth : ℕ) {n : ℕ} {u : Place} → AtEnd u → BraceCase depth n u
 brace_end depth end = inr (λ x y. brace.closes_end end)
 
--- whether a brace closes the whole, with `depth` more braces open
+-- at each place, a brace closes the whole or none does, with `depth` more braces open
 brace_case : (depth : ℕ) {n : ℕ} {u : Place} → Left n u → BraceCase depth n u
 brace_case depth (Left.none end) = brace_end depth end
 brace_case depth (Left.more {n = n} char (Left.none end)) =
@@ -192,11 +192,11 @@ brace_case depth (Left.more char (Left.more {c = d} next rest)) =
     brace_step depth char (Left.more next rest) (λ inner. brace_case inner (Left.more next rest))
     (λ slash. brace.braced_hidden depth (Some d) slash next) (omega arith) (brace_case depth rest)
 
--- from one place to the other, a braced text
+-- a braced text from one place to the other
 abbrev BracedAt : Place → Place → Type 0
 BracedAt u v = (p : Part) × Braced u p v
 
--- a braced text from its brace on
+-- a braced text whose opening brace is known matches or fails
 braced_opened : {n : ℕ} {u v : Place} → CharAt u 123 v → BraceCase zero n v → Outcome n (BracedAt u) (BracedFails u)
 braced_opened {u = u} {v = v} opens (inl f) =
     let parts = brace.closes_zero f.rule.1 in
@@ -211,40 +211,40 @@ braced_opened {u = u} {v = v} opens (inl f) =
     Outcome.read (found_as (omega arith) f (_, braced))
 braced_opened opens (inr none) = Outcome.fails (braced_fail.unclosed opens (λ w x p c. none w x (ClosesOpen.last p) c))
 
--- ---- elements
+-- ---- pieces
 
--- from one place to the other, an element
+-- a piece from one place to the other
 abbrev pub ElementAt : Place → Place → Type 0
 ElementAt u v = (e : Piece) × Element longest u e v
 
--- a character in none of four classes begins no element
+-- the disjunction of four false values is false
 no_element : (a b c d : Bool) → a ≡ false → b ≡ false → c ≡ false → d ≡ false → a || b || c || d ≡ false
 no_element a b c d first second third fourth = rw (first, second, third, fourth)
 
--- an element that begins with a digit
+-- a piece that begins with a digit
 element_number : {n : ℕ} {u v : Place} {c : ℕ} → CharAt u c v → is_ascii_digit c ≡ true → Outcome n (Number longest u) (NumberFails u)
     → Outcome n (ElementAt u) (ElementFails u)
 element_number char digit (Outcome.read f) = Outcome.read (found_as (omega arith) f (_, element.number f.rule))
 element_number char digit (Outcome.fails f) = Outcome.fails (element_fail.number char digit f)
 
--- an element that begins with a brace
+-- a piece that begins with a brace
 element_braced : {n : ℕ} {u : Place} → Outcome n (BracedAt u) (BracedFails u) → Outcome n (ElementAt u) (ElementFails u)
 element_braced (Outcome.read f) = Outcome.read (found_as (omega arith) f (_, element.braced f.rule.1))
 element_braced (Outcome.fails f) = Outcome.fails (element_fail.braced f)
 
--- an element that begins with a quote
+-- a piece that begins with a quote
 element_quoted : {n : ℕ} {u v : Place} → CharAt u 34 v → Outcome n (QuotedAt u) (QuotedFails u) → Outcome n (ElementAt u) (ElementFails u)
 element_quoted opens (Outcome.read f) = Outcome.read (found_as (omega arith) f (_, element.quoted f.rule.1))
 element_quoted opens (Outcome.fails f) = Outcome.fails (element_fail.quoted opens f)
 
--- an element that begins with another first character of a name
+-- a piece that begins with a name
 element_named : {n : ℕ} {u v : Place} {c : ℕ} → CharAt u c v → is_ascii_digit c ≡ false → Found n (NameAt u)
     → Outcome n (ElementAt u) (ElementFails u)
 element_named {u = u} char no_digit f =
     let none : NoDigit u = λ d w other digit. pass_clash is_ascii_digit other digit char no_digit in
     Outcome.read (found_as (omega arith) f (_, element.named none f.rule))
 
--- an element by its first character
+-- a piece whose first character is known matches or fails
 element_step : {n : ℕ} {u v : Place} {c : ℕ} → CharAt u c v → Left n v → Outcome n (ElementAt u) (ElementFails u)
 element_step {c = c} char rest = elim (cases_Bool (c == 123)) [
   | inl is_brace ↦ element_braced (braced_opened (is_sign 123 char is_brace) (brace_case zero rest))
@@ -264,7 +264,7 @@ element_step {c = c} char rest = elim (cases_Bool (c == 123)) [
   ]
 ]
 
--- an element is read, or fails
+-- a piece matches or fails
 pub element_outcome : {n : ℕ} {u : Place} → Left n u → Outcome n (ElementAt u) (ElementFails u)
 element_outcome (Left.none end) = Outcome.fails (element_fail.missing (stops_at_end begins_element end))
 element_outcome (Left.more char rest) = outcome_within (omega arith) (element_step char rest)

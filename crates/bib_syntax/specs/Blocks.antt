@@ -1,5 +1,5 @@
 -- Machinery: words of private contracts.
--- What the reader's values say of a block: what it is, and what it says.
+-- The kind and the content of a block, from the values of the code.
 use Rattle.std.specs.Prelude.{[], ◌∷◌, map}
 use Rattle.bib_syntax.specs.declared.raw.file.BlockKind.{BlockKind as Found}
 use Rattle.bib_syntax.specs.declared.raw.file.BlockKind.TheVariants.{Comment, Preamble, Strings, Entry}
@@ -9,14 +9,14 @@ use Rattle.bib_syntax.specs.Grammar.{BlockKind}
 use Rattle.bib_syntax.specs.Reading.{FileReading, empty_reading}
 use Rattle.bib_syntax.specs.Views.{entry_reading_of, field_of}
 
--- what a block is
+-- the kind of a block in the grammar
 abbrev pub block_kind_of : Found → BlockKind
 block_kind_of Comment = BlockKind.comment
 block_kind_of Preamble = BlockKind.preamble
 block_kind_of Strings = BlockKind.strings
 block_kind_of Entry = BlockKind.entry
 
--- what a block says
+-- the content of a block, as a reading of a file with only this block
 abbrev pub item_of : Item → FileReading
 item_of item.Nothing = empty_reading
 item_of (item.Preamble s) = record { preamble = s.now; entries = []; abbreviations = [] }

@@ -1,5 +1,5 @@
 -- Machinery: words of private contracts.
--- The places from which reading fields fails, as they are noted once for a text that is read more than once.
+-- The offsets from which parsing fields fails, noted for a text whose parts are parsed more than once.
 use Rattle.std.specs.Prelude.{ℕ, List, IfSome}
 use Rattle.std.specs.BTreeMap as tree
 use Rattle.std.specs.List.{All}
@@ -10,15 +10,15 @@ use Rattle.bib_syntax.specs.SyntaxErrors.{FieldsFails, Reports}
 use Rattle.bib_syntax.specs.declared.raw.ParseError.{ParseError}
 use Rattle.bib_syntax.specs.declared.raw.failures.Failures.{Failures}
 
--- reading fields fails with this error from this place of a text
+-- parsing fields from the offset `at` of `text` fails with the error `e`
 pub record FailsAt (text : List ℕ) (e : ParseError) (at : ℕ) : Type 0 where
   pub error : IsSyntaxError text e
   pub fails : Reports (FieldsFails (place text at)) e
 
--- it fails so from each of these places
+-- parsing fields from each of the offsets `starts` of `text` fails with the error `e`
 abbrev pub AllFail : List ℕ → ParseError → List ℕ → Type 0
 AllFail text e starts = All (FailsAt text e) starts
 
--- from each place at which an error is noted reading fields fails with that error
+-- from each offset with a noted error, parsing fields of `text` fails with this error
 abbrev pub AreFailures : List ℕ → Failures → Type 0
 AreFailures text failures = (at : ℕ) → IfSome (tree.get nat_cmp failures.errors at) (λ e. FailsAt text e at)

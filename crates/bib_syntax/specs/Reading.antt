@@ -1,24 +1,24 @@
 -- Meaning: words of public contracts.
--- What a bibliography file says: its entries, abbreviations and preamble, each part with the bytes where it stands.
+-- The content of a bibliography file: its entries, abbreviations and preamble, with the span of each part in bytes.
 use Rattle.std.specs.Prelude.{ℕ, List, [], ◌∷◌, ◌++◌, codes}
 use Rattle.bib_text.specs.Places.{Place, between}
 
--- a part of the text: its bytes, and where they begin and end
+-- a part of the text: its bytes, and the offsets at which they begin and end
 pub record Part : Type 0 where
   pub text : List ℕ
   pub start : ℕ
   pub end : ℕ
 
--- what stands from one place to the other
+-- the part from `u` to `v`
 abbrev pub part : Place → Place → Part
 part u v = record { text = between u v; start = u.at; end = v.at }
 
--- an element of a value: text, or the name of an abbreviation
+-- a piece of a value: a literal text, or the name of an abbreviation
 pub data Piece : Type 0 where
   literal : Part → Piece
   abbreviation : Part → Piece
 
--- the elements of a value, and where it begins and ends
+-- the pieces of a value, and the offsets at which it begins and ends
 pub record ValueReading : Type 0 where
   pub pieces : List Piece
   pub start : ℕ
@@ -28,7 +28,7 @@ pub record FieldReading : Type 0 where
   pub name : Part
   pub value : ValueReading
 
--- an entry, from its @ up to its closing brace
+-- an entry; it starts at its @ and ends before its closing brace
 pub record EntryReading : Type 0 where
   pub key : Part
   pub kind : Part
@@ -36,23 +36,23 @@ pub record EntryReading : Type 0 where
   pub start : ℕ
   pub end : ℕ
 
--- what a file says: its entries, its abbreviations and its preamble
+-- the content of a file: its preamble, its entries and its definitions of abbreviations
 pub record FileReading : Type 0 where
   pub preamble : List ℕ
   pub entries : List EntryReading
   pub abbreviations : List FieldReading
 
--- what a file says in which nothing stands
+-- the content of an empty file
 abbrev pub empty_reading : FileReading
 empty_reading = record { preamble = []; entries = []; abbreviations = [] }
 
--- two preambles, joined as BibTeX joins texts
+-- two preambles joined by ` # `, by which BibTeX concatenates texts; if one is empty, the other one
 abbrev pub joined_preambles : List ℕ → List ℕ → List ℕ
 joined_preambles [] rest = rest
 joined_preambles (b ∷ bs) [] = b ∷ bs
 joined_preambles (b ∷ bs) (c ∷ cs) = (b ∷ bs) ++ codes " # " ++ (c ∷ cs)
 
--- what two files say, the second after the first
+-- the content of `first` followed by the content of `rest`
 abbrev pub then : FileReading → FileReading → FileReading
 then first rest = record {
   preamble = joined_preambles first.preamble rest.preamble;

@@ -1,6 +1,6 @@
 -- Meaning: words of public contracts.
--- What is read of a text of which not each block can be read. BibTeX reports an error, passes over the rest of the block and
--- goes on; here reading goes on at the next at sign that begins a line, so that a brace that isn't closed costs one block.
+-- Recovery: the reading of a text some of whose blocks can't be parsed. BibTeX reports an error, skips the rest of the block
+-- and continues. Recovery continues at the next at sign that begins a line, so an unclosed brace costs only one block.
 use Rattle.std.specs.Prelude.{◌≡◌, ◌⊎◌, ℕ, ◌<◌, Bool, true, not, ◌&&◌, ◌||◌, ◌==◌, List, [], ◌∷◌, length, take, drop}
 use Rattle.std.specs.List.{list_any, Any}
 use Rattle.std.specs.Str.{trim_end}
@@ -12,19 +12,19 @@ use Rattle.bib_syntax.specs.declared.raw.ParseError.{ParseError}
 use Rattle.bib_syntax.specs.declared.raw.recovery.SkippedBlock.{SkippedBlock}
 use Rattle.bib_text.specs.Characters as char
 
--- whether this byte stands in a text
+-- whether `byte` occurs in `text`
 abbrev pub has_byte : ℕ → List ℕ → Bool
 has_byte byte text = list_any (λ b. b == byte) text
 
--- whether a line ends in a text
+-- whether `text` contains a line feed or a carriage return
 abbrev pub has_line_end : List ℕ → Bool
 has_line_end text = has_byte char.line_feed text || has_byte char.carriage_return text
 
--- whether a line begins after this text, white space aside: it is blank, or a line ends in the white space at its end
+-- whether `before` is blank, or the white space at its end contains a line end
 abbrev pub ends_blank : List ℕ → Bool
 ends_blank before = length (trim_end before) == 0 || has_line_end (drop (length (trim_end before)) before)
 
--- an at sign stands here, the first character of its line but for white space
+-- an at sign is at `u`, and only white space precedes it on its line
 abbrev pub BeginsLine : Place → Type 0
 BeginsLine u = (v : Place) × CharAt u char.at v × (ends_blank (take u.at u.text) ≡ true)
 
@@ -33,21 +33,21 @@ pub data Passed : Place → Place → Type 0 where
   stop : {u : Place} → Passed u u
   step : {u v w : Place} {c : ℕ} → CharAt u c v → (BeginsLine u → ⊥) → Passed v w → Passed u w
 
--- where reading goes on from a place: at the next at sign that begins a line, or at the end of the text
+-- recovery continues at `v`: the first at sign from `u` on that begins a line, or the end of the text if there is none
 pub record GoesOnAt (u v : Place) : Type 0 where
   pub passed : Passed u v
   pub stands : AtEnd v ⊎ BeginsLine v
 
--- no block of the file grammar begins here, and this is why
+-- no block begins at `u`; `e` is the error of the grammar that is reported for it
 abbrev pub IsUnreadBlock : Place → ParseError → Type 0
 IsUnreadBlock u e = Reports (BlockFails u) e
 
--- what is passed over: an error, and the stretch from an at sign to where reading goes on
+-- a skipped block: its error, and the span from its at sign at `u` to `w`, where recovery continues
 abbrev pub skipped_block : ParseError → Place → Place → SkippedBlock
 skipped_block e u w = record { error = e; span = record { start = u.at; end = w.at } }
 
--- a file, from a place on, as the file grammar has it, with one more rule: where an at sign stands and no block begins, the
--- error is kept, and reading goes on at the next line that begins with an at sign
+-- The rest of a file from a place, by the rules of the raw reading and one more rule. If no block begins at an at sign, its
+-- error is kept, and recovery continues at the next at sign that begins a line.
 pub data Recovered : Place → FileReading → List SkippedBlock → Type 0 where
   end : {u : Place} → AtEnd u → Recovered u empty_reading []
   skipped : {u v : Place} {c : ℕ} {says : FileReading} {errors : List SkippedBlock} → CharAt u c v → not (c == char.at) && not (c == char.percent) ≡ true
@@ -58,20 +58,20 @@ pub data Recovered : Place → FileReading → List SkippedBlock → Type 0 wher
   unread : {u v w : Place} {e : ParseError} {says : FileReading} {errors : List SkippedBlock} → CharAt u char.at v → IsUnreadBlock u e → GoesOnAt v w
       → Recovered w says errors → Recovered u says (skipped_block e u w ∷ errors)
 
--- this is what is read of the text, and this is passed over
+-- the recovery of `text` has the reading `says` and the skipped blocks `errors`
 abbrev pub IsRecovery : List ℕ → FileReading → List SkippedBlock → Type 0
 IsRecovery text says errors = Recovered (place text 0) says errors
 
--- what a block says that is this entry
+-- the reading of a block that is the entry `e`
 abbrev pub entry_alone : EntryReading → FileReading
 entry_alone e = record { preamble = []; entries = e ∷ []; abbreviations = [] }
 
--- a block of the file grammar begins where this entry does, and is the entry
+-- a block at the start of the entry `e` has exactly this entry as its raw reading
 abbrev pub IsBlockOf : List ℕ → EntryReading → Type 0
 IsBlockOf text e = (v : Place) × Block longest (place text e.start) (entry_alone e) v
 
--- recovery that begins at `start` reads on from this place: it is `start`, or the end of a step from such a place. A step is a
--- skipped character, a line comment, a block or a skipped block
+-- Recovery that begins at `start` reaches a place: `start` itself, or the end of a step from a place that it reaches. A step
+-- is a skipped character, a line comment, a block or a skipped block.
 pub data Reached (start : Place) : Place → Type 0 where
   here : Reached start start
   skipped : {u v : Place} {c : ℕ} → Reached start u → CharAt u c v → not (c == char.at) && not (c == char.percent) ≡ true → Reached start v
@@ -79,7 +79,7 @@ pub data Reached (start : Place) : Place → Type 0 where
   block : {u v : Place} {says : FileReading} → Reached start u → Block longest u says v → Reached start v
   unread : {u v w : Place} {e : ParseError} → Reached start u → CharAt u char.at v → IsUnreadBlock u e → GoesOnAt v w → Reached start w
 
--- a place lies strictly inside a block or a line comment that begins at a place reached from the start of the text
+-- `u` is strictly inside a block or a line comment that begins at a place that recovery reaches from the start of the text
 pub record LiesInside (u : Place) : Type 0 where
   pub start : Place
   pub end : Place
@@ -88,6 +88,6 @@ pub record LiesInside (u : Place) : Type 0 where
   pub before : start.at < u.at
   pub following : u.at < end.at
 
--- a place lies in a stretch that is passed over, after its at sign
+-- `u` is strictly inside the span of a skipped block, after its at sign
 abbrev pub IsPassedOver : List SkippedBlock → Place → Type 0
 IsPassedOver errors u = Any (λ block. (block.span.start < u.at) × (u.at < block.span.end)) errors

@@ -1,12 +1,12 @@
 -- Meaning: words of public contracts.
--- Where the parts of what a file says stand: each is the text between its ends.
+-- The parts of a reading are the text in their spans.
 use Rattle.std.specs.Prelude.{◌≡◌, ℕ, ◌+◌, ◌≤◌, List, length}
 use Rattle.std.specs.List.{AllByRecursion}
 use Rattle.bib_text.specs.Places.{place, between}
 use Rattle.bib_syntax.specs.Reading.{Part, Piece, FieldReading, EntryReading, FileReading}
 use Rattle.bib_syntax.specs.Reading.Piece.{literal, abbreviation}
 
--- a part is the bytes of a text from its start to its end
+-- the part `p` is the bytes of `text` in its span, which is in `text`
 pub record StandsIn (text : List ℕ) (p : Part) : Type 0 where
   pub bytes : p.text ≡ between (place text p.start) (place text p.end)
   pub size : p.end ≡ p.start + length p.text
@@ -16,12 +16,12 @@ abbrev pub PieceStandsIn : List ℕ → Piece → Type 0
 PieceStandsIn text (literal p) = StandsIn text p
 PieceStandsIn text (abbreviation p) = StandsIn text p
 
--- the name of a field, and each element of its value
+-- the name of a field and each piece of its value are the text in their spans
 pub record FieldStandsIn (text : List ℕ) (f : FieldReading) : Type 0 where
   pub name : StandsIn text f.name
   pub pieces : AllByRecursion (PieceStandsIn text) f.value.pieces
 
--- an entry, its key, the name of its kind, and its fields
+-- the span of an entry is in `text`; its key, its entry type and the parts of its fields are the text in their spans
 pub record EntryStandsIn (text : List ℕ) (e : EntryReading) : Type 0 where
   pub ordered : e.start ≤ e.end
   pub within : e.end ≤ length text
@@ -29,7 +29,7 @@ pub record EntryStandsIn (text : List ℕ) (e : EntryReading) : Type 0 where
   pub kind : StandsIn text e.kind
   pub fields : AllByRecursion (FieldStandsIn text) e.fields
 
--- each key, entry type, field name and element of a reading is the text between its ends
+-- each key, entry type, field name and piece of a reading is the text in its span
 pub record ReadingStandsIn (text : List ℕ) (says : FileReading) : Type 0 where
   pub entries : AllByRecursion (EntryStandsIn text) says.entries
   pub abbreviations : AllByRecursion (FieldStandsIn text) says.abbreviations

@@ -1,5 +1,5 @@
 -- Machinery: words of private contracts.
--- Stretches of a text in which a sign doesn't stand, as they are noted once for a text that is read more than once.
+-- Stretches of a text without some character, noted for a text whose parts are parsed more than once.
 use Rattle.std.specs.Prelude.{◌≡◌, ℕ, ◌==◌, not, true, List, length}
 use Rattle.std.specs.List.{All}
 use Rattle.std.specs.Str.{IsUtf8, IsCharBoundary}
@@ -10,28 +10,28 @@ use Rattle.bib_syntax.specs.Failures.{AreFailures}
 use Rattle.bib_syntax.specs.declared.raw.notes.Notes.{Notes}
 use Rattle.bib_syntax.specs.declared.raw.stretches.Stretch.{Stretch}
 
--- the sign stands nowhere in the stretch, and at its end stands one, or the text ends
+-- a stretch of a UTF-8 text without the character `sign`; at its end `sign` occurs, or the text ends
 pub record IsStretch (sign : ℕ) (text : List ℕ) (noted : Stretch) : Type 0 where
   pub utf8 : IsUtf8 text
   pub longest : Longest (λ c. not (c == sign)) (place text noted.start) (place text noted.end)
   pub stopped : EndsOr (λ c. c == sign ≡ true) (place text noted.end)
   pub may_end : IsCharBoundary text noted.end
 
--- a stretch without the sign goes on from this place to this one
+-- from `u` to the offset `end`, `sign` doesn't occur; at `end` it occurs, or the text ends
 pub record IsStretchFrom (sign : ℕ) (u : Place) (end : ℕ) : Type 0 where
   pub longest : Longest (λ c. not (c == sign)) u (place u.text end)
   pub stopped : EndsOr (λ c. c == sign ≡ true) (place u.text end)
   pub may_end : IsCharBoundary u.text end
 
--- lines of a text, without their line feeds
+-- each of `lines` is a line of `text`, or the rest of one, without its line feed
 abbrev pub AreLines : List ℕ → List Stretch → Type 0
 AreLines text lines = All (IsStretch char.line_feed text) lines
 
--- what stands after the last closing brace of a text, up to its end
+-- `tail` is a stretch without closing braces up to the end of `text`
 abbrev pub IsTail : List ℕ → Stretch → Type 0
 IsTail text tail = IsStretch char.close_brace text tail × (tail.end ≡ length text)
 
--- all that is noted of a text is so
+-- all notes about `text` are true
 pub record AreNotes (text : List ℕ) (notes : Notes) : Type 0 where
   pub closings : AreClosings text notes.closings.items
   pub lines : AreLines text notes.lines.items

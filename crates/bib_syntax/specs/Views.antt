@@ -1,5 +1,5 @@
 -- Meaning: words of public contracts.
--- What the values of the program that hold what a file says, say: their texts and spans, wherever these are kept.
+-- The readings that values of the code represent: their texts and spans.
 use Rattle.std.specs.Prelude.{ℕ, List, map}
 use Rattle.std.specs.String.{string_bytes}
 use Rattle.std.specs.Borrow.{Bor}
@@ -12,16 +12,16 @@ use Rattle.bib_syntax.specs.declared.raw.RawBibliography.{RawBibliography}
 use Rattle.bib_syntax.specs.Reading.{Part, Piece, FieldReading, EntryReading, FileReading}
 use Rattle.bib_syntax.specs.Reading.Piece.{literal, abbreviation}
 
--- a text at its span
+-- the part that a text with its span represents
 abbrev pub part_of : Spanned (Bor (List ℕ)) → Part
 part_of s = record { text = s.v.now; start = s.span.start; end = s.span.end }
 
--- an element with these ends
+-- the piece of a value with these ends
 abbrev pub piece_at : ℕ → ℕ → RawChunk → Piece
 piece_at start end (Normal s) = literal (record { text = s.now; start = start; end = end })
 piece_at start end (Abbreviation s) = abbreviation (record { text = s.now; start = start; end = end })
 
--- what an element of a value says, with its ends
+-- the piece of a value with its span
 abbrev pub piece_of : Spanned RawChunk → Piece
 piece_of s = piece_at s.span.start s.span.end s.v
 
@@ -31,7 +31,7 @@ field_of p = record { name = part_of p.key; value = record { pieces = map piece_
 abbrev pub entry_reading_of : Spanned RawEntry → EntryReading
 entry_reading_of e = record { key = part_of e.v.key; kind = part_of e.v.kind; fields = map field_of e.v.fields.items; start = e.span.start; end = e.span.end }
 
--- what a raw bibliography says
+-- the reading of a raw bibliography
 abbrev pub file_of : RawBibliography → FileReading
 file_of raw = record {
   preamble = string_bytes raw.preamble;

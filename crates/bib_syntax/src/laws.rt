@@ -1,4 +1,4 @@
-//! Laws of the file grammar. These functions do nothing: what they ensure is proved of the definitions alone.
+//! Laws of the file grammar. These functions do nothing. Their clauses are proved from the definitions only.
 
 ghost use Rattle.std.specs.Prelude.{◌≡◌, ◌↔◌, ◌⊎◌, ℕ, List, []};
 ghost use Rattle.std.specs.List.{AllByRecursion, Contains};
@@ -19,67 +19,68 @@ pub fn one_reading()
         IsRawReading text tells → says ≡ tells }
 {}
 
-/// The texts that the file grammar reads, where runs may end anywhere, are those that have a raw reading, where each
-/// run is as long as it can be.
+/// The file grammar accepts exactly the texts that have a raw reading. In the file grammar, runs may end anywhere. In a raw
+/// reading, each run is as long as possible.
 pub fn same_texts()
     ensures { (text : List ℕ) → IsFile text ↔ ((says : FileReading) × IsRawReading text says) }
 {}
 
-/// A text has at most one error to report.
+/// At most one error is reported for a text.
 pub fn one_error()
     ensures { (text : List ℕ) (e f : ParseError) → IsReported text e → IsReported text f → e ≡ f }
 {}
 
-/// The file grammar doesn't read a text that has an error to report.
+/// The file grammar rejects each text for which an error is reported.
 pub fn error_or_reading()
     ensures { (text : List ℕ) (e : ParseError) → IsReported text e → IsFile text → ⊥ }
 {}
 
-/// The error to report of a text is an error of the grammar, and lies in the text.
+/// The error that is reported for a text is an error of the grammar, and its span is in the text.
 pub fn errors_stand()
     ensures { (text : List ℕ) (e : ParseError) → IsReported text e → IsSyntaxError text e }
 {}
 
-/// Each key, kind, field name and element of a raw reading is the text between its ends.
+/// Each key, entry type, field name and piece of a raw reading is the text in its span.
 pub fn parts_stand()
     ensures { (text : List ℕ) (says : FileReading) → IsRawReading text says →
         ReadingStandsIn text says }
 {}
 
-/// Each text in UTF-8 has a raw reading or an error to report. By `one_reading`, `one_error` and `error_or_reading` it has
-/// exactly one of them.
+/// Each UTF-8 text has a raw reading, or an error is reported for it. By `one_reading`, `one_error` and `error_or_reading`, it
+/// has exactly one of them.
 pub fn has_reading_or_error()
     ensures { (text : List ℕ) → IsUtf8 text →
         ((says : FileReading) × IsRawReading text says) ⊎ ((e : ParseError) × IsReported text e) }
 {}
 
-/// Each text in UTF-8 has a recovery. By `one_recovery` it has exactly one.
+/// Each UTF-8 text has a recovery. By `one_recovery`, it has exactly one.
 pub fn has_recovery()
     ensures { (text : List ℕ) → IsUtf8 text →
         (says : FileReading) × (errors : List SkippedBlock) × IsRecovery text says errors }
 {}
 
-/// Nothing is skipped exactly if the file grammar reads the text, and then the text's reading is what is read.
+/// Recovery skips no block if and only if the text has a raw reading, and then it has this reading.
 pub fn recovered_is_read()
     ensures { (text : List ℕ) (says : FileReading) → IsRawReading text says ↔
         IsRecovery text says [] }
 {}
 
-/// A text has at most one recovery: what is read, and what is skipped, with its errors.
+/// A text has at most one recovery: one reading and one list of skipped blocks with their errors.
 pub fn one_recovery()
     ensures { (text : List ℕ) (says tells : FileReading) (errors others : List SkippedBlock) →
         IsRecovery text says errors → IsRecovery text tells others →
         (says ≡ tells) × (errors ≡ others) }
 {}
 
-/// Each entry that is read is a block of the file grammar where it stands.
+/// Each recovered entry is a block of the file grammar at its start.
 pub fn recovered_entries_stand()
     ensures { (text : List ℕ) (says : FileReading) (errors : List SkippedBlock) →
         IsRecovery text says errors → AllByRecursion (IsBlockOf text) says.entries }
 {}
 
-/// Recovery reads each entry that the file grammar can read at a place, with two exceptions. The place lies inside a block or
-/// a line comment that recovery reads, or it lies in a skipped stretch. A block that recovery doesn't reach excuses no loss.
+/// Recovery has each entry that the file grammar can parse at some place of the text, with two exceptions. The place is
+/// inside a block or a line comment that recovery parses, or it is in a skipped block. A block that recovery doesn't reach
+/// isn't an exception.
 pub fn nothing_is_lost()
     ensures { (text : List ℕ) (says : FileReading) (errors : List SkippedBlock) (e : EntryReading) →
         IsRecovery text says errors → IsBlockOf text e → Contains says.entries e ⊎

@@ -1,27 +1,31 @@
 //! The grammar of bibliography files.
 //!
-//! `raw` reads in one pass and never backs up. Each function has two clauses: `found` (Ok: the rule stands between the
-//! place before and the place after, with this reading) and `fails` (Err: the rule fails here, with this error).
-//! `words` has names, keys, numbers and texts in braces and quotes; `fields` has line comments, elements and fields; `file`
-//! has blocks and the file. Nested braces are counted, not recursed on, so that reading is linear in the text, in the
-//! depth of braces too.
+//! `raw` parses in one pass and never backtracks. Each parsing function has two clauses. The clause `found` (Ok) states that
+//! the grammar rule matches the text between the places before and after the call, with the returned reading. The clause
+//! `fails` (Err) states that the rule fails at the place before the call, with the returned error. `words` parses names,
+//! keys, numbers and texts in braces and quotes. `fields` parses line comments, pieces and fields. `file` parses blocks and
+//! the file. Nested braces are counted without recursion, so the time is linear in the text at any depth of braces.
 //!
-//! specs/SyntaxErrors.antt says of each rule of the grammar how it fails, with which error and where. `laws` proves of the
-//! definitions alone that each text in UTF-8 has either one raw reading or one error, and one recovery.
+//! `specs/SyntaxErrors.antt` states for each rule of the grammar how it fails: with which error and at which place. `laws`
+//! proves, from the definitions only, that each UTF-8 text has exactly one raw reading or exactly one error, but not both.
+//! It also proves that each UTF-8 text has exactly one recovery.
 //!
-//! `recovery` reads a file of which not each block can be read: where a block fails, its error is kept, and reading goes on at
-//! the next at sign that begins a line. What a block that fails has passed is read again, so `notes` then notes once where the
-//! braces of the text close, where its lines end, and where no closing brace follows; `reader`, the scanner of all these
-//! functions, jumps there. Of each field that such a block began to read the error is noted too: how reading fails from a field
-//! on is a matter of its place alone, so a later block that meets the field fails so without reading it.
+//! `recovery` parses a file even if some of its blocks can't be parsed. If a block fails, its error is kept, and parsing
+//! continues at the next at sign that begins a line. The text of a failed block may therefore be parsed again. To avoid
+//! scanning it many times, `notes` notes where the braces of the text close and where its lines end. It also notes from
+//! where no closing brace follows. `reader`, the scanner of all these functions, jumps to these offsets. `notes` also has
+//! the error of each field that a failed block began to parse. Whether and how parsing fields fails depends only on the
+//! offset. A later block that reaches such a field therefore returns the noted error without parsing it.
 //!
-//! The grammar is written once and taken in two modes: with runs of characters that may end anywhere (the file grammar,
-//! by which a text is accepted or not), and with the longest runs (the raw reading, by which each part has one place).
-//! Three rules say in the longest mode what may not follow: a point after a number, `#` after the last element, `%`
-//! after white space in a gap. A line comment ends at the line feed or the end of the text, which is the longest run of
-//! other characters. A block answers what it says, and one function adds that to what the blocks before said, so that
-//! no rule of the grammar speaks of the list that is filled. The proofs of the loops keep a record of two facts: what
-//! stands from here stands from the start, and what fails from here fails from the start.
+//! The grammar is written once and has two modes. In the mode `any`, a run of characters may end anywhere. This is the file
+//! grammar, which accepts or rejects a text. In the mode `longest`, each run is as long as possible. This is the raw reading,
+//! in which each part has one span. In this mode, three rules forbid a character after them. No point follows a number, no
+//! `#` follows the last piece, and no `%` follows white space in a gap. A line comment ends at the line feed or the end of
+//! the text, in both modes.
+//!
+//! The function for a block returns the reading of the block, and another function appends it to the reading of the blocks
+//! before. So no grammar rule mentions the list that is filled. The proofs of the loops maintain two facts. A match from the
+//! current place gives a match from the start. A failure from the current place gives a failure from the start.
 #![tactic(auto)]
 
 pub mod laws;

@@ -1,4 +1,4 @@
-//! The low-level representation of a bibliography file, with abbreviations not yet resolved.
+//! The low-level representation of a bibliography file, before abbreviations are resolved.
 
 ghost use Rattle.std.specs.Prelude.{◌≡◌, ◌≢◌, ◌⊎◌, [], ◌∷◌, ◌++◌, codes, Some, IfOk, IfErr, OnOk, OnErr};
 ghost use Rattle.bib_syntax.specs.Characters as characters;
@@ -19,7 +19,7 @@ mod recovery;
 mod stretches;
 mod words;
 
-use bib_enums::type_error::TypeErrorKind;
+use bib_tables::type_error::TypeErrorKind;
 use bib_text::scanner::Scanner;
 use bib_text::spanned::{Span, Spanned};
 use bib_text::text::Text;
@@ -33,26 +33,26 @@ use std::error::Error;
 use std::fmt;
 use std::marker::Model;
 
-/// The elements of a field's value, joined in the file by `#`.
+/// The pieces of the value of a field, joined in the file by `#`.
 pub type Field<'s> = Vec<Spanned<RawChunk<'s>>>;
 
-/// What a bibliography file says, with abbreviations not yet resolved. All texts but the preamble are parts of the file.
+/// The content of a bibliography file before abbreviations are resolved. All texts except the preamble borrow from the file.
 #[derive(Debug, Clone, Drop)]
 pub struct RawBibliography<'s> {
     /// The preambles with their quotes, joined by ` # `.
     pub preamble: String,
     /// The entries, in the order of the file.
     pub entries: Vec<Spanned<RawEntry<'s>>>,
-    /// The abbreviations that the file defines, in its order.
+    /// The definitions of abbreviations, in the order of the file.
     pub abbreviations: Vec<Pair<'s>>,
 }
 
 impl<'s> RawBibliography<'s> {
-    /// Reads a bibliography file.
+    /// Parses a bibliography file.
     ///
-    /// A text that the file grammar doesn't read is refused with an error of kind `UnexpectedEof`, `Unexpected` or
-    /// `Expected`, whose span is empty and in bytes of the text. It is the one error of the text that the rules of
-    /// specs/SyntaxErrors.antt give.
+    /// If the file grammar rejects `src`, returns an error of the kind `UnexpectedEof`, `Unexpected` or `Expected`. Its span
+    /// is empty and in bytes of `src`. It is the one error that the rules in `specs/SyntaxErrors.antt` give for the text. Any
+    /// other error is `OutOfMemory`.
     pub fn parse(alloc: Global, src: &'s str) -> Result<Self, ParseError>
         ensures read { IfOk result (λ raw. IsRawReading src.now (file_of raw)) }
         ensures accepted { OnOk result (IsFile src.now) }
@@ -62,9 +62,9 @@ impl<'s> RawBibliography<'s> {
         BiblatexParser::new(src).parse(alloc)
     }
 
-    /// Reads what can be read of a bibliography file, and says what is passed over. The blocks that `parse` would read are
-    /// read; where none can be read at an at sign, its error is kept, and reading goes on at the next line that begins with
-    /// an at sign. Without errors exactly where `parse` reads the text.
+    /// Parses the blocks of a bibliography file that can be parsed, and reports the skipped ones. If no block can be parsed
+    /// at an at sign, keeps its error and continues at the next at sign that begins a line. Skips no block if and only if
+    /// the file grammar accepts `src`. Returns an error only if out of memory.
     pub fn recover(alloc: Global, src: &'s str) -> Result<RawRecovery<'s>, AllocError>
         ensures { IfOk result (λ found. IsRecovery src.now (file_of found.raw) found.skipped.items) }
     {
@@ -72,7 +72,7 @@ impl<'s> RawBibliography<'s> {
     }
 }
 
-/// A parser of a bibliography file, at the start of its text.
+/// A parser for a bibliography file, at the start of its text.
 #[derive(Drop)]
 pub struct BiblatexParser<'s> {
     scanner: Scanner<'s>,
@@ -89,7 +89,7 @@ impl<'s> Model for BiblatexParser<'s> {
 }
 
 impl<'s> BiblatexParser<'s> {
-    /// A parser of this text.
+    /// Returns a parser for `src`.
     pub fn new(src: &'s str) -> Self
         ensures { result ≡ src.now }
     {
@@ -98,7 +98,7 @@ impl<'s> BiblatexParser<'s> {
         }
     }
 
-    /// Reads the text, as `RawBibliography::parse` does.
+    /// Parses the text like `RawBibliography::parse`, with the same errors.
     pub fn parse(self, alloc: Global) -> Result<RawBibliography<'s>, ParseError>
         ensures read { IfOk result (λ raw. IsRawReading self.entry (file_of raw)) }
         ensures accepted { OnOk result (IsFile self.entry) }
@@ -109,18 +109,18 @@ impl<'s> BiblatexParser<'s> {
     }
 }
 
-/// An entry as it stands in the file.
+/// An entry before abbreviations are resolved.
 #[derive(Debug, Clone, Drop)]
 pub struct RawEntry<'s> {
     /// The citation key, possibly empty.
     pub key: Spanned<&'s str>,
-    /// The kind of entry, such as `article`.
+    /// The entry type as it is spelled in the file, such as `article`.
     pub kind: Spanned<&'s str>,
     /// The fields with their values, in the order of the file.
     pub fields: Vec<Pair<'s>>,
 }
 
-/// An element of a value.
+/// A piece of a value.
 #[derive(Debug, Clone, PartialEq, Eq, Drop)]
 pub enum RawChunk<'s> {
     /// A number, or the text between braces or quotes.
@@ -129,17 +129,17 @@ pub enum RawChunk<'s> {
     Abbreviation(&'s str),
 }
 
-/// A name and its value: a field, or an abbreviation's definition.
+/// A name and its value: a field, or the definition of an abbreviation.
 #[derive(Debug, Clone, Drop)]
 pub struct Pair<'s> {
     /// The name.
     pub key: Spanned<&'s str>,
-    /// The value, which goes on over the white space after it.
+    /// The value. Its span includes the white space after it.
     pub value: Spanned<Field<'s>>,
 }
 
 impl<'s> Pair<'s> {
-    /// A name and its value.
+    /// Returns the pair of a name and its value.
     pub fn new(key: Spanned<&'s str>, value: Spanned<Field<'s>>) -> Self
         ensures { result ≡ record { key = key.entry; value = value.entry } }
     {
@@ -147,38 +147,38 @@ impl<'s> Pair<'s> {
     }
 }
 
-/// Why a text was refused, and where.
+/// Why parsing failed, and where.
 #[derive(Debug, Clone, PartialEq, Eq, Drop)]
 pub struct ParseError {
-    /// The byte range of the text that is in error; `0..0` for the kind `OutOfMemory`.
+    /// The span of the text that is in error, in bytes; `0..0` for the kind `OutOfMemory`.
     pub span: Span,
-    /// What is wrong.
+    /// The reason.
     pub kind: ParseErrorKind,
 }
 
-/// Why a text was refused.
+/// Why parsing failed.
 #[derive(Debug, PartialEq, Eq, Drop)]
 #[non_exhaustive]
 pub enum ParseErrorKind {
-    /// The text ended too soon.
+    /// The text ended too soon, or the value of a field has no piece where one must occur.
     UnexpectedEof,
-    /// A token stands where it may not.
+    /// A token occurs where it isn't allowed.
     Unexpected(Token),
-    /// A token was expected and doesn't stand there.
+    /// An expected token is missing.
     Expected(Token),
-    /// An abbreviation is neither defined nor the start of a month. The text is its name.
+    /// An abbreviation is neither defined nor the first three letters of a month. The text is its name.
     UnknownAbbreviation(Text),
-    /// A command was malformed. Kept for its name: nothing gives it.
+    /// A command is malformed. Never returned; kept so that all names of the Rust crate `biblatex` exist.
     MalformedCommand,
-    /// The key of an entry is a name that an earlier entry claimed. The text is the key.
+    /// The key of an entry is the key of an earlier entry or one of the names in its field `ids`. The text is the key.
     DuplicateKey(Text),
-    /// A date that an entry would inherit can't be read, for this reason.
+    /// A date that an entry would inherit can't be parsed, for this reason.
     ResolutionError(TypeErrorKind),
-    /// An abbreviation was met while it was being expanded. The text is its name.
+    /// An abbreviation occurs in its own expansion. The text is its name.
     AbbreviationCycle(Text),
-    /// An entry refers to itself, by others or at once. The text is its key.
+    /// An entry refers to itself, directly or through other entries. The text is its key.
     ReferenceCycle(Text),
-    /// There was no memory.
+    /// Out of memory.
     OutOfMemory,
 }
 
@@ -208,7 +208,7 @@ impl Clone for ParseErrorKind {
 /// A token of a bibliography file.
 #[derive(Debug, Clone, Copy, PartialEq, Eq)]
 pub enum Token {
-    /// A field's name, an entry's kind, an abbreviation's name or an entry's key.
+    /// The name of a field or an abbreviation, or the entry type or the key of an entry.
     Identifier,
     /// `{`
     OpeningBrace,
@@ -278,7 +278,7 @@ impl fmt::Display for ParseError {
 impl Error for ParseError {}
 
 impl ParseError {
-    /// Passes out of memory on as such: Ok where the error is one of the text.
+    /// Returns an `AllocError` if this error is `OutOfMemory`, and `Ok` if it is an error of the text.
     pub fn unless_out_of_memory(&self) -> Result<(), AllocError>
         ensures ok { OnOk result (self.now.kind ≢ OutOfMemory) }
         ensures err { OnErr result (self.now.kind ≡ OutOfMemory) }
@@ -309,7 +309,7 @@ impl<T: Drop> From<AllocFailed<T>> for ParseError {
     }
 }
 
-/// Whether a character is allowed in an entry's key.
+/// Returns whether `c` is allowed in the key of an entry.
 pub fn is_key(c: char) -> bool
     ensures { result ≡ characters.is_key c }
 {
@@ -319,7 +319,7 @@ pub fn is_key(c: char) -> bool
     !matches!(c, ',' | '}') && !c.is_control() && !c.is_whitespace()
 }
 
-/// Whether a character can begin an identifier.
+/// Returns whether `c` is allowed as the first character of an identifier.
 pub fn is_id_start(c: char) -> bool
     ensures { result ≡ characters.is_id_start c }
 {
@@ -329,7 +329,7 @@ pub fn is_id_start(c: char) -> bool
     !matches!(c, ':' | '<' | '-' | '>') && is_id_continue(c)
 }
 
-/// Whether a character can go on in an identifier.
+/// Returns whether `c` is allowed in an identifier after the first character.
 pub fn is_id_continue(c: char) -> bool
     ensures { result ≡ characters.is_id_continue c }
 {

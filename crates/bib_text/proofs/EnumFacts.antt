@@ -1,19 +1,19 @@
--- Facts on tables of names.
+-- Facts about tables of names.
 use Rattle.std.proofs.Common.{◌≡◌, ℕ, Bool, true, false, List, [], ◌∷◌, ◌++◌, Option, None, Some, refl, map, arith, cond, bytes_eq}
 use Rattle.std.proofs.lemmas.Slice.Eq.{bytes_eq-Decides}
 use Rattle.bib_text.specs.Enums.{named}
 
--- a text that is none of these names
+-- `text` is none of these names
 abbrev pub IsNoneOf : List (List ℕ) → List ℕ → Type 0
 IsNoneOf [] text = Unit {0}
 IsNoneOf (name ∷ names) text = (text ≡ name → ⊥) × IsNoneOf names text
 
--- a table gives nothing at a text that is none of its names
+-- a table has no value for a text that is none of its names
 pub named_none : {A : Type 0} (rows : List (List ℕ × A)) (text : List ℕ) → IsNoneOf (map (λ row. row.0) rows) text → named rows text ≡ None
 named_none [] text none = refl
 named_none (row ∷ rows) text none = search (arith, none.0, named_none rows text none.1, bytes_eq-Decides)
 
--- a table is looked through before the one after it
+-- of two concatenated tables, the value in the first one is found
 pub named-append-some : {A : Type 0} (rows more : List (List ℕ × A)) (text : List ℕ) (value : A) → named rows text ≡ Some value → named (rows ++ more) text ≡ Some value
 named-append-some [] more text value found = cc
 named-append-some (row ∷ rows) more text value found =

@@ -1,4 +1,4 @@
--- What a scanner eats is the start of the characters ahead.
+-- The text that a scanner moves past is the start of the characters ahead.
 use Rattle.std.proofs.Common.{◌≡◌, ℕ, Bool, true, false, List, [], ◌∷◌, ◌++◌, drop, refl, sym, ap, ◌∙◌, arith, zero, suc, cond}
 use Rattle.std.specs.Prelude.{encode_utf8_all}
 use Rattle.std.specs.List.{list_all}
@@ -12,7 +12,7 @@ use Rattle.bib_text.proofs.PlaceFacts.{char_here}
 use Rattle.bib_text.proofs.TextFacts.{ahead, Passed, passed_run, passed_between, passed_char, chars_at_end}
 use Rattle.bib_text.specs.Runs.{leading_run, rest_after}
 
--- a run that passes, and characters that do not begin with one that does
+-- if all of `run` passes the test and `rest` doesn't begin with a passing character, the leading run of both is `run`
 pub split_prefix : (test : ℕ → Bool) (run rest : List ℕ) → list_all test run ≡ true → (leading_run test rest ≡ []) → leading_run test (run ++ rest) ≡ run
 split_prefix test [] rest all stops = stops
 split_prefix test (c ∷ run) rest all stops =
@@ -25,7 +25,7 @@ split_after test (c ∷ run) rest all stops =
     let parts = and_parts (test c) (list_all test run) all in
     cond-true (test c) (rest_after test (run ++ rest)) (c ∷ run ++ rest) parts.0 ∙ split_after test run rest parts.1 stops
 
--- where no character passes, nothing is at the start
+-- if a run stops at a place, the leading run of the characters from there is empty
 stopped : (test : ℕ → Bool) (v : Place) (cs : List ℕ) → IsUtf8 (ahead v) → cs ≡ chars (ahead v) → Stops test v → (leading_run test cs ≡ []) × (rest_after test cs ≡ cs)
 stopped test v [] utf8 is stops = (refl, refl)
 stopped test v (c ∷ cs) utf8 is stops =
@@ -33,12 +33,14 @@ stopped test v (c ∷ cs) utf8 is stops =
     let no : test c ≡ false = stops c _ (char_here v.text (encode_utf8_all cs) v.at c spelt) in
     (cond-false (test c) (c ∷ leading_run test cs) [] no, cond-false (test c) (rest_after test cs) (c ∷ cs) no)
 
+-- a scanner moved from `u` to `v`, past the leading run of the characters ahead
 pub record Eaten (test : ℕ → Bool) (u v : Place) : Type 0 where
   pub same : v.text ≡ u.text
   pub run : between u v ≡ encode_utf8_all (leading_run test (chars (ahead u)))
   pub utf8 : IsUtf8 (ahead v)
   pub rest : chars (ahead v) ≡ rest_after test (chars (ahead u))
 
+-- a longest run is the leading run of the characters ahead
 pub eaten : (test : ℕ → Bool) {u v : Place} → Longest test u v → IsUtf8 (ahead u) → Eaten test u v
 eaten test {u} {v} longest utf8 =
     let passed = passed_run longest.run utf8 in
@@ -50,6 +52,7 @@ eaten test {u} {v} longest utf8 =
       rest = sym (ap (rest_after test) passed.1.spelt ∙ split_after test passed.0 (chars (ahead v)) passed.2 stops.1);
     }
 
+-- skipping leading white space leaves the characters after the leading run of white space
 pub white : (cs : List ℕ) → skip_leading_whitespace cs ≡ rest_after is_whitespace cs
 white [] = refl
 white (c ∷ cs) = ap (λ xs. here (is_whitespace c) xs (c ∷ cs)) (white cs)
@@ -58,27 +61,29 @@ white (c ∷ cs) = ap (λ xs. here (is_whitespace c) xs (c ∷ cs)) (white cs)
     here true xs ys = xs
     here false xs ys = ys
 
--- the characters after white space
+-- the characters of a text trimmed at its start are those after its leading white space
 pub trimmed_chars : (bs trimmed : List ℕ) → IsUtf8 trimmed → trimmed ≡ trim_start bs → chars trimmed ≡ rest_after is_whitespace (chars bs)
 unfolding trim_start
 trimmed_chars bs trimmed utf8 is = sym (chars_from_encodes (skip_leading_whitespace (chars bs)) trimmed utf8 (sym is)) ∙ white (chars bs)
 
--- the same from the start of a text
+-- `eaten` from the start of a text
 pub eaten_new : (test : ℕ → Bool) (text : List ℕ) {u v : Place} → u ≡ place text 0 → IsUtf8 text → Longest test u v → (v.text ≡ text) × (between u v ≡ encode_utf8_all (leading_run test (chars text))) × (chars (ahead v) ≡ rest_after test (chars text))
 eaten_new test text {u} {v} is utf8 longest =
     let here : ahead u ≡ text = ap ahead is in
     let ate : Eaten test u v = eaten test longest (rw here utf8) in
     (ate.same ∙ ap (λ p. p.text) is, ate.run ∙ ap (λ bs. encode_utf8_all (leading_run test (chars bs))) here, ate.rest ∙ ap (λ bs. rest_after test (chars bs)) here)
 
+-- the characters from the offset after the longest run are those after the leading run
 pub eaten_rest : (test : ℕ → Bool) (text : List ℕ) (at : ℕ) {u v : Place} → u ≡ place text 0 → IsUtf8 text → Longest test u v → at ≡ v.at → chars (drop at text) ≡ rest_after test (chars text)
 eaten_rest test text at {u} {v} is utf8 longest there =
     let ate = eaten_new test text is utf8 longest in
     ap (λ n. chars (drop n text)) there ∙ ap (λ bs. chars (drop v.at bs)) (sym ate.0) ∙ ate.2
 
+-- a character boundary of the text at the end of a run is one of the text at its start
 pub boundary_there : {test : ℕ → Bool} (at : ℕ) (text : List ℕ) {u v : Place} → u ≡ place text 0 → IsUtf8 text → Longest test u v → IsCharBoundary v.text at → IsCharBoundary text at
 boundary_there {test} at text is utf8 longest boundary = rw (sym (eaten_new test text is utf8 longest).0) boundary
 
--- digits are their bytes
+-- leading ASCII digits are ASCII
 prefix_ascii : (cs : List ℕ) → IsAscii (leading_run is_ascii_digit cs)
 prefix_ascii [] = λ k. omega arith
 prefix_ascii (c ∷ cs) = here (is_ascii_digit c) c (leading_run is_ascii_digit cs) refl (prefix_ascii cs)
@@ -94,7 +99,7 @@ digits_encode cs = encodes-IsAscii (leading_run is_ascii_digit cs) (prefix_ascii
 pub eaten_digits : (text : List ℕ) {u v : Place} → u ≡ place text 0 → IsUtf8 text → Longest is_ascii_digit u v → between u v ≡ leading_run is_ascii_digit (chars text)
 eaten_digits text is utf8 longest = (eaten_new is_ascii_digit text is utf8 longest).1 ∙ digits_encode (chars text)
 
--- one character was eaten
+-- the characters of a text are the first one and those from the offset after it
 pub eaten_char : (text : List ℕ) (at : ℕ) {u v : Place} {c : ℕ} → u ≡ place text 0 → IsUtf8 text → CharAt u c v → at ≡ v.at → chars text ≡ c ∷ chars (drop at text)
 eaten_char text at {u} {v} {c} is utf8 char there =
     let here : ahead u ≡ text = ap ahead is in
@@ -105,5 +110,6 @@ eaten_char text at {u} {v} {c} is utf8 char there =
 pub boundary_char : (at : ℕ) (text : List ℕ) {u v : Place} {c : ℕ} → u ≡ place text 0 → CharAt u c v → IsCharBoundary v.text at → IsCharBoundary text at
 boundary_char at text is char boundary = rw (sym (char.same ∙ ap (λ p. p.text) is)) boundary
 
+-- a text has no characters if its start is its end
 pub none_eaten : (text : List ℕ) {u : Place} → u ≡ place text 0 → AtEnd u → chars text ≡ []
 none_eaten text {u} is end = ap chars (sym (ap ahead is)) ∙ chars_at_end u end

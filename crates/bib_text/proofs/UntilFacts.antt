@@ -1,4 +1,4 @@
--- Facts on the characters up to a byte of ASCII.
+-- Facts about the characters up to an ASCII byte.
 use Rattle.std.proofs.Common.{◌≡◌, ℕ, ◌+◌, ◌<◌, ◌≤◌, Bool, true, false, List, [], ◌∷◌, ◌++◌, length, take, drop, get_or, refl, sym, ap, ◌∙◌, subst, arith, length-append, length-drop, append_assoc, inl, inr, Option, None, Some}
 use Rattle.std.specs.Prelude.{encode_utf8, encode_utf8_all, not, ◌==◌, ◌||◌, ◌&&◌}
 use Rattle.std.specs.Char.{len_utf8, is_whitespace}
@@ -13,12 +13,12 @@ use Rattle.bib_text.specs.Places.{Place, place, CharAt, Run, Longest, AtEnd, End
 use Rattle.bib_text.specs.Places.Run.{stop, step}
 use Rattle.bib_text.proofs.PlaceFacts.{char_here, ascii_here, stops_at, stops_at_end}
 
--- a test that does not pass fails
+-- a test that doesn't pass fails
 not_passed : (b : Bool) → (b ≡ true → ⊥) → b ≡ false
 not_passed true fails = absurd (fails refl)
 not_passed false fails = refl
 
--- characters no byte of which ends a run are a run
+-- characters without a byte that ends a run are a run
 run_of_chars : (ends passes : ℕ → Bool) → ((c : ℕ) → passes c ≡ not (ends c)) → ((c : ℕ) → ends c ≡ true → c < 128) → (text : List ℕ) (at : ℕ) (cs rest : List ℕ) → drop at text ≡ encode_utf8_all cs ++ rest
     → ((k : ℕ) → k < length (encode_utf8_all cs) → ends (get_or (encode_utf8_all cs) k 0) ≡ true → ⊥)
     → Run passes (place text at) (place text (at + length (encode_utf8_all cs)))
@@ -35,13 +35,13 @@ run_of_chars ends passes split ascii text at (c ∷ cs) rest here none =
     let next : at + len_utf8 c + length (encode_utf8_all cs) ≡ at + length (encode_utf8_all (c ∷ cs)) = omega arith in
     step (char_here text (encode_utf8_all cs ++ rest) at c begins) (split c ∙ ap not (not_passed (ends c) fails)) (subst (λ n. Run passes (place text (at + len_utf8 c)) (place text n)) next more)
 
--- what is said of a run up to a byte of ASCII, and of where it ends
+-- the longest run from `u` ends at `v`, a character boundary, at the end of the text or at a failing character
 pub record Until (passes : ℕ → Bool) (u v : Place) : Type 0 where
   pub longest : Longest passes u v
   pub stopped : EndsOr (λ c. passes c ≡ false) v
   pub boundary : IsCharBoundary u.text v.at
 
--- so many bytes from here, none of which ends a run, are a run
+-- `n` bytes from the offset `at`, none of which ends a run, are a run
 run_of_bytes : (ends passes : ℕ → Bool) → ((c : ℕ) → passes c ≡ not (ends c)) → ((c : ℕ) → ends c ≡ true → c < 128) → (text : List ℕ) (at n : ℕ) → IsUtf8 (drop at text) → IsCharBoundary (drop at text) n
     → ((k : ℕ) → k < n → ends (get_or (drop at text) k 0) ≡ true → ⊥)
     → Run passes (place text at) (place text (at + n))
@@ -54,7 +54,7 @@ run_of_bytes ends passes split ascii text at n utf8 boundary none =
     none k low (subst (λ x. ends x ≡ true) (ap (λ bs. get_or bs k 0) taken ∙ get_or-take n (drop at text) k 0 low) is)) in
     subst (λ m. Run passes (place text at) (place text (at + m))) size run
 
--- up to the first byte that ends a run, or to the end of the text
+-- the longest run goes up to the first byte that ends it, or to the end of the text
 pub until_found : (ends passes : ℕ → Bool) → ((c : ℕ) → passes c ≡ not (ends c)) → ((c : ℕ) → ends c ≡ true → c < 128) → (text : List ℕ) (at : ℕ) → IsUtf8 text → IsCharBoundary text at → (found : Option ℕ) (n : ℕ) → IsFirstByte ends (drop at text) found → n ≡ unwrap_or found (length (drop at text))
     → Until passes (place text at) (place text (at + n))
 until_found ends passes split ascii text at utf8 boundary None n nowhere is =
@@ -123,14 +123,14 @@ pub until_any : (a b d : ℕ) → (a < 128) × (b < 128) × (d < 128) → (text 
     → Until (λ c. not (c == a) && not (c == b) && not (c == d)) (place text at) (place text (at + n))
 until_any a b d low = until_found (is_byte3 a b d) (λ c. not (c == a) && not (c == b) && not (c == d)) (λ c. none_of (c == a) (c == b) (c == d)) (three_ascii a b d low.0 low.1 low.2)
 
--- one place more where nothing is found
+-- if the property holds nowhere before `n` and not at `n`, it holds nowhere before `n + 1`
 pub nowhere_more : (P : ℕ → Type 0) (n : ℕ) → Nowhere P 0 n → (P n → ⊥) → Nowhere P 0 (n + 1)
 nowhere_more P n none here k low high holds = elim (cases_lt k n) [
   | inl before ↦ none k low before holds
   | inr from ↦ let same : k ≡ n = omega arith in here (subst P same holds)
 ]
 
--- the first byte that passes one test passes the same test first
+-- two tests with the same results have the same first passing byte
 pub first_same : (p q : ℕ → Bool) → ((x : ℕ) → p x ≡ q x) → (hay : List ℕ) (n : ℕ) → IsFirstByte p hay (Some n) → IsFirstByte q hay (Some n)
 first_same p q same hay n first =
     (record { low = first.0.low; high = first.0.high; before = λ k low high holds. first.0.before k low high (same _ ∙ holds) }, sym (same _) ∙ first.1)
@@ -143,6 +143,6 @@ or_same false false = refl
 pub first_of_two : (a b : ℕ) (hay : List ℕ) (n : ℕ) → IsFirstByte (is_byte3 a b b) hay (Some n) → IsFirstByte (is_byte2 a b) hay (Some n)
 first_of_two a b = first_same (is_byte3 a b b) (is_byte2 a b) (λ x. or_same (x == a) (x == b))
 
--- a visible ASCII character is no white space
+-- a visible ASCII character isn't white space
 pub not_white : (c : ℕ) → 33 ≤ c → c < 127 → is_whitespace c ≡ false
 not_white c low high = grind (arith, nat_tests)

@@ -1,22 +1,22 @@
 -- Meaning: words of public contracts.
--- Texts in which the braces balance, as they stand between two braces in a file: a backslash hides the
--- character after it, and each brace that opens is closed.
+-- Texts with balanced braces, such as the text between two braces in a file. A backslash escapes the character after it.
+-- Each opening brace that isn't escaped has a closing brace.
 use Rattle.std.specs.Prelude.{◌≡◌, ℕ, Bool, true, not, ◌&&◌, ◌==◌, List, length}
 use Rattle.bib_text.specs.Places.{Place, CharAt, place}
 use Rattle.bib_text.specs.Characters as char
 
--- a character that is neither a brace nor a backslash
+-- whether `c` is neither a brace nor a backslash
 abbrev pub is_plain : ℕ → Bool
 is_plain c = not (c == char.open_brace) && not (c == char.close_brace) && not (c == char.backslash)
 
--- from one place to the other, parts of a braced text: a plain character, a backslash and any character, or
--- parts in a pair of braces
+-- The text between two places is zero or more parts of a braced text. A part is a plain character, a backslash and any
+-- character, or a pair of braces around parts.
 pub data Parts : Place → Place → Type 0 where
   none : {u : Place} → Parts u u
   plain : {u v w : Place} {c : ℕ} → CharAt u c v → is_plain c ≡ true → Parts v w → Parts u w
   hidden : {u v w x : Place} {c : ℕ} → CharAt u char.backslash v → CharAt v c w → Parts w x → Parts u x
   nested : {u v w x y : Place} → CharAt u char.open_brace v → Parts v w → CharAt w char.close_brace x → Parts x y → Parts u y
 
--- the whole text is parts of a braced text
+-- the whole of `text` is zero or more parts of a braced text
 abbrev pub IsParts : List ℕ → Type 0
 IsParts text = Parts (place text 0) (place text (length text))

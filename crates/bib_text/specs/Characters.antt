@@ -1,5 +1,5 @@
 -- Meaning: words of public contracts.
--- The signs that files, names and dates are written with, as characters of Unicode.
+-- Unicode code points of the characters with a meaning in files, names and dates.
 use Rattle.std.specs.Prelude.{ℕ}
 
 abbrev pub line_feed : ℕ

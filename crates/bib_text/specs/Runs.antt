@@ -1,8 +1,8 @@
 -- Meaning: words of public contracts.
--- Runs at the start of a text.
+-- Runs at the start of a list of characters.
 use Rattle.std.specs.Prelude.{ℕ, Bool, List, [], ◌∷◌, if◌then◌else◌}
 
--- the characters at the start of a text that pass a test, and the characters after those
+-- the longest run of characters at the start that pass `test`; `rest_after` has the characters after that run
 abbrev pub leading_run : (ℕ → Bool) → List ℕ → List ℕ
 leading_run test [] = []
 leading_run test (c ∷ cs) = if test c then c ∷ leading_run test cs else []

@@ -1,4 +1,4 @@
-//! Lists of one's own: a `Vec` that contracts see as the list of its elements.
+//! Owned lists: a `Vec` that contracts see as the list of its elements.
 
 ghost use Rattle.std.specs.Prelude.{◌≡◌, ◌==◌, ◌<◌, ◌≤◌, ◌-◌, List, [], ◌∷◌, ◌++◌, length, take, is_ok, if◌then◌else◌, IfOk, IfErr, OnOk, OnErr, IsSome, ◌↔◌, option_to_list, slice_get, slice_index_or};
 ghost use Rattle.std.specs.Fn.{CalledAt};
@@ -36,7 +36,7 @@ impl<T> Model for Items<T> {
 impl<T> Items<T> {
     ghost use Rattle.bib_text.specs.Lending.{LendsElements, LendsSlice};
 
-    /// The empty list.
+    /// Returns an empty list. Doesn't allocate.
     pub fn new(alloc: Global) -> Self
         ensures { result ≡ [] }
     {
@@ -45,14 +45,14 @@ impl<T> Items<T> {
         }
     }
 
-    /// The list of a vector's elements. Does not allocate.
+    /// Wraps `elements`. Doesn't allocate.
     pub fn from_vec(elements: Vec<T>) -> Self
         ensures { result ≡ elements.items }
     {
         Items { vec: elements }
     }
 
-    /// The vector of the elements. Does not allocate.
+    /// Returns the wrapped vector. Doesn't allocate.
     pub fn into_vec(self) -> Vec<T>
         ensures { result.items ≡ self }
     {
@@ -60,28 +60,28 @@ impl<T> Items<T> {
         list
     }
 
-    /// How many elements there are.
+    /// Returns the number of elements.
     pub fn len(&self) -> usize
         ensures { result ≡ length self.now }
     {
         self.vec.len()
     }
 
-    /// Whether there is no element.
+    /// Returns whether the list is empty.
     pub fn is_empty(&self) -> bool
         ensures { result ≡ (length self.now == 0) }
     {
         self.vec.is_empty()
     }
 
-    /// The elements, borrowed.
+    /// Borrows the elements.
     pub fn as_slice(&self) -> &[T]
         ensures { result.now ≡ self.now }
     {
         self.vec.as_slice()
     }
 
-    /// The elements, borrowed to be changed.
+    /// Borrows the elements mutably.
     pub fn as_mut_slice(&mut self) -> &mut [T]
         ensures* writes_back { sem 𝓛 (LendsSlice T.row self.entry result) }
         ensures value { result.now ≡ self.old }
@@ -89,14 +89,14 @@ impl<T> Items<T> {
         self.vec.as_mut_slice()
     }
 
-    /// The elements one after another.
+    /// Returns an iterator over the elements, in order.
     pub fn iter(&self) -> Iter<'_, T>
         ensures { iter_rest result ≡ self.now }
     {
         self.vec.iter()
     }
 
-    /// The elements one after another, to be changed.
+    /// Returns an iterator over mutable references to the elements, in order.
     pub fn iter_mut(&mut self) -> IterMut<'_, T>
         ensures* writes_back { sem 𝓛 (LendsElements T.row self.entry result) }
         ensures elements { iter_mut_rest result ≡ self.old }
@@ -104,7 +104,7 @@ impl<T> Items<T> {
         self.vec.iter_mut()
     }
 
-    /// Appends an element. A refusal changes nothing, and gives the element back.
+    /// Appends `value`. If out of memory, returns an error that contains `value`, and leaves the list unchanged.
     pub fn push(&mut self, value: T) -> Result<(), AllocFailed<T>>
         ensures items { self.new ≡ (if is_ok result then self.old ++ value ∷ [] else self.old) }
         ensures returned { IfErr result (λ e. e.value ≡ value) }
@@ -112,7 +112,7 @@ impl<T> Items<T> {
         self.vec.push(value)
     }
 
-    /// Takes the last element.
+    /// Removes the last element and returns it. Returns `None` if the list is empty.
     pub fn pop(&mut self) -> Option<T>
         ensures items { self.old ≡ self.new ++ option_to_list result }
         ensures found { IsSome result ↔ (0 < length self.old) }
@@ -120,29 +120,29 @@ impl<T> Items<T> {
         self.vec.pop()
     }
 
-    /// The element at an index, counted from 0.
+    /// Returns the element at `index`, counted from 0, or `None` if there is none.
     pub fn get(&self, index: usize) -> Option<&T>
         ensures { option_copied result ≡ slice_get self.now index }
     {
         self.as_slice().get(index)
     }
 
-    /// The first element.
+    /// Returns the first element, or `None` if the list is empty.
     pub fn first(&self) -> Option<&T>
         ensures { option_copied result ≡ slice_get self.now 0 }
     {
         self.as_slice().first()
     }
 
-    /// The last element.
+    /// Returns the last element, or `None` if the list is empty.
     pub fn last(&self) -> Option<&T>
         ensures { option_copied result ≡ slice_get self.now (length self.now - 1) }
     {
         self.as_slice().last()
     }
 
-    /// Puts an element before the one at an index, or after all others where the index is their count. A refusal changes
-    /// nothing, and gives the element back.
+    /// Inserts `value` before the element at `index`, or appends it if `index` is the number of elements. If out of
+    /// memory, returns an error that contains `value`, and leaves the list unchanged.
     pub fn insert(&mut self, index: usize, value: T) -> Result<(), AllocFailed<T>>
         requires { index ≤ length self.old }
         ensures items { self.new ≡ (if is_ok result then insert self.old index value else self.old) }
@@ -151,7 +151,7 @@ impl<T> Items<T> {
         self.vec.insert(index, value)
     }
 
-    /// Takes the element at an index out. The elements after it move up by one.
+    /// Removes the element at `index` and returns it. The index of each element after it decreases by one.
     pub fn remove(&mut self, index: usize) -> T
         requires { index < length self.old }
         ensures value { result ≡ slice_index_or self.old index result }
@@ -162,21 +162,21 @@ impl<T> Items<T> {
 }
 
 impl<T: Drop> Items<T> {
-    /// Drops all elements, and keeps the memory.
+    /// Drops all elements. Keeps the allocated memory.
     pub fn clear(&mut self)
         ensures { self.new ≡ [] }
     {
         self.vec.clear();
     }
 
-    /// Keeps the first elements, so many of them, and drops the others.
+    /// Keeps the first `count` elements, or all if there are fewer, and drops the others.
     pub fn truncate(&mut self, count: usize)
         ensures { self.new ≡ take count self.old }
     {
         self.vec.truncate(count);
     }
 
-    /// Keeps the elements that pass a test, asked of each in order.
+    /// Keeps the elements that `test` accepts and drops the others. Calls `test` for each element, in order.
     pub fn retain<F: FnMut(&T) -> bool>(&mut self, test: F)
         requires { F.IsAlwaysCallable test }
         ensures { IsFiltered (CalledAt F.FnMut) test self.old self.new }
@@ -185,7 +185,7 @@ impl<T: Drop> Items<T> {
     }
 }
 
-// Clones of elements, in order.
+// Returns clones of `elements`, in order. Returns an error if out of memory.
 fn clones<T: Clone + Drop>(alloc: Global, elements: &[T]) -> Result<Vec<T>, AllocError>
     ensures { IfOk result (λ copies. AllZip T.is_clone elements.now copies.items) }
 {
@@ -197,7 +197,7 @@ fn clones<T: Clone + Drop>(alloc: Global, elements: &[T]) -> Result<Vec<T>, Allo
 }
 
 impl<T: Clone + Drop> Items<T> {
-    /// Appends clones of elements, in order. A refusal changes nothing.
+    /// Appends clones of `elements`, in order. If out of memory, returns an error and leaves the list unchanged.
     pub fn extend_from_slice(&mut self, elements: &[T]) -> Result<(), AllocError>
         ensures appended { OnOk result ((copies : List T) × (self.new ≡ self.old ++ copies) ×
             AllZip T.is_clone elements.now copies) }
@@ -208,7 +208,7 @@ impl<T: Clone + Drop> Items<T> {
     }
 }
 
-/// The element at an index, which is less than their count.
+/// Returns the element at an index, which must be less than the number of elements.
 impl<T> Index<usize> for Items<T> {
     type Output = T;
 

@@ -1,13 +1,13 @@
-//! Texts, lists of values, values that know where they stand, and a cursor over a text.
+//! Texts, lists of values, values with their spans, and a cursor over a text.
 //!
-//! Contracts see a `Scanner` as a *place*: a text and a byte offset. A rule of a grammar relates two places, so that
-//! rules one after another share a place, and no proof above the scanner speaks of UTF-8 or of the ends of lists.
-//! `cursor` also ensures that the place is one where the text may be cut, and that a text is shorter than 2^63 bytes,
-//! since the layers above count with places. `Scanner::at` is public: the parser asks it everywhere, and it consumes
-//! nothing.
+//! Contracts see a `Scanner` as a *place*: a text and a byte offset. A grammar rule relates two places, and consecutive
+//! rules share a place. Proofs of other crates therefore rarely need facts about UTF-8 or about the ends of lists.
+//! `cursor` also ensures that its offset is a character boundary. Since other crates do arithmetic on offsets, it also
+//! ensures that the text is shorter than 2^63 bytes. `Scanner::at` is public because the parser needs it in many
+//! functions. It doesn't move the scanner.
 //!
-//! `Text` and `Items<T>` are a string and a vector that contracts see as bytes and as a list; they are made from one
-//! and give it back without allocating.
+//! `Text` wraps a `String` and `Items<T>` wraps a `Vec<T>`. Contracts see them as bytes and as a list. Wrapping and
+//! unwrapping don't allocate.
 #![tactic(auto)]
 
 pub mod items;

@@ -10,7 +10,7 @@ ghost use Rattle.bib_text.specs.Places.{Place, place, CharAt, Stops, Longest, Al
 use memchr::{memchr, memchr2, memchr3};
 use std::marker::Model;
 
-/// A text and a place in it, always at the boundary of a character. Places are counted in bytes.
+/// A cursor over a text: the text and a byte offset, which is always a character boundary.
 #[derive(Debug, Clone, Drop)]
 pub struct Scanner<'s> {
     text: &'s str,
@@ -28,7 +28,7 @@ impl<'s> Model for Scanner<'s> {
     ghost invariant = { λ s. IsUtf8 s.text.now × IsCharBoundary s.text.now s.at };
 }
 
-// The character at a place and the place after it, if the text goes on.
+// Returns the character at offset `at`, or `None` at the end of `text`.
 fn char_at(text: &str, at: usize) -> Option<char>
     requires { IsCharBoundary text.now at }
     ensures { MatchOption result
@@ -44,7 +44,8 @@ fn is_one_of(byte: u8, a: u8, b: u8, c: u8) -> bool
     byte == a || byte == b || byte == c
 }
 
-// Where the first of these bytes stands, if that is near. A search of all bytes pays only where it is far.
+// Returns the index of the first `a`, `b` or `c` if it is among the first four bytes, and `None` otherwise.
+// Calling `memchr2` or `memchr3` only pays off for a byte further ahead.
 fn near(bytes: &[u8], a: u8, b: u8, c: u8) -> Option<usize>
     ensures { IfSome result (λ n. IsFirstByte (is_byte3 a b c) bytes.now (Some n)) }
 {
@@ -58,7 +59,7 @@ fn near(bytes: &[u8], a: u8, b: u8, c: u8) -> Option<usize>
     None
 }
 
-// How many bytes stand before the first of these two.
+// Returns the number of bytes before the first `a` or `b`, or the number of all bytes if neither occurs.
 fn before_either(bytes: &[u8], a: u8, b: u8) -> usize
     ensures { (found : Option ℕ) × IsFirstByte (is_byte2 a b) bytes.now found
         × (result ≡ unwrap_or found (length bytes.now)) }
@@ -69,7 +70,7 @@ fn before_either(bytes: &[u8], a: u8, b: u8) -> usize
     }
 }
 
-// How many bytes stand before the first of these three.
+// Returns the number of bytes before the first `a`, `b` or `c`, or the number of all bytes if none occurs.
 fn before_any(bytes: &[u8], a: u8, b: u8, c: u8) -> usize
     ensures { (found : Option ℕ) × IsFirstByte (is_byte3 a b c) bytes.now found
         × (result ≡ unwrap_or found (length bytes.now)) }
@@ -81,14 +82,14 @@ fn before_any(bytes: &[u8], a: u8, b: u8, c: u8) -> usize
 }
 
 impl<'s> Scanner<'s> {
-    /// A scanner at the start of a text.
+    /// Returns a scanner at the start of `text`.
     pub fn new(text: &'s str) -> Self
         ensures { result ≡ place text.now 0 }
     {
         Scanner { text, at: 0 }
     }
 
-    /// Another scanner at this place. Unlike `clone` it can't fail.
+    /// Returns another scanner at the same offset of the same text. Unlike `clone`, it can't fail.
     pub fn copied(&self) -> Self
         ensures { result ≡ self.now }
     {
@@ -98,7 +99,7 @@ impl<'s> Scanner<'s> {
         }
     }
 
-    /// The place, in bytes from the start of the text.
+    /// Returns the offset, in bytes from the start of the text.
     pub fn cursor(&self) -> usize
         ensures place { result ≡ self.now.at }
         ensures boundary { IsCharBoundary self.now.text result }
@@ -107,7 +108,7 @@ impl<'s> Scanner<'s> {
         self.at
     }
 
-    /// Moves to another place of the text.
+    /// Moves to the byte offset `target`, which must be a character boundary of the text.
     pub fn jump(&mut self, target: usize)
         requires { IsCharBoundary self.old.text target }
         ensures { self.new ≡ place self.old.text target }
@@ -115,14 +116,14 @@ impl<'s> Scanner<'s> {
         self.at = target;
     }
 
-    /// Whether the text ends here.
+    /// Returns whether the scanner is at the end of the text.
     pub fn done(&self) -> bool
         ensures { IsTrue result ↔ AtEnd self.now }
     {
         self.at == self.text.len()
     }
 
-    /// The character that stands here.
+    /// Returns the next character without moving, or `None` at the end of the text.
     pub fn peek(&self) -> Option<char>
         ensures { MatchOption result (AtEnd self.now) (λ c. (v : Place) × CharAt self.now c v) }
     {
@@ -137,7 +138,7 @@ impl<'s> Scanner<'s> {
         char_at(self.text, self.at)
     }
 
-    /// Whether this character stands here.
+    /// Returns whether the next character is `c`. Doesn't move.
     pub fn at(&self, c: char) -> bool
         ensures { MatchBool result
             ((v : Place) × CharAt self.now c v)
@@ -149,7 +150,7 @@ impl<'s> Scanner<'s> {
         }
     }
 
-    // Passes the character that stands here.
+    // Moves past the next character, which must be `c`.
     fn pass(&mut self, c: char)
         requires { (v : Place) × CharAt self.old c v }
         ensures { CharAt self.old c self.new }
@@ -157,7 +158,7 @@ impl<'s> Scanner<'s> {
         self.at += c.len_utf8();
     }
 
-    /// Takes the character that stands here.
+    /// Moves past the next character and returns it. Returns `None` at the end of the text.
     pub fn eat(&mut self) -> Option<char>
         ensures { MatchOption result
             (AtEnd self.old × (self.new ≡ self.old))
@@ -168,7 +169,7 @@ impl<'s> Scanner<'s> {
         Some(c)
     }
 
-    /// Takes this character if it stands here, and says whether it did.
+    /// Moves past the next character if it is `c`, and returns whether it was.
     pub fn eat_if(&mut self, c: char) -> bool
         ensures { MatchBool result
             (CharAt self.old c self.new)
@@ -181,8 +182,8 @@ impl<'s> Scanner<'s> {
         true
     }
 
-    /// Takes characters while they pass a test, and gives the text that they are: the longest run, where the test always
-    /// answers alike of a character.
+    /// Moves past characters while `test` accepts them, and returns the text of these characters. It is the longest
+    /// accepted run if `test` always returns the same result for the same character.
     pub fn eat_while<F: Fn(char) -> bool>(&mut self, test: F) -> &'s str
         requires { F.IsAlwaysCallable test }
         ensures longest { (p : ℕ → Bool) → Answers (F.post test) p → Longest p self.old self.new }
@@ -216,8 +217,8 @@ impl<'s> Scanner<'s> {
         &self.text[start..at]
     }
 
-    /// Takes characters until one passes a test, and gives the text that they are: the longest run of others, where the
-    /// test always answers alike of a character.
+    /// Moves past characters until `test` accepts one, and returns the text of the characters before it. It is the
+    /// longest rejected run if `test` always returns the same result for the same character.
     pub fn eat_until<F: Fn(char) -> bool>(&mut self, test: F) -> &'s str
         requires { F.IsAlwaysCallable test }
         ensures longest { (p : ℕ → Bool) → Answers (F.post test) p →
@@ -231,7 +232,7 @@ impl<'s> Scanner<'s> {
         self.eat_while(|c| !test(c))
     }
 
-    // Takes so many bytes, and gives them.
+    // Moves past `count` bytes and returns them.
     fn eat_bytes(&mut self, count: usize) -> &'s str
         requires { IsCharBoundary self.old.text (self.old.at + count) }
         ensures reached { self.new ≡ place self.old.text (self.old.at + count) }
@@ -242,7 +243,7 @@ impl<'s> Scanner<'s> {
         self.from(start)
     }
 
-    /// Takes characters up to the first that is `end`, an ASCII character, and gives the text that they are.
+    /// Moves to the next `end`, an ASCII character, or to the end of the text if there is none. Returns the text before it.
     pub fn eat_until_byte(&mut self, end: u8) -> &'s str
         requires ascii { end < 128 }
         ensures longest { Longest (λ x. not (x == end)) self.old self.new }
@@ -255,7 +256,8 @@ impl<'s> Scanner<'s> {
         self.eat_bytes(count)
     }
 
-    /// Takes characters up to the first that is `a` or `b`, which are ASCII, and gives the text that they are.
+    /// Moves to the next `a` or `b`, which are ASCII, or to the end of the text if there is none. Returns the text before
+    /// it.
     pub fn eat_until_either(&mut self, a: u8, b: u8) -> &'s str
         requires ascii { (a < 128) × (b < 128) }
         ensures longest { Longest (λ x. not (x == a) && not (x == b)) self.old self.new }
@@ -268,7 +270,8 @@ impl<'s> Scanner<'s> {
         self.eat_bytes(count)
     }
 
-    /// Takes characters up to the first that is `a`, `b` or `c`, which are ASCII, and gives the text that they are.
+    /// Moves to the next `a`, `b` or `c`, which are ASCII, or to the end of the text if there is none. Returns the text
+    /// before it.
     pub fn eat_until_any(&mut self, a: u8, b: u8, c: u8) -> &'s str
         requires ascii { (a < 128) × (b < 128) × (c < 128) }
         ensures longest { Longest (λ x. not (x == a) && not (x == b) && not (x == c)) self.old self.new }
@@ -281,7 +284,7 @@ impl<'s> Scanner<'s> {
         self.eat_bytes(count)
     }
 
-    // Whether a visible ASCII character stands here.
+    // Returns whether the next character is a visible ASCII character.
     fn is_at_visible(&self) -> bool
         ensures { IsTrue result → Stops is_whitespace self.now }
     {
@@ -291,7 +294,7 @@ impl<'s> Scanner<'s> {
         self.text.as_bytes()[self.at].is_ascii_graphic()
     }
 
-    // Takes the white space that stands here.
+    // Moves past white space and returns it.
     #[inline(never)]
     fn eat_white(&mut self) -> &'s str
         ensures longest { Longest is_whitespace self.old self.new }
@@ -300,7 +303,7 @@ impl<'s> Scanner<'s> {
         self.eat_while(|c| c.is_whitespace())
     }
 
-    /// Takes white space (Unicode's property White_Space), and gives it.
+    /// Moves past white space (Unicode property `White_Space`) and returns it.
     #[inline]
     pub fn eat_whitespace(&mut self) -> &'s str
         ensures longest { Longest is_whitespace self.old self.new }
@@ -312,7 +315,8 @@ impl<'s> Scanner<'s> {
         self.eat_white()
     }
 
-    /// The text from `start` up to here.
+    /// Returns the text from the byte offset `start` to the current offset. `start` must be a character boundary and not
+    /// after the current offset.
     pub fn from(&self, start: usize) -> &'s str
         requires boundary { IsCharBoundary self.now.text start }
         requires following { start ≤ self.now.at }
@@ -321,7 +325,7 @@ impl<'s> Scanner<'s> {
         &self.text[start..self.at]
     }
 
-    /// The text before this place.
+    /// Returns the text before the current offset.
     pub fn before(&self) -> &'s str
         ensures { result.now ≡ take self.now.at self.now.text }
     {

@@ -1,37 +1,37 @@
-//! Values that know where they stand.
+//! Values with the span that they were parsed from.
 
 ghost use Rattle.std.specs.Prelude.{◌≡◌, ◌^◌, ◌-◌, ◌↔◌, IsTrue};
 
 use std::ops::Range;
 
-/// A range of bytes of a text.
+/// A range of byte offsets in a text.
 pub type Span = Range<usize>;
 
-/// A value and the bytes of the text that it was read from.
+/// A value and the span of the text that it was parsed from.
 #[derive(Debug, Clone, PartialEq, Eq, Drop)]
 pub struct Spanned<T> {
     /// The value.
     pub v: T,
-    /// Where it stands.
+    /// The span of the value.
     pub span: Span,
 }
 
 impl<T> Spanned<T> {
-    /// A value and where it stands.
+    /// Returns `v` with `span`.
     pub fn new(v: T, span: Span) -> Self
         ensures { result ≡ record { v = v; span = span } }
     {
         Spanned { v, span }
     }
 
-    /// A value at the start of a text.
+    /// Returns `v` with the empty span at the start of a text, `0..0`.
     pub fn zero(v: T) -> Self
         ensures { result ≡ record { v = v; span = record { start = 0; end = 0 } } }
     {
         Spanned { v, span: 0..0 }
     }
 
-    /// A value that stands nowhere: both ends are `usize::MAX`.
+    /// Returns `v` without a span in any text: both ends are `usize::MAX`.
     pub fn detached(v: T) -> Self
         ensures { result ≡
             record { v = v; span = record { start = 2 ^ 64 - 1; end = 2 ^ 64 - 1 } } }
@@ -42,14 +42,14 @@ impl<T> Spanned<T> {
         }
     }
 
-    /// Whether the value stands nowhere, which its start says.
+    /// Returns whether the value has no span in any text: whether the start of its span is `usize::MAX`.
     pub fn is_detached(&self) -> bool
         ensures { IsTrue result ↔ (self.now.span.start ≡ 2 ^ 64 - 1) }
     {
         self.span.start == usize::MAX
     }
 
-    /// A borrow of the value, at the same place.
+    /// Returns a borrow of the value with the same span.
     pub fn as_ref(&self) -> Spanned<&T>
         ensures value { result.v.now ≡ self.now.v }
         ensures span { result.span ≡ self.now.span }
@@ -60,7 +60,7 @@ impl<T> Spanned<T> {
         }
     }
 
-    /// What a closure makes of the value, at the same place.
+    /// Applies `f` to the value and keeps the span.
     pub fn map<U, F: FnOnce(T) -> U>(self, f: F) -> Spanned<U>
         requires { F.pre f self.v }
         ensures value { F.post f self.v result.v }

@@ -1,4 +1,4 @@
-//! Text of one's own: a `String` that contracts see as its bytes.
+//! Owned text: a `String` that contracts see as its bytes.
 
 ghost use Rattle.std.specs.Prelude.{◌≡◌, ◌==◌, refl, Some, ◌↔◌, List, [], ◌++◌, length, is_ok, if◌then◌else◌, IfOk, IsTrue, nat_eq, encode_utf8, string_bytes};
 ghost use Rattle.std.specs.Cmp;
@@ -16,7 +16,7 @@ use std::fmt;
 use std::hash::{Hash, Hasher};
 use std::marker::Model;
 
-/// A text. Contracts see it as its bytes, which are UTF-8.
+/// An owned text. Contracts see it as its bytes, which are UTF-8.
 #[derive(Debug, Drop)]
 pub struct Text {
     string: String,
@@ -31,7 +31,7 @@ impl Model for Text {
 }
 
 impl Text {
-    /// The empty text.
+    /// Returns an empty text. Doesn't allocate.
     pub fn new(alloc: Global) -> Self
         ensures { result ≡ [] }
     {
@@ -40,7 +40,7 @@ impl Text {
         }
     }
 
-    /// A copy of a text.
+    /// Copies `text`. Returns an error if out of memory.
     pub fn from_str(alloc: Global, text: &str) -> Result<Self, AllocError>
         ensures { IfOk result (λ t. t ≡ text.now) }
     {
@@ -48,14 +48,14 @@ impl Text {
         Ok(Text { string })
     }
 
-    /// The text of a string. Does not allocate.
+    /// Wraps `whole`. Doesn't allocate.
     pub fn from_string(whole: String) -> Self
         ensures { result ≡ string_bytes whole }
     {
         Text { string: whole }
     }
 
-    /// The string of a text. Does not allocate.
+    /// Returns the wrapped string. Doesn't allocate.
     pub fn into_string(self) -> String
         ensures { string_bytes result ≡ self }
     {
@@ -63,42 +63,42 @@ impl Text {
         text
     }
 
-    /// The text, borrowed.
+    /// Borrows the text.
     pub fn as_str(&self) -> &str
         ensures { result.now ≡ self.now }
     {
         self.string.as_str()
     }
 
-    /// The length in bytes.
+    /// Returns the length in bytes.
     pub fn len(&self) -> usize
         ensures { result ≡ length self.now }
     {
         self.string.len()
     }
 
-    /// Whether the text has no character.
+    /// Returns whether the text is empty.
     pub fn is_empty(&self) -> bool
         ensures { result ≡ (length self.now == 0) }
     {
         self.string.is_empty()
     }
 
-    /// Appends a character. A refusal changes nothing.
+    /// Appends the character `c`. If out of memory, returns an error and leaves the text unchanged.
     pub fn push(&mut self, c: char) -> Result<(), AllocError>
         ensures { self.new ≡ (if is_ok result then self.old ++ encode_utf8 c else self.old) }
     {
         self.string.push(c)
     }
 
-    /// Appends a text. A refusal changes nothing.
+    /// Appends `text`. If out of memory, returns an error and leaves this text unchanged.
     pub fn push_str(&mut self, text: &str) -> Result<(), AllocError>
         ensures { self.new ≡ (if is_ok result then self.old ++ text.now else self.old) }
     {
         self.string.push_str(text)
     }
 
-    /// Drops all characters, and keeps the memory.
+    /// Removes all characters. Keeps the allocated memory.
     pub fn clear(&mut self)
         ensures { self.new ≡ [] }
     {
@@ -106,7 +106,7 @@ impl Text {
     }
 }
 
-/// The text of a string. Does not allocate.
+/// Wraps a string. Doesn't allocate.
 impl From<String> for Text {
     ghost from_gives = { λ string text. text ≡ string_bytes string };
 
@@ -123,7 +123,7 @@ impl AsStr for Text {
     }
 }
 
-/// Writes the text, padded as the format asks for.
+/// Writes the text with the padding of the format.
 impl fmt::Display for Text {
     ghost output = { λ t. Some t };
 
@@ -157,7 +157,7 @@ impl Eq for Text {
     ghost laws = { nat_list_eq_equiv };
 }
 
-/// By bytes.
+/// Compares the bytes lexicographically.
 impl PartialOrd for Text {
     ghost partial_cmp = { λ x y. Some (slice_cmp nat_cmp x y) };
 
@@ -168,7 +168,7 @@ impl PartialOrd for Text {
     }
 }
 
-/// By bytes.
+/// Compares the bytes lexicographically.
 impl Ord for Text {
     ghost cmp = { slice_cmp nat_cmp };
 
@@ -183,7 +183,7 @@ impl Ord for Text {
     }
 }
 
-/// As of the text's `str`.
+/// Hashes the text like its `str`.
 impl Hash for Text {
     ghost hash_input = { λ t. fed.str t };
 

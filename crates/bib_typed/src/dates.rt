@@ -9,11 +9,10 @@ use crate::typed::Type;
 use bib_chunks::chunk::{Chunks, ChunksRef};
 use bib_dates::chunks::date_chunks;
 use bib_dates::date::Date;
-use bib_enums::type_error::TypeError;
+use bib_tables::type_error::TypeError;
 use std::alloc::{AllocError, Global};
 
-/// Read as the date or the range that the formatted text is, by `Date::parse`. Written as one normal chunk, without
-/// times.
+/// Parses the plain text of the chunks as a date or a range, by `Date::parse`. Written as one normal chunk, without times.
 impl Type for Date {
     ghost Meaning = { ADate };
 

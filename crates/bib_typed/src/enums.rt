@@ -1,24 +1,24 @@
-//! Enumerations as typed values, each by its table of names.
+//! Enumerations as typed values, each with a table of names.
 
 ghost use Rattle.std.specs.Prelude.{◌≡◌, Some, ⊤};
-ghost use Rattle.bib_enums.specs.declared.type_error.TypeErrorKind.TheVariants.{UnknownPagination, UnknownGender, UnknownLangId};
+ghost use Rattle.bib_tables.specs.declared.type_error.TypeErrorKind.TheVariants.{UnknownPagination, UnknownGender, UnknownLangId};
 ghost use Rattle.bib_values.specs.Enumerations.{pagination_read, pagination_written, gender_read, gender_written, editor_type_read, editor_type_written, language_read, language_written, IsNamed};
 ghost use Rattle.bib_values.proofs.EnumFacts.{pagination_survives, gender_survives, editor_type_survives, language_survives};
 
 use crate::typed::{Type, found};
 use bib_chunks::chunk::{Chunks, ChunksRef};
-use bib_enums::type_error::{TypeError, TypeErrorKind};
-use bib_enums::types::lang::Language;
-use bib_enums::types::{EditorType, Gender, Pagination};
+use bib_tables::type_error::{TypeError, TypeErrorKind};
+use bib_tables::types::lang::Language;
+use bib_tables::types::{EditorType, Gender, Pagination};
 use bib_values::enums::{
     read_editor_type, read_gender, read_language, read_pagination, write_editor_type, write_gender,
     write_language, write_pagination,
 };
 use std::alloc::{AllocError, Global};
 
-/// Read by its name, in any ASCII case, else refused with `UnknownPagination`; written as one normal chunk.
+/// Parses a name, in any ASCII case. The error for any other text is `UnknownPagination`. Written as one normal chunk.
 impl Type for Pagination {
-    ghost use Rattle.bib_enums.specs.declared.types.Pagination.{Pagination as Scheme};
+    ghost use Rattle.bib_tables.specs.declared.types.Pagination.{Pagination as Scheme};
 
     ghost Meaning = { Scheme };
 
@@ -44,9 +44,10 @@ impl Type for Pagination {
     }
 }
 
-/// Read by its code, as `sf`, in any ASCII case, else refused with `UnknownGender`; written as one normal chunk.
+/// Parses a code such as `sf`, in any ASCII case. The error for any other text is `UnknownGender`. Written as one normal
+/// chunk.
 impl Type for Gender {
-    ghost use Rattle.bib_enums.specs.declared.types.Gender.{Gender as Named};
+    ghost use Rattle.bib_tables.specs.declared.types.Gender.{Gender as Named};
 
     ghost Meaning = { Named };
 
@@ -72,9 +73,10 @@ impl Type for Gender {
     }
 }
 
-/// Read by one of its names, exactly as it is written, else refused with `UnknownLangId`; written as one verbatim chunk.
+/// Parses one of the names of a language; the case of letters matters. The error for any other text is `UnknownLangId`.
+/// Written as one verbatim chunk.
 impl Type for Language {
-    ghost use Rattle.bib_enums.specs.declared.types.lang.Language.{Language as Named};
+    ghost use Rattle.bib_tables.specs.declared.types.lang.Language.{Language as Named};
 
     ghost Meaning = { Named };
 
@@ -100,10 +102,10 @@ impl Type for Language {
     }
 }
 
-/// Read by its name, in any ASCII case; any other text is a type of its own, in lowercase letters. Written as one normal
+/// Parses a name, in any ASCII case. Any other text is an unknown editor type, in lowercase letters. Written as one normal
 /// chunk.
 impl Type for EditorType {
-    ghost use Rattle.bib_enums.specs.declared.types.EditorType.{EditorType as Role};
+    ghost use Rattle.bib_tables.specs.declared.types.EditorType.{EditorType as Role};
 
     ghost Meaning = { Role };
 

@@ -1,4 +1,4 @@
-//! Calls on lists of chunks.
+//! Methods on lists of chunks.
 
 ghost use Rattle.std.specs.Prelude.{◌≡◌, List, IfOk, string_bytes, encode_utf8_all};
 ghost use Rattle.bib_chunks.specs.declared.chunk.Chunk.{Chunk as AChunk};
@@ -6,47 +6,47 @@ ghost use Rattle.bib_text.specs.declared.spanned.Spanned.{Spanned as APlaced};
 ghost use Rattle.bib_chunks.specs.Formatted.{formatted, sentence};
 ghost use Rattle.bib_chunks.specs.Styled.{whole_span};
 ghost use Rattle.bib_chunks.specs.Written.{written_value};
-ghost use Rattle.bib_enums.specs.ReadAs.{IsReadAs, LiesAt};
+ghost use Rattle.bib_tables.specs.ReadAs.{IsReadAs, LiesAt};
 
 use crate::typed::Type;
 use bib_chunks::chunk::{
     Chunks, ChunksRef, Span, format_sentence, format_verbatim, value_text, whole_span,
 };
-use bib_enums::type_error::TypeError;
+use bib_tables::type_error::TypeError;
 use std::alloc::{AllocError, Global};
 
-/// Calls on lists of chunks.
+/// Methods on lists of chunks.
 pub trait ChunksExt {
     // The chunks.
     ghost contents: { Self → List (APlaced AChunk) };
 
-    /// The value of a type that the chunks are read as. An error stands at all of them, out of memory aside.
+    /// Parses the chunks as a value of type `T`. The span of an error is that of all chunks, except for out of memory.
     fn parse<T: Type>(&self, alloc: Global) -> Result<T, TypeError>
         ensures reads { IsReadAs T.meaning (T.reads (contents self.now))
             (T.may_refuse (contents self.now)) result }
         ensures place { LiesAt (whole_span (contents self.now)) result };
 
-    /// The text of the chunks: math between dollar signs, and in normal text a line break as a space, or as nothing
-    /// after white space.
+    /// Returns the text of the chunks. Math is written between dollar signs. A line break in normal text becomes a space, or
+    /// nothing after white space.
     fn format_verbatim(&self, alloc: Global) -> Result<String, AllocError>
         ensures { IfOk result (λ text. string_bytes text ≡
             encode_utf8_all (formatted (contents self.now))) };
 
-    /// The text of the chunks as a sentence has it: as `format_verbatim`, with the characters of normal chunks in lower
-    /// case, and in upper case where the character is the first of the first chunk.
+    /// Returns the text of the chunks in sentence case: like `format_verbatim`, with the characters of normal chunks in
+    /// lowercase. If the first chunk is normal, its first character is in uppercase.
     fn format_sentence(&self, alloc: Global) -> Result<String, AllocError>
         ensures { IfOk result (λ text. string_bytes text ≡
             encode_utf8_all (sentence (contents self.now))) };
 
-    /// From the start of the first chunk to the end of the last, in bytes; `0..0` where there is none.
+    /// Returns the span from the start of the first chunk to the end of the last, in bytes, or `0..0` if there are no chunks.
     fn span(&self) -> Span
         ensures { result ≡ whole_span (contents self.now) };
 
-    /// Writes the value with escapes, in its braces. A command that the reader does not know is plain text: `\emph{x}` is
-    /// written `\\emph\{x\}`, and outside verbatim fields `~` is written `\textasciitilde{}`. The edits and `convert` of
-    /// `bibkit` keep a file's own text.
+    /// Returns the value as a text with escapes, in braces. An unknown command was parsed as plain text, so it is escaped:
+    /// `\emph{x}` is written `\\emph\{x\}`. Outside verbatim fields `~` is written `\textasciitilde{}`. The edits and
+    /// `convert` of `bibkit` preserve the source of a file instead.
     ///
-    /// `is_verbatim` says whether the field is a verbatim one. The only error is out of memory.
+    /// `is_verbatim` tells whether the field is verbatim. The only error is out of memory.
     fn to_biblatex_string(&self, alloc: Global, is_verbatim: bool) -> Result<String, AllocError>
         ensures { IfOk result (λ text. string_bytes text ≡
             encode_utf8_all (written_value (contents self.now) is_verbatim)) };

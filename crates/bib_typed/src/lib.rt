@@ -1,10 +1,14 @@
-//! Typed values: what the chunks of a field are read as, and the chunks that are written for a value.
+//! Typed values: parsing the chunks of a field as a value, writing a value as chunks, and getting and setting typed fields of
+//! a map.
 //!
-//! A type of values says in its impl of `Type` what chunks are read as (`reads`), which kinds a refusal may have, what
-//! a value is written as (`writes`), and which values are read back from that (`kept`); its law `survives` ties the
-//! three. So `get_as` and `set_as` are proved once, for any type, and so is `PermissiveType`. The impls are short: what
-//! they call and cite stands below, where a reader answers the value that its definition finds in the chunks, and where
-//! a lemma for each type says what is read back. Chunks that are written stand nowhere.
+//! An impl of `Type` defines four things. `reads` is the value that chunks are parsed as, and `may_refuse` the kinds of
+//! errors that parsing may return. `writes` is the chunks that a value is written as, and `kept` the values that survive
+//! both. Its law `survives` states that the chunks written for a kept value parse back to the same value. So `get_as` and
+//! `set_as` are proved once for any type, and so is `PermissiveType`. The impls are short, because the parsers and their
+//! lemmas are in the crates of the types. Written chunks have no span in a file.
+//!
+//! `retrieval` defines the errors of getting a field, `reading` parses a field of a map as a typed value, and `setting` sets
+//! a field to one.
 #![tactic(auto)]
 
 mod dates;
@@ -15,4 +19,7 @@ mod lists;
 mod numbers;
 mod people;
 mod ranges;
+pub mod reading;
+pub mod retrieval;
+pub mod setting;
 pub mod typed;

@@ -2,7 +2,7 @@
 
 ghost use Rattle.std.specs.Prelude.{◌≡◌, ℕ, List, Some, IfOk, map, string_bytes};
 ghost use Rattle.bib_chunks.specs.Cuts.{and_list};
-ghost use Rattle.bib_enums.specs.declared.types.lang.Language.{Language as ALanguage};
+ghost use Rattle.bib_tables.specs.declared.types.lang.Language.{Language as ALanguage};
 ghost use Rattle.bib_values.specs.Enumerations.{language_read};
 ghost use Rattle.bib_values.specs.Lists.{strings_read, strings_written, StringsKept};
 ghost use Rattle.bib_chunks.specs.Separated.{parts_written};
@@ -16,13 +16,13 @@ use crate::typed::{PermissiveType, Type};
 use bib_chunks::chunk::cuts::and_list;
 use bib_chunks::chunk::making::copy_of;
 use bib_chunks::chunk::{Chunks, ChunksRef};
-use bib_enums::type_error::TypeError;
-use bib_enums::types::lang::Language;
+use bib_tables::type_error::TypeError;
+use bib_tables::types::lang::Language;
 use bib_values::enums::read_language;
 use bib_values::lists::{read_strings, write_parts, write_strings};
 use std::alloc::{AllocError, Global};
 
-/// Any chunks are read, as the formatted parts of a comma list. Texts are written as normal chunks with commas between
+/// Parses any chunks as the plain texts of a comma-separated list. Texts are written as normal chunks with commas between
 /// them.
 impl Type for Vec<String> {
     ghost Meaning = { List (List ℕ) };
@@ -48,8 +48,8 @@ impl Type for Vec<String> {
     }
 }
 
-/// Any chunks are read, as the parts of an `and` list. Parts are written as they stand, with `and` between them; nothing
-/// is promised of what is read back.
+/// Parses any chunks as the items of an `and` list. Items are written unchanged, with `and` between them. No contract covers
+/// the result of parsing them back.
 impl Type for Vec<Chunks> {
     ghost Meaning = { List Value };
 
@@ -75,7 +75,7 @@ impl Type for Vec<Chunks> {
     }
 }
 
-// The language that chunks name, or the chunks.
+// Returns the language that the chunks name, or else the chunks.
 fn read_permissively(
     alloc: Global,
     chunks: ChunksRef<'_>,
@@ -89,8 +89,7 @@ fn read_permissively(
     }
 }
 
-/// Any chunks are read, as the parts of an `and` list, each a language or else its chunks. Written with `and` between
-/// them.
+/// Parses any chunks as the items of an `and` list, each a language or else its chunks. Written with `and` between them.
 impl Type for Vec<PermissiveType<Language>> {
     ghost Meaning = { List (Permissive ALanguage) };
 

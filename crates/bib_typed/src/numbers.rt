@@ -8,11 +8,11 @@ ghost use Rattle.bib_typed.specs.Typed.{number_error};
 
 use crate::typed::{Type, found};
 use bib_chunks::chunk::{Chunks, ChunksRef, whole_span};
-use bib_enums::type_error::{TypeError, TypeErrorKind};
+use bib_tables::type_error::{TypeError, TypeErrorKind};
 use bib_values::numbers::{read_number, write_number};
 use std::alloc::{AllocError, Global};
 
-// The kind of a refusal of chunks as a number.
+// Returns the kind of the error of chunks that are no number.
 fn number_error(chunks: ChunksRef<'_>) -> TypeErrorKind
     ensures { result ≡ number_error chunks.now }
 {
@@ -23,9 +23,9 @@ fn number_error(chunks: ChunksRef<'_>) -> TypeErrorKind
     TypeErrorKind::MissingNumber
 }
 
-/// Parses digits with an optional sign, or a roman numeral of 1 to 3,999, all in uppercase or all in lowercase; white space
-/// around them is ignored. Other chunks are refused: with `MissingNumber` if they have no bytes in the file, else with
-/// `InvalidNumber`. Written in digits, as one normal chunk.
+/// Parses digits with an optional sign, or a roman numeral from 1 to 3,999, all in uppercase or all in lowercase. White space
+/// around them is ignored. The error is `MissingNumber` if the chunks have no bytes in the file, and `InvalidNumber`
+/// otherwise. Written in digits, as one normal chunk.
 impl Type for i64 {
     ghost Meaning = { ℤ };
 

@@ -8,12 +8,12 @@ ghost use Rattle.bib_people.proofs.SurviveFacts.{people_survive_read};
 
 use crate::typed::Type;
 use bib_chunks::chunk::{Chunks, ChunksRef};
-use bib_enums::type_error::TypeError;
 use bib_people::people::{people_chunks, read_people};
 use bib_people::person::Person;
+use bib_tables::type_error::TypeError;
 use std::alloc::{AllocError, Global};
 
-/// The parts of an `and` list, each a person; any chunks are read.
+/// Parses any chunks as the items of an `and` list, each a person. Written with `and` between them.
 impl Type for Vec<Person> {
     ghost Meaning = { List APerson };
 

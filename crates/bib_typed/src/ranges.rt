@@ -2,19 +2,19 @@
 
 ghost use Rattle.std.specs.Prelude.{◌≡◌, ℕ, List};
 ghost use Rattle.std.specs.declared.ops.Range.{Range as ARange};
-ghost use Rattle.bib_enums.specs.declared.type_error.TypeErrorKind.TheVariants.{InvalidNumber};
+ghost use Rattle.bib_tables.specs.declared.type_error.TypeErrorKind.TheVariants.{InvalidNumber};
 ghost use Rattle.bib_values.specs.Ranges.{range_read, range_written, RangeKept, ranges_read, ranges_written, RangesKept};
 ghost use Rattle.bib_values.proofs.RangeLaws.{range_survives, ranges_survive};
 
 use crate::typed::{Type, found};
 use bib_chunks::chunk::{Chunks, ChunksRef};
-use bib_enums::type_error::{TypeError, TypeErrorKind};
+use bib_tables::type_error::{TypeError, TypeErrorKind};
 use bib_values::ranges::{read_range, read_ranges, write_range, write_ranges};
 use std::alloc::{AllocError, Global};
 use std::ops::Range;
 
-/// Read as the first range of a comma list of ranges; one number is a range from itself to itself. Refused with
-/// `InvalidNumber` where a part is no range. Written with a hyphen, as one normal chunk.
+/// Parses the first range of a comma-separated list of ranges. One number is a range from itself to itself. The error is
+/// `InvalidNumber` if an item is no range. Written with a hyphen, as one normal chunk.
 impl Type for Range<u32> {
     ghost Meaning = { ARange ℕ };
 
@@ -40,8 +40,8 @@ impl Type for Range<u32> {
     }
 }
 
-/// Read from a comma list of ranges; refused with `InvalidNumber` where a part is none. Written as normal chunks with
-/// commas between them.
+/// Parses a comma-separated list of ranges. The error is `InvalidNumber` if an item is no range. Written as normal chunks
+/// with commas between them.
 impl Type for Vec<Range<u32>> {
     ghost Meaning = { List (ARange ℕ) };
 

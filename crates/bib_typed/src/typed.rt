@@ -4,56 +4,56 @@ ghost use Rattle.std.specs.Prelude.{◌≡◌, ◌≢◌, List, ℕ, Option, Som
 ghost use Rattle.std.specs.Str.{IsUtf8};
 ghost use Rattle.bib_chunks.specs.declared.chunk.Chunk.{Chunk as AChunk};
 ghost use Rattle.bib_chunks.specs.declared.chunk.Chunk.TheVariants.{Verbatim};
-ghost use Rattle.bib_enums.specs.declared.type_error.TypeErrorKind.{TypeErrorKind as AKind};
-ghost use Rattle.bib_enums.specs.declared.type_error.TypeErrorKind.TheVariants.{OutOfMemory};
+ghost use Rattle.bib_tables.specs.declared.type_error.TypeErrorKind.{TypeErrorKind as AKind};
+ghost use Rattle.bib_tables.specs.declared.type_error.TypeErrorKind.TheVariants.{OutOfMemory};
 ghost use Rattle.bib_text.specs.declared.spanned.Spanned.{Spanned as APlaced};
 ghost use Rattle.bib_values.specs.Permissive.{Permissive, permissive, permissive_written, PermissiveKept};
 ghost use Rattle.bib_chunks.specs.Values.{text, alone};
 ghost use Rattle.bib_values.proofs.PermissiveFacts.{permissive_survives};
 ghost use Rattle.bib_chunks.proofs.ValueFacts.{string_survives};
 ghost use Rattle.bib_chunks.specs.Styled;
-ghost use Rattle.bib_enums.specs.ReadAs.{IsReadAs, LiesAt};
+ghost use Rattle.bib_tables.specs.ReadAs.{IsReadAs, LiesAt};
 ghost use Rattle.bib_typed.specs.Typed.{permissive_meaning};
 
 use bib_chunks::chunk::making::{copy_of, verbatim};
 use bib_chunks::chunk::{Chunks, ChunksRef, format_verbatim, whole_span};
-use bib_enums::type_error::{TypeError, TypeErrorKind};
+use bib_tables::type_error::{TypeError, TypeErrorKind};
 use std::alloc::{AllocError, Global};
 
-/// A type whose values are read from the chunks of a field, and written as chunks.
+/// A type whose values are parsed from the chunks of a field, and written as chunks.
 pub trait Type: Sized {
-    // What a value says: its contents.
+    // The meaning of a value: its contents, without representation details.
     ghost Meaning: { Type 0 };
 
     ghost meaning: { Self → Meaning };
 
-    // What chunks are read as, if they are.
+    // The value that chunks are parsed as, if they can be parsed.
     ghost reads: { List (APlaced AChunk) → Option Meaning };
 
-    // The kinds that a refusal of chunks may have, out of memory aside.
+    // The kinds of errors that parsing these chunks may return, except for out of memory.
     ghost may_refuse: { List (APlaced AChunk) → AKind → Type 0 };
 
-    // The chunks that are written for a value.
+    // The chunks that a value is written as.
     ghost writes: { Meaning → List (APlaced AChunk) };
 
-    // The values that are read back from what is written for them.
+    // The values for which the type guarantees that they parse back from the chunks written for them.
     ghost kept: { Meaning → Type 0 };
 
-    /// The value that chunks are read as. An error is of the kind `OutOfMemory` and stands at `0..0`, or says that the
-    /// chunks aren't read, and stands at all of them, in bytes of the file.
+    /// Parses chunks as a value. The error is out of memory, with the span `0..0`, or states that the chunks can't be parsed.
+    /// Its span is then that of all chunks, in bytes of the file.
     fn from_chunks(alloc: Global, chunks: ChunksRef<'_>) -> Result<Self, TypeError>
         ensures reads { IsReadAs meaning (reads chunks.now) (may_refuse chunks.now) result }
         ensures place { LiesAt (Styled.whole_span chunks.now) result };
 
-    /// The chunks that a value is written as.
+    /// Returns the chunks that a value is written as.
     fn to_chunks(&self, alloc: Global) -> Result<Chunks, AllocError>
         ensures { IfOk result (λ chunks. chunks ≡ writes (meaning self.now)) };
 
-    // A value that is kept is read back.
+    // A kept value parses back from the chunks written for it.
     ghost survives: { (m : Meaning) → kept m → reads (writes m) ≡ Some m };
 }
 
-// What was read of chunks, or their refusal with this kind.
+// Returns the parsed value, or an error of this kind at the span of all chunks.
 pub(crate) fn found<T: Drop>(
     read: Option<T>,
     chunks: ChunksRef<'_>,
@@ -72,7 +72,7 @@ pub(crate) fn found<T: Drop>(
     }
 }
 
-/// Any chunks are read, as their formatted text. A text is written as one verbatim chunk.
+/// Parses any chunks as their plain text. A text is written as one verbatim chunk.
 impl Type for String {
     ghost Meaning = { List ℕ };
 
@@ -97,16 +97,16 @@ impl Type for String {
     }
 }
 
-/// A value of a type, or the chunks that the type doesn't read.
+/// A value of a type, or the chunks that can't be parsed as one.
 #[derive(Debug, Clone, PartialEq, Eq, Drop)]
 pub enum PermissiveType<T> {
-    /// A value.
+    /// A value of the type.
     Typed(T),
-    /// Chunks as they stand.
+    /// The unchanged chunks.
     Chunks(Chunks),
 }
 
-/// Any chunks are read: as the type reads them, or else as they stand.
+/// Parses any chunks: as a `T` if possible, and otherwise as the unchanged chunks.
 impl<T: Type + Drop> Type for PermissiveType<T> {
     ghost Meaning = { Permissive T.Meaning };
 

@@ -1,10 +1,10 @@
--- No list of texts is read back but those that are kept.
+-- Only kept lists of texts parse from their written form.
 use Rattle.std.proofs.Common.{◌≡◌, ℕ, Bool, true, false, not, ◌&&◌, List, [], ◌∷◌, ◌++◌, map, refl, sym, ap, ◌∙◌, ⊎_elim, length, arith, get_or, drop, if◌then◌else◌}
 use Rattle.std.specs.Prelude.{codes, ◌==◌, ◌||◌}
 use Rattle.std.specs.List.{flat_map, list_all, list_any, AllByRecursion}
 use Rattle.std.specs.Str.{IsUtf8, chars}
 use Rattle.std.proofs.Math.Utf8.{scalar, scalars}
-use Rattle.std.proofs.lemmas.Bool.{and_parts, and_from, cases_Bool, false≢true}
+use Rattle.std.proofs.lemmas.Bool.{and_parts, and_from, cases_Bool, false≢true, or_parts}
 use Rattle.std.proofs.lemmas.Str.{scalars-chars, chars-encodes}
 use Rattle.bib_chunks.specs.declared.chunk.Chunk.{Chunk}
 use Rattle.bib_chunks.specs.declared.chunk.Chunk.TheVariants.{Normal, Verbatim, Math}
@@ -19,7 +19,7 @@ use Rattle.bib_chunks.specs.Values.{Value, text, alone}
 use Rattle.bib_values.specs.Lists.{strings_read, strings_written, is_plain_in_list, IsPlain, StringsKept}
 use Rattle.bib_chunks.specs.Separated.{after_separator}
 
--- a test that all elements of two lists pass
+-- a test that all elements of two lists pass, all of the appended lists pass
 all-append : {A : Type 0} (test : A → Bool) (xs ys : List A) → list_all test xs ≡ true → list_all test ys ≡ true → list_all test (xs ++ ys) ≡ true
 all-append test [] ys one two = two
 all-append test (x ∷ xs) ys one two = let parts = and_parts (test x) (list_all test xs) one in and_from _ _ parts.0 (all-append test xs ys parts.1 two)
@@ -31,7 +31,7 @@ all-parts test (x ∷ xs) ys all =
     let rest = all-parts test xs ys parts.1 in
     (and_from _ _ parts.0 rest.0, rest.1)
 
--- normal characters that are scalars, and those among them that are no comma
+-- normal atoms whose character is valid
 abbrev pub is_normal_scalar : Atom → Bool
 is_normal_scalar (Atom.normal c) = scalar c
 is_normal_scalar (Atom.verbatim c) = false
@@ -47,18 +47,14 @@ letter (Atom.normal c) is other = and_from _ _ is (ap not other)
 letter (Atom.verbatim c) is other = is
 letter (Atom.math text) is other = is
 
-neither : (a b : Bool) → (a || b) ≡ false → (a ≡ false) × (b ≡ false)
-neither true b none = absurd (false≢true (sym none))
-neither false b none = (refl, none)
-
 letters : (atoms : List Atom) → list_all is_normal_scalar atoms ≡ true → list_any is_normal_comma atoms ≡ false → list_all is_letter atoms ≡ true
 letters [] all none = refl
 letters (atom ∷ atoms) all none =
     let parts = and_parts (is_normal_scalar atom) (list_all is_normal_scalar atoms) all in
-    let others = neither (is_normal_comma atom) (list_any is_normal_comma atoms) none in
+    let others = or_parts (is_normal_comma atom) (list_any is_normal_comma atoms) none in
     and_from _ _ (letter atom parts.0 others.0) (letters atoms parts.1 others.1)
 
--- a list's atoms are those of its parts
+-- a test that all atoms of a list pass, all atoms of its parts pass
 parts_all : (test : Atom → Bool) {separator : List Atom} {parts : List (List Atom)} {atoms : List Atom} → IsList separator parts atoms → list_all test atoms ≡ true
     → AllByRecursion (λ part. list_all test part ≡ true) parts
 parts_all test last all = (all, tt)
@@ -69,7 +65,7 @@ parts_all test {separator = separator} {parts = part ∷ parts} (next left right
     let four = all-parts test right _ three.1 in
     (one.0, parts_all test rest four.1)
 
--- a character that stays: a scalar, no comma and no break
+-- a valid character that is neither a comma nor a line break
 abbrev pub stays : ℕ → Bool
 stays c = scalar c && is_plain_in_list c
 
@@ -114,13 +110,13 @@ staying (c ∷ cs) all =
     let rest = staying cs parts.1 in
     (and_from _ _ one.0 rest.0, and_from _ _ one.1 rest.1)
 
--- so a text that is read from such a part is plain
+-- a text that parses from such a part is plain
 part_plain : (part : Value) (t : List ℕ) → IsUtf8 t → text part ≡ t → list_all is_normal_scalar (styled part) ≡ true → HoldsNoComma part → IsPlain t
 part_plain part t utf8 is all none =
     let both = staying (formatted part) (part_stays false part (letters (styled part) all none)) in
     record { utf8 = utf8; plain = ap (λ u. list_all is_plain_in_list (chars u)) (sym is) ∙ ap (list_all is_plain_in_list) (chars-encodes (formatted part) both.0) ∙ both.1 }
 
--- what is written is normal, and texts
+-- the comma is UTF-8
 comma_text : IsUtf8 (codes ",")
 unfolding lib.Utf8.encode
 comma_text = (44 ∷ [], (refl, refl))
@@ -146,6 +142,7 @@ all_plain (part ∷ parts) [] utf8 same all none = absurd (omega (arith, ap leng
 all_plain (part ∷ parts) (t ∷ texts) utf8 same all none =
     (part_plain part t utf8.0 (ap (λ l. get_or l 0 []) same) all.0 none.0, all_plain parts texts utf8.1 (ap (drop 1) same) all.1 none.1)
 
+-- a list of texts that parses from its written form is kept
 pub kept_alone : (texts : List (List ℕ)) → AllByRecursion IsUtf8 texts → strings_read (strings_written texts) ≡ texts → StringsKept texts
 unfolding strings_read
 kept_alone [] utf8 same = absurd (omega (arith, ap length same))

@@ -1,4 +1,4 @@
--- Permissive values are read back.
+-- Permissive values parse from their written form.
 use Rattle.std.proofs.Common.{◌≡◌, Option, Some, map, List, [], ◌∷◌, refl, ap, sym, ◌∙◌, length, arith}
 use Rattle.std.specs.List.{AllByRecursion}
 use Rattle.std.specs.Prelude.{ℕ, encode_utf8_all}
@@ -6,9 +6,9 @@ use Rattle.std.specs.Str.{chars}
 use Rattle.std.proofs.lemmas.Str.{encodes-chars}
 use Rattle.bib_chunks.specs.declared.chunk.Chunk.TheVariants.{Verbatim}
 use Rattle.bib_chunks.specs.Formatted.{formatted}
-use Rattle.bib_enums.specs.declared.types.lang.Language.{Language}
-use Rattle.bib_enums.specs.Language.{language_row, language_named}
-use Rattle.bib_enums.proofs.LanguageFacts.{language_named-name}
+use Rattle.bib_tables.specs.declared.types.lang.Language.{Language}
+use Rattle.bib_tables.specs.Language.{language_row, language_named}
+use Rattle.bib_tables.proofs.LanguageFacts.{language_named-name}
 use Rattle.bib_chunks.specs.Values.{Value, text, alone}
 use Rattle.bib_values.specs.Enumerations.{language_read, language_written}
 use Rattle.bib_chunks.specs.Separated.{parts_written}
@@ -17,7 +17,7 @@ use Rattle.bib_values.specs.Permissive.Permissive.{typed, as_chunks}
 use Rattle.bib_chunks.proofs.AndListFacts.{parts_format}
 use Rattle.bib_values.proofs.EnumFacts.{name_utf8}
 
--- where the type's kept values are read back, so are permissive ones
+-- permissive values parse from their written form if the kept values of the type do
 pub permissive_survives : {M : Type 0} (reads : Value → Option M) (writes : M → Value) (kept : M → Type 0) → ((m : M) → kept m → reads (writes m) ≡ Some m) → (p : Permissive M) → PermissiveKept kept reads p → Some (permissive (reads (permissive_written writes p)) (permissive_written writes p)) ≡ Some p
 permissive_survives reads writes kept law (typed m) k = ap (λ read. Some (permissive read (writes m))) (law m k)
 permissive_survives reads writes kept law (as_chunks chunks) k = ap (λ read. Some (permissive read chunks)) k
@@ -33,7 +33,7 @@ other_texts : List (List ℕ) → List (List ℕ)
 other_texts [] = []
 other_texts (t ∷ rest) = rest
 
--- chunks that are formatted to the name of a language are read as it
+-- chunks that format to the name of a language parse as it
 read_one : (part : Value) (language : Language) → formatted part ≡ chars (name language) → permissive (language_read part) part ≡ typed language
 unfolding language_read
 read_one part language formats =
@@ -49,7 +49,7 @@ read_all (p ∷ parts) (l ∷ languages) formats =
     ap (λ x. x ∷ map (λ part. permissive (language_read part) part) parts) (read_one p l (ap first_text formats))
     ∙ ap (λ xs. typed l ∷ xs) (read_all parts languages (ap other_texts formats))
 
--- a list without chunks is one of languages
+-- a list of languages without chunks is a list of typed values
 languages_of : (values : List (Permissive Language)) → AllByRecursion IsLanguage values → (languages : List Language) × (values ≡ map (λ language. typed language) languages)
 languages_of [] all = ([], refl)
 languages_of (typed language ∷ rest) all =

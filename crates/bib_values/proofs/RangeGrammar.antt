@@ -1,4 +1,4 @@
--- The range that is read from a text is the one that it spells.
+-- The parsed range of a text is the one that it spells.
 use Rattle.std.proofs.Common.{◌≡◌, ℕ, ◌<◌, ◌^◌, Bool, true, false, cond, nat_lt, List, [], ◌∷◌, ◌++◌, length, refl, sym, ap, ◌∙◌, arith, append-nil, subst, Option, Some, None}
 use Rattle.std.specs.Prelude.{◌==◌, ◌&&◌}
 use Rattle.std.specs.List.{list_all}
@@ -13,7 +13,7 @@ use Rattle.bib_text.proofs.ScannedFacts.{split_prefix, split_after}
 use Rattle.bib_values.proofs.OptionFacts.{given}
 use Rattle.bib_values.proofs.RangeFacts.{small_yes}
 
--- the first of these characters doesn't pass
+-- the first of these characters doesn't pass the test
 Halts : (ℕ → Bool) → List ℕ → Type 0
 Halts test cs = (leading_run test cs ≡ []) × (rest_after test cs ≡ cs)
 
@@ -25,7 +25,7 @@ halts_at : (test : ℕ → Bool) (c : ℕ) (cs : List ℕ) → test c ≡ false 
 unfolding Halts
 halts_at test c cs fails = (cond-false (test c) _ _ fails, cond-false (test c) _ _ fails)
 
--- nor does that of a run of others at the start
+-- the first character of a run of others doesn't pass the test
 halts_run : (test other : ℕ → Bool) → ((c : ℕ) → other c ≡ true → test c ≡ false) → (run rest : List ℕ) → list_all other run ≡ true → Halts test rest → Halts test (run ++ rest)
 halts_run test other apart [] rest all halts = halts
 halts_run test other apart (c ∷ run) rest all halts = halts_at test c (run ++ rest) (apart c (and_parts (other c) (list_all other run) all).0)
@@ -60,7 +60,7 @@ taken : (test : ℕ → Bool) (run rest : List ℕ) → list_all test run ≡ tr
 unfolding Halts
 taken test run rest all halts = split_prefix test run rest all halts.0
 
--- digits after which no digit stands are the number
+-- digits that no digit follows are the leading number
 number_is : (digits rest : List ℕ) (n : ℕ) → IsNumber digits n → Halts is_ascii_digit rest → leading_number (digits ++ rest) ≡ Some (n, rest)
 unfolding leading_number
 number_is digits rest n is halts =
@@ -72,7 +72,7 @@ number_is digits rest n is halts =
     ∙ ap (λ v. Some (v, rest_after is_ascii_digit (digits ++ rest))) value
     ∙ ap (λ xs. Some (n, xs)) (passed is_ascii_digit digits rest is.each halts)
 
--- what ends a range doesn't begin with a digit, nor with white space
+-- the end of a range doesn't begin with a digit
 end_digit : (a b : ℕ) (rest : List ℕ) → EndsRange a rest b → Halts is_ascii_digit rest
 end_digit a b rest EndsRange.lone = halts_none is_ascii_digit
 end_digit a b rest (EndsRange.dashed dash hyphens white digits is_dashed all_hyphens all_white is) = halts_at is_ascii_digit dash _ (dash_no_digit dash is_dashed)
@@ -96,6 +96,7 @@ end_read a b rest (EndsRange.dashed dash hyphens white digits is_dashed all_hyph
     ∙ ap (λ xs. ends_at a (leading_number xs)) blank
     ∙ ap (ends_at a) (number_is digits [] b is (halts_none is_ascii_digit))
 
+-- a text that is a range is parsed as it
 pub range_read_of : (text : List ℕ) (range : Range ℕ) → IsRange text range → range_of text ≡ Some range
 unfolding range_of
 range_read_of text range is =
@@ -108,7 +109,7 @@ range_read_of text range is =
     ∙ ap (goes_on_with range.start) (passed is_whitespace is.between is.rest is.gap (end_white range.start range.end is.rest is.end))
     ∙ end_read range.start range.end is.rest is.end
 
--- characters are those at the start and those after
+-- characters are the run at the start and those after it
 prefix_after : (test : ℕ → Bool) (cs : List ℕ) → cs ≡ leading_run test cs ++ rest_after test cs
 prefix_after test [] = refl
 prefix_after test (c ∷ cs) = here (test c) (prefix_after test cs)
@@ -125,7 +126,7 @@ prefix_passes test (c ∷ cs) = here (test c) refl (prefix_passes test cs)
     here true is more = and_from _ _ is more
     here false is more = refl
 
--- what a number that is read says of the characters
+-- the digits of a parsed leading number
 number_spelt : (cs : List ℕ) (found : ℕ × List ℕ) → leading_number cs ≡ Some found → IsNumber (leading_run is_ascii_digit cs) found.0 × (rest_after is_ascii_digit cs ≡ found.1)
 unfolding leading_number
 number_spelt cs found is =
@@ -137,7 +138,7 @@ number_spelt cs found is =
       ap (λ both. both.1) reported.1,
     )
 
--- and a dash that is read
+-- the characters of a parsed dash
 record IsDashed (cs left : List ℕ) : Type 0 where
   pub dash : ℕ
   pub hyphens : List ℕ
@@ -206,6 +207,7 @@ range_from text range (Some (a, rest)) read is =
       end = subst (λ n. EndsRange n (rest_after is_whitespace rest) range.end) (sym ends.0) ends.1;
     }
 
+-- a text that is parsed as a range is that range
 pub range_spelt : (text : List ℕ) (range : Range ℕ) → range_of text ≡ Some range → IsRange text range
 unfolding range_of
 range_spelt text range is = range_from text range (leading_number (rest_after is_whitespace text)) refl is

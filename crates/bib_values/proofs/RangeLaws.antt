@@ -1,4 +1,4 @@
--- Ranges are read from what they write.
+-- Ranges parse from their written form.
 use Rattle.std.proofs.Common.{◌≡◌, ℕ, ◌<◌, ◌^◌, Bool, true, false, not, List, [], ◌∷◌, ◌++◌, map, refl, sym, ap, ◌∙◌, arith, append_assoc, append-nil, Some}
 use Rattle.std.specs.Prelude.{codes, ◌==◌, ◌||◌}
 use Rattle.std.specs.List.{list_all, AllByRecursion}
@@ -24,7 +24,7 @@ use Rattle.bib_text.specs.Runs.{leading_run, rest_after}
 use Rattle.bib_text.proofs.ScannedFacts.{split_prefix, split_after}
 use Rattle.bib_values.proofs.RangeFacts.{small_yes}
 
--- the bytes of a range
+-- a byte of a written range
 abbrev is_byte : ℕ → Bool
 is_byte b = is_ascii_digit b || b == 45
 
@@ -44,10 +44,10 @@ digits_all (d ∷ ds) all =
     let here : is_ascii_digit d ≡ true = grind (arith, nat_tests) in
     and_from _ _ here (digits_all ds all.1)
 
-decimal_digits : (n : ℕ) → n < 2 ^ 32 → list_all is_ascii_digit (decimal n) ≡ true
+pub decimal_digits : (n : ℕ) → n < 2 ^ 32 → list_all is_ascii_digit (decimal n) ≡ true
 decimal_digits n small = digits_all _ (decimal_is_IsNumeral n (omega arith)).0.1
 
--- nothing is passed where no character passes
+-- nothing is skipped if no character passes
 stays : (p : ℕ → Bool) (cs : List ℕ) → list_all (λ c. not (p c)) cs ≡ true → rest_after p cs ≡ cs
 stays p [] all = refl
 stays p (c ∷ cs) all = here (p c) refl
@@ -74,7 +74,7 @@ byte_plain c is = grind (arith, nat_tests)
 byte_simple : (c : ℕ) → is_byte c ≡ true → is_simple c ≡ true
 byte_simple c is = grind (arith, nat_tests)
 
--- a number is read from its digits, where no digit follows
+-- a number parses from its digits if no digit follows
 number_decimal : (n : ℕ) (rest : List ℕ) → n < 2 ^ 32 → leading_run is_ascii_digit rest ≡ [] → rest_after is_ascii_digit rest ≡ rest → leading_number (decimal n ++ rest) ≡ Some (n, rest)
 unfolding leading_number
 number_decimal n rest small none left =

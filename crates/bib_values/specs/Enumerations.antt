@@ -1,21 +1,21 @@
 -- Meaning: words of public contracts.
--- Enumerations, each by its names: what `pagination`, `editortype` and `langid` hold after the manual of BibLaTeX, and
--- its codes for `gender`. Only a language is read exactly as it is spelled.
+-- Enumerations, each by its names: the values of `pagination`, `editortype` and `langid` in the BibLaTeX manual, and
+-- its codes for `gender`. Only a language is parsed in the exact case of its name.
 use Rattle.std.specs.Prelude.{ℕ, ⊤, List, [], ◌∷◌, Option, codes}
 use Rattle.bib_chunks.specs.declared.chunk.Chunk.TheVariants.{Normal, Verbatim}
 use Rattle.bib_text.specs.Enums.{named, by_name}
-use Rattle.bib_enums.specs.declared.types.Pagination.{Pagination}
-use Rattle.bib_enums.specs.declared.types.Gender.{Gender}
-use Rattle.bib_enums.specs.declared.types.Gender.TheVariants.{SingularFemale, SingularMale, SingularNeuter, PluralFemale, PluralMale, PluralNeuter}
-use Rattle.bib_enums.specs.declared.types.EditorType.{EditorType}
-use Rattle.bib_enums.specs.declared.types.EditorType.TheVariants.{Unknown}
-use Rattle.bib_enums.specs.declared.types.lang.Language.{Language}
-use Rattle.bib_enums.specs.Pagination.{pagination_name, pagination_named}
-use Rattle.bib_enums.specs.EditorType.{editor_type_name, editor_type_of}
-use Rattle.bib_enums.specs.Language.{language_row, language_named}
+use Rattle.bib_tables.specs.declared.types.Pagination.{Pagination}
+use Rattle.bib_tables.specs.declared.types.Gender.{Gender}
+use Rattle.bib_tables.specs.declared.types.Gender.TheVariants.{SingularFemale, SingularMale, SingularNeuter, PluralFemale, PluralMale, PluralNeuter}
+use Rattle.bib_tables.specs.declared.types.EditorType.{EditorType}
+use Rattle.bib_tables.specs.declared.types.EditorType.TheVariants.{Unknown}
+use Rattle.bib_tables.specs.declared.types.lang.Language.{Language}
+use Rattle.bib_tables.specs.Pagination.{pagination_name, pagination_named}
+use Rattle.bib_tables.specs.EditorType.{editor_type_name, editor_type_of}
+use Rattle.bib_tables.specs.Language.{language_row, language_named}
 use Rattle.bib_chunks.specs.Values.{Value, text, lowered, alone}
 
--- the scheme that chunks name, in any ASCII case
+-- the scheme whose name is the text of the chunks, in any ASCII case
 unfoldable pub pagination_read : Value → Option Pagination
 pagination_read chunks = pagination_named (lowered chunks)
 
@@ -23,7 +23,7 @@ pagination_read chunks = pagination_named (lowered chunks)
 abbrev pub pagination_written : Pagination → Value
 pagination_written scheme = alone (Normal (pagination_name scheme))
 
--- the code by which a gender is read and written: singular or plural; feminine, masculine or neuter
+-- the code of a gender in a file: singular or plural; feminine, masculine or neuter
 abbrev pub gender_code : Gender → List ℕ
 gender_code SingularFemale = codes "sf"
 gender_code SingularMale = codes "sm"
@@ -36,11 +36,11 @@ gender_code PluralNeuter = codes "pn"
 abbrev pub genders : List (List ℕ × Gender)
 genders = by_name gender_code (SingularFemale ∷ SingularMale ∷ SingularNeuter ∷ PluralFemale ∷ PluralMale ∷ PluralNeuter ∷ [])
 
--- the gender that has this code
+-- the gender with this code
 abbrev pub gender_coded : List ℕ → Option Gender
 gender_coded = named genders
 
--- the gender whose code chunks are, in any ASCII case
+-- the gender whose code is the text of the chunks, in any ASCII case
 unfoldable pub gender_read : Value → Option Gender
 gender_read chunks = gender_coded (lowered chunks)
 
@@ -48,23 +48,24 @@ gender_read chunks = gender_coded (lowered chunks)
 abbrev pub gender_written : Gender → Value
 gender_written gender = alone (Normal (gender_code gender))
 
--- the editor's type that chunks name, in any ASCII case; any other text, with `A` to `Z` in lowercase, is an unknown type
+-- the editor type whose name is the text of the chunks, in any ASCII case; any other text, with `A` to `Z` in lower
+-- case, is an unknown type
 unfoldable pub editor_type_read : Value → EditorType
 editor_type_read chunks = editor_type_of (lowered chunks)
 
--- how an editor's type is written: its name, or the text of an unknown one, as one normal chunk
+-- how an editor type is written: its name, or the text of an unknown one, as one normal chunk
 abbrev pub editor_type_written : EditorType → Value
 editor_type_written role = alone (Normal (editor_type_name role))
 
--- a type that is not unknown
+-- an editor type that isn't an unknown one
 abbrev pub IsNamed : EditorType → Type 0
 IsNamed (Unknown text) = ⊥
 IsNamed role = ⊤
 
--- the language that chunks name, exactly
+-- the language that has the text of the chunks as one of its names, in the same case
 unfoldable pub language_read : Value → Option Language
 language_read chunks = language_named (text chunks)
 
--- how a language is written: the name that it is displayed by, as one verbatim chunk
+-- how a language is written: its display name, as one verbatim chunk
 abbrev pub language_written : Language → Value
 language_written language = alone (Verbatim (language_row language).name)

@@ -1,6 +1,6 @@
 -- Meaning: words of public contracts.
--- Ranges of numbers, as in `pages`. The manual of BibLaTeX has a range as two numbers with one dash or more between
--- them; which dashes there are, and where white space may stand, are rules of the Rust crate `biblatex`.
+-- Ranges of numbers, as in `pages`. In the BibLaTeX manual a range is two numbers with one dash or more between them.
+-- Which dashes there are, and where white space may occur, are rules of the Rust crate `biblatex`.
 use Rattle.std.specs.Prelude.{◌≡◌, ℕ, ◌^◌, ◌<◌, Bool, true, ◌==◌, ◌||◌, ◌&&◌, nat_lt, if◌then◌else◌, map, List, [], ◌∷◌, ◌++◌, length, Option, Some, None, codes}
 use Rattle.std.specs.List.{list_all, AllByRecursion}
 use Rattle.std.specs.Char.{is_ascii_digit, is_whitespace}
@@ -15,24 +15,25 @@ use Rattle.bib_chunks.specs.Values.{Value, alone}
 use Rattle.bib_values.specs.Lists.{strings_written}
 use Rattle.bib_text.specs.Characters as char
 
--- the characters that part two numbers: `-`, the en dash U+2013, the em dash U+2014
+-- the dashes, which separate two numbers: `-`, the en dash U+2013, the em dash U+2014
 abbrev pub is_dash : ℕ → Bool
 is_dash c = c == char.hyphen || c == char.en_dash || c == char.em_dash
 
--- digits that spell a number that fits in 32 bits
+-- decimal digits, at least one, of a number that fits in 32 bits
 pub record IsNumber (digits : List ℕ) (n : ℕ) : Type 0 where
   pub some : 0 < length digits
   pub each : list_all is_ascii_digit digits ≡ true
   pub value : digits_value 10 digits ≡ n
   pub fits : n < 2 ^ 32
 
--- what ends a range with this start: nothing, and the start is its end too, or a dash, any `-`, white space, and the end
+-- the text after the start of a range, and its end: either the text is empty and the start is the end, or it is a dash,
+-- any `-`, white space, and the end
 pub data EndsRange (start : ℕ) : List ℕ → ℕ → Type 0 where
   lone : EndsRange start [] start
   dashed : (dash : ℕ) (hyphens white digits : List ℕ) {end : ℕ} → is_dash dash ≡ true → list_all (λ c. c == char.hyphen) hyphens ≡ true
       → list_all is_whitespace white ≡ true → IsNumber digits end → EndsRange start (dash ∷ (hyphens ++ (white ++ digits))) end
 
--- a text, given by its characters, is a range: white space, its start, white space, and what ends it
+-- a text, as a list of its characters, is a range: white space, its start, white space, and the text that ends it
 pub record IsRange (text : List ℕ) (range : Range ℕ) : Type 0 where
   pub before : List ℕ
   pub digits : List ℕ
@@ -44,68 +45,69 @@ pub record IsRange (text : List ℕ) (range : Range ℕ) : Type 0 where
   pub gap : list_all is_whitespace between ≡ true
   pub end : EndsRange range.start rest range.end
 
--- whether digits spell a number that fits in 32 bits
+-- whether digits, at least one, spell a number that fits in 32 bits
 abbrev pub is_small : List ℕ → Bool
 is_small digits = nat_lt 0 (length digits) && nat_lt (digits_value 10 digits) (2 ^ 32)
 
--- the number at the start of a text, and what stands after it: its digits are as many as there are
+-- the number at the start of a text, with all the digits there, and the text after it; none if it doesn't fit in 32
+-- bits
 unfoldable pub leading_number : List ℕ → Option (ℕ × List ℕ)
 leading_number cs =
     if is_small (leading_run is_ascii_digit cs) then Some (digits_value 10 (leading_run is_ascii_digit cs), rest_after is_ascii_digit cs) else None
 
--- what stands after a dash and any `-` that follow it, if the text begins with one
+-- the text after a dash and any `-` after that, if the text begins with a dash
 unfoldable pub after_dash : List ℕ → Option (List ℕ)
 after_dash [] = None
 after_dash (c ∷ cs) = if is_dash c then Some (rest_after (λ d. d == char.hyphen) cs) else None
 
--- the range with this start, given its end and what stands after that: nothing may
+-- the range with this start, given its end and the text after that, which must be empty
 abbrev pub ends_at : ℕ → Option (ℕ × List ℕ) → Option (Range ℕ)
 ends_at a None = None
 ends_at a (Some (b, [])) = Some (record { start = a; end = b })
 ends_at a (Some (b, c ∷ cs)) = None
 
--- the range with this start, given what stands after the dash: white space, and its end
+-- the range with this start, given the text after the dash: white space, and its end
 abbrev pub up_to : ℕ → Option (List ℕ) → Option (Range ℕ)
 up_to a None = None
 up_to a (Some cs) = ends_at a (leading_number (rest_after is_whitespace cs))
 
--- the range with this start, given what stands after that and white space: nothing, and the one number is both ends,
--- or a dash
+-- the range with this start, given the text after the start and the white space there. If that is empty, the start is
+-- the end too; otherwise it begins with a dash.
 abbrev pub goes_on_with : ℕ → List ℕ → Option (Range ℕ)
 goes_on_with a [] = Some (record { start = a; end = a })
 goes_on_with a (c ∷ cs) = up_to a (after_dash (c ∷ cs))
 
--- the range, given its start and what stands after that
+-- the range, given its start and the text after that
 abbrev pub starts_with : Option (ℕ × List ℕ) → Option (Range ℕ)
 starts_with None = None
 starts_with (Some (a, cs)) = goes_on_with a (rest_after is_whitespace cs)
 
--- the range that a text is, read from its start on; that it is the one of `IsRange` is a law of this crate
+-- the range that a text is, parsed from its start on. A law of this crate states that it is the range of `IsRange`.
 unfoldable pub range_of : List ℕ → Option (Range ℕ)
 range_of cs = starts_with (leading_number (rest_after is_whitespace cs))
 
--- a value before some others, if both are there
+-- a value before others, if both exist
 abbrev pub with_first : {A : Type 0} → Option A → Option (List A) → Option (List A)
 with_first (Some a) (Some rest) = Some (a ∷ rest)
 with_first (Some a) None = None
 with_first None rest = None
 
--- all of some values, if each is there
+-- all values, if each exists
 abbrev pub all_of : {A : Type 0} → List (Option A) → Option (List A)
 all_of [] = Some []
 all_of (a ∷ rest) = with_first a (all_of rest)
 
--- the first of some values
+-- the first of the values, if there is one
 abbrev pub first_of : {A : Type 0} → Option (List A) → Option A
 first_of None = None
 first_of (Some []) = None
 first_of (Some (a ∷ rest)) = Some a
 
--- the ranges that are read from chunks: those of the parts of a comma list, if each part spells one
+-- the ranges that are parsed from chunks: those of the parts of a comma list, if each part spells one
 unfoldable pub ranges_read : Value → Option (List (Range ℕ))
 ranges_read chunks = all_of (map (λ part. range_of (formatted part)) (comma_list chunks))
 
--- the one range that is read from chunks: the first of these
+-- the one range that is parsed from chunks: the first of these
 abbrev pub range_read : Value → Option (Range ℕ)
 range_read chunks = first_of (ranges_read chunks)
 
@@ -113,7 +115,7 @@ range_read chunks = first_of (ranges_read chunks)
 abbrev pub range_text : Range ℕ → List ℕ
 range_text range = (decimal range.start ++ codes "-") ++ decimal range.end
 
--- the same as one normal chunk
+-- a range as one normal chunk
 abbrev pub range_written : Range ℕ → Value
 range_written range = alone (Normal (range_text range))
 
@@ -121,10 +123,10 @@ range_written range = alone (Normal (range_text range))
 abbrev pub ranges_written : List (Range ℕ) → Value
 ranges_written ranges = strings_written (map range_text ranges)
 
--- the ranges that are read back: both ends fit in 32 bits
+-- the ranges that parse from their written form: both ends fit in 32 bits
 abbrev pub RangeKept : Range ℕ → Type 0
 RangeKept range = (range.start < 2 ^ 32) × (range.end < 2 ^ 32)
 
--- and the lists of them: at least one range, and each is such a range
+-- the lists of ranges that parse from their written form: at least one range, and each is such a range
 abbrev pub RangesKept : List (Range ℕ) → Type 0
 RangesKept ranges = (0 < length ranges) × AllByRecursion RangeKept ranges

@@ -1,4 +1,4 @@
-//! How values are read from chunks and written as chunks, one function for each type.
+//! Parses values of each type from chunks, and writes them as chunks.
 #![tactic(auto)]
 
 pub mod enums;

@@ -1,4 +1,4 @@
-//! Ranges of numbers, as of pages.
+//! Parses and writes ranges of numbers, as in `pages`.
 
 ghost use Rattle.std.specs.Prelude.{◌≡◌, ◌==◌, ◌++◌, Some, None, IfOk, MatchOption, codes, map, string_bytes, encode_utf8_all};
 ghost use Rattle.std.specs.Char.{is_ascii_digit, is_whitespace};
@@ -16,7 +16,7 @@ use bib_text::scanner::Scanner;
 use std::alloc::{AllocError, Global};
 use std::ops::Range;
 
-// The digits at the start of a text, and what stands after them.
+// Returns the digits at the start of a text, and the text after them.
 fn digits(text: &str) -> (&str, &str)
     ensures digits { result.0.now ≡ leading_run is_ascii_digit (chars text.now) }
     ensures rest { chars result.1.now ≡ rest_after is_ascii_digit (chars text.now) }
@@ -27,7 +27,7 @@ fn digits(text: &str) -> (&str, &str)
     (run, &text[at..])
 }
 
-// What stands after the hyphens at the start of a text.
+// Returns a text without the hyphens at its start.
 fn after_hyphens(text: &str) -> &str
     ensures { chars result.now ≡ rest_after (λ c. c == 45) (chars text.now) }
 {
@@ -37,14 +37,14 @@ fn after_hyphens(text: &str) -> &str
     &text[at..]
 }
 
-// What stands after the white space at the start of a text.
+// Returns a text without the white space at its start.
 fn after_white(text: &str) -> &str
     ensures { chars result.now ≡ rest_after is_whitespace (chars text.now) }
 {
     text.trim_start()
 }
 
-// The number at the start of a text, and what stands after it.
+// Returns the number at the start of a text, and the text after it.
 fn leading_number(text: &str) -> Option<(u32, &str)>
     ensures { MatchOption result (leading_number (chars text.now) ≡ None)
         (λ found. leading_number (chars text.now) ≡ Some (found.0, chars found.1.now)) }
@@ -56,14 +56,14 @@ fn leading_number(text: &str) -> Option<(u32, &str)>
     Some((value, rest))
 }
 
-// Whether the character parts two numbers.
+// Returns whether the character separates two numbers.
 fn is_dash(c: char) -> bool
     ensures { result ≡ is_dash c }
 {
     c == '-' || c == '\u{2013}' || c == '\u{2014}'
 }
 
-// What stands after a dash and further hyphens.
+// Returns a text without the dash and any further hyphens at its start, if it begins with a dash.
 fn after_dash(text: &str) -> Option<&str>
     ensures { MatchOption result (after_dash (chars text.now) ≡ None)
         (λ rest. after_dash (chars text.now) ≡ Some (chars rest.now)) }
@@ -80,7 +80,7 @@ fn after_dash(text: &str) -> Option<&str>
     Some(rest)
 }
 
-// The range with this start, given what stands after a dash.
+// Returns the range with this start, given the text after a dash.
 fn up_to(start: u32, text: &str) -> Option<Range<u32>>
     ensures { result ≡ up_to start (Some (chars text.now)) }
 {
@@ -94,7 +94,7 @@ fn up_to(start: u32, text: &str) -> Option<Range<u32>>
     Some(start..found.0)
 }
 
-// The range with this start, given what stands after it and white space.
+// Returns the range with this start, given the text after the start and the white space there.
 fn goes_on_with(start: u32, text: &str) -> Option<Range<u32>>
     ensures { result ≡ goes_on_with start (chars text.now) }
 {
@@ -107,7 +107,7 @@ fn goes_on_with(start: u32, text: &str) -> Option<Range<u32>>
     up_to(start, rest)
 }
 
-// The range that a text spells.
+// Returns the range that a text spells.
 fn range_of(text: &str) -> Option<Range<u32>>
     ensures { result ≡ range_of (chars text.now) }
 {
@@ -117,9 +117,12 @@ fn range_of(text: &str) -> Option<Range<u32>>
     goes_on_with(found.0, after_white(found.1))
 }
 
-/// The ranges that the formatted parts of a comma list spell. `None` where a part spells none. A range is a number of 32
-/// bits in decimal digits, which is both its ends, or two of them with `-`, U+2013 or U+2014 between them and any `-`
-/// after that. White space may stand before each number and before what parts the two, and after a lone one.
+/// Returns the ranges that the formatted parts of a comma list spell, or `None` if a part spells none. The only error
+/// is out of memory.
+///
+/// A range is one number, which is both its ends, or two numbers with a dash between them. A number has decimal digits
+/// and fits in 32 bits. The dash is `-`, U+2013 or U+2014, and any number of `-` may come after it. White space may
+/// come before each number and before the dash, and after a single number.
 pub fn read_ranges(
     alloc: Global,
     chunks: ChunksRef<'_>,
@@ -138,7 +141,8 @@ pub fn read_ranges(
     Ok(Some(ranges))
 }
 
-/// The first of the ranges that the formatted parts of a comma list spell. `None` where a part spells none.
+/// Returns the first of the ranges that the formatted parts of a comma list spell, or `None` if a part spells none. The
+/// only error is out of memory.
 pub fn read_range(alloc: Global, chunks: ChunksRef<'_>) -> Result<Option<Range<u32>>, AllocError>
     ensures { IfOk result (λ range. range ≡ range_read chunks.now) }
 {
@@ -151,7 +155,7 @@ pub fn read_range(alloc: Global, chunks: ChunksRef<'_>) -> Result<Option<Range<u
     Ok(Some(range.start..range.end))
 }
 
-// The text of a range.
+// Returns the written text of a range.
 fn range_text(alloc: Global, range: &Range<u32>) -> Result<String, AllocError>
     ensures { IfOk result (λ text. string_bytes text ≡ range_text range.now) }
 {
@@ -162,7 +166,8 @@ fn range_text(alloc: Global, range: &Range<u32>) -> Result<String, AllocError>
     Ok(text)
 }
 
-/// A range as one normal chunk: its ends in decimal digits, with `-` between them.
+/// Returns a range as one normal chunk: its ends in decimal digits, with `-` between them. The only error is out of
+/// memory.
 pub fn write_range(alloc: Global, range: &Range<u32>) -> Result<Chunks, AllocError>
     ensures { IfOk result (λ chunks. chunks ≡ range_written range.now) }
 {
@@ -170,7 +175,8 @@ pub fn write_range(alloc: Global, range: &Range<u32>) -> Result<Chunks, AllocErr
     normal(alloc, text.as_str())
 }
 
-/// Ranges as a comma list: each is one normal chunk, with a normal chunk `,` between each two.
+/// Returns ranges as a comma list: each is one normal chunk, with a normal chunk `,` between each two. The only error
+/// is out of memory.
 pub fn write_ranges(alloc: Global, ranges: &[Range<u32>]) -> Result<Chunks, AllocError>
     ensures { IfOk result (λ chunks. chunks ≡ ranges_written ranges.now) }
 {

@@ -1,65 +1,66 @@
-//! What a command line asks for.
+//! Parses the command line into a request.
 
-use crate::commands::{command, is_editing};
 use crate::edits::{Editing, Edits, Mode};
-use bib_entry::write;
+use bib_entry::write::Dialect;
 use bib_excerpts::request::{Request as Excerpts, Search};
 use bib_findings::codes::Code;
+use bib_sorting::order::Order;
 use bibkit_convert::target::Target;
 use bibkit_core::request::{Cited, Request};
-use bibkit_core::settings::{Color, Format, Settings};
 use bibkit_edits::edit::Edit;
-use bibkit_edits::order::Order;
-use bibkit_edits::style_settings::{StyleSettings, delimiters_named, width_of};
+use bibkit_settings::commands::{command, is_editing};
+use bibkit_settings::settings::{Color, OutputFormat, Settings};
+use bibkit_settings::style_settings::{StyleSettings, delimiters_named, width_of};
 use clap::{ArgMatches, Error};
 use std::alloc::{AllocError, Global};
 
-/// What a command line asks for. How findings are printed, and which style files are put in, depends on settings of a project too.
+/// The request of a command line. The settings of `lint` and `fmt` may be completed by those of a project.
 #[derive(Drop)]
 pub enum Asked<'a> {
-    /// What is wrong in files, with these settings.
+    /// Prints the findings of files.
     Lint {
         /// The settings of the command line.
         settings: Settings,
         /// The document whose citations are compared with the files.
         cited: Option<Cited<'a>>,
     },
-    /// Edits of a file.
+    /// Edits a file.
     Edits(Editing<'a>),
-    /// Files in one style.
+    /// Formats files in one style.
     Format {
-        /// The settings of the command line, but for the order of fields.
+        /// The settings of the command line, except the order of fields.
         settings: StyleSettings<'a>,
-        /// The names of fields that come first, if they are set.
+        /// The names of the fields that come first, if they are set.
         order: Option<Vec<&'a str>>,
-        /// What is done with the new text of each file.
+        /// The use of the new text of each file.
         mode: Mode,
     },
-    /// The entries of files in another format.
+    /// Prints the entries of files in another format.
     Convert(Target),
-    /// The files with the types and fields of a format.
-    Rewrite(write::Format),
-    /// The entries of the items of files, with the types and fields of a format; nothing where another format is asked for.
-    Import(Option<write::Format>),
-    /// Files whose entries have what they inherit in fields of their own.
+    /// Prints files with the types and fields of a dialect.
+    Rewrite(Dialect),
+    /// Prints the entries of the CSL-JSON items of files, with the types and fields of a dialect. `None` if another format is
+    /// requested, which is an error.
+    Import(Option<Dialect>),
+    /// Replaces the references `crossref` and `xdata` in files by the inherited fields.
     Resolve {
-        /// What is done with the new text of each file.
+        /// The use of the new text of each file.
         mode: Mode,
     },
-    /// Something else.
+    /// Runs another request.
     Other(Request<'a>),
 }
 
-/// A command line that is read.
+/// A parsed command line.
 #[derive(Drop)]
 pub struct Words<'a> {
-    /// What it asks for.
+    /// The request.
     pub asked: Asked<'a>,
-    /// The names of the files: standard input, where it has none.
+    /// The names of the files to read: `-` (standard input) if none is given. Empty for commands that edit a file.
     pub names: Vec<&'a str>,
 }
 
-// Copies of the texts that an argument was given.
+// Returns the values of an argument.
 fn texts<'a>(
     alloc: Global,
     matches: &ArgMatches<'a>,
@@ -71,7 +72,7 @@ fn texts<'a>(
     }
 }
 
-// The texts that an option was given, if it was.
+// Returns the values of an option, if it is given.
 fn given_texts<'a>(
     alloc: Global,
     matches: &ArgMatches<'a>,
@@ -83,14 +84,14 @@ fn given_texts<'a>(
     }
 }
 
-// The number that an option was given, if it was.
+// Returns the number that is the value of an option, if it is given.
 fn number(matches: &ArgMatches<'_>, id: &str) -> Option<usize> {
     matches
         .get_str(id)
         .and_then(|word| word.parse::<usize>().ok())
 }
 
-// The codes that an option was given.
+// Returns the codes that are the values of an option, if it is given.
 fn given_codes(
     alloc: Global,
     matches: &ArgMatches<'_>,
@@ -108,7 +109,7 @@ fn given_codes(
     }
 }
 
-// What `lint` was asked for.
+// Returns the request of `lint`.
 fn lint_asked<'a>(alloc: Global, matches: &ArgMatches<'a>) -> Result<Asked<'a>, AllocError> {
     if let Some(code) = matches.get_str("explain").and_then(Code::named) {
         return Ok(Asked::Other(Request::Explain(code)));
@@ -117,7 +118,7 @@ fn lint_asked<'a>(alloc: Global, matches: &ArgMatches<'a>) -> Result<Asked<'a>, 
         only: given_codes(alloc, matches, "only")?,
         ignored: given_codes(alloc, matches, "ignore")?,
         color: matches.get_str("color").and_then(Color::named),
-        format: matches.get_str("format").and_then(Format::named),
+        format: matches.get_str("format").and_then(OutputFormat::named),
     };
     let cited = matches.get_str("cited").map(|name| Cited {
         name,
@@ -126,12 +127,12 @@ fn lint_asked<'a>(alloc: Global, matches: &ArgMatches<'a>) -> Result<Asked<'a>, 
     Ok(Asked::Lint { settings, cited })
 }
 
-// The text that an argument was given.
+// Returns the value of an argument, or an empty text without one.
 fn text<'a>(matches: &ArgMatches<'a>, id: &str) -> &'a str {
     matches.get_str(id).unwrap_or("")
 }
 
-// Setting the fields that words name, each with its value.
+// Returns the edits that set fields of an entry. Each word is FIELD=VALUE.
 fn set_fields<'a>(alloc: Global, key: &'a str, words: &[&'a str]) -> Result<Edits<'a>, AllocError> {
     let mut edits = Vec::new(alloc);
     'words: for word in words {
@@ -143,7 +144,7 @@ fn set_fields<'a>(alloc: Global, key: &'a str, words: &[&'a str]) -> Result<Edit
     Ok(Edits::These(edits))
 }
 
-// Taking out the fields of these names.
+// Returns the edits that remove the fields with these names from an entry.
 fn unset_fields<'a>(
     alloc: Global,
     key: &'a str,
@@ -156,7 +157,7 @@ fn unset_fields<'a>(
     Ok(edits)
 }
 
-// Taking out the entries with these keys.
+// Returns the edits that remove the entries with these keys.
 fn removed<'a>(alloc: Global, keys: &[&'a str]) -> Result<Vec<Edit<'a>>, AllocError> {
     let mut edits = Vec::new(alloc);
     'keys: for key in keys {
@@ -165,7 +166,7 @@ fn removed<'a>(alloc: Global, keys: &[&'a str]) -> Result<Vec<Edit<'a>>, AllocEr
     Ok(edits)
 }
 
-// Edits of abbreviations.
+// Returns the edits of `strings`.
 fn strings_edits<'a>(alloc: Global, matches: &ArgMatches<'a>) -> Result<Edits<'a>, AllocError> {
     if matches.get_flag("expand") {
         return Ok(Edits::These(vec![in alloc; Edit::Expand]?));
@@ -176,7 +177,7 @@ fn strings_edits<'a>(alloc: Global, matches: &ArgMatches<'a>) -> Result<Edits<'a
     })
 }
 
-// The edits that a command asks for.
+// Returns the edits of the command `name`.
 fn edits_of<'a>(
     alloc: Global,
     name: &str,
@@ -206,7 +207,7 @@ fn edits_of<'a>(
     }
 }
 
-// What is done with new texts.
+// Returns the use of the new text. `--diff` takes precedence over a check, and a check over `--write`.
 fn mode_of(matches: &ArgMatches<'_>, is_check: bool) -> Mode {
     if matches.get_flag("diff") {
         Mode::Diff { is_check }
@@ -219,7 +220,7 @@ fn mode_of(matches: &ArgMatches<'_>, is_check: bool) -> Mode {
     }
 }
 
-// What a command that edits asks for.
+// Returns the request of a command that edits a file.
 fn editing_of<'a>(
     alloc: Global,
     name: &str,
@@ -232,7 +233,7 @@ fn editing_of<'a>(
     })
 }
 
-// What is chosen by two options of which one says yes and the other no.
+// Returns the choice between the flags `yes` and `no`, or `None` if neither is given.
 fn chosen(matches: &ArgMatches<'_>, yes: &str, no: &str) -> Option<bool> {
     if matches.get_flag(yes) {
         Some(true)
@@ -243,7 +244,7 @@ fn chosen(matches: &ArgMatches<'_>, yes: &str, no: &str) -> Option<bool> {
     }
 }
 
-// What is set of the style that `fmt` was asked for.
+// Returns the settings of `fmt`, except the order of fields.
 fn style_settings<'a>(matches: &ArgMatches<'a>) -> StyleSettings<'a> {
     StyleSettings {
         indent: number(matches, "indent"),
@@ -259,7 +260,7 @@ fn style_settings<'a>(matches: &ArgMatches<'a>) -> StyleSettings<'a> {
     }
 }
 
-// What `fmt` was asked for.
+// Returns the request of `fmt`.
 fn format_asked<'a>(alloc: Global, matches: &ArgMatches<'a>) -> Result<Asked<'a>, AllocError> {
     Ok(Asked::Format {
         settings: style_settings(matches),
@@ -268,30 +269,30 @@ fn format_asked<'a>(alloc: Global, matches: &ArgMatches<'a>) -> Result<Asked<'a>
     })
 }
 
-// The format of entries that a word names.
-fn format_named(name: Option<&str>) -> Option<write::Format> {
+// Returns the dialect that a word names.
+fn dialect_named(name: Option<&str>) -> Option<Dialect> {
     match name {
-        Some("biblatex") => Some(write::Format::Biblatex),
-        Some("bibtex") => Some(write::Format::Bibtex),
+        Some("biblatex") => Some(Dialect::Biblatex),
+        Some("bibtex") => Some(Dialect::Bibtex),
         _ => None,
     }
 }
 
-// What `convert` was asked for.
+// Returns the request of `convert`.
 fn convert_asked<'a>(matches: &ArgMatches<'a>) -> Asked<'a> {
     if matches.get_str("from") == Some("csl") {
-        return Asked::Import(format_named(matches.get_str("to")));
+        return Asked::Import(dialect_named(matches.get_str("to")));
     }
     match matches.get_str("to") {
-        Some("biblatex") => Asked::Rewrite(write::Format::Biblatex),
-        Some("bibtex") => Asked::Rewrite(write::Format::Bibtex),
+        Some("biblatex") => Asked::Rewrite(Dialect::Biblatex),
+        Some("bibtex") => Asked::Rewrite(Dialect::Bibtex),
         Some("json") => Asked::Convert(Target::Json),
         Some("ris") => Asked::Convert(Target::Ris),
         _ => Asked::Convert(Target::Csl),
     }
 }
 
-// What a command was asked for.
+// Returns the request of the command `name`, which reads files.
 fn request_of<'a>(
     alloc: Global,
     name: &str,
@@ -317,7 +318,7 @@ fn request_of<'a>(
     Ok(Asked::Other(request))
 }
 
-// The names of the files that a command was given: standard input, where it has none.
+// Returns the names of the files of a command, or `-` (standard input) without any.
 fn file_names<'a>(alloc: Global, matches: &ArgMatches<'a>) -> Result<Vec<&'a str>, AllocError> {
     let mut names = texts(alloc, matches, "FILE")?;
     if names.is_empty() {
@@ -326,7 +327,7 @@ fn file_names<'a>(alloc: Global, matches: &ArgMatches<'a>) -> Result<Vec<&'a str
     Ok(names)
 }
 
-// What a command asks for.
+// Returns the request and the files of the command `name`.
 fn words_of<'a>(
     alloc: Global,
     name: &str,
@@ -344,7 +345,7 @@ fn words_of<'a>(
     Ok(Words { asked, names })
 }
 
-// What a command line asks for, by what it matches.
+// Returns the request and the files of a command line, from the matches of clap.
 fn given<'a>(alloc: Global, matches: &ArgMatches<'a>) -> Result<Words<'a>, AllocError> {
     match matches.subcommand() {
         Some((name, inner)) => words_of(alloc, name, inner),
@@ -355,13 +356,13 @@ fn given<'a>(alloc: Global, matches: &ArgMatches<'a>) -> Result<Words<'a>, Alloc
     }
 }
 
-// What the words of a command line match. The first of them is the program's name.
+// Parses the words of a command line with clap. The first word is the name of the program.
 fn matches<'a>(alloc: Global, words: &'a [String]) -> Result<ArgMatches<'a>, Error> {
     command(alloc)?.try_get_matches_from(words)
 }
 
-/// What a command line asks for. Its first word is the program's name. The error is what is printed in place of an answer: the
-/// help that was asked for, or what is wrong with the words.
+/// Parses a command line. Its first word is the name of the program. The error is printed instead of running a command: the
+/// requested help, or the reason for which the words are wrong.
 pub fn read<'a>(alloc: Global, words: &'a [String]) -> Result<Words<'a>, Error> {
     let matches = matches(alloc, words)?;
     let words = given(alloc, &matches)?;

@@ -1,12 +1,12 @@
-//! The command that converts files.
+//! Runs `convert` for files with entries.
 
 use crate::edits::{after_mark, print};
 use crate::stops::{Stop, bytes_of, error_line, say};
 use bib_conversion::notes::{NoteKind, notes};
 use bib_documents::document::RawDocument;
-use bib_encoding::decoding::decode;
-use bib_entry::write::Format;
-use bib_lines::positions::Positions;
+use bib_entry::write::Dialect;
+use bib_source::decoding::decode;
+use bib_source::positions::Positions;
 use bib_syntax::raw::Pair;
 use bibkit_convert::converting::{ConvertError, print_converted};
 use bibkit_convert::target::Target;
@@ -16,30 +16,30 @@ use std::alloc::{AllocError, Global};
 use std::io;
 use std::str::from_utf8;
 
-// The output can't be written.
+// Returns the error of an output that can't be written.
 fn not_taken(alloc: Global) -> Result<Stop, AllocError> {
     let said = String::from_str(alloc, "bibkit: the output can't be written\n")?;
     Ok(Stop::Said(said, 2))
 }
 
-// What is said of a text that is no bibliography.
+// Returns the error of a text that isn't a bibliography.
 fn refused(alloc: Global, name: &str, text: &str, error: &ParseError) -> Result<Stop, AllocError> {
     let said = format!(in alloc; "{}", error.kind)?;
     let line = error_line(alloc, name, text.as_bytes(), error.span.start, &said)?;
     Ok(Stop::Said(line, 1))
 }
 
-// What is printed so far.
+// The progress of printing.
 #[derive(Clone, Copy)]
 struct Progress {
-    // Whether no entry is.
+    // Whether no entry is printed yet.
     is_empty: bool,
-    // The status.
+    // The greatest status so far.
     status: u8,
 }
 
 impl Progress {
-    // The same with this status, if it is greater.
+    // Returns the progress with the greater of both statuses.
     fn with_status(self, status: u8) -> Progress {
         Progress {
             status: self.status.max(status),
@@ -48,7 +48,7 @@ impl Progress {
     }
 }
 
-// Prints the entries of a text that was read from a file.
+// Prints the entries of a file's text. If it isn't a bibliography, reports that.
 fn convert_text<K: Sink>(
     rt: &HostRuntime,
     target: Target,
@@ -72,7 +72,7 @@ fn convert_text<K: Sink>(
     }
 }
 
-// Prints the entries of a file. One that can't be read, or is no bibliography, is reported.
+// Prints the entries of a file. If it can't be read or isn't a bibliography, reports that.
 fn convert_file<K: Sink>(
     rt: &HostRuntime,
     target: Target,
@@ -92,7 +92,7 @@ fn convert_file<K: Sink>(
     }
 }
 
-// Prints the end, after the entries of all files.
+// Prints the end of the format after the entries of all files.
 fn print_end<K: Sink>(
     alloc: Global,
     target: Target,
@@ -106,7 +106,7 @@ fn print_end<K: Sink>(
     }
 }
 
-// Prints the entries of files, and answers the greatest status that one has.
+// Prints the entries of files, and returns the greatest status of a file.
 fn convert_files(rt: &HostRuntime, target: Target, names: &[&str]) -> Result<u8, Stop> {
     let mut output = Output::new(io::writer(rt));
     let mut progress = Progress {
@@ -120,8 +120,8 @@ fn convert_files(rt: &HostRuntime, target: Target, names: &[&str]) -> Result<u8,
     Ok(progress.status)
 }
 
-/// Prints the entries of files in another format, and answers the status: the greatest that a file has. Where the output refuses a
-/// text, or there is no memory, nothing more is printed.
+/// Prints the entries of files in another format, and returns the greatest status of a file. If the output refuses a text, or
+/// memory runs out, prints nothing more.
 pub fn run_convert(rt: &HostRuntime, target: Target, names: &[&str]) -> u8 {
     match convert_files(rt, target, names) {
         Ok(status) => status,
@@ -129,15 +129,15 @@ pub fn run_convert(rt: &HostRuntime, target: Target, names: &[&str]) -> u8 {
     }
 }
 
-// The edit that gives a file the types and fields of a format.
-fn edit_of<'a>(format: Format) -> Edit<'a> {
-    match format {
-        Format::Biblatex => Edit::ToBiblatex,
-        Format::Bibtex => Edit::ToBibtex,
+// Returns the edit that converts a file to the types and fields of a dialect.
+fn edit_of<'a>(dialect: Dialect) -> Edit<'a> {
+    match dialect {
+        Dialect::Biblatex => Edit::ToBiblatex,
+        Dialect::Bibtex => Edit::ToBibtex,
     }
 }
 
-// What is to know of a field that stays.
+// Returns the text of a note on a field that is kept.
 fn note_text(kind: NoteKind) -> &'static str {
     match kind {
         NoteKind::NameIsThere => "stays, since the entry has the field that takes its place",
@@ -147,7 +147,7 @@ fn note_text(kind: NoteKind) -> &'static str {
     }
 }
 
-// The line of a note on a field.
+// Returns the line of a note on a field, with the position of its name.
 fn note_line(
     alloc: Global,
     name: &str,
@@ -165,15 +165,15 @@ fn note_line(
     )
 }
 
-// Says what is to know of the fields of a document that stay.
+// Prints the notes on the fields of a document that are kept.
 fn say_notes(
     rt: &HostRuntime,
-    format: Format,
+    dialect: Dialect,
     name: &str,
     document: &RawDocument<'_>,
 ) -> Result<(), AllocError> {
     let mut positions = Positions::new(document.text());
-    'notes: for note in notes(rt.alloc(), document, format)? {
+    'notes: for note in notes(rt.alloc(), document, dialect)? {
         if let Some(entry) = document.raw().entries.get(note.entry) {
             if let Some(field) = entry.v.fields.get(note.field) {
                 let line = note_line(rt.alloc(), name, &mut positions, field, note.kind)?;
@@ -184,23 +184,23 @@ fn say_notes(
     Ok(())
 }
 
-// Prints a file with the types and fields of a format, and says what is to know of fields that stay.
-fn rewrite_file(rt: &HostRuntime, format: Format, name: &str) -> Result<(), Stop> {
+// Prints a file with the types and fields of a dialect, and notes on fields that are kept.
+fn rewrite_file(rt: &HostRuntime, dialect: Dialect, name: &str) -> Result<(), Stop> {
     let bytes = bytes_of(rt, name)?;
-    print(rt, name, &bytes, &[edit_of(format)])?;
+    print(rt, name, &bytes, &[edit_of(dialect)])?;
     if let Ok(text) = from_utf8(after_mark(&bytes)) {
         if let Ok(document) = RawDocument::parse(rt.alloc(), text) {
-            say_notes(rt, format, name, &document)?;
+            say_notes(rt, dialect, name, &document)?;
         }
     }
     Ok(())
 }
 
-/// Prints files with the types and fields of a format, one after another, and answers the greatest status.
-pub fn run_rewrite(rt: &HostRuntime, format: Format, names: &[&str]) -> u8 {
+/// Prints each file in turn with the types and fields of a dialect, and returns the greatest status.
+pub fn run_rewrite(rt: &HostRuntime, dialect: Dialect, names: &[&str]) -> u8 {
     let mut status = 0;
     'names: for name in names {
-        if let Err(stop) = rewrite_file(rt, format, name) {
+        if let Err(stop) = rewrite_file(rt, dialect, name) {
             status = say(rt, &stop).max(status);
         }
     }

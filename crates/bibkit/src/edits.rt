@@ -1,72 +1,72 @@
-//! The commands that edit a file.
+//! Runs the commands that edit a file.
 
 use crate::replacing::replace;
 use crate::stops::{Stop, bytes_of, error_line, say, syntax_line};
 use bib_documents::errors::EditError;
-use bib_encoding::decoding::decode;
 use bib_resolution::errors::ResolveError;
+use bib_source::decoding::decode;
 use bib_syntax::raw::{Pair, RawBibliography};
+use bibkit_core::replacing::ReplaceError;
 use bibkit_edits::edit::{Edit, Refusal};
 use bibkit_edits::editing::edited_file;
 use bibkit_edits::printing::{Unprinted, print_difference, print_edited};
-use bibkit_files::replacing::ReplaceError;
 use biblatex::Output;
 use std::alloc::{AllocError, Global};
 use std::io;
 use std::io::ErrorKind;
 use std::str::from_utf8;
 
-/// Which edits are asked for.
+/// The edits of a command.
 #[derive(Drop)]
 pub enum Edits<'a> {
-    /// These.
+    /// These edits.
     These(Vec<Edit<'a>>),
-    /// Adding the entries of standard input.
+    /// Add the entries of standard input.
     AddInput,
-    /// Making abbreviations of texts that repeat.
+    /// Define abbreviations for texts that occur in several fields.
     Collect {
-        /// The names of the fields in which they stand, if they are given.
+        /// The names of the fields whose texts are collected, or `None` for the default fields.
         fields: Option<Vec<&'a str>>,
-        /// How often a text has to stand there.
+        /// The minimum number of fields with the text.
         at_least: usize,
     },
-    /// None: this word is no name of a field with a value.
+    /// No edits, since this word isn't FIELD=VALUE.
     NoValue(&'a str),
 }
 
-/// What a command that edits asks for.
+/// The edits of a command, their file, and the use of the new text.
 #[derive(Drop)]
 pub struct Editing<'a> {
     /// The edits.
     pub edits: Edits<'a>,
     /// The name of the file; `-` is standard input.
     pub name: &'a str,
-    /// What is done with the new text.
+    /// The use of the new text.
     pub mode: Mode,
 }
 
-/// What is done with the new text of a file.
+/// The use of the new text of a file.
 #[derive(Clone, Copy, PartialEq, Eq)]
 pub enum Mode {
-    /// It is printed.
+    /// Print it.
     Print,
-    /// It is written into the file.
+    /// Write it into the file.
     Write,
-    /// It is compared with the old one.
+    /// Report whether it differs from the old text.
     Check,
-    /// How it differs from the old one is printed.
+    /// Print the diff from the old text.
     Diff {
-        /// Whether a difference has a status of its own.
+        /// Whether a difference is reported like in `Check`, with status 1.
         is_check: bool,
     },
 }
 
-// What is wrong with the words of a command.
+// Returns the error of a wrong command line, with status 2.
 fn wrong_usage(alloc: Global, text: &str) -> Result<(), Stop> {
     Err(Stop::Said(format!(in alloc; "bibkit: {text}\n")?, 2))
 }
 
-// Refuses what a command can't do with standard input, which is read once, and into which nothing is written.
+// Refuses to write into standard input, and to add entries of standard input to a text of standard input.
 fn check(alloc: Global, editing: &Editing<'_>) -> Result<(), Stop> {
     match editing.edits {
         _ if editing.name != "-" => Ok(()),
@@ -76,7 +76,7 @@ fn check(alloc: Global, editing: &Editing<'_>) -> Result<(), Stop> {
     }
 }
 
-/// The bytes of a file after its byte order mark.
+/// Returns the bytes of a file after its byte order mark, or all bytes without one.
 pub fn after_mark(bytes: &[u8]) -> &[u8] {
     match bytes.strip_prefix(b"\xEF\xBB\xBF") {
         Some(rest) => rest,
@@ -84,7 +84,7 @@ pub fn after_mark(bytes: &[u8]) -> &[u8] {
     }
 }
 
-// What is said of an edit that is refused.
+// Returns the message for an edit that is refused.
 fn refused_line(
     alloc: Global,
     name: &str,
@@ -108,7 +108,7 @@ fn refused_line(
     }
 }
 
-// The line of a definition that refers to itself, and the place, if it is found.
+// Returns the message for a definition that refers to itself, with its position.
 fn definition_line(
     alloc: Global,
     name: &str,
@@ -122,7 +122,8 @@ fn definition_line(
     error_line(alloc, name, text, definition.key.span.start, &said)
 }
 
-// What is said of a definition that refers to itself, by its index.
+// Returns the message for a definition that refers to itself, by its index. It has no position if `text` has no definition with
+// that index.
 fn cycle_line(
     alloc: Global,
     name: &str,
@@ -139,7 +140,7 @@ fn cycle_line(
     format!(in alloc; "bibkit: {name}: an abbreviation uses itself\n")
 }
 
-// What is said of an entry, by its index, that would say something else with what it inherits in fields of its own.
+// Returns the message for an entry, by its index, whose `field` resolving references would change.
 fn differing_line(
     alloc: Global,
     name: &str,
@@ -161,14 +162,14 @@ fn differing_line(
     unlike_line(alloc, name)
 }
 
-// What is said of a file whose entries would say something else with what they inherit in fields of their own.
+// Returns the message for a file whose entries resolving references would change.
 fn unlike_line(alloc: Global, name: &str) -> Result<String, AllocError> {
     format!(in alloc;
         "bibkit: {name}: with what they inherit in fields of their own entries would say something else\n"
     )
 }
 
-// What is said of a file whose entries aren't given what they inherit.
+// Returns the message for an error of resolving references.
 fn unresolved_line(
     alloc: Global,
     name: &str,
@@ -188,7 +189,7 @@ fn unresolved_line(
     }
 }
 
-// The text that an edit adds.
+// Returns the text that the first edit adds, or an empty text.
 fn added_text<'a>(edits: &[Edit<'a>]) -> &'a str {
     match edits.first() {
         Some(Edit::Add { text }) => *text,
@@ -196,7 +197,7 @@ fn added_text<'a>(edits: &[Edit<'a>]) -> &'a str {
     }
 }
 
-// What is said of a refusal.
+// Returns the message for a refusal.
 fn refused(
     alloc: Global,
     name: &str,
@@ -223,7 +224,7 @@ fn refused(
     }
 }
 
-// What is said of edits that aren't printed, and the status.
+// Returns the message and the status for an error of printing edits.
 fn unprinted(
     alloc: Global,
     name: &str,
@@ -243,7 +244,7 @@ fn unprinted(
     }
 }
 
-// Why a file can't be written.
+// Returns the reason for which a file can't be written.
 fn write_reason(kind: ErrorKind) -> &'static str {
     match kind {
         ErrorKind::PermissionDenied => "it may not be written",
@@ -253,7 +254,7 @@ fn write_reason(kind: ErrorKind) -> &'static str {
     }
 }
 
-// What is said of a file that isn't written, or not for certain.
+// Returns the message for a file that isn't written, or that may be lost in a crash.
 fn unwritten_line(alloc: Global, name: &str, error: &ReplaceError) -> Result<String, AllocError> {
     let reason = match error {
         ReplaceError::NotReplaced(error) | ReplaceError::Unsure(error) => {
@@ -265,7 +266,7 @@ fn unwritten_line(alloc: Global, name: &str, error: &ReplaceError) -> Result<Str
     format!(in alloc; "bibkit: {name}: {reason}\n")
 }
 
-// An error of a file that isn't written, unless it says that there was no memory.
+// Returns `AllocError` for out of memory, and `Ok` with any other error.
 fn unless_out_of_memory(error: ReplaceError) -> Result<ReplaceError, AllocError> {
     match error {
         ReplaceError::OutOfMemory => Err(AllocError),
@@ -276,7 +277,7 @@ fn unless_out_of_memory(error: ReplaceError) -> Result<ReplaceError, AllocError>
     }
 }
 
-// Writes a text into a file.
+// Replaces the text of a file.
 fn write(rt: &HostRuntime, name: &str, text: &str) -> Result<(), Stop> {
     match replace(rt, name, text) {
         Ok(()) => Ok(()),
@@ -288,7 +289,7 @@ fn write(rt: &HostRuntime, name: &str, text: &str) -> Result<(), Stop> {
     }
 }
 
-/// Prints what edits make of a file's bytes.
+/// Applies edits to a file's bytes, and prints the new text.
 pub fn print(rt: &HostRuntime, name: &str, bytes: &[u8], edits: &[Edit<'_>]) -> Result<(), Stop> {
     let mut output = Output::new(io::writer(rt));
     match print_edited(rt.alloc(), bytes, edits, &mut output) {
@@ -297,7 +298,7 @@ pub fn print(rt: &HostRuntime, name: &str, bytes: &[u8], edits: &[Edit<'_>]) -> 
     }
 }
 
-// What edits make of a file's bytes.
+// Applies edits to a file's bytes, and returns the new text.
 fn new_text(alloc: Global, name: &str, bytes: &[u8], edits: &[Edit<'_>]) -> Result<String, Stop> {
     match edited_file(alloc, bytes, edits) {
         Ok(new) => Ok(new),
@@ -308,7 +309,7 @@ fn new_text(alloc: Global, name: &str, bytes: &[u8], edits: &[Edit<'_>]) -> Resu
     }
 }
 
-// Writes what edits make of a file's bytes into it, unless that is what it has.
+// Applies edits to a file's bytes, and writes the new text into the file if it differs from them.
 fn write_edited(
     rt: &HostRuntime,
     name: &str,
@@ -323,13 +324,13 @@ fn write_edited(
     }
 }
 
-// Says that a file isn't in the style that is asked for.
+// Returns the message for a file that isn't in the requested style, with status 1.
 fn not_in_style(alloc: Global, name: &str) -> Result<Stop, AllocError> {
     let said = format!(in alloc; "bibkit: {name}: not in this style\n")?;
     Ok(Stop::Said(said, 1))
 }
 
-// Says whether edits would change a file's bytes.
+// Fails if edits would change a file's bytes.
 fn check_edited(alloc: Global, name: &str, bytes: &[u8], edits: &[Edit<'_>]) -> Result<(), Stop> {
     let new = new_text(alloc, name, bytes, edits)?;
     if new.as_bytes() == bytes {
@@ -339,7 +340,7 @@ fn check_edited(alloc: Global, name: &str, bytes: &[u8], edits: &[Edit<'_>]) -> 
     }
 }
 
-// Prints how edits would change a file's text.
+// Prints the diff of edits of a file's bytes. If `is_check`, fails if the diff isn't empty.
 fn show_difference(
     rt: &HostRuntime,
     name: &str,
@@ -359,7 +360,7 @@ fn show_difference(
     }
 }
 
-// Makes edits of a file, and does what is asked with the new text.
+// Applies edits to a file, and uses the new text as `editing` requests.
 fn edit(rt: &HostRuntime, editing: &Editing<'_>, edits: &[Edit<'_>]) -> Result<(), Stop> {
     let bytes = bytes_of(rt, editing.name)?;
     match editing.mode {
@@ -370,14 +371,14 @@ fn edit(rt: &HostRuntime, editing: &Editing<'_>, edits: &[Edit<'_>]) -> Result<(
     }
 }
 
-// Adds the entries of standard input.
+// Adds the entries of standard input to a file.
 fn add_input(rt: &HostRuntime, editing: &Editing<'_>) -> Result<(), Stop> {
     let bytes = bytes_of(rt, "-")?;
     let input = decode(rt.alloc(), &bytes)?;
     edit(rt, editing, &[Edit::Add { text: &input.text }])
 }
 
-// The fields whose texts are collected where nothing else is said.
+// The default fields whose texts are collected.
 static COLLECTED: [&str; 9] = [
     "journal",
     "journaltitle",
@@ -390,7 +391,7 @@ static COLLECTED: [&str; 9] = [
     "location",
 ];
 
-// The names of the fields whose texts are collected.
+// Returns the names of the fields whose texts are collected: the given ones, or the default ones.
 fn collected_fields<'e>(given: &'e Option<Vec<&'e str>>) -> &'e [&'e str] {
     match given {
         Some(fields) => fields.as_slice(),
@@ -398,7 +399,7 @@ fn collected_fields<'e>(given: &'e Option<Vec<&'e str>>) -> &'e [&'e str] {
     }
 }
 
-// Does what a command asks for.
+// Runs a command that edits a file.
 fn answer(rt: &HostRuntime, editing: &Editing<'_>) -> Result<(), Stop> {
     check(rt.alloc(), editing)?;
     match &editing.edits {
@@ -422,7 +423,7 @@ fn answer(rt: &HostRuntime, editing: &Editing<'_>) -> Result<(), Stop> {
     }
 }
 
-/// Does what a command that edits asks for, and answers the status.
+/// Runs a command that edits a file, reports its errors, and returns the status.
 pub fn run_edits(rt: &HostRuntime, editing: &Editing<'_>) -> u8 {
     match answer(rt, editing) {
         Ok(()) => 0,

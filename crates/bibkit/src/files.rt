@@ -1,24 +1,24 @@
-//! The system's files, and its standard input.
+//! Reads the files of the system and standard input.
 
 use bibkit_core::files::{FileError, Files};
 use std::alloc::Global;
 use std::io::{ErrorKind, Read};
 use std::{fs, io, rt};
 
-/// The system's files, and its standard input.
+/// The files of the system, and standard input.
 #[derive(Drop)]
 pub struct SystemFiles<'r, R> {
     rt: &'r R,
 }
 
 impl<'r, R> SystemFiles<'r, R> {
-    /// The files of this runtime.
+    /// Returns the files of a runtime.
     pub fn new(rt: &'r R) -> Self {
         SystemFiles { rt }
     }
 }
 
-// All that is left of the standard input.
+// Returns the rest of standard input.
 fn read_input<R: Input>(rt: &R, alloc: Global) -> io::Result<Vec<u8>> {
     let mut bytes = Vec::new(alloc);
     let mut reader = rt.reader();
@@ -26,7 +26,7 @@ fn read_input<R: Input>(rt: &R, alloc: Global) -> io::Result<Vec<u8>> {
     Ok(bytes)
 }
 
-// Why a file could not be read.
+// Returns the error of reading a file for a kind of system error.
 fn file_error(kind: ErrorKind) -> FileError {
     match kind {
         ErrorKind::NotFound => FileError::NotFound,
@@ -38,7 +38,7 @@ fn file_error(kind: ErrorKind) -> FileError {
 }
 
 impl<'r, R: rt::Files + Input + AllocGlobal> Files for SystemFiles<'r, R> {
-    // Nothing is known of what the system's files hold.
+    // Nothing is known of the contents of the system's files.
     ghost reads = { λ old name bytes new. Unit {0} };
 
     fn read(&mut self, alloc: Global, name: &str) -> Result<Vec<u8>, FileError> {

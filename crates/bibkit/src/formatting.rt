@@ -1,12 +1,12 @@
-//! The command that puts files in one style.
+//! Runs `fmt`, which formats files in one style.
 
 use crate::edits::{Editing, Edits, Mode, run_edits};
 use bib_format::style::Style;
+use bib_sorting::order::Order;
 use bibkit_edits::edit::Edit;
-use bibkit_edits::order::Order;
 use std::alloc::{AllocError, Global};
 
-// The edits that put a file in one style: its entries are put in order first, if they are.
+// Returns the edits that format a file: they sort its entries first if `sort` is an order.
 fn edits_of<'a>(
     alloc: Global,
     style: Style<'a>,
@@ -20,7 +20,7 @@ fn edits_of<'a>(
     Ok(edits)
 }
 
-// Puts a file in one style, and answers the status.
+// Formats a file, and returns the status.
 fn format_file(
     rt: &HostRuntime,
     style: Style<'_>,
@@ -44,7 +44,7 @@ fn format_file(
     }
 }
 
-/// Puts files in one style, and their entries in an order, if one is given, one file after another, and answers the greatest status.
+/// Formats each file in turn, and returns the greatest status. Sorts the entries of each file first if `sort` is an order.
 pub fn run_format(
     rt: &HostRuntime,
     style: Style<'_>,

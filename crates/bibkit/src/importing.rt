@@ -1,8 +1,8 @@
-//! The command that makes entries of items.
+//! Runs `convert --from csl`, which converts CSL-JSON items to entries.
 
 use crate::edits::{after_mark, print};
 use crate::stops::{Stop, bytes_of, error_line, say};
-use bib_entry::write::Format;
+use bib_entry::write::Dialect;
 use bib_from_csl::converting::{Converted, ItemsError, Refusal, entries_of};
 use bib_from_csl::losses::{Loss, LossKind};
 use bib_from_csl::reading::Fault;
@@ -10,7 +10,7 @@ use bibkit_edits::edit::Edit;
 use std::alloc::{AllocError, Global};
 use std::str::from_utf8;
 
-// What is wrong with a text that is no array of items.
+// Returns the message for a fault of a text that isn't an array of items.
 fn fault_text(fault: Fault) -> &'static str {
     match fault {
         Fault::NotJson => "no JSON from here on",
@@ -23,14 +23,14 @@ fn fault_text(fault: Fault) -> &'static str {
     }
 }
 
-// What is said of a text that is no array of items.
+// Returns the error of a text that isn't an array of items, with its position.
 fn refused(alloc: Global, name: &str, text: &str, refusal: &Refusal) -> Result<Stop, AllocError> {
     let said = fault_text(refusal.fault);
     let line = error_line(alloc, name, text.as_bytes(), refusal.at, said)?;
     Ok(Stop::Said(line, 1))
 }
 
-// What is said of items of which no entries are made.
+// Returns the error of converting items.
 fn unmade(alloc: Global, name: &str, text: &str, error: ItemsError) -> Result<Stop, AllocError> {
     match error.unless_out_of_memory()? {
         ItemsError::Refused(refusal) => refused(alloc, name, text, &refusal),
@@ -41,7 +41,7 @@ fn unmade(alloc: Global, name: &str, text: &str, error: ItemsError) -> Result<St
     }
 }
 
-// The entries of the items of a text.
+// Converts the items of a text to entries.
 fn made(alloc: Global, name: &str, text: &str) -> Result<Converted, Stop> {
     match entries_of(alloc, text) {
         Ok(converted) => Ok(converted),
@@ -49,7 +49,7 @@ fn made(alloc: Global, name: &str, text: &str) -> Result<Converted, Stop> {
     }
 }
 
-// What becomes of a member of an item.
+// Returns the text of a note on a member of an item that is lost or changed.
 fn loss_text(kind: LossKind) -> &'static str {
     match kind {
         LossKind::NoField => "is left out, since no field has it",
@@ -58,7 +58,7 @@ fn loss_text(kind: LossKind) -> &'static str {
     }
 }
 
-// Says what of items isn't in their entries.
+// Prints notes on the members of items that are lost or changed in the entries.
 fn say_losses(rt: &HostRuntime, name: &str, losses: &[Loss]) {
     'losses: for loss in losses {
         let _ = eprint!(rt;
@@ -70,33 +70,33 @@ fn say_losses(rt: &HostRuntime, name: &str, losses: &[Loss]) {
     }
 }
 
-// The edit that gives entries the types and fields of a format.
-fn edit_of<'a>(format: Format) -> Edit<'a> {
-    match format {
-        Format::Biblatex => Edit::ToBiblatex,
-        Format::Bibtex => Edit::ToBibtex,
+// Returns the edit that converts entries to the types and fields of a dialect.
+fn edit_of<'a>(dialect: Dialect) -> Edit<'a> {
+    match dialect {
+        Dialect::Biblatex => Edit::ToBiblatex,
+        Dialect::Bibtex => Edit::ToBibtex,
     }
 }
 
-// Prints the entries of a text.
-fn import_text(rt: &HostRuntime, format: Format, name: &str, text: &str) -> Result<(), Stop> {
+// Prints the entries of the items of a text, and notes on members that are lost or changed.
+fn import_text(rt: &HostRuntime, dialect: Dialect, name: &str, text: &str) -> Result<(), Stop> {
     let converted = made(rt.alloc(), name, text)?;
     print(
         rt,
         name,
         converted.text.as_str().as_bytes(),
-        &[edit_of(format)],
+        &[edit_of(dialect)],
     )?;
     say_losses(rt, name, converted.losses.as_slice());
     Ok(())
 }
 
-// Prints the entries of a file's items.
-fn import_file(rt: &HostRuntime, format: Format, name: &str) -> Result<(), Stop> {
+// Prints the entries of the items of a file.
+fn import_file(rt: &HostRuntime, dialect: Dialect, name: &str) -> Result<(), Stop> {
     let bytes = bytes_of(rt, name)?;
     let json = after_mark(&bytes);
     match from_utf8(json) {
-        Ok(text) => import_text(rt, format, name, text),
+        Ok(text) => import_text(rt, dialect, name, text),
         Err(error) => {
             let said = "not UTF-8 from here on";
             let line = error_line(rt.alloc(), name, json, error.valid_up_to(), said)?;
@@ -105,19 +105,18 @@ fn import_file(rt: &HostRuntime, format: Format, name: &str) -> Result<(), Stop>
     }
 }
 
-/// Prints the entries of the items of files, one file after another, with the types and fields of a format, and answers the greatest
-/// status.
-pub fn run_import(rt: &HostRuntime, format: Format, names: &[&str]) -> u8 {
+/// Prints the entries of the items of each file in turn, with the types and fields of a dialect. Returns the greatest status.
+pub fn run_import(rt: &HostRuntime, dialect: Dialect, names: &[&str]) -> u8 {
     let mut status = 0;
     'names: for name in names {
-        if let Err(stop) = import_file(rt, format, name) {
+        if let Err(stop) = import_file(rt, dialect, name) {
             status = say(rt, &stop).max(status);
         }
     }
     status
 }
 
-/// Says that items become entries alone, and answers the status.
+/// Reports that items are only converted to BibLaTeX or BibTeX, and returns the status.
 pub fn refuse_target(rt: &HostRuntime) -> u8 {
     let _ = rt.eprintln("bibkit: --from csl goes with --to biblatex or --to bibtex");
     2

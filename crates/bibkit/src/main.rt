@@ -1,9 +1,7 @@
-//! The program `bibkit`: what is wrong in bibliography files, and parts of them.
+//! The program `bibkit`: it lints, searches, edits, formats and converts bibliography files.
 #![tactic(auto)]
 
 mod arguments;
-mod commands;
-mod configuration;
 mod converting;
 mod edits;
 mod files;

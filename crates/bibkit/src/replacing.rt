@@ -1,17 +1,17 @@
-//! Files of the system whose text is replaced as a whole.
+//! Replaces the text of a file of the system as a whole.
 
-ghost use Rattle.bibkit_files.specs.Folder.{unknown_disk, IsCounted};
+ghost use Rattle.bibkit_core.specs.Folder.{unknown_disk, IsCounted};
 
-use bibkit_files::folder::Folder;
-use bibkit_files::replacing;
-use bibkit_files::replacing::ReplaceError;
+use bibkit_core::folder::Folder;
+use bibkit_core::replacing;
+use bibkit_core::replacing::ReplaceError;
 use std::fs::{OpenFile, OpenOptions, Permissions};
 use std::io::{ErrorKind, Write};
 use std::path::PathBuf;
 use std::rt::Files;
 use std::{fs, io};
 
-// The folder of a file, and the rights of its new files.
+// The folder of a file, and the permissions of the new file.
 #[derive(Drop)]
 struct SystemFolder<'r, R: Files> {
     rt: &'r R,
@@ -23,7 +23,7 @@ struct SystemFolder<'r, R: Files> {
     failures: u64,
 }
 
-// Counts a call that failed.
+// Counts a call if it failed.
 fn count<T>(failures: &mut u64, answer: &io::Result<T>)
     ensures { IsCounted failures.old failures.new answer.now }
 {
@@ -32,7 +32,7 @@ fn count<T>(failures: &mut u64, answer: &io::Result<T>)
     }
 }
 
-// Writes a text into a file with these rights.
+// Sets the permissions of a file, and then writes a text into it.
 fn write_with<F: OpenFile + Write>(
     file: &mut F,
     rights: &Permissions,
@@ -42,13 +42,13 @@ fn write_with<F: OpenFile + Write>(
     file.write_all(text.as_bytes())
 }
 
-// What is answered where no file is open.
+// Returns the error of a call that needs an open file.
 fn none_open() -> io::Result<()> {
     Err(io::Error::from(ErrorKind::InvalidInput))
 }
 
 impl<'r, R: Files> Folder for SystemFolder<'r, R> {
-    // Nothing is known of what the system's files hold.
+    // Nothing is known of the contents of the system's files.
     ghost disk = { λ _. unknown_disk };
 
     ghost failures = { λ folder. folder.failures };
@@ -70,7 +70,7 @@ impl<'r, R: Files> Folder for SystemFolder<'r, R> {
         answer
     }
 
-    // The file gets its rights before the text.
+    // Sets the permissions of the file before it writes the text.
     fn write(&mut self, text: &str) -> io::Result<()> {
         let answer = match &mut self.file {
             Some(file) => write_with(file, &self.rights, text),
@@ -108,7 +108,7 @@ impl<'r, R: Files> Folder for SystemFolder<'r, R> {
     }
 }
 
-// The rights of a file that may be written.
+// Returns the permissions of a file. Fails if it can't be opened for writing or isn't a regular file.
 fn rights<R: Files>(rt: &R, target: &str) -> io::Result<Permissions> {
     let file = OpenOptions::new().write(true).open(rt, target)?;
     let metadata = file.metadata()?;
@@ -119,7 +119,7 @@ fn rights<R: Files>(rt: &R, target: &str) -> io::Result<Permissions> {
     }
 }
 
-// The folder of a file that may be written.
+// Opens the folder of a file. Fails if the file can't be opened for writing or isn't a regular file.
 fn folder_of<'r, R: Files>(rt: &'r R, target: &PathBuf) -> io::Result<SystemFolder<'r, R>> {
     let rights = rights(rt, target.to_string_lossy())?;
     let Some(parent) = target.parent() else {
@@ -135,8 +135,8 @@ fn folder_of<'r, R: Files>(rt: &'r R, target: &PathBuf) -> io::Result<SystemFold
     })
 }
 
-/// Puts a text in the place of a file's, as `bibkit_files` says. It keeps its rights; of a symbolic link the file is replaced
-/// that it leads to. What is no regular file is refused.
+/// Replaces the text of the file `name` by `text`, as `bibkit_core::replacing` specifies. The file keeps its permissions. If
+/// `name` is a symbolic link, its target is replaced. Fails if the file isn't a regular file.
 pub fn replace<R: Files + AllocGlobal>(rt: &R, name: &str, text: &str) -> Result<(), ReplaceError> {
     let target = fs::canonicalize(rt, name).map_err(ReplaceError::NotReplaced)?;
     let mut folder = folder_of(rt, &target).map_err(ReplaceError::NotReplaced)?;

@@ -1,9 +1,9 @@
-//! The command that gives entries what they inherit in fields of their own.
+//! Runs `resolve`, which replaces the references `crossref` and `xdata` by the inherited fields.
 
 use crate::edits::{Editing, Edits, Mode, run_edits};
 use bibkit_edits::edit::Edit;
 
-// Gives the entries of a file what they inherit in fields of their own, and answers the status.
+// Resolves the references of a file, and returns the status.
 fn resolve_file(rt: &HostRuntime, mode: Mode, name: &str) -> u8 {
     match vec![in rt.alloc(); Edit::Resolve] {
         Ok(edits) => run_edits(
@@ -21,7 +21,7 @@ fn resolve_file(rt: &HostRuntime, mode: Mode, name: &str) -> u8 {
     }
 }
 
-/// Gives the entries of files what they inherit in fields of their own, one file after another, and answers the greatest status.
+/// Resolves the references of each file in turn, and returns the greatest status.
 pub fn run_resolve(rt: &HostRuntime, mode: Mode, names: &[&str]) -> u8 {
     let mut status = 0;
     'names: for name in names {

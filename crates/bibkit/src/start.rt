@@ -1,7 +1,6 @@
-//! The start of the program, from the arguments as they came.
+//! Starts the program: reads the arguments and runs the command.
 
 use crate::arguments::{Asked, Words, read};
-use crate::configuration::{ConfigurationError, Project, Reader, project_settings};
 use crate::converting::{run_convert, run_rewrite};
 use crate::edits::{Mode, run_edits};
 use crate::files::SystemFiles;
@@ -10,21 +9,22 @@ use crate::importing::{refuse_target, run_import};
 use crate::resolving::run_resolve;
 use bibkit_core::request::{Call, Cited, Request};
 use bibkit_core::run::run;
-use bibkit_core::settings::Settings;
-use bibkit_edits::style_settings::StyleSettings;
+use bibkit_settings::configuration::{ConfigurationError, Project, Reader, project_settings};
+use bibkit_settings::settings::Settings;
+use bibkit_settings::style_settings::StyleSettings;
 use biblatex::Output;
 use clap::error::ErrorKind;
 use std::alloc::{AllocError, Global};
 use std::io::IsTerminal;
 use std::{env, io};
 
-// The words of the command line, the program's name among them.
+// Returns the words of the command line, including the name of the program.
 fn words(rt: &HostRuntime) -> io::Result<Vec<String>> {
     let words = env::args(rt)?.collect(rt.alloc())?;
     Ok(words)
 }
 
-// Prints help, or what is wrong with the words, and answers the status.
+// Prints the requested help, or the error of the command line, and returns the status.
 fn refuse(rt: &HostRuntime, error: &clap::Error) -> u8 {
     if error.kind() == ErrorKind::OutOfMemory {
         return out_of_memory(rt);
@@ -35,13 +35,13 @@ fn refuse(rt: &HostRuntime, error: &clap::Error) -> u8 {
     }
 }
 
-// Reports that there is no memory, and answers the status.
+// Reports out of memory, and returns the status.
 fn out_of_memory(rt: &HostRuntime) -> u8 {
     let _ = rt.eprintln("bibkit: out of memory");
     3
 }
 
-// Whether the user asks programs for no colours.
+// Returns whether the user has disabled colours by the variable `NO_COLOR`.
 fn refuses_color(rt: &HostRuntime) -> bool {
     match env::var(rt, "NO_COLOR") {
         Ok(value) => !value.is_empty(),
@@ -49,17 +49,17 @@ fn refuses_color(rt: &HostRuntime) -> bool {
     }
 }
 
-// Whether colours are shown: the output and the messages are a terminal, and the user doesn't ask for none.
+// Returns whether colours are shown: standard output and standard error are terminals, and the user hasn't disabled colours.
 fn are_colors_shown(rt: &HostRuntime) -> bool {
     rt.stdout().is_terminal() && rt.stderr().is_terminal() && !refuses_color(rt)
 }
 
-// The name of the file to whose project a call belongs.
+// Returns the name of the file whose project has the settings: the first file, or standard input without files.
 fn first<'a>(names: &[&'a str]) -> &'a str {
     names.first().copied().unwrap_or("-")
 }
 
-// What is asked of findings, with the settings of the project that the first file belongs to.
+// Returns the request for `lint`, with the settings of the command line and of the project of the first file.
 fn lint_request<'a>(
     rt: &HostRuntime,
     settings: Settings,
@@ -74,7 +74,7 @@ fn lint_request<'a>(
     ))
 }
 
-// Runs a command that reads files, and answers the status.
+// Runs a request on files, and returns the status.
 fn run_request<'a>(rt: &HostRuntime, request: Request<'a>, names: Vec<&'a str>) -> u8 {
     let call = Call {
         request,
@@ -87,7 +87,7 @@ fn run_request<'a>(rt: &HostRuntime, request: Request<'a>, names: Vec<&'a str>) 
     run(rt.alloc(), &call, &mut files, &mut output, messages)
 }
 
-// Says why settings can't be read, and answers the status.
+// Reports the error of reading settings, and returns the status.
 fn refuse_settings(rt: &HostRuntime, error: ConfigurationError) -> u8 {
     match error {
         ConfigurationError::OutOfMemory => out_of_memory(rt),
@@ -98,7 +98,7 @@ fn refuse_settings(rt: &HostRuntime, error: ConfigurationError) -> u8 {
     }
 }
 
-// Runs what a command line asks for of findings, and answers the status.
+// Runs `lint`, and returns the status.
 fn run_lint<'a>(
     rt: &HostRuntime,
     settings: Settings,
@@ -111,12 +111,12 @@ fn run_lint<'a>(
     }
 }
 
-// Puts files in one style, with these settings, and answers the status.
+// Formats files with these settings, and returns the status.
 fn run_settings(rt: &HostRuntime, settings: StyleSettings<'_>, mode: Mode, names: &[&str]) -> u8 {
     run_format(rt, settings.style(), settings.sort(), mode, names)
 }
 
-// The order of fields that settings of a project set, if they do.
+// Returns the order of fields of a project, if it sets one.
 fn project_order<'p>(
     alloc: Global,
     project: &'p Project,
@@ -131,7 +131,7 @@ fn project_order<'p>(
     Ok(Some(order))
 }
 
-// Puts files in one style, with the settings of the project that the first file belongs to, and answers the status.
+// Runs `fmt` with the settings of the command line and of the project of the first file, and returns the status.
 fn run_style(
     rt: &HostRuntime,
     settings: StyleSettings<'_>,
@@ -151,7 +151,7 @@ fn run_style(
     run_settings(rt, given.over(set), mode, names)
 }
 
-// Runs what a command line asks for, and answers the status.
+// Runs the command of a command line, and returns the status.
 fn answer(rt: &HostRuntime, words: Words<'_>) -> u8 {
     let Words { asked, names } = words;
     match asked {
@@ -164,14 +164,14 @@ fn answer(rt: &HostRuntime, words: Words<'_>) -> u8 {
         } => run_style(rt, settings, order, mode, &names),
         Asked::Convert(target) => run_convert(rt, target, &names),
         Asked::Resolve { mode } => run_resolve(rt, mode, &names),
-        Asked::Rewrite(format) => run_rewrite(rt, format, &names),
-        Asked::Import(Some(format)) => run_import(rt, format, &names),
+        Asked::Rewrite(dialect) => run_rewrite(rt, dialect, &names),
+        Asked::Import(Some(dialect)) => run_import(rt, dialect, &names),
         Asked::Import(None) => refuse_target(rt),
         Asked::Other(request) => run_request(rt, request, names),
     }
 }
 
-/// Runs the program, and answers the status.
+/// Runs the program, and returns the status.
 pub fn start(rt: &HostRuntime) -> u8 {
     let words = match words(rt) {
         Ok(words) => words,

@@ -1,17 +1,17 @@
-//! Why a command ends early, and what is said then.
+//! The reasons for which a command ends early, and their messages.
 
 use crate::files::SystemFiles;
-use bib_lines::positions::Positions;
+use bib_source::positions::Positions;
 use bib_syntax::raw::ParseError;
 use bibkit_core::files::Files;
 use std::alloc::{AllocError, AllocFailed, Global};
 
-/// Why a file's command ends early.
+/// The reason for which a command on a file ends early.
 #[derive(Drop)]
 pub enum Stop {
-    /// This is said, and the status is this.
+    /// An error with this message and this status.
     Said(String, u8),
-    /// There was no memory.
+    /// Out of memory.
     OutOfMemory,
 }
 
@@ -28,7 +28,7 @@ impl<T: Drop> From<AllocFailed<T>> for Stop {
 }
 
 impl Stop {
-    /// Passes out of memory on as such: Ok with any other stop.
+    /// Returns `AllocError` for out of memory, and `Ok` with any other reason.
     pub fn unless_out_of_memory(self) -> Result<Stop, AllocError> {
         match self {
             Stop::OutOfMemory => Err(AllocError),
@@ -37,7 +37,7 @@ impl Stop {
     }
 }
 
-/// The bytes of a file.
+/// Returns the bytes of a file, or the message of the error with status 2. `-` is standard input.
 pub fn bytes_of(rt: &HostRuntime, name: &str) -> Result<Vec<u8>, Stop> {
     let mut files = SystemFiles::new(rt);
     match files.read(rt.alloc(), name) {
@@ -50,7 +50,7 @@ pub fn bytes_of(rt: &HostRuntime, name: &str) -> Result<Vec<u8>, Stop> {
     }
 }
 
-/// What is wrong at a place of bytes.
+/// Returns the line of an error with this text at the offset `at` of `bytes`, with its line and column in the file `name`.
 pub fn error_line(
     alloc: Global,
     name: &str,
@@ -65,7 +65,7 @@ pub fn error_line(
     )
 }
 
-/// What is said of a text with an error.
+/// Returns the line of a syntax error of the file `name` with this text.
 pub fn syntax_line(
     alloc: Global,
     name: &str,
@@ -76,7 +76,7 @@ pub fn syntax_line(
     error_line(alloc, name, text, error.span.start, &said)
 }
 
-/// Says why a command ends early, and answers the status.
+/// Prints the message of a stop to standard error, and returns the status.
 pub fn say(rt: &HostRuntime, stop: &Stop) -> u8 {
     match stop {
         Stop::Said(text, status) => {

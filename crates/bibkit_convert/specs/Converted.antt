@@ -4,8 +4,8 @@ use Rattle.std.specs.Prelude.{◌≡◌, ◌<◌, ◌-◌, ◌^◌, ℕ, Bool, �
 use Rattle.std.specs.Io.KnownBytes.{Appends}
 use Rattle.biblatex.specs.Headline.{IsAcceptedText, IsBibliographyOf, IsErrorOf}
 use Rattle.biblatex.specs.Syntax.{Bibliography, Entry}
-use Rattle.bib_entry_types.specs.declared.mechanics.EntryType.{EntryType}
-use Rattle.bib_entry_types.specs.declared.mechanics.EntryType.TheVariants.{XData}
+use Rattle.bib_tables.specs.declared.mechanics.EntryType.{EntryType}
+use Rattle.bib_tables.specs.declared.mechanics.EntryType.TheVariants.{XData}
 use Rattle.serde_json.specs.Written.{compact_text}
 use Rattle.bib_csl.specs.Items.{item_of_entry}
 use Rattle.bib_csl.specs.Json.{json_of as item_json}

@@ -1,4 +1,4 @@
-//! Bibliographies in other formats, as the program prints them.
+//! Exports a bibliography as CSL-JSON, JSON or RIS, entry by entry.
 //!
 //! `target` is the format, and what an entry is in it; `converting` reads a text and hands the output one text for each entry, so
 //! that one entry's text is held at a time.

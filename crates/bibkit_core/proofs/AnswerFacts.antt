@@ -1,4 +1,4 @@
--- What is printed for a request, by what its task prints, and why a run ends.
+-- The output of a request follows from that of its task, and its failure from the stop of its run.
 use Rattle.std.proofs.Common.{◌≡◌, ◌≤◌, ◌&&◌, ℕ, List, Bor, Bool, true, false, not, refl, sym, subst, ◌∙◌, arith}
 use Rattle.std.specs.Prelude.{Option, Some, None, IfSome, if◌then◌else◌}
 use Rattle.bib_excerpts.specs.declared.citations.Citations.{Citations}
@@ -21,7 +21,7 @@ use Rattle.bibkit_core.specs.declared.tally.Tally.{Tally}
 use Rattle.bibkit_core.specs.declared.run.Stop.{Stop}
 use Rattle.bibkit_core.specs.declared.run.Stop.TheVariants.{Refused, NoDocument, OutOfMemory}
 
--- what is printed, as an answer to a request
+-- the output of each task is the output of its request
 pub findings_answer : {F : Type 0} {reads : F → List ℕ → Option (List ℕ) → F → Type 0} {files : F} {names : List (List ℕ)} {lint : Lint} → lint.cited ≡ None → (text : List ℕ) (status : Option ℕ)
     → AreFindingsPrinted reads lint files names text status → IsCallAnswer reads files names (request.Lint lint) text status
 findings_answer none text status are = IsCallAnswer.findings are.task none are.begins are.printed
@@ -44,34 +44,36 @@ pub meaning_answer : {F : Type 0} {reads : F → List ℕ → Option (List ℕ) 
 meaning_answer text status IsMeaningPrinted.nothing = IsCallAnswer.no_meaning
 meaning_answer text status (IsMeaningPrinted.all meaning) = IsCallAnswer.meaning meaning
 
--- a text that is read is that of the document with these citations
+-- a file that is read and decoded to a text with these citations is the file of a document
 pub document_read : {F : Type 0} {reads : F → List ℕ → Option (List ℕ) → F → Type 0} {files files' : F} {name text : List ℕ} {found : Citations} (document : List ℕ) → document ≡ text → ReadsText reads files name files' text
     → AreCitedBy name document found → ReadsDocument reads files name files' document found
 document_read document same read cited = record { bytes = read.bytes; decoded = read.decoded; read = read.read; of_bytes = read.of_bytes; text_is = same ∙ read.text_is; cited = cited }
 
--- a run that ends where there is no text of the document
+-- a run stops if the text of its document is missing
 pub stopped_without_text : {F K : Type 0} (reads : F → List ℕ → Option (List ℕ) → F → Type 0) {taken : K → Option (List ℕ)} {refusals : K → ℕ} {hands_over : K → List ℕ → Bool → K → Type 0} {P : List ℕ → Option ℕ → Type 0} {Unread : Type 0}
     (files files' : F) (name : List ℕ) (k : K) (stop : Stop) → (reads files name None files' → Unread) → HasNoText reads files name files' stop → HasStopped taken refusals hands_over P Unread k k stop
 stopped_without_text reads files files' name k Refused so none = absurd none
 stopped_without_text reads files files' name k NoDocument so none = HasStopped.no_document (so none) refl
 stopped_without_text reads files files' name k OutOfMemory so none = HasStopped.no_memory refl
 
--- what is known where a run ends so
+-- a run that stops because the output refused a text has failed
 pub refused_failed : {F K : Type 0} {reads : F → List ℕ → Option (List ℕ) → F → Type 0} {taken : K → Option (List ℕ)} {refusals : K → ℕ} {hands_over : K → List ℕ → Bool → K → Type 0} {files : F} {names : List (List ℕ)}
     {asked : Request} {old new : K} → HasStopped taken refusals hands_over (IsCallAnswer reads files names asked) (CantReadDocument reads files asked) old new Refused
     → HasFailed reads taken refusals hands_over files names asked old new
 refused_failed (HasStopped.refused text prints after) = HasFailed.refused text prints after
 
+-- a run that stops because the file of the document can't be read has failed
 pub unread_failed : {F K : Type 0} {reads : F → List ℕ → Option (List ℕ) → F → Type 0} {taken : K → Option (List ℕ)} {refusals : K → ℕ} {hands_over : K → List ℕ → Bool → K → Type 0} {files : F} {names : List (List ℕ)}
     {asked : Request} {old new : K} → HasStopped taken refusals hands_over (IsCallAnswer reads files names asked) (CantReadDocument reads files asked) old new NoDocument
     → HasFailed reads taken refusals hands_over files names asked old new
 unread_failed (HasStopped.no_document unread same) = HasFailed.no_document unread same
 
+-- a run that stops out of memory leaves the count of refusals unchanged
 pub memory_same : {K : Type 0} {taken : K → Option (List ℕ)} {refusals : K → ℕ} {hands_over : K → List ℕ → Bool → K → Type 0} {P : List ℕ → Option ℕ → Type 0} {Unread : Type 0} {old new : K}
     → HasStopped taken refusals hands_over P Unread old new OutOfMemory → refusals new ≡ refusals old
 memory_same (HasStopped.no_memory same) = same
 
--- a status of a task that can be read is less than two, so one of all files is at most two
+-- the status of a run is at most 2 if `status` is, which is its status if all files could be read
 bounded_if : (b : Bool) (status : ℕ) → status ≤ 2 → (if b then status else 2) ≤ 2
 bounded_if true status bound = bound
 bounded_if false status bound = omega arith
@@ -82,6 +84,7 @@ lint_bounded tally = elim (is_none tally) as (λ b. (if b then 0 else 1) ≤ 2) 
 entries_bounded : (asked : Excerpts) (is_found : Bool) → entries_status asked is_found ≤ 2
 entries_bounded asked is_found = elim (is_search asked && not is_found) as (λ b. (if b then 1 else 0) ≤ 2) [ true ↦ omega arith | false ↦ omega arith ]
 
+-- the status of a task is at most 2 if each end of the task has such a status
 task_bounded : {F T : Type 0} {reads : F → List ℕ → Option (List ℕ) → F → Type 0} {begins : T → List ℕ} {prints : T → List ℕ → List ℕ → List ℕ → T → Type 0} {ends : T → List ℕ → ℕ → Type 0} {files : F} {task : T} {names : List (List ℕ)} {text : List ℕ} {status : Option ℕ}
     → ((t : T) (last : List ℕ) (s : ℕ) → ends t last s → s ≤ 2) → IsTaskPrinted reads begins prints ends files task names text status → IfSome status (λ s. s ≤ 2)
 task_bounded bound IsTaskPrinted.nothing = tt
@@ -98,7 +101,7 @@ call_bounded (IsCallAnswer.entries task begins printed) = task_bounded (λ t las
 call_bounded (IsCallAnswer.cited found document files' asked task read asks begins printed) = task_bounded (λ t last s e. subst (λ n. n ≤ 2) (sym e.1) (entries_bounded t.request.now t.is_found)) printed
 call_bounded (IsCallAnswer.counts printed) = task_bounded (λ t last s e. subst (λ n. n ≤ 2) (sym e.done) (omega arith)) printed
 
--- a status of what is printed to its end is at most two
+-- the status of a whole output is at most 2
 pub printed_bound : {F K : Type 0} {reads : F → List ℕ → Option (List ℕ) → F → Type 0} {files : F} {names : List (List ℕ)} {asked : Request} {taken : K → Option (List ℕ)} {old new : K} {status : ℕ}
     → HasPrinted taken (IsCallAnswer reads files names asked) old new status → status ≤ 2
 printed_bound has = call_bounded has.prints

@@ -1,4 +1,4 @@
--- What a document cites, compared with the entries of files.
+-- The comparing task prints what `Compared` specifies: its marks say which citations have entries in the files so far.
 use Rattle.std.proofs.Common.{◌≡◌, ◌<◌, ◌+◌, ◌||◌, ◌&&◌, ℕ, zero, suc, Bool, true, false, not, cond, List, [], ◌∷◌, ◌++◌, length, take, get_or, map, refl, sym, ap, ap₂, subst, ◌∙◌, arith}
 use Rattle.std.specs.Prelude.{Option, filter, min, replicate}
 use Rattle.std.specs.String.{string_bytes}
@@ -22,17 +22,18 @@ use Rattle.bibkit_core.specs.declared.comparing.Comparing.{Comparing}
 use Rattle.bibkit_core.specs.declared.request.Lint.{Lint}
 use Rattle.bibkit_core.proofs.RunFacts.{printed_seen}
 
--- what holds at either, by tests
+-- if `h` is true exactly where `f` or `g` is, then the marks by `f` and `g` combine to the marks by `h`
 either_tested : {X : Type 0} (f g h : X → Bool) (xs : List X) → ((x : X) → (f x || g x) ≡ h x) → either_mark (map f xs) (map g xs) ≡ map h xs
 either_tested f g h [] is = refl
 either_tested f g h (x ∷ xs) is = ap₂ (λ b bs. b ∷ bs) (is x) (either_tested f g h xs is)
 
--- the citations without a mark, by a test
+-- one citation more: its finding is added unless its mark is true
 unmarked_one : (c : Citation) (rest : List Citation) (marks : List Bool) (found : List Citation) (b : Bool) → unmarked_findings rest marks ≡ map missing_finding found
     → unmarked_findings (c ∷ rest) (b ∷ marks) ≡ map missing_finding (cond (not b) (c ∷ found) found)
 unmarked_one c rest marks found true are = are
 unmarked_one c rest marks found false are = ap (λ l. missing_finding c ∷ l) are
 
+-- with the marks `map f cs`, the findings are those of the citations for which `f` is false
 unmarked_tested : (f : Citation → Bool) (cs : List Citation) → unmarked_findings cs (map f cs) ≡ map missing_finding (filter (λ c. not (f c)) cs)
 unmarked_tested f [] = refl
 unmarked_tested f (c ∷ rest) = unmarked_one c rest (map f rest) (filter (λ d. not (f d)) rest) (f c) (unmarked_tested f rest)
@@ -42,7 +43,7 @@ or_none true b = refl
 or_none false true = refl
 or_none false false = refl
 
--- a key is known after one file more where it was before, or where the file has an entry of that name
+-- after one more file, a key is known if it was before, or if the file has an entry with that name
 known_more : (readings : List FileReading) (says : FileReading) (key : List ℕ) → (is_in_files readings key || is_listed (all_names says.entries) key) ≡ is_in_files (readings ++ says ∷ []) key
 known_more readings says key =
     or_none (is_in_files readings key) (is_listed (all_names says.entries) key) ∙ sym (list_any-append (λ (s : FileReading). is_listed (all_names s.entries) key) readings (says ∷ []))
@@ -52,7 +53,7 @@ known_nowhere : (cs : List Citation) → replicate (length cs) false ≡ map (λ
 known_nowhere [] = refl
 known_nowhere (c ∷ rest) = ap (λ l. false ∷ l) (known_nowhere rest)
 
--- one step of what holds at either
+-- combining one more pair of marks appends one mark
 either_more : (first second : List Bool) (n : ℕ) (a b : Bool) → n < length first → n < length second → get_or first n a ≡ a → get_or second n b ≡ b
     → either_mark (take (suc n) first) (take (suc n) second) ≡ either_mark (take n first) (take n second) ++ (a || b) ∷ []
 either_more [] second n a b within short here there = absurd (omega (arith, within))
@@ -60,29 +61,32 @@ either_more (x ∷ first) [] n a b within short here there = absurd (omega (arit
 either_more (x ∷ first) (y ∷ second) zero a b within short here there = ap₂ (λ p q. (p || q) ∷ []) here there
 either_more (x ∷ first) (y ∷ second) (suc n) a b within short here there = ap (λ l. (x || y) ∷ l) (either_more first second n a b (omega (arith, within)) (omega (arith, short)) here there)
 
--- the same, where the number of items is so much
+-- the same, with the number of marks as `m` (equal to `n + 1`)
 pub either_step : (first second : List Bool) (n m : ℕ) (a b : Bool) → m ≡ n + 1 → n < length first → n < length second → get_or first n a ≡ a → get_or second n b ≡ b
     → either_mark (take m first) (take m second) ≡ either_mark (take n first) (take n second) ++ (a || b) ∷ []
 either_step first second n m a b more within short here there =
     let next : m ≡ suc n = omega arith in
     ap (λ k. either_mark (take k first) (take k second)) next ∙ either_more first second n a b within short here there
 
+-- all combined marks are reached at the end of the shorter list
 pub either_all : (first second : List Bool) (n : ℕ) → n ≡ min (length first) (length second) → either_mark (take n first) (take n second) ≡ either_mark first second
 either_all [] second n end = let none : n ≡ 0 = omega (arith, end) in ap (λ m. either_mark (take {A = Bool} m []) (take m second)) none
 either_all (x ∷ first) [] n end = let none : n ≡ 0 = omega (arith, end) in ap (λ m. either_mark (take m (x ∷ first)) (take {A = Bool} m [])) none
 either_all (x ∷ first) (y ∷ second) zero end = absurd (omega (arith, end))
 either_all (x ∷ first) (y ∷ second) (suc n) end = ap (λ l. (x || y) ∷ l) (either_all first second n (omega (arith, end)))
 
--- one step of the citations without a mark
+-- the findings of one citation with its mark
 unmarked_here : (c : Citation) (m : Bool) → unmarked_findings (c ∷ []) (m ∷ []) ≡ cond m [] (missing_finding c ∷ [])
 unmarked_here c true = refl
 unmarked_here c false = refl
 
+-- a citation before others keeps the findings that are appended for the others
 unmarked_past : (c : Citation) (rest some : List Citation) (marks others : List Bool) (m : Bool) (more : List Finding) → unmarked_findings rest marks ≡ unmarked_findings some others ++ more
     → unmarked_findings (c ∷ rest) (m ∷ marks) ≡ unmarked_findings (c ∷ some) (m ∷ others) ++ more
 unmarked_past c rest some marks others true more are = are
 unmarked_past c rest some marks others false more are = ap (λ l. missing_finding c ∷ l) are
 
+-- one more citation with its mark appends its finding unless the mark is true
 unmarked_more : (cs : List Citation) (marks : List Bool) (n : ℕ) (c : Citation) (m : Bool) → n < length cs → n < length marks → get_or cs n c ≡ c → get_or marks n m ≡ m
     → unmarked_findings (take (suc n) cs) (take (suc n) marks) ≡ unmarked_findings (take n cs) (take n marks) ++ cond m [] (missing_finding c ∷ [])
 unmarked_more [] marks n c m within short here there = absurd (omega (arith, within))
@@ -91,37 +95,39 @@ unmarked_more (d ∷ cs) (k ∷ marks) zero c m within short here there = ap₂ 
 unmarked_more (d ∷ cs) (k ∷ marks) (suc n) c m within short here there =
     unmarked_past d (take (suc n) cs) (take n cs) (take (suc n) marks) (take n marks) k (cond m [] (missing_finding c ∷ [])) (unmarked_more cs marks n c m (omega (arith, within)) (omega (arith, short)) here there)
 
--- the same, where the number of items is so much
+-- the same, with the number of citations as `m` (equal to `n + 1`)
 pub unmarked_step : (cs : List Citation) (marks : List Bool) (n m : ℕ) (c : Citation) (k : Bool) → m ≡ n + 1 → n < length cs → n < length marks → get_or cs n c ≡ c → get_or marks n k ≡ k
     → unmarked_findings (take m cs) (take m marks) ≡ unmarked_findings (take n cs) (take n marks) ++ cond k [] (missing_finding c ∷ [])
 unmarked_step cs marks n m c k more within short here there =
     let next : m ≡ suc n = omega arith in
     ap (λ j. unmarked_findings (take j cs) (take j marks)) next ∙ unmarked_more cs marks n c k within short here there
 
+-- a citation before others keeps the equality of the findings of the others
 unmarked_same : (c : Citation) (some rest : List Citation) (others marks : List Bool) (m : Bool) → unmarked_findings some others ≡ unmarked_findings rest marks
     → unmarked_findings (c ∷ some) (m ∷ others) ≡ unmarked_findings (c ∷ rest) (m ∷ marks)
 unmarked_same c some rest others marks true are = are
 unmarked_same c some rest others marks false are = ap (λ l. missing_finding c ∷ l) are
 
+-- all findings are reached at the end of the shorter list
 pub unmarked_all : (cs : List Citation) (marks : List Bool) (n : ℕ) → n ≡ min (length cs) (length marks) → unmarked_findings (take n cs) (take n marks) ≡ unmarked_findings cs marks
 unmarked_all [] marks n end = let none : n ≡ 0 = omega (arith, end) in ap (λ m. unmarked_findings (take {A = Citation} m []) (take m marks)) none
 unmarked_all (c ∷ cs) [] n end = let none : n ≡ 0 = omega (arith, end) in ap (λ m. unmarked_findings (take m (c ∷ cs)) (take {A = Bool} m [])) none
 unmarked_all (c ∷ cs) (m ∷ marks) zero end = absurd (omega (arith, end))
 unmarked_all (c ∷ cs) (m ∷ marks) (suc n) end = unmarked_same c (take n cs) cs (take n marks) marks m (unmarked_all cs marks n (omega (arith, end)))
 
--- the findings of entries that aren't cited, where they are asked for
+-- if uncited entries are requested and the document doesn't cite all, their findings are those of the keys that `uncited` finds
 pub unused_asked : (document : Document) (text : List ℕ) (parts : List Part) → (document.has_unused && not document.citations.all) ≡ true → IsUncited text (cited_keys document.citations) parts
     → AreUnused document text (map unused_finding parts)
 unused_asked document text parts asked uncited says skipped recovery =
     ap (map unused_finding) (uncited.is ∙ ap (λ (s : FileReading). uncited_keys (cited_keys document.citations) s.entries) (recovery_same uncited.recovery recovery).0)
     ∙ ap (λ b. cond b (map unused_finding (uncited_keys (cited_keys document.citations) says.entries)) []) (sym asked)
 
--- where they aren't asked for there are none
+-- if they aren't requested, or the document cites all entries, there are no such findings
 pub unused_unasked : (document : Document) (text : List ℕ) → (document.has_unused && not document.citations.all) ≡ false → AreUnused document text []
 unused_unasked document text unasked says skipped recovery =
     ap (λ b. cond b (map unused_finding (uncited_keys (cited_keys document.citations) says.entries)) []) (sym unasked)
 
--- the task says the same as this state
+-- the task has the same settings, document, counts and known citations as the state `s` of the specification
 record IsSeen (lint : Lint) (has_unused : Bool) (name document : List ℕ) (found : Citations) (task : Comparing) (s : Compared) : Type 0 where
   pub lint_is : task.linting.lint.now ≡ lint
   pub tally : task.linting.tally ≡ s.tally
@@ -131,6 +137,7 @@ record IsSeen (lint : Lint) (has_unused : Bool) (name document : List ℕ) (foun
   pub citations : task.document.citations ≡ found
   pub known : task.document.known.items ≡ map (λ c. is_in_files s.readings c.key) found.keys.items
 
+-- the new task has the same contents as the state before the first file
 begins_seen : (lint : Lint) (has_unused : Bool) (name document : List ℕ) (task : Comparing) → BeginsLinting lint task.linting → BeginsDocument name document has_unused task.document
     → IsSeen lint has_unused name document task.document.citations task none_compared
 begins_seen lint has_unused name document task linting begins = record {
@@ -143,6 +150,7 @@ begins_seen lint has_unused name document task linting begins = record {
   known = begins.none_known ∙ known_nowhere task.document.citations.keys.items;
 }
 
+-- the output of the task for a file is specified, and leads to a state with the same contents as the new task
 step_compared : (lint : Lint) (has_unused : Bool) (name document : List ℕ) (found : Citations) (old new : Comparing) (before : Compared) (file bytes text : List ℕ) → IsSeen lint has_unused name document found old before
     → PrintsComparing old file bytes text new → (after : Compared) × PrintsCompared lint has_unused found before file bytes text after × IsSeen lint has_unused name document found new after
 step_compared lint has_unused name document found old new before file bytes text same p =
@@ -180,6 +188,7 @@ step_compared lint has_unused name document found old new before file bytes text
       },
     )
 
+-- the output of the task after the files is specified
 ends_compared : (lint : Lint) (has_unused : Bool) (name document : List ℕ) (found : Citations) (task : Comparing) (s : Compared) (text : List ℕ) (status : ℕ) → IsSeen lint has_unused name document found task s
     → EndsComparing task text status → EndsCompared lint name document found s text status
 ends_compared lint has_unused name document found task s text status same e =
@@ -199,7 +208,7 @@ ends_compared lint has_unused name document found task s text status same e =
       status_is = e.status_is;
     }
 
--- what the task prints is what is printed of files that are compared with a document
+-- the output of the comparing task is the output that `PrintsCompared` and `EndsCompared` specify
 pub compared_seen : {F : Type 0} {reads : F → List ℕ → Option (List ℕ) → F → Type 0} {f : F} {names : List (List ℕ)} (lint : Lint) (has_unused : Bool) (name document : List ℕ) (task : Comparing) → BeginsLinting lint task.linting
     → BeginsDocument name document has_unused task.document → (text : List ℕ) (status : Option ℕ) → IsTaskPrinted reads comparing_begins PrintsComparing EndsComparing f task names text status
     → IsTaskPrinted reads (compared_begins lint) (PrintsCompared lint has_unused task.document.citations) (EndsCompared lint name document task.document.citations) f none_compared names text status

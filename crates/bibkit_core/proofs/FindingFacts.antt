@@ -1,11 +1,11 @@
--- How findings are printed one after another.
+-- The output for findings, one after another.
 use Rattle.std.proofs.Common.{◌≡◌, ◌+◌, ◌<◌, ◌==◌, ◌&&◌, ℕ, Bool, true, false, cond, List, [], ◌∷◌, ◌++◌, min, refl, sym, ap, subst, ◌∙◌, arith, append_assoc, append-nil}
 use Rattle.std.proofs.lemmas.Bool.Decides.{nat_tests}
 use Rattle.std.specs.Prelude.{string_bytes}
 use Rattle.std.proofs.lemmas.List.Elements.{filter-append}
 use Rattle.std.proofs.lemmas.List.Sums.{fold-append}
-use Rattle.bib_lines.specs.Positions.{position_at}
-use Rattle.bib_lines.specs.declared.positions.Position.{Position}
+use Rattle.bib_source.specs.Positions.{position_at}
+use Rattle.bib_source.specs.declared.positions.Position.{Position}
 use Rattle.bib_findings.specs.Codes.{severity_of}
 use Rattle.bib_findings.specs.declared.codes.Severity.{Severity}
 use Rattle.bib_findings.specs.declared.codes.Severity.TheVariants.{Error, Warning}
@@ -16,19 +16,20 @@ use Rattle.bibkit_core.specs.declared.selection.Selection.{Selection}
 use Rattle.bibkit_core.specs.declared.tally.Tally.{Tally}
 use Rattle.bibkit_core.specs.Asked.{asked, is_asked}
 use Rattle.bibkit_core.specs.Adding.{IsAdded, IsPrintedOne}
-use Rattle.bib_encoding.specs.declared.decoding.Decoded.{Decoded}
+use Rattle.bib_source.specs.declared.decoding.Decoded.{Decoded}
 use Rattle.bib_findings.specs.Findings.{AreFindings}
 use Rattle.bibkit_core.specs.declared.request.Lint.{Lint}
 use Rattle.bibkit_core.specs.Linted.{AreShown, ArePrinted, IsPrintedFile, counted, unread_findings}
 use Rattle.bibkit_core.specs.Linted.AreShown.{none, next}
 use Rattle.bibkit_core.specs.Printed.{IsShown, is_none, one_more}
+use Rattle.std.proofs.Math.Bool.{and-false}
 
--- whether what comes after these is the first
+-- whether the next finding after these is the first of all
 pub is_first_after : {X : Type 0} → Bool → List X → Bool
 is_first_after b [] = b
 is_first_after b (x ∷ xs) = false
 
--- after what isn't first nothing is
+-- after a finding that isn't the first, no finding is the first
 never_first : {X : Type 0} (xs : List X) → is_first_after false xs ≡ false
 unfolding is_first_after
 never_first [] = refl
@@ -37,20 +38,16 @@ never_first (x ∷ xs) = refl
 not_zero : (n : ℕ) → 0 < n → (n == 0) ≡ false
 not_zero n above = grind (arith, nat_tests)
 
-and_false : (b : Bool) → (b && false) ≡ false
-and_false true = refl
-and_false false = refl
-
--- after a finding there is one
+-- after one more finding, the counts aren't both zero
 not_none : (t : Tally) (s : Severity) → is_none (one_more t s) ≡ false
 not_none t Error =
     let above : 0 < min (t.errors + 1) 18446744073709551615 = omega arith in
     ap (λ b. b && (t.warnings == 0)) (not_zero (min (t.errors + 1) 18446744073709551615) above)
 not_none t Warning =
     let above : 0 < min (t.warnings + 1) 18446744073709551615 = omega arith in
-    ap (λ b. (t.errors == 0) && b) (not_zero (min (t.warnings + 1) 18446744073709551615) above) ∙ and_false (t.errors == 0)
+    ap (λ b. (t.errors == 0) && b) (not_zero (min (t.warnings + 1) 18446744073709551615) above) ∙ and-false (t.errors == 0)
 
--- whether there are none after these
+-- the counts after these findings are both zero exactly if the next finding is the first of all
 none_counted : (t : Tally) (xs : List Finding) → is_none (counted t xs) ≡ is_first_after (is_none t) xs
 unfolding is_first_after
 none_counted t [] = refl
@@ -58,7 +55,7 @@ none_counted t (f ∷ rest) =
     none_counted (one_more t (severity_of f.code)) rest
     ∙ ap (λ b. is_first_after b rest) (not_none t (severity_of f.code)) ∙ never_first rest
 
--- one more is printed
+-- the text of findings, followed by that of one more finding
 shown_more : {style : Style} {name bytes : List ℕ} {is_first : Bool} {xs : List Finding} {t : List ℕ} (f : Finding) (u : List ℕ) → AreShown style name bytes is_first xs t
     → IsShown style (is_first_after is_first xs) name (position_at bytes f.span.start) f u → AreShown style name bytes is_first (xs ++ f ∷ []) (t ++ u)
 unfolding is_first_after
@@ -68,7 +65,7 @@ shown_more {style} {name} {bytes} {is_first} f u (next {f = g} {rest = rest} tex
     = subst (λ b. IsShown style b name (position_at bytes f.span.start) f u) (sym (never_first rest)) shown in
     subst (λ t. AreShown style name bytes is_first (g ∷ (rest ++ f ∷ [])) t) (sym (append_assoc text texts u)) (next text s (shown_more f u more later))
 
--- one more is printed and counted
+-- the output for findings, followed by that for one more finding
 pub one_added : {style : Style} {name bytes : List ℕ} {xs : List Finding} {a b c : Printed} (f : Finding) → IsAdded (ArePrinted style name bytes xs) a b
     → IsAdded (IsPrintedOne style name (position_at bytes f.span.start) f) b c → IsAdded (ArePrinted style name bytes (xs ++ f ∷ [])) a c
 one_added {style} {name} {bytes} {xs} {a} {b} {c} f before one = record {
@@ -80,19 +77,19 @@ one_added {style} {name} {bytes} {xs} {a} {b} {c} f before one = record {
   printed = one.printed ∙ ap (λ t. t ++ one.text) before.printed ∙ append_assoc (string_bytes a.text) before.text one.text;
 }
 
--- none are printed
+-- the output for no findings is empty
 pub none_added : {style : Style} {name bytes : List ℕ} (a : Printed) → IsAdded (ArePrinted style name bytes []) a a
 none_added a = record { text = []; are = record { shown = none; tally = refl }; printed = sym (append-nil (string_bytes a.text)) }
 
--- one more that is asked for
+-- a finding whose code is selected is appended to the selected findings
 pub asked_more : (s : Selection) (xs : List Finding) (f : Finding) → is_asked s f.code ≡ true → asked s (xs ++ f ∷ []) ≡ asked s xs ++ f ∷ []
 asked_more s xs f is = filter-append (λ g. is_asked s g.code) xs (f ∷ []) ∙ ap (λ b. asked s xs ++ cond b (f ∷ []) []) is
 
--- one more that isn't
+-- a finding whose code isn't selected leaves the selected findings unchanged
 pub asked_same : (s : Selection) (xs : List Finding) (f : Finding) → is_asked s f.code ≡ false → asked s (xs ++ f ∷ []) ≡ asked s xs
 asked_same s xs f isnt = filter-append (λ g. is_asked s g.code) xs (f ∷ []) ∙ ap (λ b. asked s xs ++ cond b (f ∷ []) []) isnt ∙ append-nil (asked s xs)
 
--- a step at which the finding is printed
+-- one step of the loop for a finding whose code is selected
 pub step_printed : {style : Style} {name bytes : List ℕ} (s : Selection) (xs more : List Finding) (f : Finding) (place : Position) {a b c d : Printed} → more ≡ xs ++ f ∷ [] → is_asked s f.code ≡ true
     → place ≡ position_at bytes f.span.start → IsAdded (ArePrinted style name bytes (asked s xs)) a b → IsAdded (IsPrintedOne style name place f) b c → d ≡ c → IsAdded (ArePrinted style name bytes (asked s more)) a d
 step_printed {style} {name} {bytes} s xs more f place {a} {b} {c} {d} grows is at before one same =
@@ -100,14 +97,14 @@ step_printed {style} {name} {bytes} s xs more f place {a} {b} {c} {d} grows is a
     (subst (λ ys. IsAdded (ArePrinted style name bytes ys) a c) (sym (ap (asked s) grows ∙ asked_more s xs f is))
     (one_added f before (subst (λ p. IsAdded (IsPrintedOne style name p f) b c) at one)))
 
--- a step at which it isn't
+-- one step of the loop for a finding whose code isn't selected
 pub step_passed : {style : Style} {name bytes : List ℕ} (s : Selection) (xs more : List Finding) (f : Finding) {a b d : Printed} → more ≡ xs ++ f ∷ [] → is_asked s f.code ≡ false
     → IsAdded (ArePrinted style name bytes (asked s xs)) a b → d ≡ b → IsAdded (ArePrinted style name bytes (asked s more)) a d
 step_passed {style} {name} {bytes} s xs more f {a} {b} {d} grows isnt before same =
     subst (λ p. IsAdded (ArePrinted style name bytes (asked s more)) a p) (sym same)
     (subst (λ ys. IsAdded (ArePrinted style name bytes ys) a b) (sym (ap (asked s) grows ∙ asked_same s xs f isnt)) before)
 
--- the findings of a file, after the byte that isn't UTF-8
+-- the finding that a file isn't UTF-8, and then those of its text, are the output for the file
 pub file_added : {lint : Lint} {name bytes : List ℕ} {decoded : Decoded} (found : List Finding) {a b c : Printed} → AreFindings (string_bytes decoded.text) found
     → IsAdded (ArePrinted lint.style name bytes (asked lint.selection (unread_findings decoded.invalid))) a b
     → IsAdded (ArePrinted lint.style name (string_bytes decoded.text) (asked lint.selection found)) b c → IsAdded (IsPrintedFile lint name bytes decoded) a c
@@ -117,6 +114,6 @@ file_added found {a} {b} {c} are first second = record {
   printed = second.printed ∙ ap (λ t. t ++ second.text) first.printed ∙ append_assoc (string_bytes a.text) first.text second.text;
 }
 
--- what is printed after nothing
+-- the output after an empty text is the whole text
 pub added_alone : {Are : Tally → List ℕ → Tally → Type 0} {a b : Printed} → string_bytes a.text ≡ [] → IsAdded Are a b → Are a.tally (string_bytes b.text) b.tally
 added_alone {Are} {a} {b} empty added = subst (λ t. Are a.tally t b.tally) (sym (added.printed ∙ ap (λ s. s ++ added.text) empty)) added.are

@@ -2,6 +2,9 @@ pub mod AnswerFacts
 pub mod ComparedFacts
 pub mod CountFacts
 pub mod FindingFacts
-pub mod ReverseFacts
 pub mod RunFacts
 pub mod TableFacts
+mod Beside
+mod Outcomes
+mod Results
+mod Touching

@@ -1,7 +1,7 @@
 -- Machinery: words of private contracts.
--- What is printed after other findings.
+-- The output for further findings.
 use Rattle.std.specs.Prelude.{◌≡◌, ℕ, List, ◌++◌, string_bytes}
-use Rattle.bib_lines.specs.declared.positions.Position.{Position}
+use Rattle.bib_source.specs.declared.positions.Position.{Position}
 use Rattle.bib_findings.specs.Codes.{severity_of}
 use Rattle.bib_findings.specs.declared.finding.Finding.{Finding}
 use Rattle.bibkit_core.specs.declared.lint.Printed.{Printed}
@@ -9,13 +9,13 @@ use Rattle.bibkit_core.specs.declared.request.Style.{Style}
 use Rattle.bibkit_core.specs.declared.tally.Tally.{Tally}
 use Rattle.bibkit_core.specs.Printed.{IsShown, is_none, one_more}
 
--- a text of which this holds, with the numbers of findings before and after it, is printed after others
+-- the output is extended by a text for which `Are` holds, with the counts before and after it
 pub record IsAdded (Are : Tally → List ℕ → Tally → Type 0) (old new : Printed) : Type 0 where
   pub text : List ℕ
   pub are : Are old.tally text new.tally
   pub printed : string_bytes new.text ≡ string_bytes old.text ++ text
 
--- this is printed of a finding, and so many there are before and after
+-- `text` is the output for one finding, with the counts before and after it
 pub record IsPrintedOne (style : Style) (name : List ℕ) (place : Position) (f : Finding) (before : Tally) (text : List ℕ) (after : Tally) : Type 0 where
   pub shown : IsShown style (is_none before) name place f text
   pub tally : after ≡ one_more before (severity_of f.code)

@@ -1,5 +1,5 @@
 -- Meaning: words of public contracts.
--- What is printed for a request on files, and the status.
+-- The output of a request on files, and the status.
 use Rattle.std.specs.Prelude.{◌≡◌, ℕ, List, [], ◌++◌, codes, map, Bool, Option, Some, None}
 use Rattle.std.specs.Borrow.{Bor}
 use Rattle.bib_excerpts.specs.declared.citations.Citations.{Citations}
@@ -20,17 +20,17 @@ use Rattle.bibkit_core.specs.declared.request.Lint.{Lint}
 use Rattle.bibkit_core.specs.declared.request.Request.{Request}
 use Rattle.bibkit_core.specs.declared.request.Request.TheVariants as request
 
--- what a code means, after its name and how severe it is
+-- the line that explains a code: its name, its severity and this meaning
 abbrev pub meaning_text : Code → List ℕ → List ℕ
 meaning_text c meaning = code_name c ++ (codes " (" ++ (severity_name (severity_of c) ++ (codes "): " ++ (meaning ++ codes "\n"))))
 
--- the citations of a document, as its entries are asked for
+-- `asked` requests the entries that these citations cite
 pub record AsksForCited (found : Citations) (asked : CitedKeys) : Type 0 where
   pub keys : map (λ key. key.now) asked.keys.items ≡ cited_keys found
   pub all : asked.all ≡ found.all
 
--- what is printed for a request on the files of these names, and the status, where it is all that is printed; `reads` says what a
--- read of a file gives, from which state to which
+-- the output of a request on the files with these names, and the status if the output is whole; `reads` relates the state before
+-- reading a file, its name, its bytes (`None` for an error) and the state afterwards
 pub data IsCallAnswer {F : Type 0} (reads : F → List ℕ → Option (List ℕ) → F → Type 0) (files : F) (names : List (List ℕ)) : Request → List ℕ → Option ℕ → Type 0 where
   findings : {lint : Lint} {text : List ℕ} {status : Option ℕ} (task : Linting) → lint.cited ≡ None → BeginsLinting lint task
       → IsTaskPrinted reads linting_begins linting_prints linting_ends files task names text status → IsCallAnswer reads files names (request.Lint lint) text status
@@ -48,7 +48,7 @@ pub data IsCallAnswer {F : Type 0} (reads : F → List ℕ → Option (List ℕ)
   counts : {text : List ℕ} {status : Option ℕ} → IsTaskPrinted reads counted_begins PrintsCounted EndsCounted files none_counted names text status
       → IsCallAnswer reads files names request.Stats text status
 
--- a request is on the document whose file has this name
+-- a request that reads the citations of a document, whose file has this name
 pub data IsOnDocument : Request → List ℕ → Type 0 where
   compared : {lint : Lint} {cited : Cited} → lint.cited ≡ Some cited → IsOnDocument (request.Lint lint) cited.name.now
   cited : {name : Bor (List ℕ)} → IsOnDocument (request.Cited name) name.now
@@ -60,8 +60,8 @@ pub record CantReadDocument {F : Type 0} (reads : F → List ℕ → Option (Lis
   pub document : IsOnDocument request name
   pub unread : reads files name None files'
 
--- why the status is 2: a file can't be read, and all is printed of the others; or the file of a document can't be read, and nothing is
--- printed; or the output takes a first part of what is printed, and refuses the text after it
+-- the reasons for status 2: a file can't be read, and the whole output for the others is printed; or the file of the document
+-- can't be read, and nothing is printed; or the output takes a first part of the texts, and refuses the text after it
 pub data HasFailed {F K : Type 0} (reads : F → List ℕ → Option (List ℕ) → F → Type 0) (taken : K → Option (List ℕ)) (refusals : K → ℕ) (hands_over : K → List ℕ → Bool → K → Type 0) (files : F) (names : List (List ℕ))
     (request : Request) (old new : K) : Type 0 where
   unread : HasPrinted taken (IsCallAnswer reads files names request) old new 2 → refusals new ≡ refusals old → HasFailed reads taken refusals hands_over files names request old new

@@ -7,9 +7,12 @@ pub mod Marks
 pub mod Outcomes
 pub mod Printed
 pub mod Running
-pub mod Settings
 pub mod Stats
 pub mod Steps
 pub mod Tables
 pub mod Tasks
 pub mod Totals
+pub mod Folder
+pub mod Possible
+pub mod Replaced
+pub mod ReplaceSteps

@@ -1,9 +1,9 @@
 -- Meaning: words of public contracts.
--- What is printed of the findings of a file.
+-- The output for the findings of a file.
 use Rattle.std.specs.Prelude.{◌≡◌, ℕ, Bool, false, List, [], ◌∷◌, ◌++◌, Option, Some, None, codes, fold, string_bytes}
-use Rattle.bib_lines.specs.Positions.{position_at}
+use Rattle.bib_source.specs.Positions.{position_at}
 use Rattle.bib_findings.specs.Codes.{severity_of}
-use Rattle.bib_encoding.specs.declared.decoding.Decoded.{Decoded}
+use Rattle.bib_source.specs.declared.decoding.Decoded.{Decoded}
 use Rattle.bib_findings.specs.Findings.{AreFindings}
 use Rattle.bib_findings.specs.declared.codes.Code.TheVariants.{UnreadBytes}
 use Rattle.bib_findings.specs.declared.finding.Finding.{Finding}
@@ -13,32 +13,33 @@ use Rattle.bibkit_core.specs.declared.request.Style.{Style}
 use Rattle.bibkit_core.specs.declared.tally.Tally.{Tally}
 use Rattle.bibkit_core.specs.Printed.{IsShown, is_none, one_more}
 
--- what is printed of findings of the file with this name and these bytes, one after another, each at its place
+-- the text of findings in the file with this name and these bytes, in turn, each at the position where it begins; the Boolean
+-- says whether the first of them is the first of all findings
 pub data AreShown (style : Style) (name bytes : List ℕ) : Bool → List Finding → List ℕ → Type 0 where
   none : {is_first : Bool} → AreShown style name bytes is_first [] []
   next : {is_first : Bool} {f : Finding} {rest : List Finding} (text : List ℕ) {texts : List ℕ} → IsShown style is_first name (position_at bytes f.span.start) f text
       → AreShown style name bytes false rest texts → AreShown style name bytes is_first (f ∷ rest) (text ++ texts)
 
--- how many findings there are after these
+-- the counts after these findings
 abbrev pub counted : Tally → List Finding → Tally
 counted tally found = fold (λ t f. one_more t (severity_of f.code)) tally found
 
--- this is printed of findings of a file, and so many there are before and after
+-- `text` is the output for these findings of a file, with the counts before and after them
 pub record ArePrinted (style : Style) (name bytes : List ℕ) (found : List Finding) (before : Tally) (text : List ℕ) (after : Tally) : Type 0 where
   pub shown : AreShown style name bytes (is_none before) found text
   pub tally : after ≡ counted before found
 
--- the finding of a byte with which no character of UTF-8 begins
+-- the finding of the first byte that isn't UTF-8, at this offset
 abbrev pub unread_finding : ℕ → Finding
 unread_finding at = record { code = UnreadBytes; span = record { start = at; end = at }; message = codes "not UTF-8 from here on, so the file is read as Windows-1252" }
 
--- that finding, where there is such a byte
+-- that finding, or none without an offset
 abbrev pub unread_findings : Option ℕ → List Finding
 unread_findings None = []
 unread_findings (Some at) = unread_finding at ∷ []
 
--- this is printed of the findings of a file that are asked for, and so many there are before and after: first the byte from
--- which on it isn't UTF-8, at its place among the bytes, and then the findings of its text, each at its place there
+-- `text` is the output for the selected findings of a file, with the counts before and after them: first the finding that it
+-- isn't UTF-8, at its position in the bytes, and then the findings of the decoded text, each at its position in that text
 pub record IsPrintedFile (lint : Lint) (name bytes : List ℕ) (decoded : Decoded) (before : Tally) (text : List ℕ) (after : Tally) : Type 0 where
   pub found : List Finding
   pub are : AreFindings (string_bytes decoded.text) found

@@ -1,7 +1,7 @@
 -- Machinery: words of private contracts.
--- Which citations of a document are known, as the code has it.
+-- Marks on the citations of a document: whether a file has an entry for each.
 use Rattle.std.specs.Prelude.{◌≡◌, ◌||◌, ℕ, Bool, true, false, List, [], ◌∷◌, ◌++◌, length, map, replicate, string_bytes}
-use Rattle.bib_encoding.specs.declared.decoding.Decoded.{Decoded}
+use Rattle.bib_source.specs.declared.decoding.Decoded.{Decoded}
 use Rattle.bib_excerpts.specs.Known.{IsKnownIn, IsUncited}
 use Rattle.bib_excerpts.specs.declared.citations.Citation.{Citation}
 use Rattle.bib_findings.specs.declared.finding.Finding.{Finding}
@@ -16,20 +16,20 @@ use Rattle.bibkit_core.specs.declared.cited.Document.{Document}
 use Rattle.bibkit_core.specs.declared.comparing.Comparing.{Comparing}
 use Rattle.bibkit_core.specs.declared.tally.Tally.{Tally}
 
--- what holds at either
+-- whether one of two marks is true, for each position that both lists have
 abbrev pub either_mark : List Bool → List Bool → List Bool
 either_mark [] others = []
 either_mark (mark ∷ marks) [] = []
 either_mark (mark ∷ marks) (other ∷ others) = (mark || other) ∷ either_mark marks others
 
--- the findings of the citations that have no mark
+-- the findings of the citations whose mark is false
 abbrev pub unmarked_findings : List Citation → List Bool → List Finding
 unmarked_findings [] marks = []
 unmarked_findings (c ∷ rest) [] = []
 unmarked_findings (c ∷ rest) (true ∷ marks) = unmarked_findings rest marks
 unmarked_findings (c ∷ rest) (false ∷ marks) = missing_finding c ∷ unmarked_findings rest marks
 
--- a document before any file
+-- a document before the first file: no citation is marked
 pub record BeginsDocument (name text : List ℕ) (has_unused : Bool) (document : Document) : Type 0 where
   pub name_is : document.name.now ≡ name
   pub text_is : document.text.now ≡ text
@@ -37,35 +37,35 @@ pub record BeginsDocument (name text : List ℕ) (has_unused : Bool) (document :
   pub cited : AreCitedBy name text document.citations
   pub none_known : document.known.items ≡ replicate (length document.citations.keys.items) false
 
--- a document after a file, of whose citations more may be known
+-- a document after a file: everything except its marks is unchanged
 pub record IsSameDocument (old new : Document) : Type 0 where
   pub name_is : new.name.now ≡ old.name.now
   pub text_is : new.text.now ≡ old.text.now
   pub unused_is : new.has_unused ≡ old.has_unused
   pub citations : new.citations ≡ old.citations
 
--- a citation is known after a file where it was before, or where the file has an entry of that name
+-- `known` are the marks after a file with this text: a citation is marked if it was before, or if the file has an entry for it
 pub record AreKnownWith (text : List ℕ) (document : Document) (known : List Bool) : Type 0 where
   pub marks : List Bool
   pub known_in : IsKnownIn text (cited_keys document.citations) marks
   pub are : known ≡ either_mark document.known.items marks
 
--- the findings of the entries of a text that have no name among these keys
+-- `found` are the findings of the entries of a text that have no name among these keys
 pub record AreUncited (text : List ℕ) (keys : List (List ℕ)) (found : List Finding) : Type 0 where
   pub parts : List Part
   pub uncited : IsUncited text keys parts
   pub are : found ≡ map unused_finding parts
 
--- the findings of the entries of a text that a document doesn't cite, by what can be read of it
+-- the findings of the entries that can be parsed of a text and that the document doesn't cite, if these are requested
 abbrev pub AreUnused : Document → List ℕ → List Finding → Type 0
 AreUnused document text found =
     (says : FileReading) (skipped : List SkippedBlock) → IsRecovery text says skipped → found ≡ unused_findings document.has_unused document.citations says.entries
 
--- what the task prints before files that compares them with what a document cites
+-- the text of the comparing task before the files
 abbrev pub comparing_begins : Comparing → List ℕ
 comparing_begins task = opening task.linting.lint.now.style
 
--- what that task prints of a file
+-- the output of the comparing task for a file, and the task afterwards
 pub record PrintsComparing (old : Comparing) (name bytes text : List ℕ) (new : Comparing) : Type 0 where
   pub first : List ℕ
   pub second : List ℕ
@@ -81,7 +81,7 @@ pub record PrintsComparing (old : Comparing) (name bytes text : List ℕ) (new :
   pub more : ArePrinted old.linting.lint.now.style name (string_bytes decoded.text) (asked old.linting.lint.now.selection unused) between second new.linting.tally
   pub is : text ≡ first ++ second
 
--- what that task prints after files, and its status
+-- the text of the comparing task after the files, and its status
 pub record EndsComparing (task : Comparing) (text : List ℕ) (status : ℕ) : Type 0 where
   pub first : List ℕ
   pub after : Tally

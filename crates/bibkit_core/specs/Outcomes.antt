@@ -1,16 +1,16 @@
 -- Meaning: words of public contracts.
--- What an output has taken when a run ends. What may be printed is a fact of a text and a status, where there is none of a text
--- that more follows.
+-- The text that an output has taken at the end of a run. What may be printed is a fact about a text and a status. The status is
+-- `None` if more texts follow.
 use Rattle.std.specs.Prelude.{◌≡◌, ℕ, ◌-◌, ◌<◌, ◌^◌, Bool, false, List, Option, Some}
 use Rattle.std.specs.Io.KnownBytes.{Appends}
 
--- the output takes what is printed, to its end
+-- the output has taken the whole text, and the run has this status
 pub record HasPrinted {K : Type 0} (taken : K → Option (List ℕ)) (Prints : List ℕ → Option ℕ → Type 0) (old new : K) (status : ℕ) : Type 0 where
   pub text : List ℕ
   pub prints : Prints text (Some status)
   pub printed : Appends (taken old) (taken new) text
 
--- the output takes a text, and then refuses the next one that it is handed
+-- the output has taken a text, and then refused the next one; its count of refusals has grown, unless it is at its maximum
 pub record IsRefusedAfter {K : Type 0} (taken : K → Option (List ℕ)) (refusals : K → ℕ) (hands_over : K → List ℕ → Bool → K → Type 0) (text : List ℕ) (old new : K) : Type 0 where
   pub between : K
   pub refused : List ℕ

@@ -1,10 +1,10 @@
 -- Meaning: words of public contracts.
--- What is printed of findings.
+-- The texts that are printed for findings.
 use Rattle.std.specs.Prelude.{◌≡◌, ℕ, ◌+◌, ◌-◌, ◌^◌, min, Bool, ◌&&◌, ◌==◌, if◌then◌else◌, List, ◌∷◌, ◌++◌, codes}
 use Rattle.std.specs.Fmt.{decimal}
 use Rattle.serde_json.specs.Data.{Data}
 use Rattle.serde_json.specs.Written.{compact_text}
-use Rattle.bib_lines.specs.declared.positions.Position.{Position}
+use Rattle.bib_source.specs.declared.positions.Position.{Position}
 use Rattle.bib_findings.specs.Codes.{code_name, severity_name, severity_of}
 use Rattle.bib_findings.specs.declared.codes.Severity.{Severity}
 use Rattle.bib_findings.specs.declared.codes.Severity.TheVariants.{Error, Warning}
@@ -13,37 +13,37 @@ use Rattle.bibkit_core.specs.declared.request.Style.{Style}
 use Rattle.bibkit_core.specs.declared.request.Style.TheVariants.{Plain, Colored, Json}
 use Rattle.bibkit_core.specs.declared.tally.Tally.{Tally}
 
--- the line of a finding at this position of the file of this name: FILE:LINE:COLUMN: error|warning: TEXT [CODE]
+-- the line of a finding at this position of the file with this name: FILE:LINE:COLUMN: error|warning: TEXT [CODE]
 abbrev pub finding_line : List ℕ → Position → Finding → List ℕ
 finding_line name place f =
     name ++ (codes ":" ++ (decimal place.line ++ (codes ":" ++ (decimal place.column ++ (codes ": " ++ (severity_name (severity_of f.code)
     ++ (codes ": " ++ (f.message ++ (codes " [" ++ (code_name f.code ++ codes "]\n"))))))))))
 
--- a text in JSON, with its quotes
+-- a text as a JSON string with its quotes
 abbrev pub json_text : List ℕ → List ℕ
 json_text text = compact_text (Data.string text)
 
--- what stands before an object: a comma where it isn't the first
+-- the text before an object: a line feed, after a comma unless the object is the first
 abbrev pub separator : Bool → List ℕ
 separator is_first = if is_first then codes "\n" else codes ",\n"
 
--- the members of an object that say where a finding is, and what
+-- the members for the line, the column, the severity and the code of a finding
 abbrev pub place_members : Position → Finding → List ℕ
 place_members place f =
     codes "\"line\":" ++ (decimal place.line ++ (codes ",\"column\":" ++ (decimal place.column
     ++ (codes ",\"severity\":\"" ++ (severity_name (severity_of f.code) ++ (codes "\",\"code\":\"" ++ (code_name f.code ++ codes "\"")))))))
 
--- the object of a finding in JSON, in a line of its own, after a comma where it isn't the first
+-- the JSON object of a finding, on a new line, after a comma unless it is the first
 abbrev pub finding_object : Bool → List ℕ → Position → Finding → List ℕ
 finding_object is_first name place f =
     separator is_first ++ (codes "{\"file\":" ++ (json_text name ++ (codes "," ++ (place_members place f ++ (codes ",\"message\":" ++ (json_text f.message ++ codes "}"))))))
 
--- how many findings there are, with one more of this severity; a count stops at its greatest value
+-- the counts with one more finding of this severity; a count stays at its maximum
 abbrev pub one_more : Tally → Severity → Tally
 one_more tally Error = record { errors = min (tally.errors + 1) (2 ^ 64 - 1); warnings = tally.warnings }
 one_more tally Warning = record { errors = tally.errors; warnings = min (tally.warnings + 1) (2 ^ 64 - 1) }
 
--- whether there are none
+-- whether both counts are zero
 abbrev pub is_none : Tally → Bool
 is_none tally = (tally.errors == 0) && (tally.warnings == 0)
 
@@ -51,22 +51,24 @@ is_none tally = (tally.errors == 0) && (tally.warnings == 0)
 abbrev pub counts_line : Tally → List ℕ
 counts_line tally = codes "errors: " ++ (decimal tally.errors ++ (codes ", warnings: " ++ (decimal tally.warnings ++ codes "\n")))
 
--- what turns bold type on, and the colour of a severity, and all of these off
+-- the escape sequence for bold
 abbrev pub bold_type : List ℕ
 bold_type = 27 ∷ codes "[1m"
 
+-- the escape sequence for the colour of a severity
 abbrev pub color : Severity → List ℕ
 color Error = 27 ∷ codes "[1;31m"
 color Warning = 27 ∷ codes "[1;33m"
 
+-- the escape sequence that resets colour and bold
 abbrev pub plain_type : List ℕ
 plain_type = 27 ∷ codes "[0m"
 
--- where a finding is, in bold type
+-- the file name, the line and the column in bold
 abbrev pub colored_place : List ℕ → Position → List ℕ
 colored_place name place = bold_type ++ (name ++ (codes ":" ++ (decimal place.line ++ (codes ":" ++ (decimal place.column ++ (codes ":" ++ (plain_type ++ codes " ")))))))
 
--- what a finding is, in the colour of its severity
+-- the severity in its colour, the message and the code
 abbrev pub colored_text : Finding → List ℕ
 colored_text f =
     color (severity_of f.code) ++ (severity_name (severity_of f.code) ++ (codes ":" ++ (plain_type ++ (codes " " ++ (f.message ++ (codes " [" ++ (code_name f.code ++ codes "]\n")))))))
@@ -75,12 +77,12 @@ colored_text f =
 abbrev pub colored_line : List ℕ → Position → Finding → List ℕ
 colored_line name place f = colored_place name place ++ colored_text f
 
--- the line of a finding in colours, with lines of the file under it
+-- the line of a finding in colours, and any text below it
 abbrev pub IsFramed : List ℕ → Position → Finding → List ℕ → Type 0
 IsFramed name place f text = (frame : List ℕ) × (text ≡ colored_line name place f ++ frame)
 
--- what is printed of a finding: its line, in colours the same line and lines of the file, or its object in JSON; the first of all
--- findings has no comma before it
+-- the text of a finding: its line, or the line in colours and any text below it, or its JSON object; the object of the first
+-- finding has no comma before it
 abbrev pub IsShown : Style → Bool → List ℕ → Position → Finding → List ℕ → Type 0
 IsShown Plain is_first name place f text = text ≡ finding_line name place f
 IsShown Colored is_first name place f text = IsFramed name place f text

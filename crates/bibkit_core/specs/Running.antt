@@ -1,20 +1,20 @@
 -- Meaning: words of public contracts.
--- What is printed of files, one after another.
+-- The output of a task for several files in turn.
 use Rattle.std.specs.Prelude.{◌≡◌, ℕ, Bool, true, false, ◌&&◌, if◌then◌else◌, List, [], ◌∷◌, ◌++◌, map, Option, Some, None}
 use Rattle.std.specs.Borrow.{Bor}
 
--- names as the code has them
+-- the names in a list of borrowed names
 abbrev pub names_given : List (Bor (List ℕ)) → List (List ℕ)
 names_given names = map (λ name. name.now) names
 
--- what is printed of a file, and whether it could be read: what the task prints of its bytes, and nothing where it has none
+-- the output for a file, and whether the file could be read: the text of the task for its bytes, or no text if reading it failed
 pub data IsStep {F T : Type 0} (reads : F → List ℕ → Option (List ℕ) → F → Type 0) (prints : T → List ℕ → List ℕ → List ℕ → T → Type 0)
     (files : F) (task : T) (name : List ℕ) : List ℕ → Bool → F → T → Type 0 where
   read : (bytes : List ℕ) {text : List ℕ} {files' : F} {task' : T} → reads files name (Some bytes) files' → prints task name bytes text task'
       → IsStep reads prints files task name text true files' task'
   unread : {files' : F} → reads files name None files' → IsStep reads prints files task name [] false files' task
 
--- what is printed of files, one after another, and whether all of them could be read
+-- the output for files in turn, and whether all of them could be read
 pub data AreRun {F T : Type 0} (reads : F → List ℕ → Option (List ℕ) → F → Type 0) (prints : T → List ℕ → List ℕ → List ℕ → T → Type 0)
     : F → T → List (List ℕ) → List ℕ → Bool → F → T → Type 0 where
   none : {files : F} {task : T} → AreRun reads prints files task [] [] true files task
@@ -22,8 +22,8 @@ pub data AreRun {F T : Type 0} (reads : F → List ℕ → Option (List ℕ) →
       → IsStep reads prints files task name text is_read files' task' → AreRun reads prints files' task' names texts are_read files'' task''
       → AreRun reads prints files task (name ∷ names) (text ++ texts) (is_read && are_read) files'' task''
 
--- what is printed for a command, and its status: what the task prints before the files, of each of them, and after them; 2 where
--- one can't be read
+-- the whole output of a task, and its status: the texts before the files, for each file, and after them; the status is 2 if a
+-- file can't be read
 pub record IsTaskAnswer {F T : Type 0} (reads : F → List ℕ → Option (List ℕ) → F → Type 0) (begins : T → List ℕ) (prints : T → List ℕ → List ℕ → List ℕ → T → Type 0)
     (ends : T → List ℕ → ℕ → Type 0) (files : F) (task : T) (names : List (List ℕ)) (text : List ℕ) (status : ℕ) : Type 0 where
   pub texts : List ℕ
@@ -37,8 +37,8 @@ pub record IsTaskAnswer {F T : Type 0} (reads : F → List ℕ → Option (List 
   pub text_is : text ≡ begins task ++ (texts ++ last)
   pub status_is : status ≡ (if are_read then end_status else 2)
 
--- what is printed for a command so far: nothing, or what is printed before the files and of some first of them, where no status is
--- given; or all, with the status
+-- the output of a task so far: nothing, or the texts before the files and for the first of them, without a status; or the whole
+-- output with its status
 pub data IsTaskPrinted {F T : Type 0} (reads : F → List ℕ → Option (List ℕ) → F → Type 0) (begins : T → List ℕ) (prints : T → List ℕ → List ℕ → List ℕ → T → Type 0)
     (ends : T → List ℕ → ℕ → Type 0) (files : F) (task : T) (names : List (List ℕ)) : List ℕ → Option ℕ → Type 0 where
   nothing : IsTaskPrinted reads begins prints ends files task names [] None

@@ -1,5 +1,5 @@
 -- Meaning: words of public contracts.
--- How many there are of what.
+-- The counts of entries, types, fields, years and findings.
 use Rattle.std.specs.Prelude.{◌≡◌, ◌==◌, ◌&&◌, ℕ, Bool, ◌-◌, ◌^◌, min, not, if◌then◌else◌, List, [], ◌∷◌, ◌++◌, Option, Some, None, codes, length, map, string_bytes}
 use Rattle.std.specs.Char.{is_ascii_digit}
 use Rattle.std.specs.Fmt.{decimal}
@@ -7,7 +7,7 @@ use Rattle.std.specs.List.{before_first, flat_map, list_all}
 use Rattle.std.specs.Option.{option_and_then, option_map_or, option_or}
 use Rattle.std.specs.Str.{str_to_ascii_lowercase, trim}
 use Rattle.bib_text.specs.Characters as char
-use Rattle.bib_encoding.specs.declared.decoding.Decoded.{Decoded}
+use Rattle.bib_source.specs.declared.decoding.Decoded.{Decoded}
 use Rattle.bib_findings.specs.Codes.{code_name}
 use Rattle.bib_findings.specs.Entries.{last_named}
 use Rattle.bib_findings.specs.Findings.{AreFindings}
@@ -28,61 +28,62 @@ type_name e = str_to_ascii_lowercase e.kind.text
 abbrev pub lowercase_names : List FieldReading → List (List ℕ)
 lowercase_names fields = map (λ f. str_to_ascii_lowercase f.name.text) fields
 
--- the text of an element, without the white space around it; none where it is an abbreviation
+-- the text of a literal without the white space around it, or `None` for an abbreviation
 abbrev pub trimmed_literal : Piece → Option (List ℕ)
 trimmed_literal (literal p) = Some (trim p.text)
 trimmed_literal (abbreviation p) = None
 
--- the text that elements of a value begin with
+-- the trimmed text of the first piece of a value, if it is a literal
 abbrev pub first_text : List Piece → Option (List ℕ)
 first_text [] = None
 first_text (p ∷ rest) = trimmed_literal p
 
--- the text that the value of the last field of this name begins with
+-- the trimmed text of the first piece of the last field with this name, if it is a literal
 abbrev pub text_of_last : List FieldReading → List ℕ → Option (List ℕ)
 text_of_last fields name = option_and_then (λ f. first_text f.value.pieces) (last_named fields name)
 
--- the text that a date begins with, or else a year
+-- that text of the field `date`, or that of the field `year` if the former is `None`
 abbrev pub text_of_date : List FieldReading → Option (List ℕ)
 text_of_date fields = option_or (text_of_last fields (codes "date")) (text_of_last fields (codes "year"))
 
--- what stands before a hyphen, and before a slash: the whole text where there is none
+-- the text before the first hyphen, or the whole text without one
 abbrev pub before_hyphen : List ℕ → List ℕ
 before_hyphen text = before_first (λ b. b == char.hyphen) text
 
+-- the text before the first slash, or the whole text without one
 abbrev pub before_slash : List ℕ → List ℕ
 before_slash text = before_first (λ b. b == char.slash) text
 
--- whether a text is made of digits
+-- whether a text is one or more ASCII digits
 abbrev pub is_number : List ℕ → Bool
 is_number text = not (length text == 0) && list_all is_ascii_digit text
 
--- the year with which a text begins: the digits that are all of what stands before a hyphen or a slash
+-- the text before the first hyphen or slash, if it is one or more digits
 abbrev pub leading_year : List ℕ → Option (List ℕ)
 leading_year text = let year = before_slash (before_hyphen text) in if is_number year then Some year else None
 
--- the year of an entry with these fields: that with which its date begins, or else its year
+-- the year of an entry with these fields; the field `year` is used only if `date` is missing or doesn't begin with a literal
 abbrev pub year_in : List FieldReading → Option (List ℕ)
 year_in fields = option_and_then leading_year (text_of_date fields)
 
--- the same as a list
+-- the year of an entry with these fields, as a list with at most one element
 abbrev pub years_in : List FieldReading → List (List ℕ)
 years_in fields = option_map_or (λ year. year ∷ []) (year_in fields) []
 
--- the entries and the findings of files
+-- all entries and all findings of the files so far
 pub record Counted : Type 0 where
   pub entries : List EntryReading
   pub found : List Finding
 
--- none yet
+-- no entries and no findings
 abbrev pub none_counted : Counted
 none_counted = record { entries = []; found = [] }
 
--- nothing is printed before files
+-- the text before the files: none
 abbrev pub counted_begins : Counted → List ℕ
 counted_begins before = []
 
--- a file is counted: the entries that can be read of it, and its findings
+-- a file is counted: the entries that can be parsed of it, and its findings
 pub record IsCountedWith (before : Counted) (bytes : List ℕ) (after : Counted) : Type 0 where
   pub decoded : Decoded
   pub says : FileReading
@@ -93,12 +94,12 @@ pub record IsCountedWith (before : Counted) (bytes : List ℕ) (after : Counted)
   pub are : AreFindings (string_bytes decoded.text) found
   pub after_is : after ≡ record { entries = before.entries ++ says.entries; found = before.found ++ found }
 
--- nothing is printed of a file
+-- a file is counted, and its output is empty
 abbrev pub PrintsCounted : Counted → List ℕ → List ℕ → List ℕ → Counted → Type 0
 PrintsCounted before name bytes text after = (text ≡ []) × IsCountedWith before bytes after
 
--- what is printed after all files: how many entries there are, and tables of their types, of their fields, of their years and of
--- the findings
+-- the output after all files: the number of entries, and tables of types, fields, years and findings; the years are in order, and
+-- the other tables begin with the greatest count; the status is 0
 pub record EndsCounted (all : Counted) (text : List ℕ) (status : ℕ) : Type 0 where
   pub types : List Row
   pub fields : List Row

@@ -1,8 +1,8 @@
 -- Machinery: words of private contracts.
--- What is done with files, and what the output takes.
+-- The steps of a run: reading files, and writing texts to the output.
 use Rattle.std.specs.Prelude.{◌≡◌, ⊤, ℕ, Bool, List, [], ◌++◌, Option, Some, None, string_bytes}
 use Rattle.std.specs.Io.KnownBytes.{Appends}
-use Rattle.bib_encoding.specs.declared.decoding.Decoded.{Decoded}
+use Rattle.bib_source.specs.declared.decoding.Decoded.{Decoded}
 use Rattle.bib_excerpts.specs.declared.citations.Citations.{Citations}
 use Rattle.bib_excerpts.specs.declared.request.Request.{Request}
 use Rattle.bib_findings.specs.declared.codes.Code.{Code}
@@ -18,22 +18,22 @@ use Rattle.bibkit_core.specs.declared.request.Lint.{Lint}
 use Rattle.bibkit_core.specs.declared.run.Stop.{Stop}
 use Rattle.bibkit_core.specs.declared.run.Stop.TheVariants.{Refused, NoDocument, OutOfMemory}
 
--- the output takes what is printed of a file
+-- one file is processed, and the output takes its text
 pub record HasStep {F T : Type 0} (reads : F → List ℕ → Option (List ℕ) → F → Type 0) (prints : T → List ℕ → List ℕ → List ℕ → T → Type 0)
     (files : F) (task : T) (taken : Option (List ℕ)) (name : List ℕ) (is_read : Bool) (files' : F) (task' : T) (taken' : Option (List ℕ)) : Type 0 where
   pub text : List ℕ
   pub step : IsStep reads prints files task name text is_read files' task'
   pub printed : Appends taken taken' text
 
--- the output takes what is printed of files
+-- files are processed in turn, and the output takes their texts
 pub record HasRun {F T : Type 0} (reads : F → List ℕ → Option (List ℕ) → F → Type 0) (prints : T → List ℕ → List ℕ → List ℕ → T → Type 0)
     (files : F) (task : T) (taken : Option (List ℕ)) (names : List (List ℕ)) (are_read : Bool) (files' : F) (task' : T) (taken' : Option (List ℕ)) : Type 0 where
   pub text : List ℕ
   pub run : AreRun reads prints files task names text are_read files' task'
   pub printed : Appends taken taken' text
 
--- why a run ends before its answer is whole, and what the output has taken then; `Unread` says that the file of a document can't
--- be read
+-- the reasons for which a run ends early: the output refused a text after those that `Prints` allows; or the file of the document
+-- can't be read (`Unread`), and nothing is printed; or out of memory, and the output refused no text
 pub data HasStopped {K : Type 0} (taken : K → Option (List ℕ)) (refusals : K → ℕ) (hands_over : K → List ℕ → Bool → K → Type 0) (Prints : List ℕ → Option ℕ → Type 0) (Unread : Type 0) (old new : K)
     : Stop → Type 0 where
   refused : (text : List ℕ) → Prints text None → IsRefusedAfter taken refusals hands_over text old new → HasStopped taken refusals hands_over Prints Unread old new Refused
@@ -44,7 +44,7 @@ pub data HasStopped {K : Type 0} (taken : K → Option (List ℕ)) (refusals : K
 abbrev pub IsNothing : List ℕ → Option ℕ → Type 0
 IsNothing text status = text ≡ []
 
--- some first files are printed
+-- `text` is the output for the first of these files
 pub record AreFirst {F T : Type 0} (reads : F → List ℕ → Option (List ℕ) → F → Type 0) (prints : T → List ℕ → List ℕ → List ℕ → T → Type 0) (files : F) (task : T) (names : List (List ℕ))
     (text : List ℕ) (status : Option ℕ) : Type 0 where
   pub done : List (List ℕ)
@@ -55,13 +55,13 @@ pub record AreFirst {F T : Type 0} (reads : F → List ℕ → Option (List ℕ)
   pub parts : names ≡ done ++ rest
   pub run : AreRun reads prints files task done text are_read files' task'
 
--- why the text of a document can't be had: its file can't be read
+-- the reasons for which the text of a document is missing: its file can't be read, or out of memory
 abbrev pub HasNoText : {F : Type 0} → (F → List ℕ → Option (List ℕ) → F → Type 0) → F → List ℕ → F → Stop → Type 0
 HasNoText reads files name files' NoDocument = reads files name None files'
 HasNoText reads files name files' OutOfMemory = ⊤
 HasNoText reads files name files' Refused = ⊥
 
--- the file of a document is read as a text
+-- the file of a document is read and decoded to this text
 pub record ReadsText {F : Type 0} (reads : F → List ℕ → Option (List ℕ) → F → Type 0) (files : F) (name : List ℕ) (files' : F) (text : List ℕ) : Type 0 where
   pub bytes : List ℕ
   pub decoded : Decoded
@@ -69,13 +69,13 @@ pub record ReadsText {F : Type 0} (reads : F → List ℕ → Option (List ℕ) 
   pub of_bytes : AreDecoded bytes decoded
   pub text_is : text ≡ string_bytes decoded.text
 
--- what is printed of findings alone
+-- the output of `lint` without a document
 pub record AreFindingsPrinted {F : Type 0} (reads : F → List ℕ → Option (List ℕ) → F → Type 0) (lint : Lint) (files : F) (names : List (List ℕ)) (text : List ℕ) (status : Option ℕ) : Type 0 where
   pub task : Linting
   pub begins : BeginsLinting lint task
   pub printed : IsTaskPrinted reads linting_begins linting_prints linting_ends files task names text status
 
--- what is printed of findings and of what a document cites
+-- the output of `lint` with a document
 pub record AreComparedPrinted {F : Type 0} (reads : F → List ℕ → Option (List ℕ) → F → Type 0) (lint : Lint) (cited : Cited) (files : F) (names : List (List ℕ)) (text : List ℕ) (status : Option ℕ) : Type 0 where
   pub found : Citations
   pub document : List ℕ
@@ -83,13 +83,13 @@ pub record AreComparedPrinted {F : Type 0} (reads : F → List ℕ → Option (L
   pub read : ReadsDocument reads files cited.name.now files' document found
   pub printed : IsTaskPrinted reads (compared_begins lint) (PrintsCompared lint cited.has_unused found) (EndsCompared lint cited.name.now document found) files' none_compared names text status
 
--- what is printed of entries
+-- the output of a request for entries
 pub record AreEntriesPrinted {F : Type 0} (reads : F → List ℕ → Option (List ℕ) → F → Type 0) (asked : Request) (files : F) (names : List (List ℕ)) (text : List ℕ) (status : Option ℕ) : Type 0 where
   pub task : Entries
   pub begins : BeginsEntries asked task
   pub printed : IsTaskPrinted reads entries_begins entries_prints entries_ends files task names text status
 
--- what is printed of what a code means
+-- the output of explaining a code: nothing so far, or the whole explanation with status 0
 pub data IsMeaningPrinted (c : Code) : List ℕ → Option ℕ → Type 0 where
   nothing : IsMeaningPrinted c [] None
   all : (text : List ℕ) → IsMeaningPrinted c (meaning_text c text) (Some 0)

@@ -1,5 +1,5 @@
 -- Machinery: words of private contracts.
--- What counts hold of the names that were counted.
+-- The counts of the task that counts files.
 use Rattle.std.specs.Prelude.{◌≡◌, ℕ, ◌-◌, ◌^◌, min, List, [], ◌++◌, length, map}
 use Rattle.std.specs.BTreeMap.{get_by_text}
 use Rattle.std.specs.List.{flat_map}
@@ -14,11 +14,11 @@ use Rattle.bibkit_core.specs.Tables.{times_met}
 use Rattle.bibkit_core.specs.declared.counting.Counting.{Counting}
 use Rattle.bibkit_core.specs.declared.tables.Counts.{Counts}
 
--- of each name counts hold how often it is among these
+-- `counts` has for each name the number of its occurrences in this list
 pub record AreCounted (names : List (List ℕ)) (counts : Counts) : Type 0 where
   pub held : (name : List ℕ) → get_by_text counts.counts name ≡ times_met names name
 
--- these names are counted
+-- the counts are increased by these names
 pub record AddsNames (names : List (List ℕ)) (old new : Counts) : Type 0 where
   pub adds : (before : List (List ℕ)) → AreCounted before old → AreCounted (before ++ names) new
 
@@ -30,32 +30,32 @@ pub record AreCountsOf (all : Counted) (task : Counting) : Type 0 where
   pub years : AreCounted (flat_map (λ e. years_in e.fields) all.entries) task.years
   pub findings : AreCounted (map (λ f. code_name f.code) all.found) task.findings
 
--- these entries are counted
+-- the counts of the task are increased by these entries
 pub record AddsEntries (entries : List EntryReading) (old new : Counting) : Type 0 where
   pub adds : (all : Counted) → AreCountsOf all old → AreCountsOf (record { entries = all.entries ++ entries; found = all.found }) new
 
--- these findings are counted
+-- the counts of the task are increased by these findings
 pub record AddsFindings (found : List Finding) (old new : Counting) : Type 0 where
   pub adds : (all : Counted) → AreCountsOf all old → AreCountsOf (record { entries = all.entries; found = all.found ++ found }) new
 
--- the entries that can be read of a text are counted
+-- the counts of the task are increased by the entries that can be parsed of a text
 pub record AddsTextEntries (text : List ℕ) (old new : Counting) : Type 0 where
   pub says : FileReading
   pub skipped : List SkippedBlock
   pub recovery : IsRecovery text says skipped
   pub added : AddsEntries says.entries old new
 
--- the findings of a text are counted
+-- the counts of the task are increased by the findings of a text
 pub record AddsTextFindings (text : List ℕ) (old new : Counting) : Type 0 where
   pub found : List Finding
   pub are : AreFindings text found
   pub added : AddsFindings found old new
 
--- a file is counted, of which nothing is printed
+-- a file is counted, and its output is empty
 pub record PrintsCounting (old : Counting) (name bytes text : List ℕ) (new : Counting) : Type 0 where
   pub text_is : text ≡ []
   pub counted : (before : Counted) → AreCountsOf before old → (after : Counted) × IsCountedWith before bytes after × AreCountsOf after new
 
--- what is printed after all files is that of the entries and findings that were counted
+-- the output after all files is that of the counted entries and findings
 pub record EndsCounting (task : Counting) (text : List ℕ) (status : ℕ) : Type 0 where
   pub ends : (all : Counted) → AreCountsOf all task → EndsCounted all text status

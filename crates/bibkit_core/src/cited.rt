@@ -1,4 +1,4 @@
-//! What a document cites, compared with the entries of files.
+//! Compares the citations of a document with the entries of files.
 
 ghost use Rattle.std.specs.Prelude.{◌≡◌, ◌&&◌, ◌||◌, not, [], ◌∷◌, ◌++◌, codes, eqb, if◌then◌else◌, map, IfOk, OnOk};
 ghost use Rattle.std.specs.List.{ends_with};
@@ -15,7 +15,7 @@ use bib_text::spanned::Spanned;
 use bib_text::text::Text;
 use std::alloc::{AllocError, Global};
 
-/// A document, and which of its citations have entries in the files so far.
+/// A document with its citations, each with a mark: whether one of the files so far has an entry for it.
 #[derive(Drop)]
 pub struct Document<'t> {
     name: &'t str,
@@ -25,14 +25,15 @@ pub struct Document<'t> {
     known: Vec<bool>,
 }
 
-// Whether a file of this name is a control file of Biber.
+// Returns whether the file name is that of a control file of Biber (.bcf).
 fn is_control_file(name: &str) -> bool
     ensures { result ≡ ends_with eqb name.now (codes ".bcf") }
 {
     name.ends_with(".bcf")
 }
 
-/// What a document cites, by the file of this name: a control file of Biber, or else an .aux file.
+/// Returns the citations in the file `name` of a document with this text: a control file of Biber if the name ends with `.bcf`,
+/// otherwise an .aux file.
 pub fn citations(alloc: Global, name: &str, text: &str) -> Result<Citations, AllocError>
     ensures { IfOk result (AreCitedBy name.now text.now) }
 {
@@ -43,7 +44,7 @@ pub fn citations(alloc: Global, name: &str, text: &str) -> Result<Citations, All
     }
 }
 
-/// The keys of citations.
+/// Returns the keys of the citations.
 pub fn keys(alloc: Global, citations: &Citations) -> Result<Vec<&str>, AllocError>
     ensures { IfOk result (λ keys. map (λ key. key.now) keys.items ≡ cited_keys citations.now) }
 {
@@ -54,14 +55,14 @@ pub fn keys(alloc: Global, citations: &Citations) -> Result<Vec<&str>, AllocErro
     Ok(keys)
 }
 
-// Whether one of both holds.
+// Returns whether one of two marks is true.
 fn is_either(one: bool, other: bool) -> bool
     ensures { result ≡ (one || other) }
 {
     one || other
 }
 
-// What holds at either.
+// Returns, for each position that both lists have, whether one of the two marks is true.
 fn either(alloc: Global, first: &[bool], second: &[bool]) -> Result<Vec<bool>, AllocError>
     ensures { IfOk result (λ marks. marks.items ≡ either_mark first.now second.now) }
 {
@@ -72,7 +73,7 @@ fn either(alloc: Global, first: &[bool], second: &[bool]) -> Result<Vec<bool>, A
     Ok(marks)
 }
 
-// The finding of a citation that no file has an entry for.
+// Returns the finding of a citation for which no file has an entry.
 fn missing_entry(alloc: Global, citation: &Citation) -> Result<Finding, AllocError>
     ensures { IfOk result (λ finding. finding ≡ missing_finding citation.now) }
 {
@@ -84,7 +85,7 @@ fn missing_entry(alloc: Global, citation: &Citation) -> Result<Finding, AllocErr
     })
 }
 
-// The finding of an entry that the document doesn't cite.
+// Returns the finding of an entry that the document doesn't cite, at its key.
 fn unused_entry(alloc: Global, key: &Spanned<&str>) -> Result<Finding, AllocError>
     ensures { IfOk result (λ finding. finding ≡ unused_finding (part_of key.now)) }
 {
@@ -96,7 +97,7 @@ fn unused_entry(alloc: Global, key: &Spanned<&str>) -> Result<Finding, AllocErro
     })
 }
 
-// The findings of entries that the document doesn't cite.
+// Returns the findings of the entries with these keys, which the document doesn't cite.
 fn unused_entries(alloc: Global, keys: &[Spanned<&str>]) -> Result<Vec<Finding>, AllocError>
     ensures { IfOk result (λ found. found.items ≡ map unused_finding (map part_of keys.now)) }
 {
@@ -107,7 +108,7 @@ fn unused_entries(alloc: Global, keys: &[Spanned<&str>]) -> Result<Vec<Finding>,
     Ok(found)
 }
 
-// Adds the finding of a citation, unless a file has an entry for it.
+// Appends the finding of a citation unless a file has an entry for it.
 fn push_unless_known(
     alloc: Global,
     found: &mut Vec<Finding>,
@@ -123,7 +124,7 @@ fn push_unless_known(
     Ok(())
 }
 
-// The findings of the citations without a mark.
+// Returns the findings of the citations whose mark is false.
 fn unmarked(
     alloc: Global,
     citations: &[Citation],
@@ -139,7 +140,8 @@ fn unmarked(
 }
 
 impl<'t> Document<'t> {
-    /// The document of the file with this name and text.
+    /// Returns the document whose .aux or .bcf file has this name and text, before any file is compared. `has_unused` requests
+    /// the findings of entries that it doesn't cite.
     pub fn new(
         alloc: Global,
         name: &'t str,
@@ -159,7 +161,7 @@ impl<'t> Document<'t> {
         })
     }
 
-    /// The file of the document.
+    /// Returns the file of the document, for the positions of its findings.
     pub fn origin(&self) -> Origin<'t>
         ensures name { result.name.now ≡ self.now.name.now }
         ensures bytes { result.bytes.now ≡ self.now.text.now }
@@ -170,8 +172,8 @@ impl<'t> Document<'t> {
         }
     }
 
-    /// Notes which citations have entries in a file, and answers which of its entries the document doesn't cite, where these are
-    /// asked for.
+    /// Marks the citations for which a file with this text has an entry. Returns the findings of its entries that the document
+    /// doesn't cite, or none if they aren't requested or the document cites all entries.
     pub fn compare(&mut self, alloc: Global, text: &str) -> Result<Vec<Finding>, AllocError>
         ensures same { OnOk result (IsSameDocument self.old self.new) }
         ensures known { OnOk result (AreKnownWith text.now self.old self.new.known.items) }
@@ -182,7 +184,7 @@ impl<'t> Document<'t> {
         Ok(unused)
     }
 
-    // Which citations have entries in the files so far, and this one.
+    // Returns the marks of the citations for which the files so far or this one have an entry.
     fn known_with(&self, alloc: Global, text: &str) -> Result<Vec<bool>, AllocError>
         ensures { IfOk result (λ known. AreKnownWith text.now self.now known.items) }
     {
@@ -191,14 +193,14 @@ impl<'t> Document<'t> {
         either(alloc, &self.known, &here)
     }
 
-    // Whether the entries are asked for that the document doesn't cite, and may be there.
+    // Returns whether entries that the document doesn't cite are requested, and the document doesn't cite all entries.
     fn asks_for_unused(&self) -> bool
         ensures { result ≡ (self.now.has_unused && not self.now.citations.all) }
     {
         self.has_unused && !self.citations.all
     }
 
-    // The entries of a file that the document doesn't cite.
+    // Returns the findings of the entries of a file that the document doesn't cite.
     fn uncited_entries(&self, alloc: Global, text: &str) -> Result<Vec<Finding>, AllocError>
         ensures { IfOk result (λ found. AreUncited text.now (cited_keys self.now.citations) found.items) }
     {
@@ -208,7 +210,7 @@ impl<'t> Document<'t> {
         Ok(found)
     }
 
-    // The entries of a file that the document doesn't cite, where these are asked for.
+    // Returns the same findings if they are requested and the document doesn't cite all entries, otherwise none.
     fn unused(&self, alloc: Global, text: &str) -> Result<Vec<Finding>, AllocError>
         ensures { IfOk result (λ found. AreUnused self.now text.now found.items) }
     {
@@ -219,7 +221,7 @@ impl<'t> Document<'t> {
         }
     }
 
-    /// The citations that no file has an entry for.
+    /// Returns the findings of the citations for which no file so far has an entry.
     pub fn missing(&self, alloc: Global) -> Result<Vec<Finding>, AllocError>
         ensures { IfOk result (λ found. found.items ≡ unmarked_findings self.now.citations.keys.items self.now.known.items) }
     {

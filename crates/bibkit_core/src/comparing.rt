@@ -1,4 +1,4 @@
-//! What is wrong in files, and what a document cites, as a task.
+//! The task that prints the findings of files, and compares their entries with the citations of a document.
 
 ghost use Rattle.std.specs.Prelude.{◌≡◌};
 ghost use Rattle.bibkit_core.specs.Marks.{EndsComparing, PrintsComparing, comparing_begins};
@@ -12,7 +12,7 @@ use crate::request::Lint;
 use crate::task::{End, Task};
 use std::alloc::{AllocError, Global};
 
-/// The findings that are asked for, with those of what a document cites.
+/// Prints the selected findings of files, and those of the citations of a document.
 #[derive(Drop)]
 pub struct Comparing<'r, 'a> {
     linting: Linting<'r, 'a>,
@@ -20,7 +20,7 @@ pub struct Comparing<'r, 'a> {
 }
 
 impl<'r, 'a> Comparing<'r, 'a> {
-    /// These findings, of which none is printed yet.
+    /// Returns the task before the first file.
     pub fn new(lint: &'r Lint<'a>, document: Document<'r>) -> Self
         ensures linting { BeginsLinting lint.now result.linting }
         ensures document { result.document ≡ document.entry }

@@ -1,4 +1,4 @@
-//! How many there are of what, as a task.
+//! The task that counts the entries, types, fields, years and findings of files.
 
 ghost use Rattle.std.specs.Prelude.{◌≡◌, [], ◌∷◌, ◌++◌, ℕ, List, map, IfOk, OnOk};
 ghost use Rattle.std.specs.Char.{is_ascii_digit};
@@ -20,7 +20,7 @@ use bib_findings::findings::findings;
 use biblatex::{Pair, RawBibliography, RawChunk, RawEntry, Spanned};
 use std::alloc::{AllocError, Global};
 
-/// What is counted.
+/// The counts of the files so far.
 #[derive(Drop)]
 pub struct Counting {
     entries: u64,
@@ -30,14 +30,14 @@ pub struct Counting {
     findings: Counts,
 }
 
-// A name in lowercase.
+// Returns a name with its ASCII letters in lowercase.
 fn lowercase(alloc: Global, name: &str) -> Result<String, AllocError>
     ensures { IfOk result (λ lowered. string_bytes lowered ≡ str_to_ascii_lowercase name.now) }
 {
     name.to_ascii_lowercase(alloc)
 }
 
-// The last field of this name, in any ASCII case.
+// Returns the last field with this name, in any ASCII case.
 fn last_named<'f, 's>(fields: &'f [Pair<'s>], name: &str) -> Option<&'f Pair<'s>>
     ensures { option_map (λ f. field_of f.now) result ≡ last_named (map field_of fields.now) name.now }
 {
@@ -47,7 +47,7 @@ fn last_named<'f, 's>(fields: &'f [Pair<'s>], name: &str) -> Option<&'f Pair<'s>
         .find(|field| field.key.v.eq_ignore_ascii_case(name))
 }
 
-// The text of an element, without the white space around it; none where it is an abbreviation.
+// Returns the text of a literal without the white space around it, or `None` for an abbreviation.
 fn literal_text<'s>(piece: &Spanned<RawChunk<'s>>) -> Option<&'s str>
     ensures { option_map (λ text. text.now) result ≡ spec.trimmed_literal (piece_of piece.now) }
 {
@@ -57,7 +57,7 @@ fn literal_text<'s>(piece: &Spanned<RawChunk<'s>>) -> Option<&'s str>
     }
 }
 
-// The text that elements of a value begin with.
+// Returns the trimmed text of the first piece of a value, if it is a literal.
 fn first_text<'s>(pieces: &[Spanned<RawChunk<'s>>]) -> Option<&'s str>
     ensures { option_map (λ text. text.now) result ≡ spec.first_text (map piece_of pieces.now) }
 {
@@ -67,7 +67,7 @@ fn first_text<'s>(pieces: &[Spanned<RawChunk<'s>>]) -> Option<&'s str>
     }
 }
 
-// The text that the value of the last field of this name begins with.
+// Returns the trimmed text of the first piece of the last field with this name, if it is a literal.
 fn text_of_last<'s>(fields: &[Pair<'s>], name: &str) -> Option<&'s str>
     ensures { option_map (λ text. text.now) result ≡ spec.text_of_last (map field_of fields.now) name.now }
 {
@@ -77,7 +77,7 @@ fn text_of_last<'s>(fields: &[Pair<'s>], name: &str) -> Option<&'s str>
     }
 }
 
-// The text that a date begins with, or else a year.
+// Returns that text of the field `date`, or that of the field `year` if the former is `None`.
 fn date_text<'s>(fields: &[Pair<'s>]) -> Option<&'s str>
     ensures { option_map (λ text. text.now) result ≡ spec.text_of_date (map field_of fields.now) }
 {
@@ -87,7 +87,7 @@ fn date_text<'s>(fields: &[Pair<'s>]) -> Option<&'s str>
     }
 }
 
-// What stands before a hyphen.
+// Returns the text before the first hyphen, or the whole text without one.
 fn before_hyphen(text: &str) -> &str
     ensures { result.now ≡ spec.before_hyphen text.now }
 {
@@ -97,7 +97,7 @@ fn before_hyphen(text: &str) -> &str
     }
 }
 
-// What stands before a slash.
+// Returns the text before the first slash, or the whole text without one.
 fn before_slash(text: &str) -> &str
     ensures { result.now ≡ spec.before_slash text.now }
 {
@@ -107,21 +107,21 @@ fn before_slash(text: &str) -> &str
     }
 }
 
-// Whether all bytes of a text are digits.
+// Returns whether all bytes of a text are ASCII digits.
 fn are_digits(text: &str) -> bool
     ensures { result ≡ list_all is_ascii_digit text.now }
 {
     text.as_bytes().iter().all(|byte| byte.is_ascii_digit())
 }
 
-// Whether a text is made of digits.
+// Returns whether a text is one or more ASCII digits.
 fn is_number(text: &str) -> bool
     ensures { result ≡ spec.is_number text.now }
 {
     !text.is_empty() && are_digits(text)
 }
 
-// The year with which a text begins.
+// Returns the text before the first hyphen or slash if it is one or more digits.
 fn leading_year(text: &str) -> Option<&str>
     ensures { option_map (λ year. year.now) result ≡ spec.leading_year text.now }
 {
@@ -129,7 +129,8 @@ fn leading_year(text: &str) -> Option<&str>
     if is_number(year) { Some(year) } else { None }
 }
 
-// The year of an entry with these fields: that with which its date begins, or else its year.
+// Returns the year of an entry with these fields. The field `year` is used only if `date` is missing or doesn't begin with a
+// literal, and not if the text of `date` doesn't begin with a year.
 fn year_of<'s>(fields: &[Pair<'s>]) -> Option<&'s str>
     ensures { option_map (λ year. year.now) result ≡ spec.year_in (map field_of fields.now) }
 {
@@ -139,7 +140,7 @@ fn year_of<'s>(fields: &[Pair<'s>]) -> Option<&'s str>
     }
 }
 
-// Counts the names of fields.
+// Counts the names of fields in lowercase.
 fn count_fields(alloc: Global, counts: &mut Counts, fields: &[Pair<'_>]) -> Result<(), AllocError>
     ensures { OnOk result (AddsNames (spec.lowercase_names (map field_of fields.now)) counts.old counts.new) }
 {
@@ -149,7 +150,7 @@ fn count_fields(alloc: Global, counts: &mut Counts, fields: &[Pair<'_>]) -> Resu
     Ok(())
 }
 
-// Counts the year of an entry with these fields, where it has one.
+// Counts the year of an entry with these fields, if it has one.
 fn count_year(alloc: Global, counts: &mut Counts, fields: &[Pair<'_>]) -> Result<(), AllocError>
     ensures { OnOk result (AddsNames (spec.years_in (map field_of fields.now)) counts.old counts.new) }
 {
@@ -163,7 +164,7 @@ fn count_year(alloc: Global, counts: &mut Counts, fields: &[Pair<'_>]) -> Result
 }
 
 impl Counting {
-    /// Nothing counted yet.
+    /// Returns the task before the first file.
     pub fn new(alloc: Global) -> Self
         ensures { AreCountsOf none_counted result }
     {
@@ -176,7 +177,7 @@ impl Counting {
         }
     }
 
-    // Counts an entry.
+    // Counts an entry, its type, its fields and its year.
     fn add_entry(&mut self, alloc: Global, entry: &Spanned<RawEntry<'_>>) -> Result<(), AllocError>
         ensures { OnOk result (AddsEntries (entry_reading_of entry.now ∷ []) self.old self.new) }
     {
@@ -201,7 +202,7 @@ impl Counting {
         Ok(())
     }
 
-    // Counts the entries of a text.
+    // Counts the entries that can be parsed of a text.
     fn add_text(&mut self, alloc: Global, text: &str) -> Result<(), AllocError>
         ensures { OnOk result (AddsTextEntries text.now self.old self.new) }
     {
@@ -210,7 +211,7 @@ impl Counting {
         Ok(())
     }
 
-    // Counts findings.
+    // Counts findings by their codes.
     fn add_found(&mut self, alloc: Global, found: &[Finding]) -> Result<(), AllocError>
         ensures { OnOk result (AddsFindings found.now self.old self.new) }
     {

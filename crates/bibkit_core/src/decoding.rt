@@ -1,4 +1,4 @@
-//! The text of a file.
+//! Decodes the bytes of a file.
 
 ghost use Rattle.std.specs.Prelude.{IfOk};
 ghost use Rattle.bibkit_core.specs.Tasks.{AreDecoded};
@@ -6,7 +6,7 @@ ghost use Rattle.bibkit_core.specs.Tasks.{AreDecoded};
 use biblatex::{Decoded, decode};
 use std::alloc::{AllocError, Global};
 
-/// The text of a file's bytes: UTF-8 where they are, and else Windows-1252.
+/// Decodes the bytes of a file: as UTF-8 without a byte order mark, or as Windows-1252 if they aren't UTF-8.
 pub fn decoded(alloc: Global, bytes: &[u8]) -> Result<Decoded, AllocError>
     ensures { IfOk result (AreDecoded bytes.now) }
 {

@@ -1,4 +1,4 @@
-//! Entries of files, or their keys, as a task.
+//! The task that prints entries of files, or their keys.
 
 ghost use Rattle.std.specs.Prelude.{◌≡◌, ◌||◌, ◌==◌, length, not};
 ghost use Rattle.bibkit_core.specs.Tasks.{BeginsEntries, entries_begins, entries_ends, entries_prints};
@@ -10,7 +10,7 @@ use bib_excerpts::excerpts::answer;
 use bib_excerpts::request::Request as Excerpts;
 use std::alloc::{AllocError, Global};
 
-/// The entries that are asked for.
+/// Prints the requested entries of files.
 #[derive(Drop)]
 pub struct Entries<'r, 'a> {
     request: &'r Excerpts<'a>,
@@ -18,7 +18,7 @@ pub struct Entries<'r, 'a> {
 }
 
 impl<'r, 'a> Entries<'r, 'a> {
-    /// These entries, of which none is found yet.
+    /// Returns the task before the first file.
     pub fn new(request: &'r Excerpts<'a>) -> Self
         ensures { BeginsEntries request.now result }
     {
@@ -29,7 +29,7 @@ impl<'r, 'a> Entries<'r, 'a> {
     }
 }
 
-// Whether entries are looked for, so that it matters whether there are any.
+// Returns whether the request is a search, which fails if it finds nothing. Each request is one, except the list of all keys.
 fn is_search(request: &Excerpts<'_>) -> bool
     ensures { result ≡ spec.is_search request.now }
 {
@@ -39,14 +39,14 @@ fn is_search(request: &Excerpts<'_>) -> bool
     }
 }
 
-// Whether something is found, with what is printed of one file more.
+// Returns whether something is found so far, if `text` is the output for the next file.
 fn is_found_with(is_found: bool, text: &str) -> bool
     ensures { result ≡ (is_found || not (length text.now == 0)) }
 {
     is_found || !text.is_empty()
 }
 
-// The status: 1 where entries are looked for and none is found.
+// Returns the status: 1 for a search that found nothing, otherwise 0.
 fn entries_status(request: &Excerpts<'_>, is_found: bool) -> u8
     ensures { result ≡ spec.entries_status request.now is_found }
 {

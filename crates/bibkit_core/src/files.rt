@@ -1,26 +1,26 @@
-//! What files are read from.
+//! The trait for reading files.
 
 ghost use Rattle.std.specs.Prelude.{◌≡◌, ◌≢◌, ℕ, List, Option, Some, None, IfOk, IfErr};
 
 use std::alloc::{AllocError, Global};
 
-/// Why a file could not be read.
+/// The error of reading a file.
 #[derive(Debug, Clone, Copy, PartialEq, Eq)]
 pub enum FileError {
-    /// There is no file of this name.
+    /// No file has this name.
     NotFound,
-    /// The file may not be read.
+    /// Permission is denied.
     Denied,
-    /// It is a folder.
+    /// The file is a folder.
     Folder,
-    /// Reading it failed.
+    /// Reading the file failed for another reason.
     Failed,
-    /// There was no memory for it.
+    /// Out of memory.
     OutOfMemory,
 }
 
 impl FileError {
-    /// The error, unless it is that there was no memory.
+    /// Returns `AllocError` for out of memory, and `Ok` with any other error.
     pub fn unless_out_of_memory(self) -> Result<Self, AllocError>
         ensures { IfOk result (λ e. (e ≡ self) × (e ≢ FileError.OutOfMemory)) }
     {
@@ -30,7 +30,7 @@ impl FileError {
         }
     }
 
-    /// What is said of it.
+    /// Returns the message of the error.
     pub fn text(self) -> &'static str {
         match self {
             Self::NotFound => "there is no such file",
@@ -42,12 +42,12 @@ impl FileError {
     }
 }
 
-/// What files are read from.
+/// Reads files by their names.
 pub trait Files {
-    // Whether one call with this name that gave these bytes, or none, may lead from the first state to the second.
+    // Whether one call with this name may lead from the first state to the second and return these bytes, or an error (`None`).
     ghost reads: { Self → List ℕ → Option (List ℕ) → Self → Type 0 };
 
-    /// All the bytes of the file of this name; `-` is standard input.
+    /// Returns all bytes of the file with this name. `-` is standard input.
     fn read(&mut self, alloc: Global, name: &str) -> Result<Vec<u8>, FileError>
         ensures given { IfOk result (λ bytes. reads self.old name.now (Some bytes.items) self.new) }
         ensures failed { IfErr result (λ e. e ≢ FileError.OutOfMemory →

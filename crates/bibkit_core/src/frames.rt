@@ -1,4 +1,4 @@
-//! Findings for a terminal: with colours, and with the line of the file.
+//! Prints a finding for a terminal: in colours, and with the line of the file.
 
 ghost use Rattle.std.specs.Prelude.{◌≡◌, ◌≤◌, length, IfOk};
 ghost use Rattle.std.specs.String.{string_bytes};
@@ -8,14 +8,14 @@ ghost use Rattle.bibkit_core.specs.Printed.{IsFramed};
 
 use bib_findings::codes::Severity;
 use bib_findings::finding::Finding;
-use bib_lines::positions::Position;
+use bib_source::positions::Position;
 use std::alloc::{AllocError, Global};
 use std::str::from_utf8;
 
-// How many bytes of a line are shown, at most, on each side of the place that is marked.
+// The maximum number of bytes of a line that are shown on each side of the mark.
 const MOST_SHOWN: usize = 200;
 
-// What turns the colour of a severity on.
+// Returns the escape sequence that sets the colour of a severity.
 fn color(severity: Severity) -> &'static str
     ensures { result.now ≡ spec.color severity }
 {
@@ -25,7 +25,7 @@ fn color(severity: Severity) -> &'static str
     }
 }
 
-// What stands before a place in its line, as far as it is shown.
+// Returns the bytes of the line before the offset `at`, at most `MOST_SHOWN`.
 fn before(bytes: &[u8], at: usize) -> &[u8]
     requires { at ≤ length bytes.now }
 {
@@ -36,7 +36,7 @@ fn before(bytes: &[u8], at: usize) -> &[u8]
     }
 }
 
-// What stands after a place in its line, as far as it is shown.
+// Returns the bytes of the line from the offset `at` on, at most `MOST_SHOWN`.
 fn after(bytes: &[u8], at: usize) -> &[u8]
     requires { at ≤ length bytes.now }
 {
@@ -48,7 +48,7 @@ fn after(bytes: &[u8], at: usize) -> &[u8]
     }
 }
 
-// The text that bytes begin with.
+// Returns the longest UTF-8 text at the start of the bytes.
 fn text_of(bytes: &[u8]) -> &str {
     match from_utf8(bytes) {
         Ok(text) => text,
@@ -56,14 +56,15 @@ fn text_of(bytes: &[u8]) -> &str {
     }
 }
 
-// The text that bytes end with, where a character may be cut in two at their start.
+// Skips the end of a character that was cut at the start of the bytes, and returns the longest UTF-8 text after it.
 fn end_of(bytes: &[u8]) -> &str {
     let begins = |byte: &u8| *byte < 0x80 || *byte >= 0xC0;
     let cut = bytes.iter().position(begins).unwrap_or(0);
     text_of(bytes.get(cut..).unwrap_or(&[]))
 }
 
-// A character as it is shown: one that would move the cursor or change colours is replaced.
+// Returns the character to print: a control character other than a tab is replaced, since it could move the cursor or change
+// colours.
 fn shown(character: char) -> char {
     if character == '\t' || !character.is_control() {
         character
@@ -72,12 +73,13 @@ fn shown(character: char) -> char {
     }
 }
 
-// White space as wide as a character.
+// Returns white space for a character: a tab for a tab, otherwise a space.
 fn blank(character: char) -> char {
     if character == '\t' { '\t' } else { ' ' }
 }
 
-// The line of the file in which a place stands, and one that marks the place.
+// Returns the line that contains the offset `at`, cut to `MOST_SHOWN` bytes on each side, and a line with a mark under that
+// offset.
 fn frame(alloc: Global, bytes: &[u8], at: usize) -> Result<String, AllocError> {
     let at = at.min(bytes.len());
     let before = end_of(before(bytes, at));
@@ -91,14 +93,14 @@ fn frame(alloc: Global, bytes: &[u8], at: usize) -> Result<String, AllocError> {
     Ok(text)
 }
 
-// Where a finding is, in bold type.
+// Returns the file name, the line and the column in bold.
 fn colored_place(alloc: Global, name: &str, place: Position) -> Result<String, AllocError>
     ensures { IfOk result (λ text. string_bytes text ≡ spec.colored_place name.now place) }
 {
     format!(in alloc; "\x1b[1m{name}:{}:{}:\x1b[0m ", place.line, place.column)
 }
 
-// What a finding is, in the colour of its severity.
+// Returns the severity in its colour, the message and the code.
 fn colored_text(alloc: Global, finding: &Finding) -> Result<String, AllocError>
     ensures { IfOk result (λ text. string_bytes text ≡ spec.colored_text finding.now) }
 {
@@ -112,7 +114,7 @@ fn colored_text(alloc: Global, finding: &Finding) -> Result<String, AllocError>
     )
 }
 
-// The line of a finding at this position of the file of this name, in colours.
+// Returns the line of a finding in colours.
 fn colored_line(
     alloc: Global,
     name: &str,
@@ -127,7 +129,8 @@ fn colored_line(
     Ok(line)
 }
 
-/// A finding at this position of the file of this name, in colours, and under it the line of the file with a mark.
+/// Returns the line of a finding at the position `place` of the file `name`, in colours. Below it is the line of the file, which
+/// is found in `bytes`, with a mark.
 pub fn framed_finding(
     alloc: Global,
     name: &str,

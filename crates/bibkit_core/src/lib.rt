@@ -1,10 +1,16 @@
-//! The engine of the program `bibkit`: what is printed of files for each command, and the status.
+//! Runs the commands of `bibkit` that print findings, entries and counts, and replaces files safely.
 //!
-//! `request` says what can be asked for, `files` what files are read from. A command is a `task`, which says what is printed of
-//! each file: `linting` of findings, `entries` of entries, `counting` of counts; `run` reads file after file, and prints it.
-//! `settings` says what is asked for by a command line and by a project's file, `selection` which findings are; `lint` prints
-//! them, each as a line (`lines`, with colours `frames`) or as an object of JSON (`objects`), and counts them (`tally`). `cited`
-//! compares what a document cites with the entries of files.
+//! `request` contains the requests, and `files` the trait for reading files. A command is a `task`, which returns the text to
+//! print for each file. `linting` prints findings, `entries` prints entries, `counting` prints counts, and `comparing` prints
+//! findings and checks the citations of a document with `cited`. `run` reads the files in turn and prints those texts.
+//!
+//! `selection` selects findings by their codes. `lint` prints the selected ones, each as a line (`lines`), as a line in colours
+//! (`frames`) or as a JSON object (`objects`), and counts them (`tally`). `tables` prints counts. `messages` prints messages and
+//! progress.
+//!
+//! `folder` specifies each call on the files of a folder, and the contents that a crash may leave. `replacing` replaces the text
+//! of a file as a whole: it writes a new file beside the old one, and renames it. `laws` proves that the contracts of `folder`
+//! can be met: it has disks on which each call succeeds.
 #![tactic(auto)]
 
 mod cited;
@@ -13,16 +19,18 @@ mod counting;
 mod decoding;
 mod entries;
 pub mod files;
+pub mod folder;
 mod frames;
+pub mod laws;
 mod lines;
 mod lint;
 pub mod linting;
 mod messages;
 mod objects;
+pub mod replacing;
 pub mod request;
 pub mod run;
 pub mod selection;
-pub mod settings;
 mod tables;
 mod tally;
 pub mod task;

@@ -1,14 +1,15 @@
-//! Findings as lines.
+//! Prints a finding as a line.
 
 ghost use Rattle.std.specs.Prelude.{◌≡◌, IfOk};
 ghost use Rattle.std.specs.String.{string_bytes};
 ghost use Rattle.bibkit_core.specs.Printed as spec;
 
 use bib_findings::finding::Finding;
-use bib_lines::positions::Position;
+use bib_source::positions::Position;
 use std::alloc::{AllocError, Global};
 
-/// The line of a finding at this position of the file of this name.
+/// Returns the line of a finding at the position `place` of the file `name`, with a line feed. It has the form
+/// `FILE:LINE:COLUMN: error|warning: TEXT [CODE]`.
 pub fn finding_line(
     alloc: Global,
     name: &str,

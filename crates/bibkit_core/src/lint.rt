@@ -1,4 +1,4 @@
-//! What is printed of findings.
+//! Prints the selected findings of files, and counts them.
 
 ghost use Rattle.std.specs.Prelude.{◌≡◌, OnOk, IfOk};
 ghost use Rattle.std.specs.String.{string_bytes};
@@ -16,30 +16,30 @@ use crate::tally::Tally;
 use bib_findings::codes::Code;
 use bib_findings::finding::Finding;
 use bib_findings::findings::findings;
-use bib_lines::positions::{Position, Positions};
+use bib_source::positions::{Position, Positions};
 use bib_text::text::Text;
 use biblatex::Decoded;
 use std::alloc::{AllocError, Global};
 
-/// A file from which findings are.
+/// The file that findings refer to.
 #[derive(Clone, Copy)]
 pub struct Origin<'a> {
-    /// Its name.
+    /// The name of the file.
     pub name: &'a str,
-    /// Its bytes, or its text.
+    /// The bytes in which the spans of the findings are offsets: those of the file, or of its decoded text.
     pub bytes: &'a [u8],
 }
 
-/// Findings that are printed.
+/// The output so far.
 #[derive(Drop)]
 pub struct Printed {
-    /// What is printed of them.
+    /// The text to print.
     pub text: String,
-    /// How many there are, with those before them.
+    /// The number of all findings so far, including those before `text`.
     pub tally: Tally,
 }
 
-// What is printed of a finding. The count is that of those before it.
+// Returns the text of a finding. `tally` counts the findings before it.
 fn shown(
     alloc: Global,
     style: Style,
@@ -58,7 +58,7 @@ fn shown(
     }
 }
 
-// Prints a finding.
+// Appends the text of a finding to `printed`, and counts it.
 fn print_finding(
     alloc: Global,
     printed: &mut Printed,
@@ -75,7 +75,7 @@ fn print_finding(
     Ok(())
 }
 
-/// Prints those findings of a file that are asked for.
+/// Appends the selected findings among `found` to `printed`, and counts them.
 pub fn print_findings(
     alloc: Global,
     printed: &mut Printed,
@@ -96,7 +96,7 @@ pub fn print_findings(
     Ok(())
 }
 
-// The finding of a byte with which no character of UTF-8 begins.
+// Returns the finding of the first byte that isn't UTF-8.
 fn unread_bytes(alloc: Global, at: usize) -> Result<Finding, AllocError>
     ensures { IfOk result (λ finding. finding ≡ unread_finding at) }
 {
@@ -110,7 +110,7 @@ fn unread_bytes(alloc: Global, at: usize) -> Result<Finding, AllocError>
     })
 }
 
-// Prints that a file isn't UTF-8, where that is asked for.
+// Appends the finding that a file isn't UTF-8, if `invalid` is an offset and the code is selected.
 fn print_unread(
     alloc: Global,
     printed: &mut Printed,
@@ -128,8 +128,8 @@ fn print_unread(
     print_findings(alloc, printed, lint, origin, &[unread])
 }
 
-/// Prints what is wrong with a file that is asked for: first the byte from which on it isn't UTF-8, and then the findings of its
-/// text.
+/// Appends the selected findings of a file to `printed`, and counts them: first the finding that it isn't UTF-8, then those of
+/// its decoded text. The position of the first is counted in the file's bytes, and that of the others in the decoded text.
 pub fn print_file(
     alloc: Global,
     printed: &mut Printed,

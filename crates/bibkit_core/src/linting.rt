@@ -1,4 +1,4 @@
-//! What is wrong in files, as a task.
+//! The task that prints the findings of files.
 
 ghost use Rattle.std.specs.Prelude.{◌≡◌, [], IfOk};
 ghost use Rattle.std.specs.String.{string_bytes};
@@ -15,7 +15,7 @@ use crate::task::{End, Task};
 use bib_findings::finding::Finding;
 use std::alloc::{AllocError, Global};
 
-/// The findings that are asked for.
+/// Prints the selected findings of files.
 #[derive(Drop)]
 pub struct Linting<'r, 'a> {
     lint: &'r Lint<'a>,
@@ -23,7 +23,7 @@ pub struct Linting<'r, 'a> {
 }
 
 impl<'r, 'a> Linting<'r, 'a> {
-    /// These findings, of which none is printed yet.
+    /// Returns the task before the first file.
     pub fn new(lint: &'r Lint<'a>) -> Self
         ensures { BeginsLinting lint.now result }
     {
@@ -33,7 +33,7 @@ impl<'r, 'a> Linting<'r, 'a> {
         }
     }
 
-    // Nothing printed yet, after the findings so far.
+    // Returns an empty output, with the counts of the findings so far.
     fn nothing(&self, alloc: Global) -> Printed
         ensures text { string_bytes result.text ≡ [] }
         ensures tally { result.tally ≡ self.now.tally }
@@ -44,7 +44,7 @@ impl<'r, 'a> Linting<'r, 'a> {
         }
     }
 
-    // Keeps how many findings there are, and answers what is printed of them.
+    // Stores the counts of `printed`, and returns its text.
     fn kept(&mut self, printed: Printed) -> String
         ensures text { string_bytes result ≡ string_bytes printed.text }
         ensures tally { self.new.tally ≡ printed.tally }
@@ -55,7 +55,7 @@ impl<'r, 'a> Linting<'r, 'a> {
         text
     }
 
-    /// What is printed of further findings that are asked for.
+    /// Returns the text of the selected findings among `found`, and counts them.
     pub fn print(
         &mut self,
         alloc: Global,
@@ -72,7 +72,7 @@ impl<'r, 'a> Linting<'r, 'a> {
     }
 }
 
-// What stands before findings.
+// Returns the text before all findings.
 fn opening(style: Style) -> &'static str
     ensures { result.now ≡ spec.opening style }
 {
@@ -82,7 +82,7 @@ fn opening(style: Style) -> &'static str
     }
 }
 
-// What stands after findings.
+// Returns the text after all findings: the counts, or the end of the JSON array.
 fn closing(alloc: Global, style: Style, tally: Tally) -> Result<String, AllocError>
     ensures { IfOk result (λ text. string_bytes text ≡ spec.closing style tally) }
 {
@@ -92,7 +92,7 @@ fn closing(alloc: Global, style: Style, tally: Tally) -> Result<String, AllocErr
     }
 }
 
-// The status: 1 where there is a finding.
+// Returns the status: 1 if there are findings, otherwise 0.
 fn lint_status(tally: Tally) -> u8
     ensures { result ≡ spec.lint_status tally }
 {

@@ -1,16 +1,16 @@
-//! Messages, and which file is at work.
+//! Prints messages, and the progress of a run.
 
 use crate::files::FileError;
 use biblatex::Sink;
 use std::alloc::{AllocError, Global};
 
-// How many characters of a file's name are shown.
+// The maximum number of characters of a file name that are shown.
 const MOST_SHOWN: usize = 60;
 
-// What goes to the start of the line, and clears it.
+// Moves the cursor to the start of the line, and clears the line.
 const CLEAR: &str = "\r\x1b[K";
 
-/// Where messages go, and which file is at work, where that is shown.
+/// The sink for messages, and the progress of a run.
 #[derive(Drop)]
 pub struct Messages<M> {
     sink: M,
@@ -20,7 +20,7 @@ pub struct Messages<M> {
 }
 
 impl<M: Sink> Messages<M> {
-    /// Messages of a run over so many files.
+    /// Returns the messages of a run over `total` files. Progress is shown if `has_progress`.
     pub fn new(sink: M, has_progress: bool, total: usize) -> Self {
         Messages {
             sink,
@@ -30,7 +30,7 @@ impl<M: Sink> Messages<M> {
         }
     }
 
-    /// Shows that the next file is at work.
+    /// Shows the name of the next file, and its number, if progress is shown.
     pub fn begin(&mut self, alloc: Global, name: &str) -> Result<(), AllocError> {
         self.begun = self.begun.saturating_add(1);
         if self.has_progress {
@@ -51,14 +51,14 @@ impl<M: Sink> Messages<M> {
         Ok(())
     }
 
-    /// Clears what is shown of the file at work.
+    /// Clears the line that shows progress.
     pub fn clear(&mut self) {
         if self.has_progress {
             let _ = self.sink.write_str(CLEAR);
         }
     }
 
-    /// Says why a file could not be read.
+    /// Prints the error of a file that could not be read.
     pub fn unread(
         &mut self,
         alloc: Global,
@@ -71,7 +71,7 @@ impl<M: Sink> Messages<M> {
         Ok(())
     }
 
-    /// Says what ended the run.
+    /// Prints the message that ends the run.
     pub fn end(&mut self, text: &str) {
         self.clear();
         let _ = self.sink.write_str(text);

@@ -1,29 +1,29 @@
-//! Findings as objects of JSON.
+//! Prints a finding as a JSON object.
 
 ghost use Rattle.std.specs.Prelude.{◌≡◌, IfOk};
 ghost use Rattle.std.specs.String.{string_bytes};
 ghost use Rattle.bibkit_core.specs.Printed as spec;
 
 use bib_findings::finding::Finding;
-use bib_lines::positions::Position;
+use bib_source::positions::Position;
 use serde_json::Value;
 use std::alloc::{AllocError, Global};
 
-// A text in JSON, with its quotes.
+// Returns a text as a JSON string with its quotes.
 fn json_text(alloc: Global, text: &str) -> Result<String, AllocError>
     ensures { IfOk result (λ json. string_bytes json ≡ spec.json_text text.now) }
 {
     Value::String(String::from_str(alloc, text)?).to_string(alloc)
 }
 
-// What stands before an object: a comma where it isn't the first.
+// Returns the text before an object: a line feed, after a comma unless the object is the first.
 fn separator(is_first: bool) -> &'static str
     ensures { result.now ≡ spec.separator is_first }
 {
     if is_first { "\n" } else { ",\n" }
 }
 
-// The members of an object that say where a finding is, and what.
+// Returns the members for the line, the column, the severity and the code of a finding.
 fn place_members(alloc: Global, place: Position, finding: &Finding) -> Result<String, AllocError>
     ensures { IfOk result (λ text. string_bytes text ≡ spec.place_members place finding.now) }
 {
@@ -36,7 +36,8 @@ fn place_members(alloc: Global, place: Position, finding: &Finding) -> Result<St
     )
 }
 
-/// The object of a finding at this position of the file of this name, after what separates it from those before it.
+/// Returns the object of a finding at the position `place` of the file `name`, on a new line. A comma precedes it unless
+/// `is_first`.
 pub fn finding_object(
     alloc: Global,
     is_first: bool,

@@ -1,62 +1,62 @@
-//! What the program is asked for.
+//! The requests that the program runs.
 
 use crate::selection::Selection;
 use bib_excerpts::request::Request as Excerpts;
 use bib_findings::codes::Code;
 
-/// How findings are printed.
+/// The style in which findings are printed.
 #[derive(Debug, Clone, Copy, PartialEq, Eq)]
 pub enum Style {
-    /// A line for each, and one with the counts.
+    /// A line for each finding, and a line with the counts.
     Plain,
-    /// The same with colours, and after each line the line of the file, with a mark under the column.
+    /// The same in colours. Below the line of each finding is the line of the file, with a mark under the column.
     Colored,
-    /// An object of JSON for each, in one list.
+    /// A JSON array with an object for each finding.
     Json,
 }
 
-/// What a document cites, and what is asked of it.
+/// The document whose citations `lint` compares with the entries of the files.
 #[derive(Debug, Clone, Copy)]
 pub struct Cited<'a> {
-    /// The name of the file that LaTeX or Biber wrote for the document.
+    /// The name of the .aux or .bcf file of the document.
     pub name: &'a str,
-    /// Whether entries that it doesn't cite are findings too.
+    /// Whether entries that the document doesn't cite are reported too.
     pub has_unused: bool,
 }
 
-/// Which findings are asked for, and how they are printed.
+/// The findings to print, and their style.
 #[derive(Debug, Drop)]
 pub struct Lint<'a> {
-    /// Which are asked for.
+    /// The codes to report.
     pub selection: Selection,
-    /// How they are printed.
+    /// The style of the output.
     pub style: Style,
     /// The document whose citations are compared with the files.
     pub cited: Option<Cited<'a>>,
 }
 
-/// What is asked for.
+/// The request of a command.
 #[derive(Debug, Drop)]
 pub enum Request<'a> {
-    /// What is wrong in files.
+    /// Prints the findings of files.
     Lint(Lint<'a>),
-    /// What a code means.
+    /// Explains a code.
     Explain(Code),
-    /// Entries of files, or their keys.
+    /// Prints entries of files, or their keys.
     Entries(Excerpts<'a>),
-    /// The entries that the document of this file cites.
+    /// Prints the entries that the document of this .aux or .bcf file cites.
     Cited(&'a str),
-    /// How many there are of what.
+    /// Prints the numbers of entries, types, fields, years and findings.
     Stats,
 }
 
-/// What is asked for, and of which files.
+/// A request and the files to run it on.
 #[derive(Debug, Drop)]
 pub struct Call<'a> {
-    /// What is asked for.
+    /// The request.
     pub request: Request<'a>,
     /// The names of the files; `-` is standard input.
     pub names: Vec<&'a str>,
-    /// Whether it is shown which file is at work.
+    /// Whether the name of the file in progress is shown.
     pub has_progress: bool,
 }

@@ -1,4 +1,4 @@
-//! The engine of the program.
+//! Runs requests: reads the files, prints the results, and returns the status.
 
 ghost use Rattle.std.specs.Prelude.{◌≡◌, ◌≢◌, ◌<◌, ◌≤◌, ◌&&◌, ℕ, List, IfErr, IfOk, OnOk, option_map, if◌then◌else◌};
 ghost use Rattle.std.specs.String.{string_bytes};
@@ -24,14 +24,14 @@ use bib_findings::codes::Code;
 use biblatex::Sink;
 use std::alloc::{AllocError, Global};
 
-// Why a run ends before its answer is whole.
+// The reason for which a run ends before everything is printed.
 #[derive(Debug, Clone, Copy, PartialEq, Eq)]
 enum Stop {
     // The output refused a text.
     Refused,
-    // The file of a document can't be read, which is reported.
+    // The file of the document can't be read. The error has been printed.
     NoDocument,
-    // There was no memory.
+    // Out of memory.
     OutOfMemory,
 }
 
@@ -43,7 +43,7 @@ impl From<AllocError> for Stop {
     }
 }
 
-// Prints a text.
+// Writes a text to the output.
 fn print<K: Sink>(output: &mut K, text: &str) -> Result<(), Stop>
     ensures printed { OnOk result (Appends (K.taken output.old) (K.taken output.new) text.now) }
     ensures same { OnOk result (K.refusals output.new ≡ K.refusals output.old) }
@@ -56,7 +56,7 @@ fn print<K: Sink>(output: &mut K, text: &str) -> Result<(), Stop>
     }
 }
 
-// The bytes of a file, or none where it can't be read, which is reported.
+// Returns the bytes of a file. If it can't be read, prints the error and returns `None`.
 fn bytes_of<F: Files, M: Sink>(
     alloc: Global,
     name: &str,
@@ -75,7 +75,7 @@ fn bytes_of<F: Files, M: Sink>(
     }
 }
 
-// Prints what a task prints of a file, and says whether the file could be read.
+// Reads a file, runs the task on it and prints the text. Returns whether the file could be read.
 fn run_file<T: Task, F: Files, K: Sink, M: Sink>(
     alloc: Global,
     name: &str,
@@ -99,14 +99,14 @@ fn run_file<T: Task, F: Files, K: Sink, M: Sink>(
     Ok(true)
 }
 
-// Whether both hold.
+// Returns whether both are true.
 fn both(first: bool, second: bool) -> bool
     ensures { result ≡ (first && second) }
 {
     first && second
 }
 
-// Prints what a task prints of files, one after another, and says whether all of them could be read.
+// Runs the task on files in turn and prints the texts. Returns whether all files could be read.
 fn run_files<T: Task, F: Files, K: Sink, M: Sink>(
     alloc: Global,
     names: &[&str],
@@ -129,14 +129,14 @@ fn run_files<T: Task, F: Files, K: Sink, M: Sink>(
     Ok(are_read)
 }
 
-// The status: 2 where a file can't be read.
+// Returns the status: 2 if a file can't be read, otherwise `status`.
 fn status_of(are_read: bool, status: u8) -> u8
     ensures { result ≡ (if are_read then status else 2) }
 {
     if are_read { status } else { 2 }
 }
 
-// Runs a task over files, and answers the status: 2 where one of them can't be read.
+// Runs a task on files, with the texts before and after them, and returns the status: 2 if a file can't be read.
 fn run_task<T: Task, F: Files, K: Sink, M: Sink>(
     alloc: Global,
     names: &[&str],
@@ -158,7 +158,7 @@ fn run_task<T: Task, F: Files, K: Sink, M: Sink>(
     Ok(status_of(are_read, end.status))
 }
 
-// The text of the file of a document.
+// Reads and decodes the .aux or .bcf file of a document.
 fn document_text<F: Files, M: Sink>(
     alloc: Global,
     name: &str,
@@ -175,7 +175,7 @@ fn document_text<F: Files, M: Sink>(
     Ok(decoded.text)
 }
 
-// Prints the findings that are asked for.
+// Prints the selected findings of files.
 fn run_findings<F: Files, K: Sink, M: Sink>(
     alloc: Global,
     lint: &Lint<'_>,
@@ -196,7 +196,7 @@ fn run_findings<F: Files, K: Sink, M: Sink>(
     Ok(status)
 }
 
-// Prints the findings that are asked for, with those of what a document cites.
+// Prints the selected findings of files, and those of the citations of a document.
 fn run_compared<F: Files, K: Sink, M: Sink>(
     alloc: Global,
     lint: &Lint<'_>,
@@ -220,7 +220,7 @@ fn run_compared<F: Files, K: Sink, M: Sink>(
     Ok(status)
 }
 
-// Prints what is asked for of findings.
+// Runs `lint`, with or without a document.
 fn run_lint<F: Files, K: Sink, M: Sink>(
     alloc: Global,
     lint: &Lint<'_>,
@@ -248,7 +248,7 @@ fn run_lint<F: Files, K: Sink, M: Sink>(
     }
 }
 
-// Prints the entries that are asked for.
+// Prints the requested entries of files.
 fn run_entries<F: Files, K: Sink, M: Sink>(
     alloc: Global,
     request: &Excerpts<'_>,
@@ -295,7 +295,7 @@ fn run_cited<F: Files, K: Sink, M: Sink>(
     Ok(status)
 }
 
-// Prints how many there are of what.
+// Prints the counts of files.
 fn run_counts<F: Files, K: Sink, M: Sink>(
     alloc: Global,
     names: &[&str],
@@ -315,7 +315,7 @@ fn run_counts<F: Files, K: Sink, M: Sink>(
     Ok(status)
 }
 
-// Prints what a code means.
+// Prints the explanation of a code.
 fn explain<K: Sink>(alloc: Global, code: Code, output: &mut K) -> Result<u8, Stop>
     ensures printed { IfOk result (HasPrinted K.taken
         (IsMeaningPrinted code) output.old output.new) }
@@ -334,7 +334,7 @@ fn explain<K: Sink>(alloc: Global, code: Code, output: &mut K) -> Result<u8, Sto
     Ok(0)
 }
 
-// Prints what is asked for, and answers the status.
+// Runs a request, and returns the status.
 fn answer<F: Files, K: Sink, M: Sink>(
     alloc: Global,
     request: &Request<'_>,
@@ -374,8 +374,11 @@ fn answer<F: Files, K: Sink, M: Sink>(
     }
 }
 
-/// Runs a command, and answers the status: 0 where it is done, 1 where `lint` found something or a search found nothing, 2 where
-/// a file can't be read or the output refused a text, 3 when out of memory.
+/// Runs a request, and returns the status:
+/// - 0: done.
+/// - 1: `lint` has findings, or a search found nothing.
+/// - 2: a file can't be read, or the output refused a text.
+/// - 3: out of memory.
 pub fn run<F: Files, K: Sink, M: Sink + Drop>(
     alloc: Global,
     call: &Call<'_>,

@@ -1,20 +1,20 @@
-//! Which findings are asked for.
+//! Selects findings by their codes.
 
 ghost use Rattle.std.specs.Prelude.{◌≡◌};
 ghost use Rattle.bibkit_core.specs.Asked as asked;
 
 use bib_findings::codes::Code;
 
-/// Which findings are asked for, by their codes.
+/// The codes to report. A code that is both in `only` and in `ignored` isn't reported.
 #[derive(Debug, Drop)]
 pub struct Selection {
-    /// The codes of those that are asked for: all where there are none.
+    /// The codes to report, or no codes to report all.
     pub only: Vec<Code>,
-    /// The codes of those that are left out.
+    /// The codes not to report.
     pub ignored: Vec<Code>,
 }
 
-// Whether a code is one of these.
+// Returns whether `code` is one of `codes`.
 fn has_code(codes: &[Code], code: Code) -> bool
     ensures { result ≡ asked.has_code codes.now code }
 {
@@ -22,7 +22,7 @@ fn has_code(codes: &[Code], code: Code) -> bool
 }
 
 impl Selection {
-    /// Whether findings with this code are asked for.
+    /// Returns whether findings with this code are reported.
     pub fn asks_for(&self, code: Code) -> bool
         ensures { result ≡ asked.is_asked self.now code }
     {

@@ -1,4 +1,4 @@
-//! Counts, in tables.
+//! Counts names, and prints the counts as tables.
 
 ghost use Rattle.std.specs.Prelude.{◌≡◌, ◌++◌, ◌∷◌, [], ℕ, List, length, unwrap_or, IfOk, OnOk};
 ghost use Rattle.std.specs.BTreeMap.{get_by_text};
@@ -11,7 +11,7 @@ ghost use Rattle.bibkit_core.specs.Tables.{AreByCount, AreByName, padding, row_l
 use std::alloc::{AllocError, Global};
 use std::collections::BTreeMap;
 
-/// How often each name was counted.
+/// The count of each name. A count that would overflow stays at its maximum.
 #[derive(Drop)]
 pub struct Counts {
     counts: BTreeMap<String, u64>,
@@ -25,7 +25,7 @@ struct Row<'c> {
 }
 
 impl Counts {
-    /// Nothing counted.
+    /// Returns counts without any name.
     pub fn new(alloc: Global) -> Self
         ensures { AreCounted [] result }
     {
@@ -34,14 +34,14 @@ impl Counts {
         }
     }
 
-    // How often a name was counted.
+    // Returns the count of a name, or 0 if it has none.
     fn count(&self, name: &str) -> u64
         ensures { result ≡ unwrap_or (get_by_text self.now.counts name.now) 0 }
     {
         self.counts.get(name).copied().unwrap_or(0)
     }
 
-    /// Counts a name once more.
+    /// Adds one to the count of a name.
     pub fn add(&mut self, name: String) -> Result<(), AllocError>
         ensures { OnOk result (AddsNames (string_bytes name ∷ []) self.old self.new) }
     {
@@ -50,7 +50,7 @@ impl Counts {
         Ok(())
     }
 
-    // The rows by name.
+    // Returns a row for each name, in the order of the names.
     fn rows(&self, alloc: Global) -> Result<Vec<Row<'_>>, AllocError>
         ensures { IfOk result (λ rows. (names : List (List ℕ)) → AreCounted names self.now → AreByName names rows.items) }
     {
@@ -64,7 +64,7 @@ impl Counts {
         Ok(rows)
     }
 
-    /// Appends a table with this title: the rows by name.
+    /// Appends a table with this title to `text`. Its rows are in the order of the names.
     pub fn push_by_name(
         &self,
         alloc: Global,
@@ -79,7 +79,8 @@ impl Counts {
         Ok(())
     }
 
-    /// Appends a table with this title: the rows by count, the greatest first, and those with one count by name.
+    /// Appends a table with this title to `text`. Its rows are in the order of their counts, the greatest first. Rows with equal
+    /// counts are in the order of their names.
     pub fn push_by_count(
         &self,
         alloc: Global,
@@ -95,7 +96,7 @@ impl Counts {
     }
 }
 
-// Rows by count, the greatest first; those with one count stay in the order that they had.
+// Sorts rows by count, the greatest first. The sort is stable.
 fn by_count(rows: Vec<Row<'_>>) -> Result<Vec<Row<'_>>, AllocError>
     ensures { IfOk result (λ sorted. (names : List (List ℕ)) → AreByName names rows.entry.items → AreByCount names sorted.items) }
 {
@@ -104,14 +105,14 @@ fn by_count(rows: Vec<Row<'_>>) -> Result<Vec<Row<'_>>, AllocError>
     Ok(rows)
 }
 
-// How many characters a text has.
+// Returns the number of characters of a text.
 fn characters(text: &str) -> usize
     ensures { result ≡ length (chars text.now) }
 {
     text.chars().count()
 }
 
-// How many characters the longest name has.
+// Returns the number of characters of the longest name, or 0 without rows.
 fn width(rows: &[Row<'_>]) -> usize
     ensures { result ≡ widest rows.now }
 {
@@ -122,7 +123,7 @@ fn width(rows: &[Row<'_>]) -> usize
     width
 }
 
-// Appends spaces after a text, up to a width.
+// Appends spaces after `written` characters, up to `width`.
 fn push_spaces(text: &mut String, written: usize, width: usize) -> Result<(), AllocError>
     ensures { OnOk result (string_bytes text.new ≡ string_bytes text.old ++ padding written width) }
 {
@@ -132,7 +133,7 @@ fn push_spaces(text: &mut String, written: usize, width: usize) -> Result<(), Al
     Ok(())
 }
 
-// Appends a row: its name, and its count under the others.
+// Appends a row: its name, padded to `width` characters, and its count, aligned to the right in eight characters.
 fn push_row(alloc: Global, text: &mut String, row: &Row<'_>, width: usize) -> Result<(), AllocError>
     ensures { OnOk result (string_bytes text.new ≡ string_bytes text.old ++ row_line width row.now) }
 {
@@ -158,7 +159,7 @@ fn push_rows(alloc: Global, text: &mut String, rows: &[Row<'_>]) -> Result<(), A
     Ok(())
 }
 
-// Appends a table, after an empty line.
+// Appends an empty line, the title, and the rows.
 fn push_table(
     alloc: Global,
     text: &mut String,

@@ -1,4 +1,4 @@
-//! How many findings there are.
+//! Counts findings by severity.
 
 ghost use Rattle.std.specs.Prelude.{◌≡◌, IfOk};
 ghost use Rattle.std.specs.String.{string_bytes};
@@ -8,17 +8,17 @@ ghost use Rattle.bibkit_core.specs.Printed.{counts_line, one_more};
 use bib_findings::codes::Severity;
 use std::alloc::{AllocError, Global};
 
-/// How many findings there are, as far as a count goes.
+/// The numbers of errors and of warnings. A number that would overflow stays at its maximum.
 #[derive(Debug, Clone, Copy, PartialEq, Eq)]
 pub struct Tally {
-    /// Errors.
+    /// The number of errors.
     pub errors: u64,
-    /// Warnings.
+    /// The number of warnings.
     pub warnings: u64,
 }
 
 impl Tally {
-    /// None yet.
+    /// Returns the counts of no findings.
     pub fn none() -> Self
         ensures errors { result.errors ≡ 0 }
         ensures warnings { result.warnings ≡ 0 }
@@ -29,7 +29,7 @@ impl Tally {
         }
     }
 
-    /// One more of this severity.
+    /// Returns the counts with one more finding of this severity.
     pub fn with(self, severity: Severity) -> Self
         ensures { result ≡ one_more self severity }
     {
@@ -45,14 +45,14 @@ impl Tally {
         }
     }
 
-    /// Whether there are none.
+    /// Returns whether both numbers are zero.
     pub fn is_none(self) -> bool
         ensures { result ≡ spec.is_none self }
     {
         self.errors == 0 && self.warnings == 0
     }
 
-    /// The line with the counts.
+    /// Returns the line with the numbers of errors and warnings.
     pub fn line(self, alloc: Global) -> Result<String, AllocError>
         ensures { IfOk result (λ text. string_bytes text ≡ counts_line self) }
     {

@@ -1,4 +1,4 @@
--- Edits of a text, one after another.
+-- The outcomes and the refusals of edits of a text.
 use Rattle.std.proofs.Common.{◌≡◌, ◌<◌, ◌+◌, ◌⊎◌, ℕ, List, [], ◌∷◌, ◌++◌, length, map, take, drop, get_or, refl, sym, ap, subst, ◌∙◌, inl, inr, append_assoc, ◌≤◌, arith}
 use Rattle.std.proofs.lemmas.List.{length-take-le, take_more, take-append-drop}
 use Rattle.bib_syntax.specs.SyntaxErrors.{IsReported}
@@ -10,7 +10,7 @@ use Rattle.bib_documents.specs.Documents.{Document, EntriesAdded, IsEdited}
 use Rattle.bib_documents.specs.declared.errors.EditError.{EditError}
 use Rattle.bib_documents.specs.declared.errors.EditError.TheVariants as error
 use Rattle.bib_conversion.specs.Conversions.{IsConverted}
-use Rattle.bib_entry.specs.declared.write.Format.{Format}
+use Rattle.bib_entry.specs.declared.write.Dialect.{Dialect}
 use Rattle.bib_format.specs.Formatted.{IsReadAlike, says_in_order, text_in_style}
 use Rattle.bib_format.specs.declared.style.Style.{Style}
 use Rattle.bib_resolution.specs.Resolutions.{IsResolvedText}
@@ -21,7 +21,7 @@ use Rattle.bib_strings.specs.Collected.{AreMadeAbbreviations}
 use Rattle.bib_strings.specs.Expanded.{IsExpanded}
 use Rattle.bibkit_edits.specs.Edited.{AreMade, AreRefused, AreTextsCollected, IsDocumentConverted, IsEditRefused, IsInOrder, IsInStyle, IsMade, IsDocumentOf, IsResolvedDocument, IsUnresolved, IsWrittenOut, TextAdded}
 use Rattle.bibkit_edits.specs.Orders.{order_text}
-use Rattle.bibkit_edits.specs.declared.order.Order.{Order}
+use Rattle.bib_sorting.specs.declared.order.Order.{Order}
 use Rattle.bibkit_edits.specs.Edited.AreMade.{none, next}
 use Rattle.bibkit_edits.specs.Steps.{AddsError, AddsUnread, AreFirstMade, IsTextRefused, StepIsRefused, edit_refusal, refusal_at, unless_no_memory, unresolved_refusal}
 use Rattle.bibkit_edits.specs.declared.edit.Edit.{Edit}
@@ -30,7 +30,7 @@ use Rattle.bibkit_edits.specs.declared.edit.Refusal.TheVariants as refusal
 use Rattle.bibkit_edits.specs.declared.editing.Step.{Step}
 use Rattle.bibkit_edits.specs.declared.editing.Step.TheVariants as step
 
--- a text in one style, which is read like the old one
+-- a text in a style that parses like the old one, with its fields in order, is an outcome of `Format`
 pub style_made : (style : Style) (d : Document) (new : List ℕ) → new ≡ text_in_style style d.text d.says → IsReadAlike (says_in_order style d.text d.says) new → IsEdited (IsInStyle style d) new
 style_made style d new is alike = record {
   document = record { text = new; says = alike.tells };
@@ -39,7 +39,7 @@ style_made style d new is alike = record {
   read = alike.read;
 }
 
--- a text with its entries in an order
+-- a sorted text that parses like the sorted document is an outcome of `Sort`
 pub order_made : (order : Order) (d : Document) (new : List ℕ) → IsSortedText d (map (order_text order) d.says.entries) new → IsReadSorted d (map (order_text order) d.says.entries) new → IsEdited (IsInOrder order d) new
 order_made order d new is read = record {
   document = record { text = new; says = read.tells };
@@ -48,19 +48,19 @@ order_made order d new is read = record {
   read = read.read;
 }
 
--- a text with its abbreviations written out
+-- a text with its abbreviations replaced by their texts is an outcome of `Expand`
 pub expansion_made : (d : Document) (new : List ℕ) → IsExpanded d new → IsEdited (IsWrittenOut d) new
 expansion_made d new made = record { document = record { text = new; says = made.read.tells }; outcome = made; is = refl; read = made.read.read }
 
--- a text with abbreviations made of texts that repeat
+-- a text with abbreviations for repeated texts is an outcome of `Collect`
 pub collection_made : (d : Document) (fields : List (List ℕ)) (at_least : ℕ) (new : List ℕ) → AreMadeAbbreviations d fields at_least new → IsEdited (AreTextsCollected fields at_least d) new
 collection_made d fields at_least new made = record { document = record { text = new; says = made.read.tells }; outcome = made; is = refl; read = made.read.read }
 
--- a text with the types and fields of a format
-pub conversion_made : (format : Format) (d : Document) (new : List ℕ) → IsConverted format d new → IsEdited (IsDocumentConverted format d) new
-conversion_made format d new made = record { document = record { text = new; says = made.read.tells }; outcome = made; is = refl; read = made.read.read }
+-- a text with the types and fields of a dialect is an outcome of converting to that dialect
+pub conversion_made : (dialect : Dialect) (d : Document) (new : List ℕ) → IsConverted dialect d new → IsEdited (IsDocumentConverted dialect d) new
+conversion_made dialect d new made = record { document = record { text = new; says = made.read.tells }; outcome = made; is = refl; read = made.read.read }
 
--- a text with what entries inherit in fields of their own
+-- a text with its references resolved is an outcome of `Resolve`
 pub resolution_made : (d : Document) (new : List ℕ) → IsResolvedText d new → IsEdited (IsResolvedDocument d) new
 resolution_made d new made = record {
   document = made.made;
@@ -69,25 +69,25 @@ resolution_made d new made = record {
   read = made.read;
 }
 
--- one edit more
+-- edits of a text, followed by one more edit
 pub made_more : {edits : List Edit} {edit : Edit} {text new newer : List ℕ} → AreMade edits text new → IsMade edit new newer → AreMade (edits ++ edit ∷ []) text newer
 made_more {newer = newer} none more = next newer more none
 made_more (next between one rest) more = next between one (made_more rest more)
 
--- edits up to an index, the one there, and those after it
+-- a list of edits is the edits before an index, the edit at it, and those after it
 pub edits_parts : (edits : List Edit) (i : ℕ) (d : Edit) → i < length edits → edits ≡ take i edits ++ get_or edits i d ∷ drop (i + 1) edits
 edits_parts edits i d below =
     sym (take-append-drop (i + 1) edits) ∙ ap (λ first. first ++ drop (i + 1) edits) (take_more edits i d below) ∙ append_assoc (take i edits) (get_or edits i d ∷ []) (drop (i + 1) edits)
 
--- no edit is made
+-- before any edit, the text is unchanged
 pub first_none : (text : List ℕ) → AreFirstMade [] text text
 first_none text = record { made = none; read = inl refl }
 
--- a text that an edit makes is read
+-- the text after an edit is a document
 made_read : {edit : Edit} {text new : List ℕ} → IsMade edit text new → (d : Document) × IsDocumentOf new d
 made_read made = (made.edited.document, record { same = sym made.edited.is; read = made.edited.read })
 
--- one edit more
+-- one more edit after the first ones
 pub first_more : (edits : List Edit) (i : ℕ) (d : Edit) {text new between newer : List ℕ} → i < length edits → AreFirstMade (take i edits) text new → between ≡ new
     → IsMade (get_or edits i d) between newer → AreFirstMade (take (i + 1) edits) text newer
 first_more edits i d {text} {new} {between} {newer} below first same made = record {
@@ -95,11 +95,11 @@ first_more edits i d {text} {new} {between} {newer} below first same made = reco
   read = inr (made_read made);
 }
 
--- a text that is read has no error
+-- a text that is a document has no error
 read_fine : {text : List ℕ} {e : ParseError} {d : Document} → IsDocumentOf text d → IsReported text e → ⊥
 read_fine {text} {e} {d} read reported = let fails = subst (λ t. IsReported t e) (sym read.same) reported in file_unread fails.fails read.read
 
--- after first edits, why the next one is refused is why all of them are
+-- if the first edits are made and the next one is refused, then all of them are refused for that reason
 pub first_refused : (done rest : List Edit) (edit : Edit) {text new : List ℕ} (why : Refusal) → AreFirstMade done text new → IsTextRefused edit new (length done) why → AreRefused (done ++ edit ∷ rest) text why
 first_refused done rest edit (refusal.NotUtf8 at) first refused = absurd refused
 first_refused done rest edit {text} {new} (refusal.File e) first refused =
@@ -119,7 +119,7 @@ first_refused done rest edit {text} {new} (refusal.Unresolved at why) first refu
     (AreRefused.unresolved edit done rest new refused.1.document refl first.made refused.1.read refused.1.refused)
 first_refused done rest edit refusal.OutOfMemory first refused = AreRefused.no_memory
 
--- the same of edits by the index of the one that is refused
+-- the same, with the refused edit given by its index
 pub refused_at : (edits : List Edit) (i : ℕ) (d : Edit) {text new between : List ℕ} (why : Refusal) → i < length edits → AreFirstMade (take i edits) text new → between ≡ new
     → IsTextRefused (get_or edits i d) between i why → AreRefused edits text why
 refused_at edits i d {text} {new} why below first same refused =
@@ -127,7 +127,7 @@ refused_at edits i d {text} {new} why below first same refused =
     subst (λ es. AreRefused es text why) (sym (edits_parts edits i d below))
     (first_refused (take i edits) (drop (i + 1) edits) (get_or edits i d) why first (subst (λ n. IsTextRefused (get_or edits i d) new n why) (sym count) (subst (λ t. IsTextRefused (get_or edits i d) t i why) same refused)))
 
--- an error that isn't out of memory is one of the text that is added
+-- an error that isn't out of memory is an error of the text to be added
 adds_error : {edit : Edit} {e : ParseError} → (e.kind ≡ kind.OutOfMemory → ⊥) → AddsUnread edit e → AddsError edit e
 adds_error {e = e} other adds = record {
   more = adds.more;
@@ -135,7 +135,7 @@ adds_error {e = e} other adds = record {
   reported = elim adds.why as (λ _. IsReported adds.more e) [ inl out ↦ absurd (other (ap (λ e. e.kind) out)) | inr reported ↦ reported ];
 }
 
--- why an edit that adds a text that isn't read is refused, by the kind of the text's error
+-- an edit whose text to be added can't be parsed is refused, by the kind of the error
 added_refused : (edit : Edit) (text : List ℕ) (index : ℕ) (e : ParseError) (k : ParseErrorKind) → e.kind ≡ k → AddsUnread edit e → IsTextRefused edit text index (unless_no_memory k (refusal.Added e))
 added_refused edit text index e kind.OutOfMemory is adds = tt
 added_refused edit text index e kind.UnexpectedEof is adds = adds_error (λ out. let clash : kind.UnexpectedEof ≡ kind.OutOfMemory = sym is ∙ out in cc) adds
@@ -148,12 +148,12 @@ added_refused edit text index e (kind.ResolutionError t) is adds = adds_error (�
 added_refused edit text index e (kind.AbbreviationCycle n) is adds = adds_error (λ out. let clash : kind.AbbreviationCycle n ≡ kind.OutOfMemory = sym is ∙ out in cc) adds
 added_refused edit text index e (kind.ReferenceCycle n) is adds = adds_error (λ out. let clash : kind.ReferenceCycle n ≡ kind.OutOfMemory = sym is ∙ out in cc) adds
 
--- an edit is refused for this reason, which isn't out of memory
+-- an edit that is refused, or out of memory, is refused if the error isn't out of memory
 why_refused : (edit : Edit) (d : Document) {why : EditError} → (why ≡ error.OutOfMemory → ⊥) → IsEditRefused edit d why ⊎ (why ≡ error.OutOfMemory) → IsEditRefused edit d why
 why_refused edit d other (inl refused) = refused
 why_refused edit d other (inr out) = absurd (other out)
 
--- the same of an edit that is refused itself
+-- an edit of a text is refused with the error of the edit of its document
 edit_refused : (edit : Edit) (text : List ℕ) (index : ℕ) (d : Document) (why : EditError) → IsDocumentOf text d → IsEditRefused edit d why ⊎ (why ≡ error.OutOfMemory)
     → IsTextRefused edit text index (edit_refusal why index)
 edit_refused edit text index d error.OutOfMemory read refused = tt
@@ -163,20 +163,20 @@ edit_refused edit text index d error.NotAKey read refused = (refl, record { docu
 edit_refused edit text index d error.NotAName read refused = (refl, record { document = d; read = read; refused = why_refused edit d (λ out. let clash : error.NotAName ≡ error.OutOfMemory = out in cc) refused })
 edit_refused edit text index d error.NotInBraces read refused = (refl, record { document = d; read = read; refused = why_refused edit d (λ out. let clash : error.NotInBraces ≡ error.OutOfMemory = out in cc) refused })
 
--- the same of an edit that doesn't give entries what they inherit
+-- the same for an edit that can't resolve references
 unresolved_at : (edit : Edit) (text : List ℕ) (index : ℕ) (d : Document) (why : ResolveError) → IsDocumentOf text d → IsUnresolved edit d why → IsTextRefused edit text index (unresolved_refusal why index)
 unresolved_at edit text index d (resolve_error.File e) read refused = (refl, record { document = d; read = read; refused = refused })
 unresolved_at edit text index d (resolve_error.Differs entry name) read refused = (refl, record { document = d; read = read; refused = refused })
 unresolved_at edit text index d resolve_error.Unlike read refused = (refl, record { document = d; read = read; refused = refused })
 unresolved_at edit text index d resolve_error.OutOfMemory read refused = tt
 
--- why an edit of a document is refused is why that of its text is
+-- an edit of a text is refused with the step of the edit of its document
 pub step_refused : (edit : Edit) (text : List ℕ) (index : ℕ) (d : Document) (s : Step) → IsDocumentOf text d → StepIsRefused edit d s → IsTextRefused edit text index (refusal_at s index)
 step_refused edit text index d (step.Added e) read refused = added_refused edit text index e e.kind refl refused
 step_refused edit text index d (step.Refused why) read refused = edit_refused edit text index d why read refused
 step_refused edit text index d (step.Cycle definition) read refused = (refl, record { document = d; read = read; meets = refused })
 step_refused edit text index d (step.Unresolved why) read refused = unresolved_at edit text index d why read refused
 
--- adding a text that is read
+-- adding the document of a text is adding the text
 pub adds_made : {d : Document} {text new : List ℕ} (more : Document) → IsDocumentOf text more → IsEdited (EntriesAdded d more) new → IsEdited (TextAdded d text) new
 adds_made more read made = record { document = made.document; outcome = record { more = more; read = read; added = made.outcome }; is = made.is; read = made.read }

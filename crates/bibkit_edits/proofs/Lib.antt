@@ -1,3 +1,2 @@
 pub mod EditedFacts
-mod MarkFacts
 mod OrderFacts

@@ -1,18 +1,18 @@
 -- Meaning: words of public contracts.
--- What edits make of a bibliography file, and why they are refused.
+-- The outcomes of edits of a bibliography file, and the reasons for refusing them.
 use Rattle.std.specs.Prelude.{◌≡◌, ℕ, length, map, if◌then◌else◌, List, [], ◌∷◌, ◌++◌, nat_eq}
 use Rattle.std.specs.List.{starts_with}
 use Rattle.std.specs.Str.{IsUtf8}
 use Rattle.bib_syntax.specs.Reading.{FileReading}
 use Rattle.bib_syntax.specs.SyntaxErrors.{IsReported}
 use Rattle.bib_syntax.specs.declared.raw.ParseError.{ParseError}
-use Rattle.bib_encoding.specs.Encoding.{IsFirstInvalid, byte_order_mark, without_byte_order_mark}
+use Rattle.bib_source.specs.Encoding.{IsFirstInvalid, byte_order_mark, without_byte_order_mark}
 use Rattle.bib_conversion.specs.Conversions.{IsConverted}
 use Rattle.bib_documents.specs.Documents.{Document, EntriesAdded, EntriesAreRefused, EntryIsRefused, EntryRemoved, FieldSet, FieldUnset, IsDocument, IsEdited, SetIsRefused}
 use Rattle.bib_documents.specs.References.{KeyRenamed, RenameIsRefused}
 use Rattle.bib_documents.specs.declared.errors.EditError.{EditError}
-use Rattle.bib_entry.specs.declared.write.Format as names
-use Rattle.bib_entry.specs.declared.write.Format.TheVariants.{Biblatex, Bibtex}
+use Rattle.bib_entry.specs.declared.write.Dialect.{Dialect}
+use Rattle.bib_entry.specs.declared.write.Dialect.TheVariants.{Biblatex, Bibtex}
 use Rattle.bib_format.specs.Formatted.{content, says_in_order, text_in_style}
 use Rattle.bib_format.specs.declared.style.Style.{Style}
 use Rattle.bib_resolution.specs.Resolutions.{IsResolveRefused, IsResolvedText}
@@ -23,56 +23,59 @@ use Rattle.bib_strings.specs.Expanded.{ExpandIsRefused, IsExpanded}
 use Rattle.bib_strings.specs.declared.errors.ExpandError.TheVariants as expand_error
 use Rattle.bibkit_edits.specs.Orders.{order_text}
 use Rattle.bibkit_edits.specs.declared.edit.Edit.{Edit}
-use Rattle.bibkit_edits.specs.declared.order.Order.{Order}
+use Rattle.bib_sorting.specs.declared.order.Order.{Order}
 use Rattle.bibkit_edits.specs.declared.edit.Edit.TheVariants.{Set, Unset, Rename, Remove, Add, Sort, Expand, Collect, ToBiblatex, ToBibtex, Resolve, Format}
 use Rattle.bibkit_edits.specs.declared.edit.Refusal.{Refusal}
 use Rattle.bibkit_edits.specs.declared.edit.Refusal.TheVariants as refusal
 
--- a text is read as this document
+-- `d` is the document of `text`
 pub record IsDocumentOf (text : List ℕ) (d : Document) : Type 0 where
   pub same : d.text ≡ text
   pub read : IsDocument d
 
--- what comes of adding the entries of a text
+-- `after` is the document `d` with the document of `text` added
 pub record TextAdded (d : Document) (text : List ℕ) (after : Document) : Type 0 where
   pub more : Document
   pub read : IsDocumentOf text more
   pub added : EntriesAdded d more after
 
--- what comes of putting a document in one style: its text is in that style, and says the same but for places, the case of types and
--- names, and the order of fields, which is the style's
+-- `after` is the document `d` laid out in a style: its text is in that style, and its content is that of `d`, except positions,
+-- the case of types and names, and the order of fields, which is that of the style
 pub record IsInStyle (style : Style) (d after : Document) : Type 0 where
   pub text : after.text ≡ text_in_style style d.text d.says
   pub alike : content after.says ≡ content (says_in_order style d.text d.says)
 
--- a file says what a document does with its entries in an order, by a text for each, but for places
+-- `says` is the content of a document with its entries sorted by `texts` (one for each entry), except positions
 pub record SaysSorted (d : Document) (texts : List (List ℕ)) (says : FileReading) : Type 0 where
   pub order : List Item
   pub in_order : AreEntriesInOrder (items d texts) order
   pub alike : without_places says ≡ without_places (says_sorted d order)
 
--- what comes of putting the entries of a document in an order: its text has them in that order, and says the same but for that and places
+-- `after` is the document `d` with its entries sorted: its text has the entries in that order, and its content is otherwise that
+-- of `d`, except positions
 pub record IsInOrder (order : Order) (d after : Document) : Type 0 where
   pub text : IsSortedText d (map (order_text order) d.says.entries) after.text
   pub alike : SaysSorted d (map (order_text order) d.says.entries) after.says
 
--- what comes of writing out the abbreviations of a document
+-- the text of the second document is that of the first with its abbreviations replaced by their texts
 abbrev pub IsWrittenOut : Document → Document → Type 0
 IsWrittenOut d after = IsExpanded d after.text
 
--- what comes of making abbreviations of texts that repeat in a document
+-- the text of the second document is that of the first with abbreviations for texts of these fields that occur at least
+-- `at_least` times (at least twice if that is less than 2)
 abbrev pub AreTextsCollected : List (List ℕ) → ℕ → Document → Document → Type 0
 AreTextsCollected fields at_least d after = AreMadeAbbreviations d fields at_least after.text
 
--- what comes of giving the entries of a document the types and fields of a format
-abbrev pub IsDocumentConverted : names.Format → Document → Document → Type 0
-IsDocumentConverted format d after = IsConverted format d after.text
+-- the text of the second document is that of the first with the types and fields of a dialect
+abbrev pub IsDocumentConverted : Dialect → Document → Document → Type 0
+IsDocumentConverted dialect d after = IsConverted dialect d after.text
 
--- what comes of giving the entries of a document what they inherit in fields of their own
+-- the text of the second document is that of the first with the references `crossref` and `xdata` replaced by the inherited
+-- fields
 abbrev pub IsResolvedDocument : Document → Document → Type 0
 IsResolvedDocument d after = IsResolvedText d after.text
 
--- what comes of an edit of a document
+-- the second document is the outcome of an edit of the first
 abbrev pub EditOutcome : Edit → Document → Document → Type 0
 EditOutcome (Set key name value) d = FieldSet d key.now name.now value.now
 EditOutcome (Unset key name) d = FieldUnset d key.now name.now
@@ -87,24 +90,24 @@ EditOutcome ToBibtex d = IsDocumentConverted Bibtex d
 EditOutcome Resolve d = IsResolvedDocument d
 EditOutcome (Format style) d = IsInStyle style d
 
--- what an edit makes of a text
+-- `new` is the text after an edit of the document of `text`
 pub record IsMade (edit : Edit) (text new : List ℕ) : Type 0 where
   pub document : Document
   pub read : IsDocumentOf text document
   pub edited : IsEdited (EditOutcome edit document) new
 
--- what edits make of a text, each of the text that the one before made
+-- the last text is the first one after these edits, each of the text after the previous one
 pub data AreMade : List Edit → List ℕ → List ℕ → Type 0 where
   none : {text : List ℕ} → AreMade [] text text
   next : {edit : Edit} {rest : List Edit} {text new : List ℕ} (between : List ℕ) → IsMade edit text between → AreMade rest between new → AreMade (edit ∷ rest) text new
 
--- why adding the entries of a text is refused, where the text is read
+-- adding `text`, which is a document, to the document `d` may be refused with the error `why`
 pub record TextIsRefused (d : Document) (text : List ℕ) (why : EditError) : Type 0 where
   pub more : Document
   pub read : IsDocumentOf text more
   pub refused : EntriesAreRefused d more why
 
--- why an edit of a document is refused
+-- an edit of a document may be refused with this error
 abbrev pub IsEditRefused : Edit → Document → EditError → Type 0
 IsEditRefused (Set key name value) d why = SetIsRefused d key.now name.now value.now why
 IsEditRefused (Unset key name) d why = EntryIsRefused d key.now why
@@ -119,7 +122,7 @@ IsEditRefused ToBibtex d why = ⊥
 IsEditRefused Resolve d why = ⊥
 IsEditRefused (Format style) d why = ⊥
 
--- an edit of a document writes its abbreviations out, and the definition at this index refers to itself
+-- the edit expands the abbreviations of the document, and the definition at this index refers to itself
 abbrev pub MeetsCycle : Edit → Document → ℕ → Type 0
 MeetsCycle (Set key name value) d definition = ⊥
 MeetsCycle (Unset key name) d definition = ⊥
@@ -134,7 +137,7 @@ MeetsCycle ToBibtex d definition = ⊥
 MeetsCycle Resolve d definition = ⊥
 MeetsCycle (Format style) d definition = ⊥
 
--- why an edit of a document doesn't give entries what they inherit
+-- the edit resolves the references of the document, and may fail with this error
 abbrev pub IsUnresolved : Edit → Document → ResolveError → Type 0
 IsUnresolved (Set key name value) d why = ⊥
 IsUnresolved (Unset key name) d why = ⊥
@@ -149,7 +152,7 @@ IsUnresolved ToBibtex d why = ⊥
 IsUnresolved Resolve d why = IsResolveRefused d.text why
 IsUnresolved (Format style) d why = ⊥
 
--- an edit adds the entries of this text
+-- the edit adds this text
 abbrev pub AddsText : Edit → List ℕ → Type 0
 AddsText (Set key name value) added = ⊥
 AddsText (Unset key name) added = ⊥
@@ -164,8 +167,9 @@ AddsText ToBibtex added = ⊥
 AddsText Resolve added = ⊥
 AddsText (Format style) added = ⊥
 
--- why edits of a text are refused: the text isn't one of the file grammar; or first edits are made, and the next adds a text
--- that isn't, or is refused, or meets a definition that refers to itself, or doesn't give entries what they inherit; or there was no memory
+-- the refusals of edits of a text: the text has an error of the file grammar; or some first edits are made, and the next one adds
+-- a text with such an error, or is refused, or expands a definition that refers to itself, or can't resolve references; or out of
+-- memory. An index counts the edits before the refused one.
 pub data AreRefused (edits : List Edit) (text : List ℕ) : Refusal → Type 0 where
   file : {e : ParseError} → IsReported text e → AreRefused edits text (refusal.File e)
   added : {e : ParseError} (edit : Edit) (done rest : List Edit) (between more : List ℕ) → edits ≡ done ++ edit ∷ rest → AreMade done text between → AddsText edit more → IsReported more e
@@ -178,18 +182,19 @@ pub data AreRefused (edits : List Edit) (text : List ℕ) : Refusal → Type 0 w
       → IsUnresolved edit d why → AreRefused edits text (refusal.Unresolved (length done) why)
   no_memory : AreRefused edits text refusal.OutOfMemory
 
--- the byte order mark that bytes begin with, if they do
+-- the byte order mark at the start of bytes, or no bytes without one
 abbrev pub mark_of : List ℕ → List ℕ
 mark_of bytes = if starts_with nat_eq bytes byte_order_mark then byte_order_mark else []
 
--- what edits make of a file's bytes: the bytes are UTF-8, and the text after a byte order mark is edited
+-- `new` is the result of edits of a file's bytes: the bytes are UTF-8, the text after a byte order mark is edited, and the mark
+-- is kept
 pub record IsFileMade (edits : List Edit) (bytes new : List ℕ) : Type 0 where
   pub text : List ℕ
   pub utf8 : IsUtf8 (without_byte_order_mark bytes)
   pub made : AreMade edits (without_byte_order_mark bytes) text
   pub is : new ≡ mark_of bytes ++ text
 
--- why edits of a file are refused: its bytes aren't UTF-8, or the edits of its text are
+-- the refusals of edits of a file: its bytes aren't UTF-8, or the edits of its text are refused, or out of memory
 pub data IsFileRefused (edits : List Edit) (bytes : List ℕ) : Refusal → Type 0 where
   not_utf8 : {at : ℕ} → IsFirstInvalid bytes at → IsFileRefused edits bytes (refusal.NotUtf8 at)
   text : {why : Refusal} → IsUtf8 (without_byte_order_mark bytes) → AreRefused edits (without_byte_order_mark bytes) why → IsFileRefused edits bytes why

@@ -2,4 +2,3 @@ pub mod Edited
 pub mod Orders
 pub mod Printing
 pub mod Steps
-pub mod StyleSettings

@@ -1,12 +1,12 @@
-//! Edits of a file, and why they are refused.
+//! Edits of a file, and the reasons for refusing them.
 
 ghost use Rattle.std.specs.Prelude.{◌≡◌};
 ghost use Rattle.bibkit_edits.specs.declared.edit.Refusal.TheVariants.{OutOfMemory};
 
-use crate::order::Order;
 use bib_documents::errors::EditError;
 use bib_format::style::Style;
 use bib_resolution::errors::ResolveError;
+use bib_sorting::order::Order;
 use bib_syntax::raw::ParseError;
 use std::alloc::AllocError;
 
@@ -15,98 +15,99 @@ use std::alloc::AllocError;
 pub enum Edit<'a> {
     /// Sets a field of an entry to a text in braces.
     Set {
-        /// The entry's key.
+        /// The key of the entry.
         key: &'a str,
-        /// The field's name.
+        /// The name of the field.
         name: &'a str,
-        /// The text.
+        /// The value, without its braces.
         value: &'a str,
     },
-    /// Takes a field out of an entry.
+    /// Removes a field from an entry.
     Unset {
-        /// The entry's key.
+        /// The key of the entry.
         key: &'a str,
-        /// The field's name.
+        /// The name of the field.
         name: &'a str,
     },
-    /// Gives an entry another key.
+    /// Changes the key of an entry, and the references to it.
     Rename {
-        /// The key that it has.
+        /// The old key.
         old: &'a str,
-        /// The key that it is given.
+        /// The new key.
         new: &'a str,
     },
-    /// Takes an entry out.
+    /// Removes an entry.
     Remove {
-        /// Its key.
+        /// The key of the entry.
         key: &'a str,
     },
-    /// Adds the entries of another text.
+    /// Appends another text with its entries.
     Add {
-        /// The text.
+        /// The text to append.
         text: &'a str,
     },
-    /// Puts the entries in an order.
+    /// Sorts the entries.
     Sort {
-        /// What they are ordered by.
+        /// The order of the entries.
         order: Order,
     },
-    /// Writes abbreviations out.
+    /// Replaces abbreviations by their texts in the fields of entries. The definitions, and abbreviations without one, are kept.
     Expand,
-    /// Makes abbreviations of texts that repeat.
+    /// Defines abbreviations for texts that occur in several fields, and replaces the texts by them.
     Collect {
-        /// The names of the fields in which they stand.
+        /// The names of the fields whose texts are collected.
         fields: &'a [&'a str],
-        /// How often a text has to stand there, 2 at least.
+        /// The minimum number of fields with the text. A number below 2 counts as 2.
         at_least: usize,
     },
-    /// Gives entries the types and fields of BibLaTeX.
+    /// Converts entries to the types and fields of BibLaTeX.
     ToBiblatex,
-    /// Gives entries the types and fields of BibTeX.
+    /// Converts entries to the types and fields of BibTeX.
     ToBibtex,
-    /// Gives entries what they inherit in fields of their own.
+    /// Replaces the references `crossref` and `xdata` of each entry by the fields that it inherits. A `crossref` to an unknown
+    /// key is kept.
     Resolve,
-    /// Puts the text in one style.
+    /// Formats the text in a style.
     Format {
-        /// How entries are laid out.
+        /// The style.
         style: Style<'a>,
     },
 }
 
-/// Why edits are refused. Refused edits change nothing.
+/// The reason for refusing edits. Refused edits change nothing.
 #[derive(Debug, Drop)]
 pub enum Refusal {
-    /// At this byte of the file no character of UTF-8 begins.
+    /// The file isn't UTF-8.
     NotUtf8 {
-        /// The index of the byte.
+        /// The offset of the first byte that isn't UTF-8, in bytes of the file.
         at: usize,
     },
-    /// The file's text has an error of the file grammar.
+    /// The text of the file has an error of the file grammar.
     File(ParseError),
     /// The text to be added has an error of the file grammar.
     Added(ParseError),
     /// An edit is refused.
     Edit {
-        /// The index of the edit.
+        /// The index of the edit, from 0.
         index: usize,
-        /// Why it is refused.
+        /// The error of the edit.
         why: EditError,
     },
-    /// An edit that writes abbreviations out is refused, since a definition refers to itself.
+    /// The edit [`Edit::Expand`] is refused, since the definition of an abbreviation refers to itself.
     Cycle {
-        /// The index of the edit.
+        /// The index of the edit, from 0.
         index: usize,
-        /// The index of the definition among those of the text.
+        /// The index of the definition among those of the text, from 0.
         definition: usize,
     },
-    /// An edit that gives entries what they inherit is refused.
+    /// The edit [`Edit::Resolve`] is refused.
     Unresolved {
-        /// The index of the edit.
+        /// The index of the edit, from 0.
         index: usize,
-        /// Why it is refused.
+        /// The error of the edit.
         why: ResolveError,
     },
-    /// There was no memory.
+    /// Out of memory.
     OutOfMemory,
 }
 

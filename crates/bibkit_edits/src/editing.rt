@@ -1,4 +1,4 @@
-//! Edits of a file's text, one after another.
+//! Applies edits to the text of a file, in turn.
 
 ghost use Rattle.std.specs.Prelude.{◌≡◌, ◌≢◌, IfErr, IfOk, OnErr, map};
 ghost use Rattle.std.specs.String.{string_bytes};
@@ -11,16 +11,17 @@ ghost use Rattle.bibkit_edits.specs.Steps.{IsTextRefused, StepIsRefused, added_r
 ghost use Rattle.bib_resolution.specs.Resolutions.{IsResolveRefused};
 
 use crate::edit::{Edit, Refusal};
-use crate::order::{Order, order_texts};
+use crate::order::order_texts;
 use crate::reading::{text_after_mark, with_mark};
 use bib_conversion::converting::convert;
 use bib_documents::document::RawDocument;
 use bib_documents::errors::EditError;
-use bib_entry::write::Format;
+use bib_entry::write::Dialect;
 use bib_format::formatting::format;
 use bib_format::style::Style;
 use bib_resolution::errors::ResolveError;
 use bib_resolution::resolving::resolve;
+use bib_sorting::order::Order;
 use bib_sorting::sorting::sort_entries;
 use bib_strings::collecting::collect;
 use bib_strings::errors::ExpandError;
@@ -28,16 +29,16 @@ use bib_strings::expanding::expand;
 use bib_syntax::raw::ParseError;
 use std::alloc::{AllocError, Global};
 
-// Why one edit of a document is refused.
+// The reason for refusing one edit of a document.
 #[derive(Debug, Drop)]
 enum Step {
-    // The text to be added isn't read.
+    // The text to be added can't be parsed.
     Added(ParseError),
     // The edit is refused.
     Refused(EditError),
-    // The edit meets a definition that refers to itself, the one at this index.
+    // The definition of an abbreviation at this index refers to itself.
     Cycle(usize),
-    // Entries aren't given what they inherit.
+    // Resolving references failed.
     Unresolved(ResolveError),
 }
 
@@ -76,7 +77,7 @@ impl From<ResolveError> for Step {
     }
 }
 
-// The text of a document with its entries in an order.
+// Returns the text of a document with its entries sorted. Fails only if out of memory.
 fn in_order(alloc: Global, document: &RawDocument<'_>, order: Order) -> Result<String, EditError>
     ensures made { IfOk result (λ new. IsEdited (IsInOrder order document.now) (string_bytes new)) }
     ensures refused { IfErr result (λ why. why ≡ OutOfMemory) }
@@ -85,7 +86,7 @@ fn in_order(alloc: Global, document: &RawDocument<'_>, order: Order) -> Result<S
     Ok(sort_entries(alloc, document, &texts)?)
 }
 
-// The text of a document with its abbreviations written out.
+// Returns the text of a document with its abbreviations replaced by their texts.
 fn written_out(alloc: Global, document: &RawDocument<'_>) -> Result<String, ExpandError>
     ensures made { IfOk result (λ new. IsEdited (IsWrittenOut document.now) (string_bytes new)) }
     ensures refused { IfErr result (ExpandIsRefused document.now) }
@@ -93,7 +94,7 @@ fn written_out(alloc: Global, document: &RawDocument<'_>) -> Result<String, Expa
     expand(alloc, document)
 }
 
-// The text of a document with abbreviations made of texts that repeat.
+// Returns the text of a document with abbreviations for repeated texts of these fields. Fails only if out of memory.
 fn collected(
     alloc: Global,
     document: &RawDocument<'_>,
@@ -106,15 +107,19 @@ fn collected(
     Ok(collect(alloc, document, fields, at_least)?)
 }
 
-// The text of a document with the types and fields of a format.
-fn converted(alloc: Global, document: &RawDocument<'_>, format: Format) -> Result<String, EditError>
-    ensures made { IfOk result (λ new. IsEdited (IsDocumentConverted format document.now) (string_bytes new)) }
+// Returns the text of a document with the types and fields of a dialect. Fails only if out of memory.
+fn converted(
+    alloc: Global,
+    document: &RawDocument<'_>,
+    dialect: Dialect,
+) -> Result<String, EditError>
+    ensures made { IfOk result (λ new. IsEdited (IsDocumentConverted dialect document.now) (string_bytes new)) }
     ensures refused { IfErr result (λ why. why ≡ OutOfMemory) }
 {
-    Ok(convert(alloc, document, format)?)
+    Ok(convert(alloc, document, dialect)?)
 }
 
-// The text of a document with what entries inherit in fields of their own.
+// Returns the text of a document with the references `crossref` and `xdata` replaced by the inherited fields.
 fn resolved(alloc: Global, document: &RawDocument<'_>) -> Result<String, ResolveError>
     ensures made { IfOk result (λ new. IsEdited (IsResolvedDocument document.now) (string_bytes new)) }
     ensures refused { IfErr result (IsResolveRefused document.now.text) }
@@ -122,7 +127,7 @@ fn resolved(alloc: Global, document: &RawDocument<'_>) -> Result<String, Resolve
     resolve(alloc, document)
 }
 
-// The text of a document in one style.
+// Returns the text of a document in a style. Fails only if out of memory.
 fn in_style(
     alloc: Global,
     document: &RawDocument<'_>,
@@ -134,7 +139,7 @@ fn in_style(
     Ok(format(alloc, document, style)?)
 }
 
-// The text that an edit makes of a document.
+// Applies an edit to a document, and returns the new text.
 fn edit_document(alloc: Global, document: &RawDocument<'_>, edit: &Edit<'_>) -> Result<String, Step>
     ensures made { IfOk result (λ new. IsEdited (EditOutcome edit.now document.now) (string_bytes new)) }
     ensures refused { IfErr result (StepIsRefused edit.now document.now) }
@@ -151,14 +156,14 @@ fn edit_document(alloc: Global, document: &RawDocument<'_>, edit: &Edit<'_>) -> 
         Edit::Sort { order } => Ok(in_order(alloc, document, order)?),
         Edit::Expand => Ok(written_out(alloc, document)?),
         Edit::Collect { fields, at_least } => Ok(collected(alloc, document, fields, at_least)?),
-        Edit::ToBiblatex => Ok(converted(alloc, document, Format::Biblatex)?),
-        Edit::ToBibtex => Ok(converted(alloc, document, Format::Bibtex)?),
+        Edit::ToBiblatex => Ok(converted(alloc, document, Dialect::Biblatex)?),
+        Edit::ToBibtex => Ok(converted(alloc, document, Dialect::Bibtex)?),
         Edit::Resolve => Ok(resolved(alloc, document)?),
         Edit::Format { style } => Ok(in_style(alloc, document, &style)?),
     }
 }
 
-// Why edits are refused, where the text to be added isn't read.
+// Returns the refusal for an error of the text to be added.
 fn added_refusal(error: ParseError) -> Refusal
     ensures { result ≡ added_refusal error }
 {
@@ -168,7 +173,7 @@ fn added_refusal(error: ParseError) -> Refusal
     }
 }
 
-// Why edits are refused, where the file's text isn't read.
+// Returns the refusal for an error of the text of the file.
 fn file_refusal(error: ParseError) -> Refusal
     ensures { result ≡ file_refusal error }
 {
@@ -178,7 +183,7 @@ fn file_refusal(error: ParseError) -> Refusal
     }
 }
 
-// Why an edit is refused, unless it is that there was no memory.
+// Returns `AllocError` for out of memory, and `Ok` with any other error.
 fn unless_out_of_memory(why: EditError) -> Result<EditError, AllocError>
     ensures other { IfOk result (λ other. (other ≡ why) × (why ≢ OutOfMemory)) }
     ensures no_memory { OnErr result (why ≡ OutOfMemory) }
@@ -189,7 +194,7 @@ fn unless_out_of_memory(why: EditError) -> Result<EditError, AllocError>
     }
 }
 
-// Why edits are refused, where the one at this index is.
+// Returns the refusal for an error of the edit at this index.
 fn edit_refusal(why: EditError, index: usize) -> Refusal
     ensures { result ≡ edit_refusal why index }
 {
@@ -199,7 +204,7 @@ fn edit_refusal(why: EditError, index: usize) -> Refusal
     }
 }
 
-// Why edits are refused, where the one at this index gives entries what they inherit.
+// Returns the refusal for an error of resolving references by the edit at this index.
 fn unresolved_refusal(why: ResolveError, index: usize) -> Refusal
     ensures { result ≡ unresolved_refusal why index }
 {
@@ -209,7 +214,7 @@ fn unresolved_refusal(why: ResolveError, index: usize) -> Refusal
     }
 }
 
-// Why edits are refused, where the one at this index is.
+// Returns the refusal for the edit at this index, which failed with `step`.
 fn refusal(step: Step, index: usize) -> Refusal
     ensures { result ≡ refusal_at step index }
 {
@@ -221,7 +226,7 @@ fn refusal(step: Step, index: usize) -> Refusal
     }
 }
 
-// The text that an edit makes of a text. The index is that of the edit.
+// Applies an edit to a text, and returns the new text. `index` is the index of the edit, for its refusal.
 fn edited_once(alloc: Global, text: &str, edit: &Edit<'_>, index: usize) -> Result<String, Refusal>
     ensures made { IfOk result (λ new. IsMade edit.now text.now (string_bytes new)) }
     ensures refused { IfErr result (IsTextRefused edit.now text.now index) }
@@ -235,7 +240,7 @@ fn edited_once(alloc: Global, text: &str, edit: &Edit<'_>, index: usize) -> Resu
     }
 }
 
-// The text that is edited next: the one that the last edit made, and where none is made yet the first.
+// Returns the text for the next edit: the text after the last edit, or `first` before any edit.
 fn latest<'a>(new: &'a Option<String>, first: &'a str) -> &'a str
     ensures { result.now ≡ latest new.now first.now }
 {
@@ -245,7 +250,8 @@ fn latest<'a>(new: &'a Option<String>, first: &'a str) -> &'a str
     }
 }
 
-/// The text that edits make of a text: each is of the text that the one before made. All of them are made, or none.
+/// Applies edits to a text, each to the text after the previous one, and returns the new text. If one edit is refused, returns
+/// its refusal.
 pub fn edited(alloc: Global, text: &str, edits: &[Edit<'_>]) -> Result<String, Refusal>
     ensures made { IfOk result (λ new. AreMade edits.now text.now (string_bytes new)) }
     ensures refused { IfErr result (AreRefused edits.now text.now) }
@@ -260,8 +266,8 @@ pub fn edited(alloc: Global, text: &str, edits: &[Edit<'_>]) -> Result<String, R
     }
 }
 
-/// What edits make of a file's bytes, which have to be UTF-8: a byte order mark at their start stays, and the text after it is
-/// edited.
+/// Applies edits to the bytes of a file, and returns the new text. The bytes must be UTF-8. A byte order mark at their start is
+/// kept, and the text after it is edited.
 pub fn edited_file(alloc: Global, bytes: &[u8], edits: &[Edit<'_>]) -> Result<String, Refusal>
     ensures made { IfOk result (λ new. IsFileMade edits.now bytes.now (string_bytes new)) }
     ensures refused { IfErr result (IsFileRefused edits.now bytes.now) }

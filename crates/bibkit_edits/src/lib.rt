@@ -1,8 +1,8 @@
-//! The engine of the commands of `bibkit` that edit a file.
+//! Runs the commands of `bibkit` that edit a file.
 //!
-//! `edit` says what can be asked for and why it is refused, `editing` makes a file's new bytes of its old ones: each edit is of
-//! the text that the one before made, and all of them are made or none. `reading` finds the text of a file's bytes, `printing`
-//! prints what is made of them. `style_settings` says which of two settings of a style holds.
+//! `edit` contains the edits and the reasons for refusing them. `editing` applies edits to the bytes of a file: each to the text
+//! after the previous one, and either all of them or none. `order` returns the texts by which entries are sorted. `reading`
+//! handles the byte order mark of a file, and `printing` prints the new text or a diff.
 #![tactic(auto)]
 
 pub mod edit;
@@ -10,4 +10,3 @@ pub mod editing;
 pub mod order;
 pub mod printing;
 mod reading;
-pub mod style_settings;

@@ -1,4 +1,4 @@
-//! What entries are ordered by.
+//! The texts by which entries are sorted.
 
 ghost use Rattle.std.specs.Prelude.{◌≡◌, ◌-◌, ◌≤◌, IfOk, length, map};
 ghost use Rattle.std.specs.List.{after_last};
@@ -9,40 +9,12 @@ ghost use Rattle.bibkit_edits.specs.Orders as orders;
 ghost use Rattle.bibkit_edits.specs.Orders.{is_word_space};
 
 use bib_findings::identities::{person, year};
+use bib_sorting::order::Order;
 use bib_syntax::raw::RawEntry;
 use bib_text::spanned::Spanned;
 use std::alloc::{AllocError, Global};
 
-/// What entries are ordered by. Entries that have nothing of it come last.
-#[derive(Debug, Clone, Copy, PartialEq, Eq)]
-pub enum Order {
-    /// Their keys, in lowercase as far as they are ASCII.
-    Key,
-    /// Their years: the fields `year`, or else the first four characters of the dates.
-    Year,
-    /// The names of their first authors, or else editors, as they stand in the file but for case and braces, family names first: what
-    /// stands before the comma or, where none stands, the last word.
-    Author,
-    /// Their types, in lowercase.
-    Type,
-}
-
-impl Order {
-    /// The order of this name, `key`, `year`, `author` or `type`.
-    pub fn named(name: &str) -> Option<Order>
-        ensures { result ≡ orders.order_named name.now }
-    {
-        match name {
-            "key" => Some(Order::Key),
-            "year" => Some(Order::Year),
-            "author" => Some(Order::Author),
-            "type" => Some(Order::Type),
-            _ => None,
-        }
-    }
-}
-
-// Where the last word of words begins, between which single spaces stand.
+// Returns the offset of the last word, in bytes: the one after the last space, or 0 without a space.
 fn last_word(words: &str) -> usize
     ensures is { result ≡ length words.now - length (after_last is_word_space words.now) }
     ensures boundary { IsCharBoundary words.now result }
@@ -56,7 +28,8 @@ fn last_word(words: &str) -> usize
     start
 }
 
-// A name with the family name first.
+// Returns a name with the family name first, without white space at its end: the same name if it contains a comma, otherwise
+// with its last word first.
 fn family_first(alloc: Global, person: &str) -> Result<String, AllocError>
     ensures { IfOk result (λ name. string_bytes name ≡ orders.family_first person.now) }
 {
@@ -68,7 +41,7 @@ fn family_first(alloc: Global, person: &str) -> Result<String, AllocError>
     format!(in alloc; "{}, {}", &name[start..], &name[..start])
 }
 
-// A text, or where it is empty one that stands after all others.
+// Returns a text, or U+10FFFF if it is empty, which sorts after all other texts.
 fn or_last(alloc: Global, text: String) -> Result<String, AllocError>
     ensures { IfOk result (λ found. string_bytes found ≡ orders.or_last (string_bytes text)) }
 {
@@ -79,7 +52,7 @@ fn or_last(alloc: Global, text: String) -> Result<String, AllocError>
     }
 }
 
-// The name of the first person of an entry.
+// Returns the name of the first author or editor of an entry, with the family name first, or an empty text.
 fn author_text(alloc: Global, entry: &Spanned<RawEntry<'_>>) -> Result<String, AllocError>
     ensures { IfOk result (λ text. string_bytes text ≡ orders.author_text (entry_reading_of entry.now)) }
 {
@@ -90,7 +63,7 @@ fn author_text(alloc: Global, entry: &Spanned<RawEntry<'_>>) -> Result<String, A
     family_first(alloc, &person)
 }
 
-// What an entry is ordered by.
+// Returns the text by which an entry is sorted.
 fn order_text(
     alloc: Global,
     order: Order,
@@ -106,7 +79,7 @@ fn order_text(
     }
 }
 
-/// What each entry is ordered by.
+/// Returns, for each entry, the text by which it is sorted. Entries without a year or a name come last in those orders.
 pub fn order_texts(
     alloc: Global,
     order: Order,

@@ -1,21 +1,21 @@
-//! What is printed of a file that is edited.
+//! Prints the new text of an edited file, or its diff.
 
 ghost use Rattle.std.specs.Prelude.{◌≡◌, false, IfErr, IfOk, OnOk};
 ghost use Rattle.std.specs.Str.{IsUtf8};
 ghost use Rattle.std.specs.String.{string_bytes};
 ghost use Rattle.std.specs.Io.KnownBytes.{Appends};
-ghost use Rattle.bibkit_diff.specs.Unified.{IsDiff};
+ghost use Rattle.bib_source.specs.Unified.{IsDiff};
 ghost use Rattle.bibkit_edits.specs.declared.printing.Unprinted.TheVariants.{NotTaken};
 ghost use Rattle.bibkit_edits.specs.Printing.{HasPrintedDifference, HasPrintedEdited, IsDifferenceNotPrinted, IsNotPrinted, status_of};
 
 use crate::edit::{Edit, Refusal};
 use crate::editing::edited_file;
-use bibkit_diff::unified::unified;
+use bib_source::unified::unified;
 use biblatex::Sink;
 use std::alloc::{AllocError, Global};
 use std::str::from_utf8;
 
-/// Why what edits make of a file isn't printed.
+/// The error of printing an edited file.
 #[derive(Debug, Drop)]
 pub enum Unprinted {
     /// The edits are refused.
@@ -25,8 +25,10 @@ pub enum Unprinted {
 }
 
 impl Unprinted {
-    /// The status: 1 where an edit is refused, or a text has an error of the file grammar, 2 where the file isn't UTF-8, or the
-    /// output refused the text, 3 when out of memory.
+    /// Returns the status:
+    /// - 1: an edit is refused, or a text has an error of the file grammar.
+    /// - 2: the file isn't UTF-8, or the output refused the text.
+    /// - 3: out of memory.
     pub fn status(&self) -> u8
         ensures { result ≡ status_of self.now }
     {
@@ -60,7 +62,7 @@ impl From<AllocError> for Unprinted {
     }
 }
 
-// Hands a text to the output.
+// Writes a text to the output.
 fn hand_over<K: Sink>(text: &str, output: &mut K) -> Result<(), Unprinted>
     ensures taken { OnOk result (Appends (K.taken output.old) (K.taken output.new) text.now) }
     ensures refused { IfErr result (λ why. (why ≡ NotTaken) × K.hands_over output.old text.now false output.new) }
@@ -72,7 +74,7 @@ fn hand_over<K: Sink>(text: &str, output: &mut K) -> Result<(), Unprinted>
     }
 }
 
-/// Prints what edits make of a file's bytes. Refused edits print nothing.
+/// Applies edits to the bytes of a file, and prints the new text. Refused edits print nothing.
 pub fn print_edited<K: Sink>(
     alloc: Global,
     bytes: &[u8],
@@ -86,7 +88,7 @@ pub fn print_edited<K: Sink>(
     hand_over(&new, output)
 }
 
-// How a new text differs from bytes that it was made of.
+// Returns the diff from `bytes`, which are UTF-8, to the text `new`.
 fn difference(alloc: Global, name: &str, bytes: &[u8], new: &str) -> Result<String, AllocError>
     requires { IsUtf8 bytes.now }
     ensures { IfOk result (λ diff. IsDiff name.now bytes.now new.now (string_bytes diff)) }
@@ -97,8 +99,8 @@ fn difference(alloc: Global, name: &str, bytes: &[u8], new: &str) -> Result<Stri
     }
 }
 
-/// Prints how what edits make of a file's bytes differs from them, as `diff -u` does with the file's name, and answers whether
-/// anything is printed: nothing where they are the same. Refused edits print nothing.
+/// Applies edits to the bytes of a file, and prints a unified diff with the file name, as `diff -u` does. Returns whether
+/// the diff isn't empty. Refused edits print nothing.
 pub fn print_difference<K: Sink>(
     alloc: Global,
     name: &str,

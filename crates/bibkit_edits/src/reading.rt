@@ -1,14 +1,14 @@
-//! The text of a file's bytes, and its byte order mark.
+//! Splits the bytes of a file into a byte order mark and a text.
 
 ghost use Rattle.std.specs.Prelude.{◌≡◌, ◌≤◌, ◌++◌, length, IfErr, IfOk, string_bytes};
 ghost use Rattle.std.specs.Str.{IsUtf8};
-ghost use Rattle.bib_encoding.specs.Encoding.{IsFirstInvalid, mark_length, without_byte_order_mark};
+ghost use Rattle.bib_source.specs.Encoding.{IsFirstInvalid, mark_length, without_byte_order_mark};
 ghost use Rattle.bibkit_edits.specs.Edited.{mark_of};
 
 use std::alloc::{AllocError, Global};
 use std::str::from_utf8;
 
-// How many bytes the byte order mark has that a file begins with.
+// Returns the length in bytes of the byte order mark at the start of a file, or 0 without one.
 fn mark_length(bytes: &[u8]) -> usize
     ensures value { result ≡ mark_length bytes.now }
     ensures within { result ≤ length bytes.now }
@@ -20,7 +20,7 @@ fn mark_length(bytes: &[u8]) -> usize
     }
 }
 
-/// The text of a file's bytes after its byte order mark, or the index of the first byte at which no character of UTF-8 begins.
+/// Returns the text of a file after its byte order mark, or the offset in the file of the first byte that isn't UTF-8.
 pub fn text_after_mark(bytes: &[u8]) -> Result<&str, usize>
     ensures text { IfOk result (λ text. text.now ≡ without_byte_order_mark bytes.now) }
     ensures utf8 { IfOk result (λ _. IsUtf8 (without_byte_order_mark bytes.now)) }
@@ -33,7 +33,7 @@ pub fn text_after_mark(bytes: &[u8]) -> Result<&str, usize>
     }
 }
 
-// Two texts, one after the other.
+// Returns the concatenation of two texts.
 fn joined(alloc: Global, first: &str, second: &str) -> Result<String, AllocError>
     ensures { IfOk result (λ text. string_bytes text ≡ first.now ++ second.now) }
 {
@@ -42,7 +42,7 @@ fn joined(alloc: Global, first: &str, second: &str) -> Result<String, AllocError
     Ok(text)
 }
 
-/// A text after the byte order mark that a file begins with, if it does.
+/// Returns `text`, after a byte order mark if `bytes` begin with one.
 pub fn with_mark(alloc: Global, bytes: &[u8], text: String) -> Result<String, AllocError>
     ensures { IfOk result (λ whole. string_bytes whole ≡ mark_of bytes.now ++ string_bytes text) }
 {

@@ -1,4 +1,4 @@
--- Settled entries refer to nothing: references add nothing to what is read again.
+-- Entries that refer to nothing: inheriting leaves their types and fields unchanged.
 use Rattle.std.proofs.Common.{◌≡◌, ℕ, zero, suc, ◌<◌, Bool, true, false, List, [], ◌∷◌, length, map, refl, sym, ap, ◌∙◌, subst, Option, Some, None, arith, inl, inr, cond}
 use Rattle.std.specs.Prelude.{◌&&◌, slice_index_or, codes, bytes_eq, option_map}
 use Rattle.std.specs.List.{AllByRecursion, AllZip, Contains}
@@ -6,17 +6,18 @@ use Rattle.std.specs.FinMap as by_name
 use Rattle.std.proofs.lemmas.Bool.{cases_Bool}
 use Rattle.std.proofs.lemmas.Slice.Eq.{bytes_eq-Decides}
 use Rattle.bib_chunks.specs.Styled.{Atom, styled}
-use Rattle.bib_maps.specs.Sorted.{ByText}
+use Rattle.bib_collections.specs.Sorted.{ByText}
 use Rattle.bib_entry.specs.declared.entry.Entry.{Entry}
-use Rattle.bib_graph.specs.Graph.{refs_of, Leads, HasNoCycle}
+use Rattle.bib_collections.specs.Graph.{refs_of, Leads, HasNoCycle}
 use Rattle.bib_inheritance.specs.InheritableDate.{date_for, last_date, looks_for_date}
 use Rattle.bib_inheritance.specs.Inherited.{inherited, plain_field, field_by}
 use Rattle.bib_inheritance.specs.References.{references}
-use Rattle.bib_inheritance.specs.Sources.{Source, fields_of, first_some, no_entry}
-use Rattle.bib_references.specs.Resolving.{graph_by, source_of_entry, sources_of, at_index, Inherits, AreDatesRead}
+use Rattle.bib_inheritance.specs.EntryTexts.{EntryTexts, fields_of, first_some, no_entry}
+use Rattle.bib_inheritance.specs.Resolving.{graph_by, texts_of_entry, texts_of_entries, at_index, Inherits, AreDatesRead}
 use Rattle.biblatex.specs.Resolved.{names_of, graph_of}
+use Rattle.std.proofs.Math.Bool.{and-false}
 
--- an entry that refers to nothing
+-- an entry without `crossref` and `xdata`
 pub record RefersToNothing (e : Entry) : Type 0 where
   pub crossref : by_name.get e.fields (codes "crossref") ≡ None
   pub xdata : by_name.get e.fields (codes "xdata") ≡ None
@@ -24,7 +25,7 @@ pub record RefersToNothing (e : Entry) : Type 0 where
 no_references : (names : ByText ℕ) (e : Entry) → RefersToNothing e → references names (fields_of e.fields) ≡ []
 no_references names e none = rw (none.crossref, none.xdata) refl
 
--- no row of the graph has a reference
+-- no index of the graph has references, if no entry has
 no_row : (names : ByText ℕ) (own : List Entry) (index : ℕ) → AllByRecursion RefersToNothing own → refs_of (graph_by names own) index ≡ []
 no_row names [] index all = refl
 no_row names (e ∷ own) zero all = no_references names e all.0
@@ -33,6 +34,7 @@ no_row names (e ∷ own) (suc index) all = no_row names own index all.1
 nothing_in : {a : ℕ} {xs : List ℕ} → xs ≡ [] → Contains xs a → ⊥
 nothing_in {a} {xs} none holds = let here = subst (λ ys. Contains ys a) none holds in absurd (omega (arith, here.1))
 
+-- the graph of entries that refer to nothing has no cycle
 pub no_cycle : (own : List Entry) → AllByRecursion RefersToNothing own → HasNoCycle (graph_of own)
 no_cycle own all index within leads = none leads
   where
@@ -40,28 +42,25 @@ no_cycle own all index within leads = none leads
     none {a} (Leads.one holds) = nothing_in (no_row (names_of own) own a all) holds
     none {a} (Leads.more holds rest) = nothing_in (no_row (names_of own) own a all) holds
 
-and_last : (a : Bool) → (a && false) ≡ false
-and_last true = refl
-and_last false = refl
-
-pub no_dates : (own : List Entry) (values : List Source) → AllByRecursion RefersToNothing own → AreDatesRead (sources_of own) (graph_of own) values
-no_dates own values all index = rw (no_row (names_of own) own index all) (and_last (looks_for_date (at_index (sources_of own) index)))
+-- no entry that lacks a required date refers to a bad date, if no entry has references
+pub no_dates : (own : List Entry) (values : List EntryTexts) → AllByRecursion RefersToNothing own → AreDatesRead (texts_of_entries own) (graph_of own) values
+no_dates own values all index = rw (no_row (names_of own) own index all) (and-false (looks_for_date (at_index (texts_of_entries own) index)))
 
 rows_length : (names : ByText ℕ) (own : List Entry) → length (graph_by names own) ≡ length own
 rows_length names [] = refl
 rows_length names (e ∷ own) = ap suc (rows_length names own)
 
--- the value at an index is the entry's own
-own_value : (own : List Entry) (values : List Source) (index : ℕ) → AllByRecursion RefersToNothing own → Inherits (sources_of own) (graph_of own) values → index < length own
-    → at_index values index ≡ inherited (at_index (sources_of own) index) []
+-- the value at an index is the own entry after inheriting from nothing
+own_value : (own : List Entry) (values : List EntryTexts) (index : ℕ) → AllByRecursion RefersToNothing own → Inherits (texts_of_entries own) (graph_of own) values → index < length own
+    → at_index values index ≡ inherited (at_index (texts_of_entries own) index) []
 own_value own values index all inherits within =
     inherits.each index (subst (λ n. index < n) (sym (rows_length (names_of own) own)) within)
-    ∙ ap (λ refs. inherited (at_index (sources_of own) index) (map (λ r. slice_index_or values r no_entry) refs)) (no_row (names_of own) own index all)
+    ∙ ap (λ refs. inherited (at_index (texts_of_entries own) index) (map (λ r. slice_index_or values r no_entry) refs)) (no_row (names_of own) own index all)
 
 bytes_same : (one two : List ℕ) → bytes_eq one two ≡ true → one ≡ two
 bytes_same one two same = (bytes_eq-Decides one two).0 same
 
--- the rule leaves an entry alone that refers to nothing
+-- without references, each field of an entry without `xdata` is its own
 plain_alone : (own : List ℕ → Option (List Atom)) (name : List ℕ) → own (codes "xdata") ≡ None → plain_field own (λ name. None) name ≡ own name
 plain_alone own name none =
     elim (cases_Bool (bytes_eq name (codes "xdata"))) [
@@ -73,30 +72,32 @@ plain_alone own name none =
     found None = refl
     found (Some atoms) = refl
 
-no_date : (own : Source) → date_for own [] ≡ None
+no_date : (own : EntryTexts) → date_for own [] ≡ None
 no_date own = go (looks_for_date own)
   where
     go : (b : Bool) → cond b (last_date []) None ≡ None
     go true = refl
     go false = refl
 
-rule_alone : (own : Source) (name : List ℕ) → own.fields (codes "xdata") ≡ None → (inherited own []).fields name ≡ own.fields name
+-- inheriting from nothing leaves each field of an entry without `xdata` unchanged
+rule_alone : (own : EntryTexts) (name : List ℕ) → own.fields (codes "xdata") ≡ None → (inherited own []).fields name ≡ own.fields name
 rule_alone own name none = ap (λ date. field_by date own.fields (λ name. None) name) (no_date own) ∙ plain_alone own.fields name none
 
--- an entry that is a source by itself
+-- an entry has the type and the styled texts of the own entry
 pub record IsAsWritten (own entry : Entry) : Type 0 where
-  pub kind : entry.entry_type ≡ own.entry_type
+  pub entry_type : entry.entry_type ≡ own.entry_type
   pub fields : (name : List ℕ) → option_map styled (by_name.get entry.fields name) ≡ option_map styled (by_name.get own.fields name)
 
-as_written : (own entry : Entry) → RefersToNothing own → source_of_entry entry ≡ inherited (source_of_entry own) [] → IsAsWritten own entry
+-- an entry with the value of an own entry that refers to nothing has its type and styled texts
+as_written : (own entry : Entry) → RefersToNothing own → texts_of_entry entry ≡ inherited (texts_of_entry own) [] → IsAsWritten own entry
 as_written own entry none same = record {
-  kind = ap (λ s. s.kind) same;
-  fields = λ name. ap (λ s. s.fields name) same ∙ rule_alone (source_of_entry own) name (rw none.xdata refl);
+  entry_type = ap (λ s. s.entry_type) same;
+  fields = λ name. ap (λ s. s.fields name) same ∙ rule_alone (texts_of_entry own) name (rw none.xdata refl);
 }
 
--- values that are each entry's own
+-- entries whose values are the own entries after inheriting from nothing have the types and styled texts of these
 all_as_written : (own entries : List Entry) → AllByRecursion RefersToNothing own → length entries ≡ length own
-    → ((index : ℕ) → index < length own → at_index (sources_of entries) index ≡ inherited (at_index (sources_of own) index) []) → AllZip IsAsWritten own entries
+    → ((index : ℕ) → index < length own → at_index (texts_of_entries entries) index ≡ inherited (at_index (texts_of_entries own) index) []) → AllZip IsAsWritten own entries
 all_as_written [] [] all size each = tt
 all_as_written [] (e ∷ entries) all size each = absurd (omega (arith, size))
 all_as_written (o ∷ own) [] all size each = absurd (omega (arith, size))
@@ -109,9 +110,9 @@ length-map : {A B : Type 0} (f : A → B) (xs : List A) → length (map f xs) �
 length-map f [] = refl
 length-map f (x ∷ xs) = ap suc (length-map f xs)
 
--- the entries of a solution are as they are written
-pub entries_as_written : (own entries : List Entry) → AllByRecursion RefersToNothing own → Inherits (sources_of own) (graph_of own) (sources_of entries) → AllZip IsAsWritten own entries
+-- if no entry refers to another, the entries of a solution have the types and styled texts of the own entries
+pub entries_as_written : (own entries : List Entry) → AllByRecursion RefersToNothing own → Inherits (texts_of_entries own) (graph_of own) (texts_of_entries entries) → AllZip IsAsWritten own entries
 entries_as_written own entries all inherits =
     all_as_written own entries all
-    (sym (length-map source_of_entry entries) ∙ inherits.same_length ∙ rows_length (names_of own) own)
-    (λ index within. own_value own (sources_of entries) index all inherits within)
+    (sym (length-map texts_of_entry entries) ∙ inherits.same_length ∙ rows_length (names_of own) own)
+    (λ index within. own_value own (texts_of_entries entries) index all inherits within)

@@ -1,4 +1,4 @@
--- How it is found whether keys differ.
+-- Checking whether keys are distinct.
 use Rattle.std.proofs.Common.{◌≡◌, ℕ, zero, suc, ◌+◌, ◌-◌, ◌<◌, ◌≤◌, ◌||◌, Bool, true, false, List, [], ◌∷◌, length, map, take, drop, get_or, refl, sym, ap, ◌∙◌, subst, inl, inr, Some, arith}
 use Rattle.std.specs.Prelude.{◌⊎◌, ◌↔◌, ◌≢◌, ◌==◌, IsTrue, bytes_eq}
 use Rattle.std.specs.FinMap as by_name
@@ -9,7 +9,7 @@ use Rattle.std.proofs.lemmas.List.Folds.{list_any_at}
 use Rattle.std.proofs.lemmas.Map.Keys.{apart_from_distinct, IsDistinct-from_apart}
 use Rattle.std.proofs.Math.Seq.{take-length}
 use Rattle.std.proofs.lemmas.Slice.Eq.{bytes_eq-Decides}
-use Rattle.bib_maps.specs.Sorted.{ByText}
+use Rattle.bib_collections.specs.Sorted.{ByText}
 use Rattle.bib_entry.specs.declared.entry.Entry.{Entry}
 use Rattle.biblatex.specs.Distinct.{stands_elsewhere}
 
@@ -19,26 +19,30 @@ Keys' = List (List ℕ)
 abbrev pub keys_of : List Entry → Keys'
 keys_of es = map (λ e. e.key) es
 
+-- searching for a key among entries is searching for it among their keys
 pub any_key : (key : List ℕ) (es : List Entry) → list_any (λ e. bytes_eq key e.key) es ≡ list_any (bytes_eq key) (keys_of es)
 any_key key [] = refl
 any_key key (e ∷ es) = ap (λ b. bytes_eq key e.key || b) (any_key key es)
 
+-- the key at an index is that of the entry at the index
 pub key_at : (es : List Entry) (i : ℕ) (e : Entry) → i < length es → e ≡ get_or es i e → get_or (keys_of es) i [] ≡ e.key
 key_at [] i e within is = absurd (omega arith)
 key_at (x ∷ es) zero e within is = sym (ap (λ y. y.key) is)
 key_at (x ∷ es) (suc i) e within is = key_at es i e (omega arith) is
 
+-- the key at an index in range doesn't depend on the default
 any_default : (keys : Keys') (i : ℕ) (c d : List ℕ) → i < length keys → get_or keys i c ≡ get_or keys i d
 any_default [] i c d within = absurd (omega arith)
 any_default (k ∷ keys) zero c d within = refl
 any_default (k ∷ keys) (suc i) c d within = any_default keys i c d (omega arith)
 
--- where a key is that passes
+-- the index of a key that passes the test
 record Found (test : List ℕ → Bool) (keys : Keys') : Type 0 where
   at : ℕ
   within : at < length keys
   passes : test (get_or keys at []) ≡ true
 
+-- if a key passes the test, there is an index of such a key
 found_at : (test : List ℕ → Bool) (keys : Keys') → list_any test keys ≡ true → Found test keys
 found_at test [] any = absurd (both_ways false refl any)
 found_at test (k ∷ keys) any =
@@ -52,10 +56,11 @@ found_at test (k ∷ keys) any =
 same_key : (one two : List ℕ) → bytes_eq one two ≡ true → one ≡ two
 same_key one two is = (bytes_eq-Decides one two).0 is
 
+-- equality of keys is symmetric
 turned : (one two : List ℕ) → bytes_eq one two ≡ true → bytes_eq two one ≡ true
 turned one two is = (bytes_eq-Decides two one).1 (sym (same_key one two is))
 
--- a key that stands at another index too is not distinct
+-- if a key also occurs at another index, the keys are not distinct
 pub not_distinct : (keys : Keys') (i : ℕ) → i < length keys → stands_elsewhere keys i ≡ true → IsDistinct bytes_eq keys → ⊥
 not_distinct keys i within elsewhere distinct =
     elim (cases_Bool (list_any (bytes_eq (get_or keys i [])) (take i keys))) [
@@ -74,13 +79,14 @@ not_distinct keys i within elsewhere distinct =
           both_ways _ (apart_from_distinct bytes_eq keys i (i + 1 + found.at) [] distinct (omega arith) high) same
     ]
 
--- a key points to its own index, or stands at no other
+-- a key points to its own index, or occurs at no other index
 abbrev pub IsAlone : ByText ℕ → Keys' → ℕ → Type 0
 IsAlone names keys i = (by_name.get names (get_or keys i []) ≡ Some i) ⊎ (stands_elsewhere keys i ≡ false)
 
 some_same : {i j : ℕ} → Some i ≡ Some j → i ≡ j
 some_same same = cc
 
+-- keys at different indices differ if each key is alone
 apart : (names : ByText ℕ) (keys : Keys') → ((i : ℕ) → i < length keys → IsAlone names keys i) → (i j : ℕ) → i < j → j < length keys → bytes_eq (get_or keys i []) (get_or keys j []) ≡ false
 apart names keys alone i j before within =
     elim (cases_Bool (bytes_eq (get_or keys i []) (get_or keys j []))) [
@@ -104,13 +110,13 @@ apart names keys alone i j before within =
         let indices : i ≡ j = some_same (sym first ∙ ap (by_name.get names) (same_key (get_or keys i []) (get_or keys j []) same) ∙ second) in
         omega (arith, before, indices)
 
--- where each key is alone, keys are distinct
+-- keys are distinct if each of them points to its own index or occurs at no other
 pub distinct : (names : ByText ℕ) (keys : Keys') → ((i : ℕ) → i < length keys → IsAlone names keys i) → IsDistinct bytes_eq keys
 distinct names keys alone = IsDistinct-from_apart bytes_eq keys (λ i j d before within.
     let low : i < length keys = omega (arith, before, within) in
     ap (λ k. bytes_eq k (get_or keys j d)) (any_default keys i d [] low) ∙ ap (bytes_eq (get_or keys i [])) (any_default keys j d [] within) ∙ apart names keys alone i j before within)
 
--- the keys before and after an index
+-- the searches before and after an index together decide whether the key at the index occurs at another
 pub elsewhere_found : (es : List Entry) (i : ℕ) (e : Entry) (before following : Bool) → i < length es → e ≡ get_or es i e
     → before ≡ list_any (λ x. bytes_eq e.key x.key) (take i es) → following ≡ list_any (λ x. bytes_eq e.key x.key) (drop (i + 1) es)
     → before || following ≡ stands_elsewhere (keys_of es) i
@@ -119,18 +125,20 @@ elsewhere_found es i e before following within is first second =
     ∙ ap (λ b. list_any (bytes_eq e.key) (take i (keys_of es)) || b) (second ∙ any_key e.key (drop (i + 1) es) ∙ ap (list_any (bytes_eq e.key)) (sym (drop-map (λ x. x.key) (i + 1) es)))
     ∙ ap (λ k. list_any (bytes_eq k) (take i (keys_of es)) || list_any (bytes_eq k) (drop (i + 1) (keys_of es))) (sym (key_at es i e within is))
 
+-- a key that occurs before its index occurs at another index
 pub found_before : (es : List Entry) (i : ℕ) (e : Entry) (before : Bool) → i < length es → e ≡ get_or es i e → before ≡ list_any (λ x. bytes_eq e.key x.key) (take i es) → before ≡ true → before ≡ stands_elsewhere (keys_of es) i
 found_before es i e before within is first passes =
     let following = list_any (λ x. bytes_eq e.key x.key) (drop (i + 1) es) in
     passes ∙ ap (λ b. b || following) (sym passes) ∙ elsewhere_found es i e before following within is first refl
 
+-- a key that doesn't occur before its index occurs at another index exactly if it occurs after it
 pub found_after : (es : List Entry) (i : ℕ) (e : Entry) (before following : Bool) → i < length es → e ≡ get_or es i e
     → before ≡ list_any (λ x. bytes_eq e.key x.key) (take i es) → before ≡ false → following ≡ list_any (λ x. bytes_eq e.key x.key) (drop (i + 1) es)
     → following ≡ stands_elsewhere (keys_of es) i
 found_after es i e before following within is first fails second =
     ap (λ b. b || following) (sym fails) ∙ elsewhere_found es i e before following within is first second
 
--- one index more
+-- if all indices below `n` and `n` itself are alone, so are all below `n + 1`
 pub alone_next : (names : ByText ℕ) (keys : Keys') (n : ℕ) → ((i : ℕ) → i < n → IsAlone names keys i) → IsAlone names keys n → (i : ℕ) → i < n + 1 → IsAlone names keys i
 alone_next names keys n all one i below =
     elim (cases_Bool (i == n)) [
@@ -140,16 +148,16 @@ alone_next names keys n all one i below =
           all i (omega (arith, below, other))
     ]
 
--- a key that points to its index
+-- a key that points to its own index is alone
 pub points : (names : ByText ℕ) (es : List Entry) (i : ℕ) (e : Entry) → i < length es → e ≡ get_or es i e → by_name.get names e.key ≡ Some i → IsAlone names (keys_of es) i
 points names es i e within is here = inl (ap (by_name.get names) (key_at es i e within is) ∙ here)
 
--- where all indices were looked at
+-- if all indices were checked, the keys are distinct
 pub all_alone : (names : ByText ℕ) (es : List Entry) (n : ℕ) → ((i : ℕ) → i < n → IsAlone names (keys_of es) i) → length es ≤ n → IsTrue true ↔ IsDistinct bytes_eq (keys_of es)
 all_alone names es n all whole =
     let size : length (keys_of es) ≡ length es = length-map es (λ x. x.key) in
     ((λ yes. distinct names (keys_of es) (λ i within. all i (omega (arith, within, size, whole)))), (λ d. refl))
 
--- a slice to the end
+-- the slice from an index to the end
 pub to_end : (es : List Entry) (n : ℕ) → take (length es - n) (drop n es) ≡ drop n es
 to_end es n = ap (λ k. take k (drop n es)) (sym (length-drop n es)) ∙ take-length (drop n es)

@@ -1,7 +1,7 @@
--- The first error of a file is one.
+-- Two first errors of a file agree.
 use Rattle.std.proofs.Common.{◌≡◌, ℕ, sym, ap, ◌∙◌, subst, arith, inl, inr, Some}
 use Rattle.std.proofs.lemmas.Bool.{cases_lt}
-use Rattle.bib_graph.specs.Graph.{Graph, IsFirstOnCycle}
+use Rattle.bib_collections.specs.Graph.{Graph, IsFirstOnCycle}
 use Rattle.bib_syntax.specs.Reading.{EntryReading, FileReading}
 use Rattle.bib_syntax.specs.declared.raw.ParseError.{ParseError}
 use Rattle.bib_syntax.specs.declared.raw.ParseErrorKind.TheVariants.{ReferenceCycle}
@@ -10,6 +10,7 @@ use Rattle.bib_file_entries.proofs.LoadedFacts.{no_entries}
 use Rattle.biblatex.proofs.IndexLaws.{entries_error_same}
 use Rattle.biblatex.proofs.ResolvedFacts.{graph_same}
 
+-- the first index on a cycle is unique
 first_same : (graph : Graph) (a b : ℕ) → IsFirstOnCycle graph a → IsFirstOnCycle graph b → a ≡ b
 first_same graph a b one other = elim (cases_lt a b) [
   | inl less ↦ absurd (other.first a less one.cycle)
@@ -22,6 +23,7 @@ first_same graph a b one other = elim (cases_lt a b) [
 error_at_index : ParseError → EntryReading → Type 0
 error_at_index e said = e ≡ record { span = record { start = said.start; end = said.end }; kind = ReferenceCycle said.key.text }
 
+-- the error of the cycle of an index is unique
 cycle_same : (says : FileReading) (index : ℕ) (e f : ParseError) → IsCycleError says index e → IsCycleError says index f → e ≡ f
 cycle_same says index e f one other =
     let same : one.said ≡ other.said = is (sym one.there ∙ other.there) in
@@ -30,6 +32,7 @@ cycle_same says index e f one other =
     is : {A : Type 0} {x y : A} → Some x ≡ Some y → x ≡ y
     is e = cc
 
+-- two first errors of a raw bibliography agree
 pub file_error_same : (says : FileReading) {e f : ParseError} → IsFirstErrorOf says e → IsFirstErrorOf says f → AreOneErrorOf e f
 file_error_same says (IsFirstErrorOf.entry one) (IsFirstErrorOf.entry other) = inl (entries_error_same one other)
 file_error_same says (IsFirstErrorOf.entry one) (IsFirstErrorOf.cycle are first is) = absurd (no_entries one are)

@@ -1,9 +1,9 @@
--- What is loaded from a file, said by the indices of entries.
+-- The entries of a file, by their indices.
 use Rattle.std.proofs.Common.{◌≡◌, ℕ, zero, suc, ◌<◌, Bool, true, false, List, [], ◌∷◌, ◌++◌, length, refl, sym, ap, ◌∙◌, subst, arith, inl, inr, ◌⊎◌, Option, None, Some, MatchOption, cond, ◌||◌}
 use Rattle.std.specs.Prelude.{slice_get, bytes_eq}
 use Rattle.std.specs.FinMap as by_name
 use Rattle.std.specs.FinMap.{get-empty, get-insert}
-use Rattle.std.proofs.lemmas.Bool.{both_ways, cases_Bool}
+use Rattle.std.proofs.lemmas.Bool.{both_ways, cases_Bool, or_parts}
 use Rattle.std.proofs.lemmas.Cmp.{nat_list_cmp_total}
 use Rattle.std.proofs.lemmas.List.Folds.{list_any-append}
 use Rattle.std.proofs.lemmas.Map.Text.{is_eq-slice_cmp}
@@ -12,8 +12,8 @@ use Rattle.bib_abbreviations.specs.Abbreviations.{Definitions, AreOneError}
 use Rattle.bib_abbreviations.proofs.LawFacts.{error_is_one}
 use Rattle.bib_syntax.specs.Reading.{FieldReading, EntryReading}
 use Rattle.bib_syntax.specs.declared.raw.ParseError.{ParseError}
-use Rattle.bib_maps.specs.Names.{claimed, claims_for}
-use Rattle.bib_maps.specs.Sorted.{ByText, by_bytes}
+use Rattle.bib_collections.specs.Names.{claimed, claims_for}
+use Rattle.bib_collections.specs.Sorted.{ByText, by_bytes}
 use Rattle.bib_entry.specs.declared.entry.Entry.{Entry}
 use Rattle.bib_file_entries.specs.Bibliography.{Bibliography, claims, appended, empty_bibliography, index_of}
 use Rattle.bib_file_entries.specs.Loaded.{AreEntries, IsFirstErrorOfEntries, IsFirstErrorOfFields, is_claimed, loaded_after}
@@ -22,11 +22,13 @@ use Rattle.bib_file_entries.proofs.LoadedFacts.{claims_same, fields_unread}
 
 -- ---- the element at an index of a longer list
 
+-- an element keeps its index when elements are added at the end
 get_before : {A : Type 0} (xs ys : List A) (i : ℕ) (x : A) → slice_get xs i ≡ Some x → slice_get (xs ++ ys) i ≡ Some x
 get_before [] ys i x found = cc
 get_before (y ∷ xs) ys zero x found = found
 get_before (y ∷ xs) ys (suc i) x found = get_before xs ys i x found
 
+-- an element that is added at the end has the old length as its index
 get_last : {A : Type 0} (xs : List A) (x : A) → slice_get (xs ++ x ∷ []) (length xs) ≡ Some x
 get_last [] x = refl
 get_last (y ∷ xs) x = get_last xs x
@@ -35,6 +37,7 @@ get_one : {A : Type 0} (x y : A) (i : ℕ) → slice_get (x ∷ []) i ≡ Some y
 get_one x y zero found = (refl, cc)
 get_one x y (suc i) found = cc
 
+-- an element of a list with one more at the end is an old one or the added one
 get_cases : {A : Type 0} (xs : List A) (x y : A) (i : ℕ) → slice_get (xs ++ x ∷ []) i ≡ Some y → (slice_get xs i ≡ Some y) ⊎ ((i ≡ length xs) × (x ≡ y))
 get_cases [] x y i found = inr (get_one x y i found)
 get_cases (z ∷ xs) x y zero found = inl found
@@ -50,7 +53,7 @@ one_claim true index had true = refl
 one_claim true index had false = refl
 one_claim false index had later = refl
 
--- where a name points once names were claimed for an index
+-- the index that a name points to after names were claimed for an index
 get_claimed : (index : ℕ) (more : List (List ℕ)) (names : ByText ℕ) (name : List ℕ)
     → by_name.get (claimed names (claims_for more index)) name ≡ cond (is_claimed more name) (Some index) (by_name.get names name)
 get_claimed index [] names name = refl
@@ -59,9 +62,11 @@ get_claimed index (one ∷ more) names name =
     ∙ ap (cond (is_claimed more name) (Some index)) (get-insert nat_list_cmp_total names one index name ∙ ap (λ b. cond b (Some index) (by_name.get names name)) (is_eq-slice_cmp name one))
     ∙ one_claim (bytes_eq name one) index (by_name.get names name) (is_claimed more name)
 
+-- an entry claims the same names when an entry is added
 claims_before : {entries : List Entry} {index : ℕ} {name : List ℕ} (entry : Entry) → ClaimsAt entries index name → ClaimsAt (entries ++ entry ∷ []) index name
 claims_before {entries} {index} entry at = record { entry = at.entry; there = get_before entries (entry ∷ []) index at.entry at.there; claims = at.claims }
 
+-- after an entry is added, a claim is an old one or one of the added entry
 claims_cases : {entries : List Entry} {index : ℕ} {name : List ℕ} (entry : Entry) → ClaimsAt (entries ++ entry ∷ []) index name
     → ClaimsAt entries index name ⊎ ((index ≡ length entries) × (is_claimed (claims entry) name ≡ true))
 claims_cases {entries} {index} {name} entry at = elim (get_cases entries entry at.entry index at.there) [
@@ -69,10 +74,11 @@ claims_cases {entries} {index} {name} entry at = elim (get_cases entries entry a
   | inr last ↦ inr (last.0, ap (λ e. is_claimed (claims e) name) last.1 ∙ at.claims)
 ]
 
+-- an index with a claim is in range
 claims_below : {entries : List Entry} {index : ℕ} {name : List ℕ} → ClaimsAt entries index name → index < length entries
 claims_below {entries} {index} at = slice_get_within entries index at.entry at.there
 
--- an entry more, which claims the name or doesn't
+-- the last claim of a name after adding an entry, which may claim it
 points_next : (entries : List Entry) (entry : Entry) (name : List ℕ) (before : Option ℕ)
     → MatchOption before ((index : ℕ) → ClaimsAt entries index name → ⊥) (IsLastClaim entries name)
     → MatchOption (cond (is_claimed (claims entry) name) (Some (length entries)) before)
@@ -102,31 +108,29 @@ points_next entries entry name before points = elim (cases_Bool (is_claimed (cla
     ];
   }
 
+-- adding an entry keeps each name pointing to its last claim
 points_appended : (bibliography : Bibliography) (entry : Entry) → PointsToLastClaims bibliography → PointsToLastClaims (appended bibliography entry)
 points_appended bibliography entry points name =
     rw (get_claimed (length bibliography.entries) (claims entry) bibliography.names name) (points_next bibliography.entries entry name (index_of bibliography name) (points name))
 
+-- adding entries keeps each name pointing to its last claim
 points_after : (bibliography : Bibliography) (entries : List Entry) → PointsToLastClaims bibliography → PointsToLastClaims (loaded_after bibliography entries)
 points_after bibliography [] points = points
 points_after bibliography (entry ∷ entries) points = points_after (appended bibliography entry) entries (points_appended bibliography entry points)
 
+-- in the empty bibliography no name points to an index, and no entry claims one
 points_nothing : PointsToLastClaims empty_bibliography
 points_nothing name = rw (get-empty by_bytes name) (λ index at. no_entry at.there) where
   no_entry : {entry : Entry} → None ≡ Some entry → ⊥
   no_entry none = cc
 
+-- in a bibliography of added entries each name points to its last claim
 pub points_loaded : (own : List Entry) → PointsToLastClaims (loaded_after empty_bibliography own)
 points_loaded own = points_after empty_bibliography own points_nothing
 
 -- ---- keys are fresh
 
-not_either : (b c : Bool) → (b || c) ≡ false → (b ≡ false) × (c ≡ false)
-not_either true c none = (none, absurd (clash none)) where
-  clash : true ≡ false → ⊥
-  clash e = cc
-not_either false c none = (refl, none)
-
--- no key of entries is a name that was claimed before them
+-- no key of the entries is a name that was claimed before them
 key_fresh : {definitions : Definitions} {earlier : List (List ℕ)} {said : List EntryReading} {entries : List Entry} (index : ℕ) (entry : Entry)
     → AreEntries definitions earlier said entries → slice_get entries index ≡ Some entry → is_claimed earlier entry.key ≡ false
 key_fresh index entry AreEntries.none found = absurd (none_found found) where
@@ -136,8 +140,9 @@ key_fresh {earlier = earlier} zero entry (AreEntries.next {entry = first} fresh 
     let same : first ≡ entry = cc found in
     ap (λ e. is_claimed earlier e.key) (sym same) ∙ ap (is_claimed earlier) read.key ∙ fresh
 key_fresh {earlier = earlier} (suc index) entry (AreEntries.next {entry = first} fresh read rest) found =
-    (not_either (is_claimed earlier entry.key) (is_claimed (claims first) entry.key) (sym (list_any-append (bytes_eq entry.key) earlier (claims first)) ∙ key_fresh index entry rest found)).0
+    (or_parts (is_claimed earlier entry.key) (is_claimed (claims first) entry.key) (sym (list_any-append (bytes_eq entry.key) earlier (claims first)) ∙ key_fresh index entry rest found)).0
 
+-- no key of own entries is a name that an earlier entry claims
 pub keys_fresh : {definitions : Definitions} {claimed : List (List ℕ)} {said : List EntryReading} {entries : List Entry} → AreEntries definitions claimed said entries → HasFreshKeys entries
 keys_fresh AreEntries.none earlier later entry before found at = none_found found where
   none_found : {entry : Entry} → None ≡ Some entry → ⊥
@@ -145,21 +150,23 @@ keys_fresh AreEntries.none earlier later entry before found at = none_found foun
 keys_fresh (AreEntries.next fresh read rest) earlier zero entry before found at = omega (arith, before)
 keys_fresh {claimed = claimed} (AreEntries.next {entry = first} fresh read rest) zero (suc later) entry before found at =
     let same : first ≡ at.entry = first_is at.there in
-    let none = (not_either (is_claimed claimed entry.key) (is_claimed (claims first) entry.key) (sym (list_any-append (bytes_eq entry.key) claimed (claims first)) ∙ key_fresh later entry rest found)).1 in
+    let none = (or_parts (is_claimed claimed entry.key) (is_claimed (claims first) entry.key) (sym (list_any-append (bytes_eq entry.key) claimed (claims first)) ∙ key_fresh later entry rest found)).1 in
     both_ways _ none (ap (λ e. is_claimed (claims e) entry.key) same ∙ at.claims) where
       first_is : {x y : Entry} → Some x ≡ Some y → x ≡ y
       first_is e = cc
 keys_fresh (AreEntries.next fresh read rest) (suc earlier) (suc later) entry before found at =
     keys_fresh rest earlier later entry (omega (arith, before)) found (record { entry = at.entry; there = at.there; claims = at.claims })
 
--- ---- the first error is one
+-- ---- two first errors of entries agree
 
+-- two first errors of fields agree
 fields_error_same : {definitions : Definitions} {fields : List FieldReading} {e f : ParseError} → IsFirstErrorOfFields definitions fields e → IsFirstErrorOfFields definitions fields f → AreOneError e f
 fields_error_same (IsFirstErrorOfFields.here error unread) (IsFirstErrorOfFields.here error' unread') = error_is_one error error'
 fields_error_same (IsFirstErrorOfFields.here error unread) (IsFirstErrorOfFields.following read error') = absurd (unread read)
 fields_error_same (IsFirstErrorOfFields.following read error) (IsFirstErrorOfFields.here error' unread) = absurd (unread read)
 fields_error_same (IsFirstErrorOfFields.following read error) (IsFirstErrorOfFields.following read' error') = fields_error_same error error'
 
+-- two first errors of entries agree
 pub entries_error_same : {definitions : Definitions} {earlier : List (List ℕ)} {said : List EntryReading} {e f : ParseError} → IsFirstErrorOfEntries definitions earlier said e → IsFirstErrorOfEntries definitions earlier said f → AreOneError e f
 entries_error_same (IsFirstErrorOfEntries.duplicate was is) (IsFirstErrorOfEntries.duplicate was' is') = inl (is ∙ sym is')
 entries_error_same (IsFirstErrorOfEntries.duplicate was is) (IsFirstErrorOfEntries.unreadable fresh error) = absurd (both_ways _ fresh was)

@@ -1,5 +1,5 @@
--- What is kept of a file's entries: it is read as it stands, it is all where there is no error, and there is none where all
--- can be read.
+-- The entries that are kept of a file: loading only the kept raw entries returns the same entries. If there are no errors,
+-- all raw entries are kept. If all can be loaded, there are no errors.
 use Rattle.std.proofs.Common.{◌≡◌, ℕ, Bool, true, false, cond, List, [], ◌∷◌, ◌++◌, length, map, refl, sym, ap, ap₂, ◌∙◌, subst, inl, inr, ◌⊎◌, ◌||◌, is_some, Option, Some, None}
 use Rattle.std.specs.List.{AllZip}
 use Rattle.std.proofs.lemmas.Bool.{both_ways}
@@ -14,8 +14,9 @@ use Rattle.bib_syntax.specs.Reading.{EntryReading, FieldReading, Part, Piece}
 use Rattle.bib_syntax.specs.Reading.Piece.{abbreviation, literal}
 use Rattle.bib_syntax.specs.declared.raw.ParseError.{ParseError}
 use Rattle.bib_syntax.specs.declared.raw.ParseErrorKind.TheVariants.{UnknownAbbreviation}
+use Rattle.std.proofs.Math.Bool.{or-true}
 
--- what is kept is read as a file with just that is
+-- a file with only the kept raw entries has the kept entries
 pub kept_are_entries : {d : Definitions} {claimed : List (List ℕ)} {said kept : List EntryReading} {entries : List Entry} {errors : List ParseError}
     → EntriesKept d claimed said kept entries errors → AreEntries d claimed kept entries
 kept_are_entries EntriesKept.none = AreEntries.none
@@ -27,11 +28,12 @@ kept_are_entries (EntriesKept.next fresh fields is rest) = AreEntries.next fresh
 no_cons : {A B : Type 0} {x : A} {xs : List A} → x ∷ xs ≡ [] → B
 no_cons e = cc
 
--- neither of two lists has anything
+-- if the concatenation of two lists is empty, so is the first
 pub none_before : {A : Type 0} (xs ys : List A) → xs ++ ys ≡ [] → xs ≡ []
 none_before [] ys e = refl
 none_before (x ∷ xs) ys e = no_cons e
 
+-- if the concatenation of two lists is empty, so is the second
 pub none_after : {A : Type 0} (xs ys : List A) → xs ++ ys ≡ [] → ys ≡ []
 none_after [] ys e = e
 none_after (x ∷ xs) ys e = no_cons e
@@ -41,22 +43,25 @@ mended_by : (d : Definitions) (p : Part) (rest : List Piece) (known : Bool) → 
 mended_by d p rest true e later = ap (λ l. abbreviation p ∷ l) (later e)
 mended_by d p rest false e later = no_cons e
 
--- elements without unknown names stay as they are
+-- pieces without undefined abbreviations are not changed
 pub mended_known : (d : Definitions) (pieces : List Piece) → unknown_names d pieces ≡ [] → map (mended_piece d) pieces ≡ pieces
 mended_known d [] e = refl
 mended_known d (literal p ∷ rest) e = ap (λ l. literal p ∷ l) (mended_known d rest e)
 mended_known d (abbreviation p ∷ rest) e = mended_by d p rest (is_known d p.text) e (mended_known d rest)
 
+-- a field without undefined abbreviations is not changed
 pub mended_same : (d : Definitions) (f : FieldReading) → unknown_names d f.value.pieces ≡ [] → mended d f ≡ f
 mended_same d f e =
     ap (λ (pieces : List Piece). (let g : FieldReading = record { name = f.name; value = record { pieces = pieces; start = f.value.start; end = f.value.end } } in g)) (mended_known d f.value.pieces e)
 
+-- without errors, all fields are kept unchanged
 pub fields_all : {d : Definitions} {said fields : List FieldReading} {errors : List ParseError} → FieldsKept d said fields errors → errors ≡ [] → fields ≡ said
 fields_all FieldsKept.none e = refl
 fields_all {d} (FieldsKept.kept {f = f} {errors = later} can rest) e =
     ap₂ (λ g gs. g ∷ gs) (mended_same d f (none_before (unknown_names d f.value.pieces) later e)) (fields_all rest (none_after (unknown_names d f.value.pieces) later e))
 fields_all {d} (FieldsKept.left_out {f = f} {e = error} {errors = later} first unread rest) e = no_cons (none_after (unknown_names d f.value.pieces) (error ∷ later) e)
 
+-- without errors, all raw entries are kept unchanged
 pub entries_all : {d : Definitions} {claimed : List (List ℕ)} {said kept : List EntryReading} {entries : List Entry} {errors : List ParseError}
     → EntriesKept d claimed said kept entries errors → errors ≡ [] → kept ≡ said
 entries_all EntriesKept.none e = refl
@@ -64,16 +69,14 @@ entries_all (EntriesKept.duplicate was rest) e = no_cons e
 entries_all (EntriesKept.next {said = s} {first = first} {errors = later} fresh fields is rest) e =
     ap₂ (λ fs ks. with_fields s fs ∷ ks) (fields_all fields (none_before first later e)) (entries_all rest (none_after first later e))
 
--- ---- where all can be read there is no error
+-- ---- if all can be parsed, there is no error
 
-or_right : (b : Bool) → (b || true) ≡ true
-or_right true = refl
-or_right false = refl
-
+-- the test for a defined abbreviation returns `true` if it is defined
 known_test : (d : Definitions) (name : List ℕ) → IsKnown d name → is_known d name ≡ true
 known_test d name (inl defined) = ap (λ o. is_some o || is_some (month name)) defined.1
-known_test d name (inr begins) = ap (λ o. is_some (d name) || is_some o) begins.1 ∙ or_right (is_some (d name))
+known_test d name (inr begins) = ap (λ o. is_some (d name) || is_some o) begins.1 ∙ or-true (is_some (d name))
 
+-- pieces whose names are all defined have no undefined abbreviation
 no_unknown : (d : Definitions) (pieces : List Piece) → ((name : List ℕ) → HoldsName pieces name → IsKnown d name) → unknown_names d pieces ≡ []
 no_unknown d [] known = refl
 no_unknown d (literal p ∷ rest) known = no_unknown d rest known
@@ -81,15 +84,17 @@ no_unknown d (abbreviation p ∷ rest) known =
     ap (λ b. cond b (unknown_names d rest) (error_at p (UnknownAbbreviation p.text) ∷ unknown_names d rest)) (known_test d p.text (known p.text (inl refl)))
     ∙ no_unknown d rest (λ name held. known name (inr held))
 
--- a field that can be read has no unknown name
+-- a field that can be parsed has no undefined abbreviation
 pub readable_known : (d : Definitions) (f : FieldReading) → CanBeRead d f → unknown_names d f.value.pieces ≡ []
 readable_known d f can = no_unknown d f.value.pieces (λ name held. can.known name (Reaches.held held))
 
+-- fields that can be parsed have no errors
 pub fields_fine : {d : Definitions} {said fields : List FieldReading} {errors : List ParseError} → AllCanBeRead d said → FieldsKept d said fields errors → errors ≡ []
 fields_fine all FieldsKept.none = refl
 fields_fine {d} all (FieldsKept.kept {f = f} can rest) = ap₂ (λ xs ys. xs ++ ys) (readable_known d f all.0) (fields_fine all.1 rest)
 fields_fine {d} all (FieldsKept.left_out {f = f} first unread rest) = absurd (unread (subst (CanBeRead d) (sym (mended_same d f (readable_known d f all.0))) all.0))
 
+-- raw entries that can be loaded have no errors
 pub entries_fine : {d : Definitions} {claimed : List (List ℕ)} {said kept : List EntryReading} {own entries : List Entry} {errors : List ParseError}
     → AreEntries d claimed said own → EntriesKept d claimed said kept entries errors → errors ≡ []
 entries_fine AreEntries.none EntriesKept.none = refl
@@ -99,20 +104,22 @@ entries_fine {d} {claimed} (AreEntries.next {said = s} {rest = more} {entry = on
     let same : claims one ≡ claims two = claims_same one two read (subst (λ fs. IsEntry d (with_fields s fs) two) (fields_all fields fine) is) in
     ap₂ (λ xs ys. xs ++ ys) fine (entries_fine (subst (λ names. AreEntries d (claimed ++ names) more found) same others) rest)
 
--- ---- one way to keep
+-- ---- the kept raw entries are unique
 
 module _ {A B : Type 0} (R : A → B → Type 0) where
-  -- lists that are alike, one after another
+  -- if two pairs of lists are related element by element, so are their concatenations
   pub AllZip-append : (xs more : List A) (ys others : List B) → AllZip R xs ys → AllZip R more others → AllZip R (xs ++ more) (ys ++ others)
   AllZip-append [] more [] others first rest = rest
   AllZip-append [] more (y ∷ ys) others first rest = absurd first
   AllZip-append (x ∷ xs) more [] others first rest = absurd first
   AllZip-append (x ∷ xs) more (y ∷ ys) others first rest = (first.0, AllZip-append xs more ys others first.1 rest)
 
+-- each error agrees with itself
 each_is_one : (errors : List ParseError) → AllZip AreOneError errors errors
 each_is_one [] = tt
 each_is_one (e ∷ errors) = (inl refl, each_is_one errors)
 
+-- the kept fields are unique, and two lists of their errors agree
 fields_once : {d : Definitions} {said fields others : List FieldReading} {errors faults : List ParseError} → FieldsKept d said fields errors → FieldsKept d said others faults
     → (fields ≡ others) × AllZip AreOneError errors faults
 fields_once FieldsKept.none FieldsKept.none = (refl, tt)
@@ -125,6 +132,7 @@ fields_once {d} (FieldsKept.left_out {f = f} {e = one} {errors = es} first unrea
     let more = fields_once rest rest' in
     (more.0, AllZip-append AreOneError (unknown_names d f.value.pieces) (one ∷ es) (unknown_names d f.value.pieces) (other ∷ fs) (each_is_one (unknown_names d f.value.pieces)) (error_is_one first first', more.1))
 
+-- the kept raw entries are unique, and two lists of their errors agree
 pub entries_once : {d : Definitions} {claimed : List (List ℕ)} {said kept others : List EntryReading} {one two : List Entry} {errors faults : List ParseError}
     → EntriesKept d claimed said kept one errors → EntriesKept d claimed said others two faults → (kept ≡ others) × AllZip AreOneError errors faults
 entries_once EntriesKept.none EntriesKept.none = (refl, tt)

@@ -13,3 +13,11 @@ pub mod RefusalFacts
 pub mod RereadFacts
 pub mod ResolvedFacts
 pub mod WritingFacts
+pub mod EntryReread
+pub mod FileReread
+pub mod JoinedAgain
+pub mod ValueReread
+pub mod SettledFacts
+pub mod StandsFacts
+pub mod WrittenParts
+pub mod WrittenReread

@@ -1,4 +1,4 @@
--- The entries that are kept of a text are kept from one place in it each.
+-- The indices of the kept entries among the raw entries are unique.
 use Rattle.std.proofs.Common.{◌≡◌, ℕ, zero, suc, ◌+◌, ◌<◌, ◌≤◌, List, [], ◌∷◌, ◌++◌, length, refl, sym, ap, ◌∙◌, subst, arith, Option, Some, None}
 use Rattle.std.specs.Prelude.{slice_get}
 use Rattle.std.specs.List.{AllZip}
@@ -12,22 +12,24 @@ use Rattle.bib_syntax.proofs.FileFacts.{ahead_block, ahead_line_comment, block_s
 use Rattle.bib_syntax.proofs.RecoveryFacts.{ahead_passed}
 use Rattle.bib_text.specs.Places.{Place}
 
--- entries begin one after another, the first of them at this place or later
+-- the starts of entries are at least `n` and increase strictly
 abbrev pub Rise : ℕ → List EntryReading → Type 0
 Rise n [] = Unit {0}
 Rise n (e ∷ es) = (n ≤ e.start) × Rise (e.start + 1) es
 
+-- a smaller lower bound holds too
 rise_weaker : (m n : ℕ) (es : List EntryReading) → m ≤ n → Rise n es → Rise m es
 rise_weaker m n [] less rise = rise
 rise_weaker m n (e ∷ es) less rise = (omega (arith, less, rise.0), rise.1)
 
--- a block has one entry at most, where it begins
+-- a block contains at most one entry, which begins at the start of the block
 block_rises : {start u v : Place} {kind : Part} {k : BlockKind} {says : FileReading} (end : ℕ) (rest : List EntryReading) → Body longest start kind k u says v → start.at < end → Rise end rest → Rise start.at (says.entries ++ rest)
 block_rises {start} end rest (body.comment brace chars closes) less rise = rise_weaker start.at end rest (omega (arith, less)) rise
 block_rises {start} end rest (body.preamble quoted white closes is_brace) less rise = rise_weaker start.at end rest (omega (arith, less)) rise
 block_rises {start} end rest (body.strings fields closes) less rise = rise_weaker start.at end rest (omega (arith, less)) rise
 block_rises {start} end rest (body.entry key_end key white comma gap fields closes) less rise = (omega arith, rise_weaker (start.at + 1) end rest (omega (arith, less)) rise)
 
+-- the starts of the raw entries of a recovery increase
 pub recovered_rises : {u : Place} {says : FileReading} {errors : List SkippedBlock} → Recovered u says errors → Rise u.at says.entries
 recovered_rises (recovered.end end) = tt
 recovered_rises {u} {says} (recovered.skipped {v = v} char passes x) = rise_weaker u.at v.at says.entries (omega (arith, char.next)) (recovered_rises x)
@@ -36,6 +38,7 @@ recovered_rises {u} (recovered.block {v = v} {rest = rest} b x) =
     block_rises v.at rest.entries b.body (omega (arith, block_smaller b, ap length (ahead_block b).text, (ahead_block b).at)) (recovered_rises x)
 recovered_rises {u} {says} (recovered.unread {v = v} {w = w} sign none on x) = rise_weaker u.at w.at says.entries (omega (arith, sign.next, (ahead_passed on.passed).at)) (recovered_rises x)
 
+-- each raw entry starts at the lower bound or later
 starts_later : (n : ℕ) (es : List EntryReading) (i : ℕ) (e : EntryReading) → Rise n es → slice_get es i ≡ Some e → n ≤ e.start
 starts_later n [] i e rise is = cc
 starts_later n (x ∷ es) zero e rise is = subst (λ o. n ≤ o) (ap start_of is) rise.0 where
@@ -47,7 +50,7 @@ starts_later n (x ∷ es) (suc i) e rise is = let later = starts_later (x.start 
 same_start : {a b : EntryReading} → Some a ≡ Some b → a.start ≡ b.start
 same_start is = cc
 
--- two entries with one start have one index
+-- two raw entries with the same start have the same index
 one_index : (n : ℕ) (es : List EntryReading) (i j : ℕ) (e f : EntryReading) → Rise n es → slice_get es i ≡ Some e → slice_get es j ≡ Some f → e.start ≡ f.start → i ≡ j
 one_index n [] i j e f rise one other same = cc
 one_index n (x ∷ es) zero zero e f rise one other same = refl
@@ -55,7 +58,7 @@ one_index n (x ∷ es) zero (suc j) e f rise one other same = let later = starts
 one_index n (x ∷ es) (suc i) zero e f rise one other same = let later = starts_later (x.start + 1) es i e rise.1 one in absurd (omega (arith, later, same_start other, same))
 one_index n (x ∷ es) (suc i) (suc j) e f rise one other same = ap suc (one_index (x.start + 1) es i j e f rise.1 one other same)
 
--- of the same entries the same origins
+-- the same kept entries have the same indices
 pub origins_once : (n : ℕ) (said : List EntryReading) (one other : List ℕ) (kept : List EntryReading) → Rise n said → AllZip (IsKeptFrom said) one kept → AllZip (IsKeptFrom said) other kept → one ≡ other
 origins_once n said [] [] kept rise first second = refl
 origins_once n said [] (j ∷ others) [] rise first second = absurd second

@@ -1,4 +1,4 @@
--- What is recovered of a file's references, once.
+-- The recovery of a file's references is unique.
 use Rattle.std.proofs.Common.{◌≡◌, ℕ, zero, suc, ◌+◌, ◌<◌, List, [], ◌∷◌, ◌++◌, length, map, refl, sym, ap, ◌∙◌, subst, arith, inl, inr, ◌⊎◌, Option, Some, None, option_map, cond, Bool, true, false}
 use Rattle.std.specs.Prelude.{codes, slice_get}
 use Rattle.std.specs.FinMap as by_name
@@ -13,20 +13,20 @@ use Rattle.std.proofs.lemmas.Option.{slice_get-map, slice_get_past, slice_get_wi
 use Rattle.bib_chunks.specs.Styled.{Atom, styled}
 use Rattle.bib_chunks.specs.declared.chunk.Chunk.{Chunk}
 use Rattle.bib_entry.specs.declared.entry.Entry.{Entry}
-use Rattle.bib_entry_types.specs.declared.mechanics.EntryType.{EntryType}
-use Rattle.bib_graph.specs.Graph.{Graph, Leads}
-use Rattle.bib_inheritance.specs.Sources.{Source, fields_of}
-use Rattle.bib_maps.specs.Sorted.{ByText, by_bytes}
-use Rattle.bib_references.specs.Recovered.{AreCut, EachReported, without_references}
-use Rattle.bib_references.specs.Resolving.{source_of_entry, sources_of}
+use Rattle.bib_tables.specs.declared.mechanics.EntryType.{EntryType}
+use Rattle.bib_collections.specs.Graph.{Graph, Leads}
+use Rattle.bib_inheritance.specs.EntryTexts.{EntryTexts, fields_of}
+use Rattle.bib_collections.specs.Sorted.{ByText, by_bytes}
+use Rattle.bib_inheritance.specs.Recovered.{AreCut, EachReported, without_references}
+use Rattle.bib_inheritance.specs.Resolving.{texts_of_entries, texts_of_entry}
 use Rattle.bib_syntax.specs.declared.raw.ParseError.{ParseError}
 use Rattle.bib_text.specs.declared.spanned.Spanned.{Spanned}
 use Rattle.biblatex.proofs.KeptFacts.{AllZip-append}
-use Rattle.biblatex.proofs.ResolvedFacts.{source_same}
+use Rattle.biblatex.proofs.ResolvedFacts.{entry_texts_same}
 
--- ---- each index fails and is reported, or doesn't fail
+-- ---- each index either fails and is reported, or doesn't fail
 
--- whether an index fails
+-- it is decidable whether an index fails
 pub decided : {fails : ℕ → Type 0} {reports : ℕ → ParseError → Type 0} {n : ℕ} {errors : List ParseError} → EachReported fails reports n errors → (index : ℕ) → index < n → fails index ⊎ (fails index → ⊥)
 decided EachReported.none index within = absurd (omega arith)
 decided {fails} (EachReported.passed {index = last} rest fine) index within = elim (cases_lt index last) [
@@ -42,7 +42,7 @@ no_last : {A B : Type 0} (xs : List A) (x : A) → xs ++ x ∷ [] ≡ [] → B
 no_last [] x e = cc
 no_last (y ∷ xs) x e = cc
 
--- no error, and no index that fails
+-- if no error is reported, no index fails
 pub none_fails : {fails : ℕ → Type 0} {reports : ℕ → ParseError → Type 0} {n : ℕ} {errors : List ParseError} → EachReported fails reports n errors → errors ≡ [] → (index : ℕ) → index < n → fails index → ⊥
 none_fails EachReported.none e index within = absurd (omega arith)
 none_fails {fails} (EachReported.passed {index = last} rest fine) e index within = elim (cases_lt index last) [
@@ -51,12 +51,13 @@ none_fails {fails} (EachReported.passed {index = last} rest fine) e index within
 ]
 none_fails (EachReported.reported {errors = before} {e = error} rest fault report) e index within = no_last before error e
 
+-- if no index fails, no error is reported
 pub fine_is_silent : {fails : ℕ → Type 0} {reports : ℕ → ParseError → Type 0} {n : ℕ} {errors : List ParseError} → EachReported fails reports n errors → ((index : ℕ) → index < n → fails index → ⊥) → errors ≡ []
 fine_is_silent EachReported.none fine = refl
 fine_is_silent (EachReported.passed rest never) fine = fine_is_silent rest (λ index less. fine index (omega arith))
 fine_is_silent (EachReported.reported {index = last} rest fault report) fine = absurd (fine last (omega arith) fault)
 
--- errors of the same indices are alike
+-- reports for the same indices agree
 pub reported_once : {fails others : ℕ → Type 0} {reports tells : ℕ → ParseError → Type 0} {n m : ℕ} {errors faults : List ParseError} (R : ParseError → ParseError → Type 0)
     → EachReported fails reports n errors → EachReported others tells m faults → n ≡ m
     → ((index : ℕ) → index < n → fails index → others index) → ((index : ℕ) → index < n → others index → fails index)
@@ -78,12 +79,12 @@ reported_once {tells = tells} R (EachReported.reported {index = i} {errors = es}
     (reported_once R rest rest' (omega (arith, same)) (λ k less. there k (omega arith)) (λ k less. back k (omega arith)) (λ k a b less. alike k a b (omega arith)))
     (alike i e f (omega arith) report (subst (λ k. tells k f) one report'), tt)
 
--- ---- entries that are cut
+-- ---- entries that lose their references
 
 some_same : {A : Type 0} {a b : A} → Some a ≡ Some b → a ≡ b
 some_same e = cc
 
--- lists with the same elements at all indices
+-- lists of the same length with the same element at each index are equal
 pub same_by_index : {A : Type 0} (xs ys : List A) → length xs ≡ length ys → ((index : ℕ) → index < length xs → slice_get xs index ≡ slice_get ys index) → xs ≡ ys
 same_by_index [] [] long same = refl
 same_by_index [] (y ∷ ys) long same = cc
@@ -98,6 +99,7 @@ same_by_index (x ∷ xs) (y ∷ ys) long same =
 abbrev Fields : Type 0
 Fields = ByText (List (Spanned Chunk))
 
+-- removing the same key from maps with the same styled texts gives maps with the same styled texts
 removed_alike : (one other : Fields) (key : List ℕ) → ((name : List ℕ) → fields_of one name ≡ fields_of other name) → (name : List ℕ) → fields_of (by_name.remove one key) name ≡ fields_of (by_name.remove other key) name
 removed_alike one other key same name =
     ap (option_map styled) (get-remove nat_list_cmp_total one key name)
@@ -108,51 +110,52 @@ removed_alike one other key same name =
     chosen true x y e = refl
     chosen false x y e = e
 
--- what inheritance knows of an entry without references rests on what it knows of the entry
-without_alike : (one other : Entry) → source_of_entry one ≡ source_of_entry other → source_of_entry (without_references one) ≡ source_of_entry (without_references other)
+-- entries with the same texts have the same texts without references
+without_alike : (one other : Entry) → texts_of_entry one ≡ texts_of_entry other → texts_of_entry (without_references one) ≡ texts_of_entry (without_references other)
 without_alike one other same =
-    source_same one.entry_type other.entry_type _ _ (ap (λ (s : Source). s.kind) same)
+    entry_texts_same one.entry_type other.entry_type _ _ (ap (λ (s : EntryTexts). s.entry_type) same)
     (removed_alike (by_name.remove one.fields (codes "crossref")) (by_name.remove other.fields (codes "crossref")) (codes "xdata")
-    (removed_alike one.fields other.fields (codes "crossref") (λ name. ap (λ (s : Source). s.fields name) same)))
+    (removed_alike one.fields other.fields (codes "crossref") (λ name. ap (λ (s : EntryTexts). s.fields name) same)))
 
+-- there is an element at each index in range
 element_at : (xs : List Entry) (index : ℕ) → index < length xs → (x : Entry) × (slice_get xs index ≡ Some x)
 element_at [] index within = absurd (omega arith)
 element_at (x ∷ xs) zero within = (x, refl)
 element_at (x ∷ xs) (suc index) within = element_at xs index (omega arith)
 
--- two ways to cut what is the same for inheritance
-pub cut_alike : (graph : Graph) (own others cut left : List Entry) → sources_of own ≡ sources_of others → ((index : ℕ) → index < length own → Leads graph index index ⊎ (Leads graph index index → ⊥))
-    → AreCut graph own cut → AreCut graph others left → sources_of cut ≡ sources_of left
+-- removing the references of entries on cycles gives the same texts, if the texts were the same
+pub cut_alike : (graph : Graph) (own others cut left : List Entry) → texts_of_entries own ≡ texts_of_entries others → ((index : ℕ) → index < length own → Leads graph index index ⊎ (Leads graph index index → ⊥))
+    → AreCut graph own cut → AreCut graph others left → texts_of_entries cut ≡ texts_of_entries left
 cut_alike graph own others cut left same decide one two =
-    let long : length own ≡ length others = sym (length-map own source_of_entry) ∙ ap length same ∙ length-map others source_of_entry in
-    same_by_index (sources_of cut) (sources_of left)
-    (length-map cut source_of_entry ∙ one.same_length ∙ long ∙ sym two.same_length ∙ sym (length-map left source_of_entry))
+    let long : length own ≡ length others = sym (length-map own texts_of_entry) ∙ ap length same ∙ length-map others texts_of_entry in
+    same_by_index (texts_of_entries cut) (texts_of_entries left)
+    (length-map cut texts_of_entry ∙ one.same_length ∙ long ∙ sym two.same_length ∙ sym (length-map left texts_of_entry))
     (λ index less.
-    let within : index < length own = omega (arith, less, length-map cut source_of_entry, one.same_length) in
+    let within : index < length own = omega (arith, less, length-map cut texts_of_entry, one.same_length) in
     let also : index < length others = omega (arith, within, long) in
-    let here : option_map source_of_entry (slice_get own index) ≡ option_map source_of_entry (slice_get others index) =
-    sym (slice_get-map source_of_entry own index) ∙ ap (λ l. slice_get l index) same ∙ slice_get-map source_of_entry others index in
-    slice_get-map source_of_entry cut index
+    let here : option_map texts_of_entry (slice_get own index) ≡ option_map texts_of_entry (slice_get others index) =
+    sym (slice_get-map texts_of_entry own index) ∙ ap (λ l. slice_get l index) same ∙ slice_get-map texts_of_entry others index in
+    slice_get-map texts_of_entry cut index
     ∙ at_index (slice_get own index) (slice_get others index) index (element_at own index within) (element_at others index also) refl refl here (decide index within)
-    ∙ sym (slice_get-map source_of_entry left index))
+    ∙ sym (slice_get-map texts_of_entry left index))
   where
-    source_there : (a b : Option Entry) (x y : Entry) → a ≡ Some x → b ≡ Some y → option_map source_of_entry a ≡ option_map source_of_entry b → source_of_entry x ≡ source_of_entry y
-    source_there a b x y first second alike =
-        some_same (sym (ap (option_map source_of_entry) first) ∙ alike ∙ ap (option_map source_of_entry) second)
+    texts_there : (a b : Option Entry) (x y : Entry) → a ≡ Some x → b ≡ Some y → option_map texts_of_entry a ≡ option_map texts_of_entry b → texts_of_entry x ≡ texts_of_entry y
+    texts_there a b x y first second alike =
+        some_same (sym (ap (option_map texts_of_entry) first) ∙ alike ∙ ap (option_map texts_of_entry) second)
 
     at_index : (a b : Option Entry) (index : ℕ) → ((x : Entry) × (slice_get own index ≡ Some x)) → ((x : Entry) × (slice_get others index ≡ Some x)) → a ≡ slice_get own index → b ≡ slice_get others index
-        → option_map source_of_entry a ≡ option_map source_of_entry b → Leads graph index index ⊎ (Leads graph index index → ⊥)
-        → option_map source_of_entry (slice_get cut index) ≡ option_map source_of_entry (slice_get left index)
+        → option_map texts_of_entry a ≡ option_map texts_of_entry b → Leads graph index index ⊎ (Leads graph index index → ⊥)
+        → option_map texts_of_entry (slice_get cut index) ≡ option_map texts_of_entry (slice_get left index)
     at_index a b index x y first second alike (inl on) =
-        ap (option_map source_of_entry) (one.on_cycle index x.0 x.1 on)
-        ∙ ap Some (without_alike x.0 y.0 (source_there a b x.0 y.0 (first ∙ x.1) (second ∙ y.1) alike))
-        ∙ sym (ap (option_map source_of_entry) (two.on_cycle index y.0 y.1 on))
+        ap (option_map texts_of_entry) (one.on_cycle index x.0 x.1 on)
+        ∙ ap Some (without_alike x.0 y.0 (texts_there a b x.0 y.0 (first ∙ x.1) (second ∙ y.1) alike))
+        ∙ sym (ap (option_map texts_of_entry) (two.on_cycle index y.0 y.1 on))
     at_index a b index x y first second alike (inr off) =
-        ap (option_map source_of_entry) (one.off_cycle index x.0 x.1 off)
-        ∙ ap Some (source_there a b x.0 y.0 (first ∙ x.1) (second ∙ y.1) alike)
-        ∙ sym (ap (option_map source_of_entry) (two.off_cycle index y.0 y.1 off))
+        ap (option_map texts_of_entry) (one.off_cycle index x.0 x.1 off)
+        ∙ ap Some (texts_there a b x.0 y.0 (first ∙ x.1) (second ∙ y.1) alike)
+        ∙ sym (ap (option_map texts_of_entry) (two.off_cycle index y.0 y.1 off))
 
--- nothing is cut where nothing leads to itself
+-- if no entry refers to itself, directly or through others, nothing is removed
 pub nothing_cut : (graph : Graph) (own cut : List Entry) → ((index : ℕ) → index < length own → Leads graph index index → ⊥) → AreCut graph own cut → cut ≡ own
 nothing_cut graph own cut none is =
     same_by_index cut own is.same_length

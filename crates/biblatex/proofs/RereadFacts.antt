@@ -1,4 +1,4 @@
--- What a written file says as a bibliography.
+-- The bibliography of the output for settled entries.
 use Rattle.std.proofs.Common.{◌≡◌, ℕ, Bool, true, false, cond, List, [], ◌∷◌, ◌++◌, map, reverse, refl, sym, ap, ◌∙◌, subst, arith, length, get_or, drop, ◌+◌, Option, Some, None, MatchOption, inl, inr, ⊎_elim}
 use Rattle.std.specs.declared.string.String.{String}
 use Rattle.std.specs.Prelude.{◌⊎◌, Result, Ok, Err, IfOk, string_bytes, encode_utf8_all, codes, find, bytes_eq, option_map}
@@ -21,7 +21,7 @@ use Rattle.std.proofs.lemmas.Map.Text.{is_eq-slice_cmp}
 use Rattle.bib_text.proofs.TextFacts.{chars_whole}
 use Rattle.bib_text.specs.Places.{place}
 use Rattle.bib_text.specs.declared.spanned.Spanned.{Spanned}
-use Rattle.bib_styled.specs.Lists.{comma_texts}
+use Rattle.bib_chunks.specs.Lists.{comma_texts}
 use Rattle.bib_chunks.specs.Styled.{Atom, styled}
 use Rattle.bib_chunks.specs.Written.{written_chunks}
 use Rattle.bib_chunks.specs.declared.chunk.Chunk.{Chunk}
@@ -29,33 +29,33 @@ use Rattle.bib_syntax.proofs.FileFacts.{file_same}
 use Rattle.bib_syntax.specs.Reading.{Part, part, Piece, FieldReading, EntryReading, FileReading}
 use Rattle.bib_syntax.specs.Reading.Piece.{literal}
 use Rattle.bib_abbreviations.specs.Abbreviations.{Definitions, Evaluates, IsReadable, Reaches}
-use Rattle.bib_entry_types.specs.VerbatimFields.{is_verbatim_field}
+use Rattle.bib_tables.specs.VerbatimFields.{is_verbatim_field}
 use Rattle.bib_contents.specs.Contents.{IsContent}
-use Rattle.bib_styled.specs.Joined.{ArePlaced}
-use Rattle.bib_entry_types.specs.EntryType.{entry_type_of, biblatex_type}
-use Rattle.bib_maps.specs.Sorted.{by_bytes}
+use Rattle.bib_chunks.specs.Joined.{ArePlaced}
+use Rattle.bib_tables.specs.EntryType.{entry_type_of, biblatex_type}
+use Rattle.bib_collections.specs.Sorted.{by_bytes}
 use Rattle.bib_entry.specs.WrittenEntries.{biblatex_name, biblatex_entry, entries_text}
 use Rattle.bib_entry.specs.declared.entry.Entry.{Entry}
-use Rattle.bib_roundtrip.specs.Mapped.{IsMapped}
-use Rattle.bib_roundtrip.specs.Settled.{linking, IsSettledField, IsSettledEntry, AreSettled}
-use Rattle.bib_roundtrip.proofs.JoinedAgain.{Again, joined_again, written_texts}
-use Rattle.bib_roundtrip.proofs.RereadFacts.{reread}
-use Rattle.bib_roundtrip.proofs.StandsFacts.{stands_between}
-use Rattle.bib_roundtrip.proofs.EntryReread.{SaysLine, SayLines, SaysEntry, SayEntries, FileAgain}
-use Rattle.bib_roundtrip.proofs.WrittenReread.{kind, by_written_name, same_rule, line_of, written_of, entries_again}
+use Rattle.biblatex.specs.Mapped.{IsMapped}
+use Rattle.biblatex.specs.Settled.{linking, IsSettledField, IsSettledEntry, AreSettled}
+use Rattle.biblatex.proofs.JoinedAgain.{Again, joined_again, written_texts}
+use Rattle.biblatex.proofs.ValueReread.{reread}
+use Rattle.biblatex.proofs.StandsFacts.{stands_between}
+use Rattle.biblatex.proofs.EntryReread.{SaysLine, SayLines, SaysEntry, SayEntries, FileAgain}
+use Rattle.biblatex.proofs.WrittenReread.{kind, by_written_name, same_rule, line_of, written_of, entries_again}
 use Rattle.bib_file_entries.specs.Bibliography.{Bibliography, claims}
-use Rattle.bib_references.specs.Resolving.{Inherits, sources_of}
+use Rattle.bib_inheritance.specs.Resolving.{Inherits, texts_of_entries}
 use Rattle.biblatex.specs.Resolved.{AreOwn, IsLoaded, graph_of}
 use Rattle.bib_file_entries.specs.Loaded.{definition_in, name_of, field_in, FieldSays, CanBeRead, AllCanBeRead, IsEntry, AreEntries, is_claimed}
 use Rattle.biblatex.specs.Headline.{IsReadAgain}
 use Rattle.biblatex.proofs.AloneFacts.{RefersToNothing, IsAsWritten, no_cycle, no_dates, entries_as_written}
-use Rattle.biblatex.proofs.ResolvedFacts.{graph_same, keys_same, sources_same}
+use Rattle.biblatex.proofs.ResolvedFacts.{all_texts_same, graph_same, keys_same}
 use Rattle.bib_file_entries.proofs.LoadingFacts.{AllZip-reverse}
 
 abbrev Value' : Type 0
 Value' = List (Spanned Chunk)
 
--- names that differ one way differ the other way
+-- inequality of names is symmetric
 differ : (one two : List ℕ) → bytes_eq one two ≡ false → bytes_eq two one ≡ false
 differ one two other =
     go (cases_Bool (bytes_eq two one))
@@ -64,15 +64,15 @@ differ one two other =
     go (inl same) = absurd (both_ways _ other ((bytes_eq-Decides one two).1 (sym ((bytes_eq-Decides two one).0 same))))
     go (inr apart) = apart
 
--- What they say
+-- The fields and entries of the output
 
 module _ (definitions : Definitions) where
-  -- a text without names reaches none
+  -- a literal alone reaches no abbreviation
   no_names : {p : Part} {name : List ℕ} → Reaches definitions (literal p ∷ []) name → ⊥
   no_names (Reaches.held held) = held
   no_names (Reaches.through before defined holds) = no_names before
 
-  -- a field says what was written, and chunks are read of it
+  -- a raw field has the styled text of the written field, and chunks with that text
   record SaysField (f : List ℕ × Value') (r : FieldReading) : Type 0 where
     chunks : Value'
     same : styled chunks ≡ styled f.1
@@ -84,12 +84,14 @@ module _ (definitions : Definitions) where
   one_piece : {p q : Part} → literal p ∷ [] ≡ literal q ∷ [] → p ≡ q
   one_piece same = cc
 
+  -- chunks at the start of a literal lie in its span
   placed : {p q : Part} {pieces : List Piece} {atoms : List Atom} (again : Again atoms p.start) → pieces ≡ literal p ∷ [] → pieces ≡ literal q ∷ [] → q.end ≡ q.start + length q.text → ArePlaced q.start q.end again.chunks
   placed {p} {q} again is also size =
       let same : p ≡ q = one_piece (sym is ∙ also) in
       let starts : p.start ≡ q.start = ap (λ x. x.start) same in
       subst (λ n. ArePlaced n q.end again.chunks) starts (again.placed q.end (omega (arith, starts, size)))
 
+  -- the raw field of a settled field's line has its styled text
   field_says : (f : List ℕ × Value') (r : FieldReading) → IsSettledField f → SaysLine (line_of f) r → SaysField f r
   field_says f r settled said =
       let v = is_verbatim_field f.0 in
@@ -124,19 +126,20 @@ module _ (definitions : Definitions) where
         apart = ap (λ n. list_any (bytes_eq n) linking) small ∙ by_written_name (λ n. list_any (bytes_eq n) linking ≡ false) f.0 settled.name.apart refl refl refl;
       }
 
-  -- fields that are read: each has the name and the chunks of what its reading says
+  -- a parsed field: it has the name and the contents of its raw field
   record IsRead (w : List ℕ × Value') (r : FieldReading) : Type 0 where
     name : name_of r ≡ w.0
     says : FieldSays definitions r w.1
     readable : CanBeRead definitions r
     apart : list_any (bytes_eq (name_of r)) linking ≡ false
 
-  -- the fields that are read of those that were written
+  -- the parsed fields of the output for these fields
   record AreAgain (fs : List (List ℕ × Value')) (rs : List FieldReading) : Type 0 where
     read : List (List ℕ × Value')
     are : AllZip IsRead read rs
     same : AllZip (λ f w. (w.0 ≡ biblatex_name f.0) × (styled w.1 ≡ styled f.1)) fs read
 
+  -- settled fields are parsed from the raw fields of their lines
   fields_say : (fs : List (List ℕ × Value')) (rs : List FieldReading) → AllByRecursion IsSettledField fs → SayLines (map line_of fs) rs → AreAgain fs rs
   fields_say [] [] settled said = record { read = []; are = tt; same = tt }
   fields_say [] (r ∷ rs) settled said = absurd said
@@ -150,6 +153,7 @@ module _ (definitions : Definitions) where
         same = ((refl, one.same), more.same);
       }
 
+  -- raw fields with parsed contents can be parsed
   all_readable : (ws : List (List ℕ × Value')) (rs : List FieldReading) → AllZip IsRead ws rs → AllCanBeRead definitions rs
   all_readable [] [] all = tt
   all_readable [] (r ∷ rs) all = absurd all
@@ -181,7 +185,7 @@ module _ (definitions : Definitions) where
   none_named name (w ∷ ws) [] all = absurd all
   none_named name (w ∷ ws) (r ∷ rs) all = rw (all.0) (none_named name ws rs all.1)
 
-  -- a name that no settled field has
+  -- a name that differs from the name of each settled field
   abbrev IsLink : List ℕ → Type 0
   IsLink word = (name : List ℕ) → list_any (bytes_eq name) linking ≡ false → bytes_eq word name ≡ false
 
@@ -198,12 +202,13 @@ module _ (definitions : Definitions) where
   zip_apart word link (w ∷ ws) [] all = absurd all
   zip_apart word link (w ∷ ws) (r ∷ rs) all = (link (name_of r) all.0.apart, zip_apart word link ws rs all.1)
 
+  -- no parsed field has a name that differs from the name of each settled field
   no_link : (word : List ℕ) → IsLink word → (ws : List (List ℕ × Value')) (rs : List FieldReading) → AllZip IsRead ws rs → by_name.get (by_name.from_entries {R = by_bytes} (reverse ws)) word ≡ None
   no_link word link ws rs all =
       let none : field_in rs word ≡ None = none_named word (reverse ws) (reverse rs) (AllZip-reverse (λ w r. bytes_eq word (name_of r) ≡ false) ws rs (zip_apart word link ws rs all)) in
       subst (λ o. IsFound o (by_name.get (by_name.from_entries {R = by_bytes} (reverse ws)) word)) none (found_last word ws rs all)
 
-  -- the field that a name has in BibLaTeX's names
+  -- the fields are these fields with names mapped to BibLaTeX's and with equal styled texts
   abbrev AreSame : List (List ℕ × Value') → List (List ℕ × Value') → Type 0
   AreSame fs ws = AllZip (λ f w. (w.0 ≡ biblatex_name f.0) × (styled w.1 ≡ styled f.1)) fs ws
 
@@ -219,7 +224,7 @@ module _ (definitions : Definitions) where
       either true rest = ap Some all.0.1
       either false rest = rest
 
-  -- an entry that is read of one that was written: no field claims other names or refers to other entries
+  -- the entry in the output for an entry: no field claims other names or refers to other entries
   record IsAgain (e : Entry) (said : EntryReading) : Type 0 where
     read : Entry
     is : IsEntry definitions said read
@@ -227,6 +232,7 @@ module _ (definitions : Definitions) where
     alone : RefersToNothing read
     mapped : IsMapped e read
 
+  -- a settled entry is parsed from the raw entry with its parts
   entry_again : (e : Entry) (said : EntryReading) → IsSettledEntry e → SaysEntry (written_of e) said → IsAgain e said
   entry_again e said settled says =
       let fs = by_name.entries e.fields in
@@ -247,7 +253,7 @@ module _ (definitions : Definitions) where
         };
         mapped = record {
           key = refl;
-          kind = refl;
+          entry_type = refl;
           fields = λ name.
               ap (option_map styled) (get-from_entries nat_list_cmp_total (reverse ws) name)
               ∙ same_found name (reverse fs) (reverse ws) (AllZip-reverse (λ f w. (w.0 ≡ biblatex_name f.0) × (styled w.1 ≡ styled f.1)) fs ws all.same);
@@ -262,13 +268,14 @@ module _ (definitions : Definitions) where
   fresh_more claimed key (e ∷ es) fresh apart =
       (list_any-append (bytes_eq e.key) claimed (key ∷ []) ∙ rw (fresh.0, differ key e.key apart.0) refl, fresh_more claimed key es fresh.1 apart.1)
 
-  -- entries that are read of those that were written
+  -- the entries in the output for these entries
   record EntriesAgain (claimed : List (List ℕ)) (es : List Entry) (said : List EntryReading) : Type 0 where
     read : List Entry
     are : AreEntries definitions claimed said read
     alone : AllByRecursion RefersToNothing read
     mapped : AllZip IsMapped es read
 
+  -- settled entries with distinct keys are parsed from the raw entries with their parts
   entries_again_of : (claimed : List (List ℕ)) (es : List Entry) (said : List EntryReading) → AllByRecursion IsSettledEntry es → IsDistinct bytes_eq (map (λ e. e.key) es) → AreFresh claimed es → SayEntries (map written_of es) said
       → EntriesAgain claimed es said
   entries_again_of claimed [] [] settled distinct fresh says = record { read = []; are = AreEntries.none; alone = tt; mapped = tt }
@@ -284,9 +291,9 @@ module _ (definitions : Definitions) where
         mapped = (one.mapped, more.mapped);
       }
 
--- What is read again
+-- The bibliography of the output
 
--- what is mapped by the entries of a file as they are written is mapped by those that are loaded
+-- if the own entries of a file are mapped from some entries, so are the loaded ones
 loaded_mapped : (es own entries : List Entry) → AllZip IsMapped es own → AllZip IsAsWritten own entries → map (λ e. e.key) entries ≡ map (λ e. e.key) own → AllZip IsMapped es entries
 loaded_mapped [] [] [] all plain keys = tt
 loaded_mapped [] [] (x ∷ xs) all plain keys = absurd plain
@@ -296,26 +303,26 @@ loaded_mapped (e ∷ es) (o ∷ os) [] all plain keys = absurd plain
 loaded_mapped (e ∷ es) (o ∷ os) (x ∷ xs) all plain keys = (
   record {
     key = ap (λ l. get_or l 0 []) keys ∙ all.0.key;
-    kind = plain.0.kind ∙ all.0.kind;
+    entry_type = plain.0.entry_type ∙ all.0.entry_type;
     fields = λ name. plain.0.fields name ∙ all.0.fields name;
   },
   loaded_mapped es os xs all.1 plain.1 (ap (drop 1) keys),
 )
 
--- what is mapped by the entries of a file as they are written is mapped by those of each bibliography that it says
+-- if the own entries of a file are mapped from some entries, so are those of each bibliography of the file
 loaded_reread : (says : FileReading) (es own : List Entry) → AreOwn says own → AllByRecursion RefersToNothing own → AllZip IsMapped es own → (read : Bibliography) → IsLoaded says read → AllZip IsMapped es read.entries
 loaded_reread says es own are alone mapped read loaded =
-    let sources : sources_of loaded.accepted.own ≡ sources_of own = sources_same says loaded.accepted.entries are in
+    let all_texts : texts_of_entries loaded.accepted.own ≡ texts_of_entries own = all_texts_same says loaded.accepted.entries are in
     let graph : graph_of loaded.accepted.own ≡ graph_of own = graph_same says loaded.accepted.entries are in
-    let inherits : Inherits (sources_of own) (graph_of own) (sources_of read.entries) =
-    subst (λ g. Inherits (sources_of own) g (sources_of read.entries)) graph (subst (λ s. Inherits s (graph_of loaded.accepted.own) (sources_of read.entries)) sources loaded.inherits) in
+    let inherits : Inherits (texts_of_entries own) (graph_of own) (texts_of_entries read.entries) =
+    subst (λ g. Inherits (texts_of_entries own) g (texts_of_entries read.entries)) graph (subst (λ s. Inherits s (graph_of loaded.accepted.own) (texts_of_entries read.entries)) all_texts loaded.inherits) in
     loaded_mapped es own read.entries mapped (entries_as_written own read.entries alone inherits) (loaded.keys ∙ keys_same says loaded.accepted.entries are)
 
 nothing_claimed : (es : List Entry) → AllByRecursion (λ e. is_claimed [] e.key ≡ false) es
 nothing_claimed [] = tt
 nothing_claimed (e ∷ es) = (refl, nothing_claimed es)
 
--- what is written of settled entries is read again as these entries in BibLaTeX's names
+-- the output for settled entries parses back to these entries in BibLaTeX's types and fields
 pub entries_reread : (es : List Entry) → AreSettled es → IsUtf8 (entries_text biblatex_entry es) → IsReadAgain es (entries_text biblatex_entry es)
 entries_reread es settled utf8 =
     let again : FileAgain (map written_of es) (place (entries_text biblatex_entry es) 0) = entries_again es settled.each utf8 in
@@ -330,7 +337,7 @@ entries_reread es settled utf8 =
       mapped = λ read is. loaded_reread says es all.read all.are all.alone all.mapped read (subst (λ s. IsLoaded s read) (file_same is.reading again.file) is.loaded);
     }
 
--- the same of the text that they were written to
+-- the same for a result whose text is the output for settled entries
 pub text_reread : {Z E : Type 0} (es given : List Entry) (r : Result (String Z) E) → IfOk r (λ text. string_bytes text ≡ entries_text biblatex_entry given) → given ≡ es → AreSettled es → IfOk r (λ text. IsReadAgain es (string_bytes text))
 text_reread es given (Ok text) is same settled =
     let whole : string_bytes text ≡ entries_text biblatex_entry es = is ∙ ap (entries_text biblatex_entry) same in

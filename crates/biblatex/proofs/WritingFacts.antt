@@ -1,4 +1,4 @@
--- How entries are written one by one.
+-- Writing entries one by one.
 use Rattle.std.proofs.Common.{◌≡◌, ℕ, zero, suc, ◌+◌, ◌<◌, Bool, true, false, List, [], ◌∷◌, ◌++◌, length, take, get_or, refl, sym, ap, ◌∙◌, append_assoc, arith, Option, Some, None, Ok, Err}
 use Rattle.std.specs.Prelude.{codes, ◌==◌}
 use Rattle.std.specs.Io.KnownBytes.{Appends}
@@ -8,12 +8,12 @@ use Rattle.bib_entry.specs.WrittenEntries.{entries_text}
 use Rattle.bib_entry.specs.declared.entry.Entry.{Entry}
 use Rattle.biblatex.specs.Writing.{parting}
 
--- whether there is no entry
+-- whether a list of entries is empty
 abbrev pub is_empty : List Entry → Bool
 is_empty [] = true
 is_empty (e ∷ es) = false
 
--- one more entry after others
+-- the text of entries with one more entry at the end
 one_more : (written : Entry → List ℕ) (es : List Entry) (e : Entry) → entries_text written (es ++ e ∷ []) ≡ entries_text written es ++ (parting (is_empty es) ++ (written e ++ codes "\n"))
 one_more written [] e = refl
 one_more written (d ∷ []) e = sym (append_assoc (written d) (codes "\n") (codes "\n" ++ (written e ++ codes "\n")))
@@ -24,13 +24,13 @@ one_more written (d ∷ next ∷ es) e =
 not_suc : (i : ℕ) → false ≡ (suc i == 0)
 not_suc i = grind arith
 
--- some first entries are none only before the first
+-- a list has no entries below an index in range exactly if the index is 0
 pub first_taken : (es : List Entry) (i : ℕ) → i < length es → is_empty (take i es) ≡ (i == 0)
 first_taken es zero within = refl
 first_taken [] (suc i) within = absurd (omega arith)
 first_taken (e ∷ es) (suc i) within = not_suc i
 
--- the entry at an index after those before it
+-- the text of the entries up to and including an index
 pub next_written : (written : Entry → List ℕ) (es : List Entry) (i : ℕ) (e : Entry) (first : Bool) → i < length es → e ≡ get_or es i e → first ≡ (i == 0)
     → entries_text written (take (i + 1) es) ≡ entries_text written (take i es) ++ (parting first ++ (written e ++ codes "\n"))
 next_written written es i e first within is flag =
@@ -41,7 +41,7 @@ next_written written es i e first within is flag =
 pub not_first : (i : ℕ) → false ≡ (i + 1 == 0)
 not_first i = grind arith
 
--- texts that are taken one after another
+-- appending one text after another appends their concatenation
 pub appends_more : (a b c : Option (List ℕ)) (xs ys zs : List ℕ) → Appends a b xs → Appends b c ys → zs ≡ xs ++ ys → Appends a c zs
 appends_more None b c xs ys zs first second is = tt
 appends_more (Some old) None c xs ys zs first second is = absurd first

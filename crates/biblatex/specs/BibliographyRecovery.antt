@@ -1,6 +1,7 @@
 -- Meaning: words of public contracts.
--- What is read of a text as a bibliography where not all of it can be, and the errors: first what is read of the text, then
--- of that the entries, and then what these inherit. Each step is that of `parse`, but that it leaves out what can't be read.
+-- The recovery of a text with errors: the bibliography and the errors. Three steps follow each other: parsing the raw
+-- bibliography, loading its entries, and inheriting. Each step is that of `parse`, except that it leaves out the parts with
+-- errors.
 use Rattle.std.specs.Prelude.{◌≡◌, ℕ, List, [], ◌++◌, map}
 use Rattle.std.specs.List.{AllZip}
 use Rattle.bib_entry.specs.declared.entry.Entry.{Entry}
@@ -8,17 +9,18 @@ use Rattle.bib_file_entries.specs.Bibliography.{Bibliography}
 use Rattle.bib_file_entries.specs.Claiming.{place_of}
 use Rattle.bib_file_entries.specs.Kept.{EntriesKept, IsKeptFrom}
 use Rattle.bib_file_entries.specs.Loaded.{definition_in}
-use Rattle.bib_references.specs.Recovered.{AreRecovered}
-use Rattle.bib_references.specs.Resolving.{sources_of}
+use Rattle.bib_inheritance.specs.Recovered.{AreRecovered}
+use Rattle.bib_inheritance.specs.Resolving.{texts_of_entries}
 use Rattle.bib_syntax.specs.Reading.{EntryReading, FileReading}
 use Rattle.bib_syntax.specs.Recovery.{IsRecovery}
 use Rattle.bib_syntax.specs.declared.raw.ParseError.{ParseError}
 use Rattle.bib_syntax.specs.declared.raw.recovery.SkippedBlock.{SkippedBlock}
 use Rattle.biblatex.specs.Resolved.{AreOneErrorOf, names_of}
 
--- a bibliography is what can be read of a text, its entries those of the text's that have these indices: these blocks are
--- passed over, and of the others an entry is left out whose key was claimed, a field that can't be read, the references of
--- an entry that leads to itself, and a date that can't be read is not inherited; each with its error
+-- `bibliography` is the recovery of `text`. Its entries come from the raw entries with the indices `origins`, and the blocks
+-- in `skipped` have syntax errors. An entry is left out if its key was claimed before, and a field if it can't be parsed. An
+-- entry that refers to itself, directly or through others, loses its references. A date that can't be parsed is not
+-- inherited. Each of these adds an error to `errors`
 pub record IsRecoveredBibliography (text : List ℕ) (bibliography : Bibliography) (origins : List ℕ) (skipped : List SkippedBlock) (errors : List ParseError) : Type 0 where
   pub says : FileReading
   pub recovery : IsRecovery text says skipped
@@ -32,10 +34,11 @@ pub record IsRecoveredBibliography (text : List ℕ) (bibliography : Bibliograph
   pub names : bibliography.names ≡ names_of own
   pub all : errors ≡ of_entries ++ of_references
 
--- two recoveries are the same, but for the borders of chunks and their places, and what stays open of errors
+-- two recoveries agree: they have the same skipped blocks, keys, types, names and styled texts of fields, and errors that
+-- agree. The borders and the spans of chunks may differ
 pub record IsSameRecovery (one other : Bibliography) (skipped passed : List SkippedBlock) (errors faults : List ParseError) : Type 0 where
   pub skips : skipped ≡ passed
   pub tells : AllZip AreOneErrorOf errors faults
   pub keys : map (λ e. e.key) one.entries ≡ map (λ e. e.key) other.entries
-  pub fields : sources_of one.entries ≡ sources_of other.entries
+  pub fields : texts_of_entries one.entries ≡ texts_of_entries other.entries
   pub names : one.names ≡ other.names

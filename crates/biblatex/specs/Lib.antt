@@ -10,3 +10,5 @@ pub mod Resolved
 pub mod SameBibliography
 pub mod Syntax
 pub mod Writing
+pub mod Mapped
+pub mod Settled

@@ -1,9 +1,9 @@
 -- Meaning: words of public contracts.
--- What a writer holds after it refused some of the bytes that it was offered.
+-- The contents of a writer that refused some of the bytes of a write.
 use Rattle.std.specs.Prelude.{ℕ, List, take}
 use Rattle.std.specs.Io.KnownBytes.{Appends}
 use Rattle.std.specs.declared.option.Option.{Option}
 
--- the known bytes grow by a first part of these bytes, which may be none or all of them
+-- if the contents are known, a prefix of `bytes` is appended to them; the prefix may be empty or all of `bytes`
 abbrev pub AppendsPart : Option (List ℕ) → Option (List ℕ) → List ℕ → Type 0
 AppendsPart old new bytes = (count : ℕ) × Appends old new (take count bytes)

@@ -1,11 +1,11 @@
 -- Meaning: words of public contracts.
--- What a bibliography claims, said by the indices of its entries.
+-- The names that entries claim, by the indices of the entries.
 use Rattle.std.specs.Prelude.{◌≡◌, ℕ, ◌≤◌, ◌<◌, true, List, slice_get, Some, MatchOption}
 use Rattle.bib_entry.specs.declared.entry.Entry.{Entry}
 use Rattle.bib_file_entries.specs.Bibliography.{Bibliography, claims, index_of}
 use Rattle.bib_file_entries.specs.Loaded.{is_claimed}
 
--- the entry at this index claims the name
+-- an entry is at this index, and it claims the name
 pub record ClaimsAt (entries : List Entry) (index : ℕ) (name : List ℕ) : Type 0 where
   pub entry : Entry
   pub there : slice_get entries index ≡ Some entry
@@ -16,7 +16,7 @@ pub record IsLastClaim (entries : List Entry) (name : List ℕ) (index : ℕ) : 
   pub here : ClaimsAt entries index name
   pub last : (other : ℕ) → ClaimsAt entries other name → other ≤ index
 
--- each name points to the last index whose entry claims it, and nowhere where none does
+-- each name points to the last index whose entry claims it, and to no index if no entry claims it
 abbrev pub PointsToLastClaims : Bibliography → Type 0
 PointsToLastClaims bibliography = (name : List ℕ)
     → MatchOption (index_of bibliography name) ((index : ℕ) → ClaimsAt bibliography.entries index name → ⊥) (IsLastClaim bibliography.entries name)

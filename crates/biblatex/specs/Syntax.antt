@@ -1,5 +1,5 @@
 -- Meaning: words of public contracts.
--- The words of the layers below that contracts of this crate's users cite.
+-- Definitions of other crates that the contracts of this crate's users cite.
 pub use Rattle.bib_abbreviations.specs.Abbreviations.{Evaluates, IsFirstError, IsReadable, defined_in}
 pub use Rattle.bib_contents.specs.Contents.{IsContent}
 pub use Rattle.bib_syntax.specs.Errors.{Refuses, error_text, out_of_memory}
@@ -14,8 +14,8 @@ pub use Rattle.bib_entry.specs.Reports.{AreMalformed, missing_of, superfluous_of
 pub use Rattle.bib_entry.specs.WrittenEntries.{biblatex_entry, bibtex_entry, entries_text}
 pub use Rattle.bib_entry.specs.declared.entry.Entry.{Entry}
 pub use Rattle.bib_file_entries.specs.Bibliography.{Bibliography}
-pub use Rattle.bib_roundtrip.specs.Mapped.{IsMapped}
-pub use Rattle.bib_roundtrip.specs.Settled.{AreSettled}
-pub use Rattle.bib_enums.specs.TypeError.{type_kind_text}
-pub use Rattle.bib_enums.specs.declared.type_error.TypeError.{TypeError}
-pub use Rattle.bib_entry_types.specs.Requirements.{Names, texts}
+pub use Rattle.biblatex.specs.Mapped.{IsMapped}
+pub use Rattle.biblatex.specs.Settled.{AreSettled}
+pub use Rattle.bib_tables.specs.TypeError.{type_kind_text}
+pub use Rattle.bib_tables.specs.declared.type_error.TypeError.{TypeError}
+pub use Rattle.bib_tables.specs.Requirements.{Names, texts}

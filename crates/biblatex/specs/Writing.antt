@@ -1,16 +1,16 @@
 -- Machinery: words of private contracts.
--- Entries written one after another, and writes that are refused.
+-- The text before an entry, and refused writes.
 use Rattle.std.specs.Prelude.{◌≡◌, ◌≢◌, ℕ, Bool, true, false, List, [], codes, Result, Ok, Err}
 use Rattle.std.specs.IoError.{error_kind}
 use Rattle.std.specs.declared.io.Error.{Error}
 use Rattle.std.specs.declared.io.ErrorKind.TheVariants.{Interrupted}
 
--- what stands before an entry
+-- the text before an entry: empty for the first entry, and a line feed for any other
 abbrev pub parting : Bool → List ℕ
 parting true = []
 parting false = codes "\n"
 
--- a write refused its bytes: it took none of them, and wasn't interrupted
+-- a write refused its bytes: it wrote none of them, or failed with an error other than an interruption
 abbrev pub IsRefusedWrite : Result ℕ Error → Type 0
 IsRefusedWrite (Ok count) = count ≡ 0
 IsRefusedWrite (Err error) = error_kind error ≢ Interrupted

@@ -1,4 +1,4 @@
-//! Bibliographies: entries in order, with names that point to them.
+//! Bibliographies: entries in order, and the names that point to them.
 
 ghost use Rattle.std.specs.Prelude.{◌≡◌, ◌⊎◌, ◌==◌, ◌<◌, ◌++◌, ◌∷◌, [], length, vec_len, vec_capacity, codes, map, List, Some, IsSome, IsNone, IsOk, OnOk, OnErr, IfOk, IfErr};
 ghost use Rattle.std.specs.Borrow.{sem};
@@ -8,22 +8,22 @@ ghost use Rattle.std.specs.Vec.Iter.{into_iter_items};
 ghost use Rattle.std.specs.Iterator.{YieldsFirstRef, item_count};
 ghost use Rattle.bib_contents.specs.Contents.{LiesBetween};
 ghost use Rattle.bib_entry.specs.declared.entry.Entry.{Entry as AnEntry};
-ghost use Rattle.bib_graph.specs.Graph.{IsTopologicalOrder};
+ghost use Rattle.bib_collections.specs.Graph.{IsTopologicalOrder};
 ghost use Rattle.bib_syntax.specs.Errors.{out_of_memory};
 ghost use Rattle.bib_syntax.specs.Views.{file_of};
 ghost use Rattle.biblatex.specs.Headline.{IsAcceptedText, IsBibliographyOf, IsErrorOf};
 ghost use Rattle.biblatex.specs.Keys.{keys_left};
 ghost use Rattle.biblatex.specs.Resolved.{AreOwn, IsAccepted, IsFirstErrorOf, IsLoaded, IsOfDate, graph_of};
 ghost use Rattle.biblatex.specs.Lending.{LendsEntry, LendsEntries};
-ghost use Rattle.bib_maps.specs.Names.{AreIndicesBelow, claimed, claims_for};
+ghost use Rattle.bib_collections.specs.Names.{AreIndicesBelow, claimed, claims_for};
 ghost use Rattle.bib_file_entries.specs.Bibliography.{aliased, aliases, claims, entry_of, inserted, empty_bibliography, index_of, removed};
 ghost use Rattle.biblatex.specs.SameBibliography.{same_bibliography, same_bibliography_per, same_bibliography_equiv};
 
+use bib_collections::names::Names;
 use bib_entry::entry::Entry;
 use bib_file_entries::claiming::claims;
-use bib_file_entries::reading::{load_marked, spans};
-use bib_maps::names::Names;
-use bib_references::resolving::resolve_marked;
+use bib_file_entries::reading::{load, spans};
+use bib_inheritance::resolving::resolve;
 use bib_syntax::raw::{ParseError, RawBibliography};
 use bib_text::text::Text;
 use std::alloc::{AllocError, Global};
@@ -42,7 +42,7 @@ pub struct Bibliography {
 
 impl Model for Bibliography {
     ghost use Rattle.bib_file_entries.specs.Bibliography.{Bibliography, bibliography_code};
-    ghost use Rattle.bib_maps.specs.Names.{AreIndicesBelow};
+    ghost use Rattle.bib_collections.specs.Names.{AreIndicesBelow};
     ghost use Rattle.std.specs.Prelude.{length};
 
     ghost Value = { Bibliography };
@@ -54,10 +54,10 @@ impl Model for Bibliography {
     ghost invariant = { λ a. AreIndicesBelow (length a.entries.items) a.names };
 }
 
-/// An entry that was not added when out of memory.
+/// The error of [`Bibliography::insert`]: out of memory. It returns the entry that was not added.
 #[derive(Debug, Drop)]
 pub struct InsertError {
-    /// The entry.
+    /// The entry that was not added.
     pub entry: Entry,
 }
 
@@ -72,7 +72,7 @@ impl fmt::Display for InsertError {
 impl Error for InsertError {}
 
 impl InsertError {
-    // Memory was refused, so the entry is handed back.
+    // Returns the error for an entry that was not added.
     fn handing_back(_error: AllocError, entry: Entry) -> InsertError
         ensures { result.entry ≡ entry }
     {
@@ -80,7 +80,7 @@ impl InsertError {
     }
 }
 
-// Makes room for an entry after the others, and lets the names that it claims point there.
+// Reserves room for one more entry, and makes the names that `entry` claims point to the next index.
 fn claim_next(entries: &mut Vec<Entry>, names: &mut Names, entry: &Entry) -> Result<(), AllocError>
     ensures same_entries { entries.new.items ≡ entries.old.items }
     ensures room { OnOk result (vec_len entries.new < vec_capacity entries.new) }
@@ -94,7 +94,7 @@ fn claim_next(entries: &mut Vec<Entry>, names: &mut Names, entry: &Entry) -> Res
 }
 
 impl Bibliography {
-    /// No entries. Does not allocate.
+    /// Returns a bibliography without entries. Does not allocate.
     pub fn new(alloc: Global) -> Self
         ensures { result ≡ empty_bibliography }
     {
@@ -104,12 +104,13 @@ impl Bibliography {
         }
     }
 
-    /// Reads a bibliography file: Ok exactly where the text is accepted.
+    /// Parses a bibliography file. Returns a bibliography if the text is accepted and memory suffices, and an error
+    /// otherwise.
     ///
-    /// Each entry has its own fields but `xdata`, and those that it inherits from the entries that it refers to.
+    /// Each entry has its own fields except `xdata`, and the fields that it inherits from the entries that it refers to.
     ///
-    /// Refused with a syntax error where the file grammar doesn't read the text, and otherwise as `from_raw` says. Spans are
-    /// in bytes of the text; that of any error but of a date lies in it.
+    /// If the file grammar doesn't accept the text, the error is a syntax error; otherwise the errors are those of
+    /// `from_raw`. Spans are in bytes of the text. The span of an error lies in the text, except for an error of a date.
     pub fn parse(alloc: Global, src: &str) -> Result<Self, ParseError>
         ensures loaded { IfOk result (IsBibliographyOf src.now) }
         ensures accepted { OnOk result (IsAcceptedText src.now) }
@@ -122,16 +123,19 @@ impl Bibliography {
         Self::from_raw(alloc, raw)
     }
 
-    /// Builds the bibliography of a raw bibliography. Its texts and spans are trusted: a span needn't lie in any text.
+    /// Builds the bibliography of a raw bibliography. The texts and spans of `raw` are trusted: a span needn't lie in any
+    /// text.
     ///
-    /// An entry's own fields that stay keep their chunks, one for one; of a field that it inherits the styled text is promised, and
-    /// not how chunks cut it, nor where they stand.
+    /// Each own field that an entry keeps has the same chunks as before. For an inherited field, only the styled text is
+    /// guaranteed: the borders and the spans of its chunks are not.
     ///
-    /// Refused, in the order of the file, for the first entry whose key an earlier one claimed (`DuplicateKey`, at the
-    /// entry) or which has a field that can't be read; else for the first entry that refers to itself, by others or at once
-    /// (`ReferenceCycle`, at the entry); else for the first entry that looks for a date, which its type needs and of which it
-    /// has neither `date` nor `year`, and refers to an entry whose `year`, `month` and `day` can't be read
-    /// (`ResolutionError`, at these).
+    /// The error is that of the first case that applies, at its first place in the order of the file:
+    ///
+    /// 1. An entry has a key that an earlier entry claimed (`DuplicateKey`, at the entry), or a field can't be parsed.
+    /// 2. An entry refers to itself, directly or through others (`ReferenceCycle`, at the entry).
+    /// 3. An entry lacks a required date, and refers to an entry whose `year`, `month` and `day` can't be parsed
+    /// (`ResolutionError`, at these fields). An entry lacks a required date if its type requires one, and it has neither
+    /// `date` nor `year`.
     pub fn from_raw(alloc: Global, raw: RawBibliography<'_>) -> Result<Self, ParseError>
         ensures loaded { IfOk result (IsLoaded (file_of raw.entry)) }
         ensures refused { IfErr result (λ e. (e ≡ out_of_memory) ⊎
@@ -141,8 +145,8 @@ impl Bibliography {
         Ok(bibliography)
     }
 
-    /// The same, and the turns in which entries took over what they inherit: the index of each entry once, after the
-    /// indices of all entries that it refers to.
+    /// Builds the bibliography like `from_raw`, and also returns the order in which entries inherited. The order contains the
+    /// index of each entry once, after the indices of all entries that it refers to.
     pub fn from_raw_counted(
         alloc: Global,
         raw: RawBibliography<'_>,
@@ -154,12 +158,12 @@ impl Bibliography {
             (IsFirstErrorOf (file_of raw.entry) e × (IsAccepted (file_of raw.entry) → ⊥))) }
     {
         let spans = spans(alloc, &raw.entries)?;
-        let (mut entries, names, marks) = load_marked(alloc, raw)?;
-        let turns = resolve_marked(alloc, &spans, &names, &marks, &mut entries)?;
+        let (mut entries, names) = load(alloc, raw)?;
+        let turns = resolve(alloc, &spans, &names, &mut entries)?;
         Ok((Self::from_names(entries, names), turns))
     }
 
-    // These entries and names. Does not allocate.
+    // Returns the bibliography of these entries and names. Does not allocate.
     pub(crate) fn from_names(entries: Vec<Entry>, names: Names) -> Self
         requires { AreIndicesBelow (length entries.items) names }
         ensures { result ≡ record { entries = entries.items; names = names } }
@@ -167,21 +171,21 @@ impl Bibliography {
         Bibliography { entries, names }
     }
 
-    // The entries in order.
+    // Returns the entries in order.
     pub(crate) fn as_slice(&self) -> &[Entry]
         ensures { result.now ≡ self.now.entries }
     {
         self.entries.as_slice()
     }
 
-    // The names of the entries.
+    // Returns the names of the entries.
     pub(crate) fn names(&self) -> &Names
         ensures { result.now ≡ self.now.names }
     {
         &self.names
     }
 
-    /// How many entries there are. Each name points below this.
+    /// Returns the number of entries. Each name points to an index below this number.
     pub fn len(&self) -> usize
         ensures count { result ≡ length self.now.entries }
         ensures indices { AreIndicesBelow result self.now.names }
@@ -189,14 +193,14 @@ impl Bibliography {
         self.entries.len()
     }
 
-    /// Whether there is no entry.
+    /// Returns `true` if the bibliography has no entries.
     pub fn is_empty(&self) -> bool
         ensures { result ≡ (length self.now.entries == 0) }
     {
         self.entries.is_empty()
     }
 
-    /// The entry that a name points to: a key, or another name.
+    /// Returns the entry that the name `key` points to. A name is a key, an item of a field `ids`, or an alias.
     pub fn get(&self, key: &str) -> Option<&Entry>
         ensures value { option_copied result ≡ entry_of self.now key.now }
         ensures named { IsSome (index_of self.now key.now) → IsSome result }
@@ -205,7 +209,8 @@ impl Bibliography {
         Some(&self.entries[index])
     }
 
-    /// The entry that a name points to, to be changed. This changes no names.
+    /// Returns a mutable reference to the entry that the name `key` points to. Changes to the entry leave the names
+    /// unchanged.
     pub fn get_mut(&mut self, key: &str) -> Option<&mut Entry>
         ensures* writes_back { sem 𝓛 (LendsEntry self.entry key.now result) }
         ensures value { option_copied_mut result ≡ entry_of self.old key.now }
@@ -215,9 +220,9 @@ impl Bibliography {
         self.entries.get_mut(index)
     }
 
-    /// Adds an entry. If its key is a name, the entry takes the index that this name points to, the entry that stood
-    /// there is handed back, and all names stay. Otherwise it is added after the others, and its key and the names in
-    /// its field `ids` point to it from now on. A refusal changes nothing, and gives the entry back.
+    /// Adds an entry. If its key is already a name, the entry replaces the one that the name points to. The replaced entry is
+    /// returned, and all names stay unchanged. Otherwise the entry is added at the end. Its key and the names in its field
+    /// `ids` then point to it. If memory runs out, the bibliography stays unchanged, and the error contains the entry.
     pub fn insert(&mut self, entry: Entry) -> Result<Option<Entry>, InsertError>
         ensures had { IfOk result (λ had. had ≡ entry_of self.old entry.key) }
         ensures inserted { OnOk result (self.new ≡ inserted self.old entry) }
@@ -236,8 +241,8 @@ impl Bibliography {
         Ok(None)
     }
 
-    /// Takes the entry out that a name points to, with all names that point to it. The entries after it move up by
-    /// one. Does not allocate.
+    /// Removes and returns the entry that the name `key` points to, and removes all names that point to it. The indices of
+    /// the entries after it decrease by one. Does not allocate.
     pub fn remove(&mut self, key: &str) -> Option<Entry>
         ensures had { result ≡ entry_of self.old key.now }
         ensures removed { self.new ≡ removed self.old key.now }
@@ -247,7 +252,8 @@ impl Bibliography {
         Some(self.entries.remove(index))
     }
 
-    /// Lets another name point to the entry that a name points to, if there is one. A refusal changes nothing.
+    /// Makes the name `alias` point to the entry that the name `key` points to. Does nothing if `key` points to no entry. If
+    /// memory runs out, the bibliography stays unchanged.
     pub fn alias(&mut self, key: &str, alias: &str) -> Result<(), AllocError>
         ensures aliased { OnOk result (self.new ≡ aliased self.old key.now alias.now) }
         ensures refused { OnErr result (self.new ≡ self.old) }
@@ -261,14 +267,14 @@ impl Bibliography {
         Ok(())
     }
 
-    /// The entries in order.
+    /// Returns an iterator over the entries in order.
     pub fn iter(&self) -> Iter<'_, Entry>
         ensures { iter_rest result ≡ self.now.entries }
     {
         self.entries.iter()
     }
 
-    /// The entries in order, to be changed. This changes no names.
+    /// Returns an iterator over mutable references to the entries in order. Changes to the entries leave the names unchanged.
     pub fn iter_mut(&mut self) -> IterMut<'_, Entry>
         ensures* writes_back { sem 𝓛 (LendsEntries self.entry result) }
         ensures entries { iter_mut_rest result ≡ self.old.entries }
@@ -276,7 +282,7 @@ impl Bibliography {
         self.entries.iter_mut()
     }
 
-    /// The key of each entry, in order.
+    /// Returns an iterator over the key of each entry, in order.
     pub fn keys(&self) -> Keys<'_>
         ensures { keys_left result ≡ map (λ e. e.key) self.now.entries }
     {
@@ -285,7 +291,7 @@ impl Bibliography {
         }
     }
 
-    /// The vector of the entries in order. Does not allocate.
+    /// Returns the vector of the entries in order. Does not allocate.
     pub fn into_vec(self) -> Vec<Entry>
         ensures { result.items ≡ self.entries }
     {
@@ -318,7 +324,7 @@ impl Eq for Bibliography {
     ghost laws = { same_bibliography_equiv };
 }
 
-/// The keys of entries, in order.
+/// An iterator over the keys of entries, in order.
 #[derive(Debug, Drop)]
 pub struct Keys<'a> {
     entries: Iter<'a, Entry>,

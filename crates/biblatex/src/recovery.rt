@@ -1,38 +1,45 @@
-//! Bibliographies of texts that can't be read whole.
+//! Recovery: bibliographies of texts with errors.
 
 ghost use Rattle.std.specs.Prelude.{IfOk};
 ghost use Rattle.biblatex.specs.BibliographyRecovery.{IsRecoveredBibliography};
 
 use crate::bibliography::Bibliography;
 use bib_file_entries::keeping::{KeptEntries, keep};
-use bib_references::recovering::resolve_readable;
+use bib_inheritance::recovering::resolve_readable;
 use bib_syntax::raw::{ParseError, RawBibliography, RawRecovery, SkippedBlock};
 use std::alloc::{AllocError, Global};
 
-/// What is read of a text as a bibliography, and all that is wrong with it.
+/// The result of parsing a text with errors: the bibliography, and all errors.
 #[derive(Debug, Drop)]
 pub struct BibliographyRecovery {
-    /// The bibliography of all that can be read.
+    /// The bibliography of everything that can be parsed.
     pub bibliography: Bibliography,
-    /// For each entry of the bibliography, in order, its index among the entries that `RawBibliography::recover` reads of the
-    /// text: there its key, its fields and their values stand with their places.
+    /// For each entry of the bibliography, in order, its index among the entries that `RawBibliography::recover` returns for
+    /// the text. The raw entry contains the spans of its key, fields and values.
     pub origins: Vec<usize>,
-    /// The stretches of the text that are passed over, each with its syntax error.
+    /// The skipped blocks of the text, each with its syntax error.
     pub skipped: Vec<SkippedBlock>,
-    /// What is wrong with the rest: in the order of the file the names that stand for nothing, the fields and the entries
-    /// that are left out; then the entries on cycles, and then those that look for a date which can't be read.
+    /// The errors of the rest. First, in the order of the file: undefined abbreviations, and the fields and entries that are
+    /// left out. Then the entries on cycles. Then the entries that lack a required date and refer to an entry whose date
+    /// can't be parsed.
     pub errors: Vec<ParseError>,
 }
 
 impl Bibliography {
-    /// Reads what can be read of a bibliography file, and says all that is wrong with it. Spans are in bytes of the text.
+    /// Parses a bibliography file as far as possible, and returns all its errors. Spans are in bytes of the text.
     ///
-    /// Without errors exactly where `parse` reads the text, and then as `parse` reads it. Else what is wrong is left out, and
-    /// the rest is read as `parse` reads it: a block with a syntax error up to the next at sign that begins a line, an entry
-    /// whose key an earlier one claimed (`DuplicateKey`), a field that can't be read, the fields `crossref` and `xdata` of an
-    /// entry that refers to itself, by others or at once (`ReferenceCycle`). A name in a field that is neither defined nor the
-    /// start of a month is read as text (`UnknownAbbreviation`). An entry that looks for a date takes over none that can't be
-    /// read (`ResolutionError`). Refused only when out of memory.
+    /// The result has no errors exactly if `parse` accepts the text, and is then the result of `parse`. Otherwise the parts
+    /// with errors are removed, and the rest is parsed as by `parse`:
+    ///
+    /// - A block with a syntax error is skipped, up to the next at sign that begins a line.
+    /// - An entry whose key an earlier entry claimed is left out (`DuplicateKey`), and so is a field that can't be parsed.
+    /// - An entry that refers to itself, directly or through others, loses its fields `crossref` and `xdata`
+    /// (`ReferenceCycle`).
+    /// - A name in a field that is neither defined nor the abbreviation of a month is replaced by its text
+    /// (`UnknownAbbreviation`).
+    /// - A date that can't be parsed is not inherited (`ResolutionError`).
+    ///
+    /// The only returned error is out of memory.
     pub fn recover(alloc: Global, src: &str) -> Result<BibliographyRecovery, AllocError>
         ensures { IfOk result (λ found. IsRecoveredBibliography src.now found.bibliography found.origins.items
             found.skipped.items found.errors.items) }

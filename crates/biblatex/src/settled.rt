@@ -1,24 +1,24 @@
-//! Whether a bibliography is read again as it was, once it is written.
+//! Decides whether a bibliography is settled.
 
 ghost use Rattle.std.specs.Prelude.{◌≡◌, ◌↔◌, ◌<◌, IsTrue, Some, bytes_eq, length, map};
 ghost use Rattle.std.specs.FinMap as by_name;
 ghost use Rattle.std.specs.List.{AllByRecursion, IsDistinct, list_any};
-ghost use Rattle.bib_roundtrip.specs.Settled.{AreSettled, IsSettledEntry};
+ghost use Rattle.biblatex.specs.Settled.{AreSettled, IsSettledEntry};
 ghost use Rattle.biblatex.specs.Distinct.{stands_elsewhere};
 
 use crate::bibliography::Bibliography;
+use crate::settled_entry::is_settled_entry;
+use bib_collections::names::Names;
 use bib_entry::entry::Entry;
-use bib_maps::names::Names;
-use bib_roundtrip::settled::is_settled_entry;
 
-// Whether an entry has this key.
+// Returns whether the key of an entry is `key`.
 fn is_key_among(entries: &[Entry], key: &str) -> bool
     ensures { result ≡ list_any (λ e. bytes_eq key.now e.key) entries.now }
 {
     entries.iter().any(|entry| key == entry.key.as_str())
 }
 
-// Whether the key of the entry at an index is the key of another.
+// Returns whether another entry has the key of the entry at `index`.
 fn is_repeated(entries: &[Entry], index: usize) -> bool
     requires { index < length entries.now }
     ensures { result ≡ stands_elsewhere (map (λ e. e.key) entries.now) index }
@@ -27,7 +27,7 @@ fn is_repeated(entries: &[Entry], index: usize) -> bool
     is_key_among(&entries[..index], key) || is_key_among(&entries[index + 1..], key)
 }
 
-// Whether a name points to this index.
+// Returns whether `name` points to `index`.
 fn points_to(names: &Names, name: &str, index: usize) -> bool
     ensures { IsTrue result ↔ by_name.get names.now name.now ≡ Some index }
 {
@@ -37,8 +37,8 @@ fn points_to(names: &Names, name: &str, index: usize) -> bool
     }
 }
 
-// Whether no two entries have one key. A key that points to its own index is the key of no other that does so: only the
-// keys that don't are looked for at all indices.
+// Returns whether no two entries have the same key. A name points to one index, so equal keys can't both point to their own
+// entries. Only a key that doesn't point to its own index is therefore compared with the keys of all other entries.
 fn has_distinct_keys(entries: &[Entry], names: &Names) -> bool
     ensures { IsTrue result ↔ IsDistinct bytes_eq (map (λ e. e.key) entries.now) }
 {
@@ -53,7 +53,7 @@ fn has_distinct_keys(entries: &[Entry], names: &Names) -> bool
     true
 }
 
-// Whether each entry is settled.
+// Returns whether each entry is settled.
 fn are_settled(entries: &[Entry]) -> bool
     ensures { IsTrue result ↔ AllByRecursion IsSettledEntry entries.now }
 {
@@ -66,9 +66,12 @@ fn are_settled(entries: &[Entry]) -> bool
 }
 
 impl Bibliography {
-    /// Whether the bibliography is read again as it is, once [`Self::to_biblatex_string`] has written it: no two keys are
-    /// equal, keys are of key characters, field names are identifiers without uppercase letters of ASCII and none of `ids`,
-    /// `crossref` and `xdata`, and each value is settled. Does not allocate.
+    /// Returns whether the bibliography is settled. The output of [`Self::to_biblatex_string`] for a settled bibliography
+    /// parses back to its entries.
+    ///
+    /// A bibliography is settled if no two keys are equal, keys consist of key characters, and each value is settled. Each
+    /// field name must be an identifier without uppercase ASCII letters, and none of `ids`, `crossref` and `xdata`. Does not
+    /// allocate.
     pub fn is_settled(&self) -> bool
         ensures { IsTrue result ↔ AreSettled self.now.entries }
     {

@@ -1,8 +1,9 @@
 //! Sinks: what takes the texts that are written, and a writer as a sink.
 
-ghost use Rattle.std.specs.Prelude.{◌≡◌, ℕ, Bool, ◌+◌, ◌-◌, ◌^◌, ◌<◌, List, if◌then◌else◌, min, IsTrue, MatchBool, ◌↔◌};
+ghost use Rattle.std.specs.Prelude.{◌≡◌, ℕ, Bool, ◌+◌, ◌-◌, ◌^◌, ◌<◌, List, min, IsTrue, MatchBool, ◌↔◌};
 ghost use Rattle.std.specs.Bool.{OnTrue, OnFalse};
-ghost use Rattle.std.specs.Io.KnownBytes.{Appends};
+ghost use Rattle.std.specs.Io.{WritesAtMost};
+ghost use Rattle.std.specs.Io.KnownBytes.{Appends, WriteAppends};
 ghost use Rattle.std.specs.declared.option.Option.{Option};
 ghost use Rattle.biblatex.specs.PartlyWritten.{AppendsPart};
 ghost use Rattle.biblatex.specs.Writing.{IsRefusedWrite};
@@ -41,29 +42,6 @@ fn is_refusal(written: &io::Result<usize>) -> bool
     }
 }
 
-// Writes the bytes, each once. Returns false if the writer refuses: it has then taken a first part of them, at most. A write
-// that was interrupted took nothing, and is tried again.
-fn write_once<W: Write>(writer: &mut W, bytes: &[u8]) -> bool
-    ensures whole { OnTrue result (Appends (W.contents writer.old) (W.contents writer.new) bytes.now) }
-    ensures part { OnFalse result (AppendsPart (W.contents writer.old) (W.contents writer.new) bytes.now) }
-{
-    let mut rest = bytes;
-    'writes: for _ in 0..u64::MAX {
-        if rest.is_empty() {
-            return true;
-        }
-        let written = writer.write(rest);
-        if is_refusal(&written) {
-            return false;
-        }
-        match written {
-            Ok(count) => rest = &rest[count..],
-            Err(_) => {}
-        }
-    }
-    false
-}
-
 /// A writer as a sink. A text that is taken is written once. If a text is refused, the writer has a first part of it, at most
 /// once. The contract says so of a writer whose contents are known; of any other it says that a refusal is counted.
 #[derive(Drop)]
@@ -95,17 +73,55 @@ impl<W> Output<W> {
         writer
     }
 
-    // Counts a text that wasn't taken, and returns whether it was.
-    fn count(&mut self, is_taken: bool) -> bool
-        ensures taken { result ≡ is_taken }
-        ensures counted { self.new.refusals ≡ (if is_taken then self.old.refusals
-            else min (self.old.refusals + 1) (2 ^ 64 - 1)) }
+    // Counts a refusal.
+    fn refuse(&mut self)
+        ensures counted { self.new.refusals ≡ min (self.old.refusals + 1) (2 ^ 64 - 1) }
         ensures writer { self.new.writer ≡ self.old.writer }
     {
-        if !is_taken {
-            self.refusals = self.refusals.saturating_add(1);
+        self.refusals = self.refusals.saturating_add(1);
+    }
+}
+
+impl<W: Write> Output<W> {
+    // Makes one write of the bytes, and counts it if the writer refuses them.
+    fn write(&mut self, bytes: &[u8]) -> io::Result<usize>
+        ensures bound { WritesAtMost result bytes.now }
+        ensures bytes { WriteAppends (W.contents self.old.writer) (W.contents self.new.writer) result bytes.now }
+        ensures counted { IsRefusedWrite result →
+            self.new.refusals ≡ min (self.old.refusals + 1) (2 ^ 64 - 1) }
+        ensures same { (IsRefusedWrite result → ⊥) → self.new.refusals ≡ self.old.refusals }
+    {
+        let written = self.writer.write(bytes);
+        if is_refusal(&written) {
+            self.refuse();
         }
-        is_taken
+        written
+    }
+
+    // Writes the bytes, each once. Returns false if the writer refuses, and counts that: the writer has then taken a first part
+    // of the bytes, at most. A write that was interrupted took nothing, and is made again.
+    fn write_once(&mut self, bytes: &[u8]) -> bool
+        ensures whole { OnTrue result (Appends (W.contents self.old.writer) (W.contents self.new.writer) bytes.now) }
+        ensures same { OnTrue result (self.new.refusals ≡ self.old.refusals) }
+        ensures part { OnFalse result (AppendsPart (W.contents self.old.writer) (W.contents self.new.writer) bytes.now) }
+        ensures counted { OnFalse result (self.new.refusals ≡ min (self.old.refusals + 1) (2 ^ 64 - 1)) }
+    {
+        let mut rest = bytes;
+        'writes: for _ in 0..u64::MAX {
+            if rest.is_empty() {
+                return true;
+            }
+            let written = self.write(rest);
+            if is_refusal(&written) {
+                return false;
+            }
+            match written {
+                Ok(count) => rest = &rest[count..],
+                Err(_) => {}
+            }
+        }
+        self.refuse();
+        false
     }
 }
 
@@ -122,7 +138,6 @@ impl<W: Write> Sink for Output<W> {
         × (new.refusals ≡ min (old.refusals + 1) (2 ^ 64 - 1))) };
 
     fn write_str(&mut self, text: &str) -> bool {
-        let is_taken = write_once(&mut self.writer, text.as_bytes());
-        self.count(is_taken)
+        self.write_once(text.as_bytes())
     }
 }

@@ -1,10 +1,10 @@
-//! Bibliographies as they are written in a file.
+//! Writing bibliographies in BibLaTeX's or BibTeX's types and fields.
 
 ghost use Rattle.std.specs.Prelude.{◌≡◌, ◌≢◌, [], ◌∷◌, ◌++◌, ℕ, ◌-◌, ◌^◌, ◌<◌, OnOk, OnErr, IfOk, codes, string_bytes, Err, Some};
 ghost use Rattle.std.specs.Io.KnownBytes.{Appends};
-ghost use Rattle.bib_entry.specs.Format.{entry_in};
+ghost use Rattle.bib_entry.specs.Dialect.{entry_in};
 ghost use Rattle.bib_entry.specs.WrittenEntries.{biblatex_entry, bibtex_entry, entries_text};
-ghost use Rattle.bib_roundtrip.specs.Settled.{AreSettled};
+ghost use Rattle.biblatex.specs.Settled.{AreSettled};
 ghost use Rattle.biblatex.specs.HandedOver.{AreHandedOver, entry_texts};
 ghost use Rattle.biblatex.specs.Headline.{IsReadAgain};
 ghost use Rattle.biblatex.specs.Writing.{parting};
@@ -12,17 +12,17 @@ ghost use Rattle.biblatex.specs.Writing.{parting};
 use crate::bibliography::Bibliography;
 use crate::sink::Sink;
 use bib_entry::entry::Entry;
-use bib_entry::write::{Format, write_entry};
+use bib_entry::write::{Dialect, write_entry};
 use std::alloc::{AllocError, Global};
 use thiserror::Error;
 
-/// Why a bibliography was not written.
+/// The error of writing a bibliography.
 #[derive(Debug, Clone, Copy, PartialEq, Eq, Error)]
 pub enum WriteError {
     /// The sink refused a text.
     #[error("write refused")]
     Refused,
-    /// There was no memory.
+    /// Out of memory.
     #[error("out of memory")]
     OutOfMemory,
 }
@@ -37,56 +37,56 @@ impl From<AllocError> for WriteError {
     }
 }
 
-// Writes an entry at the end of a text, after an empty line where it isn't the first, and before a line feed.
+// Appends an entry and a line feed to `out`, after an empty line unless the entry is the first.
 fn write_next(
     alloc: Global,
     out: &mut String,
     entry: &Entry,
     is_first: bool,
-    format: Format,
+    dialect: Dialect,
 ) -> Result<(), AllocError>
     ensures { OnOk result (string_bytes out.new ≡ string_bytes out.old ++
-        (parting is_first ++ (entry_in format entry.now ++ codes "\n"))) }
+        (parting is_first ++ (entry_in dialect entry.now ++ codes "\n"))) }
 {
     if !is_first {
         out.push('\n')?;
     }
-    write_entry(alloc, out, entry, format)?;
+    write_entry(alloc, out, entry, dialect)?;
     out.push('\n')?;
     Ok(())
 }
 
-// The text of entries.
-fn text_of(alloc: Global, entries: &[Entry], format: Format) -> Result<String, AllocError>
-    ensures { IfOk result (λ text. string_bytes text ≡ entries_text (entry_in format) entries.now) }
+// Returns the text of entries.
+fn text_of(alloc: Global, entries: &[Entry], dialect: Dialect) -> Result<String, AllocError>
+    ensures { IfOk result (λ text. string_bytes text ≡ entries_text (entry_in dialect) entries.now) }
 {
     let mut out = String::new(alloc);
     let mut is_first = true;
     'entries: for entry in entries {
-        write_next(alloc, &mut out, entry, is_first, format)?;
+        write_next(alloc, &mut out, entry, is_first, dialect)?;
         is_first = false;
     }
     Ok(out)
 }
 
-// Hands a sink an entry, after an empty line where it isn't the first, and before a line feed.
+// Passes the text of an entry and a line feed to a sink, after an empty line unless the entry is the first.
 fn hand_next<K: Sink>(
     alloc: Global,
     sink: &mut K,
     entry: &Entry,
     is_first: bool,
-    format: Format,
+    dialect: Dialect,
 ) -> Result<(), WriteError>
     ensures written { OnOk result (Appends (K.taken sink.old) (K.taken sink.new)
-        (parting is_first ++ (entry_in format entry.now ++ codes "\n"))) }
+        (parting is_first ++ (entry_in dialect entry.now ++ codes "\n"))) }
     ensures same { result ≢ Err WriteError.Refused → K.refusals sink.new ≡ K.refusals sink.old }
     ensures refused { result ≡ Err WriteError.Refused → K.refusals sink.old < 2 ^ 64 - 1 →
         K.refusals sink.old < K.refusals sink.new }
     ensures handed { AreHandedOver K.hands_over sink.old
-        ((parting is_first ++ (entry_in format entry.now ++ codes "\n")) ∷ []) sink.new result }
+        ((parting is_first ++ (entry_in dialect entry.now ++ codes "\n")) ∷ []) sink.new result }
 {
     let mut text = String::new(alloc);
-    write_next(alloc, &mut text, entry, is_first, format)?;
+    write_next(alloc, &mut text, entry, is_first, dialect)?;
     if sink.write_str(&text) {
         Ok(())
     } else {
@@ -94,64 +94,64 @@ fn hand_next<K: Sink>(
     }
 }
 
-// Hands a sink entries one by one.
+// Passes entries to a sink, one text for each entry.
 fn hand<K: Sink>(
     alloc: Global,
     sink: &mut K,
     entries: &[Entry],
-    format: Format,
+    dialect: Dialect,
 ) -> Result<(), WriteError>
     ensures written { OnOk result (Appends (K.taken sink.old) (K.taken sink.new)
-        (entries_text (entry_in format) entries.now)) }
+        (entries_text (entry_in dialect) entries.now)) }
     ensures same { result ≢ Err WriteError.Refused → K.refusals sink.new ≡ K.refusals sink.old }
     ensures refused { result ≡ Err WriteError.Refused → K.refusals sink.old < 2 ^ 64 - 1 →
         K.refusals sink.old < K.refusals sink.new }
-    ensures handed { AreHandedOver K.hands_over sink.old (entry_texts (entry_in format) entries.now)
+    ensures handed { AreHandedOver K.hands_over sink.old (entry_texts (entry_in dialect) entries.now)
         sink.new result }
 {
     let mut is_first = true;
     'entries: for entry in entries {
-        hand_next(alloc, sink, entry, is_first, format)?;
+        hand_next(alloc, sink, entry, is_first, dialect)?;
         is_first = false;
     }
     Ok(())
 }
 
 impl Bibliography {
-    /// Writes the bibliography with escapes, in BibLaTeX's types and fields. A command that the reader does not know is plain
-    /// text: `\emph{x}` is written `\\emph\{x\}`, and outside verbatim fields `~` is written `\textasciitilde{}`. The edits
-    /// and `convert` of `bibkit` keep a file's own text.
+    /// Returns the bibliography as a text with escapes, in BibLaTeX's types and fields. An unknown command was parsed as
+    /// plain text, so it is escaped: `\emph{x}` is written `\\emph\{x\}`. Outside verbatim fields `~` is written
+    /// `\textasciitilde{}`. The edits and `convert` of `bibkit` preserve the source of a file instead.
     ///
-    /// Each entry is written by [`Entry::to_biblatex_string`], with an empty line between two entries. The output for a
-    /// settled bibliography parses to its entries in order, in BibLaTeX's types and fields, with equal styled texts. The only
-    /// error is out of memory.
+    /// Each entry is written as by [`Entry::to_biblatex_string`], with an empty line between two entries. The output for a
+    /// settled bibliography parses back to its entries in order, with types and field names mapped to BibLaTeX's and with
+    /// equal styled texts. The only error is out of memory.
     pub fn to_biblatex_string(&self, alloc: Global) -> Result<String, AllocError>
         ensures text { IfOk result (λ text. string_bytes text ≡
             entries_text biblatex_entry self.now.entries) }
         ensures reread { AreSettled self.now.entries → IfOk result (λ text.
             IsReadAgain self.now.entries (string_bytes text)) }
     {
-        text_of(alloc, self.as_slice(), Format::Biblatex)
+        text_of(alloc, self.as_slice(), Dialect::Biblatex)
     }
 
-    /// Writes the bibliography with escapes, in BibTeX's types and fields. A command that the reader does not know is plain
-    /// text: `\emph{x}` is written `\\emph\{x\}`, and outside verbatim fields `~` is written `\textasciitilde{}`. The edits
-    /// and `convert` of `bibkit` keep a file's own text.
+    /// Returns the bibliography as a text with escapes, in BibTeX's types and fields. An unknown command was parsed as plain
+    /// text, so it is escaped: `\emph{x}` is written `\\emph\{x\}`. Outside verbatim fields `~` is written
+    /// `\textasciitilde{}`. The edits and `convert` of `bibkit` preserve the source of a file instead.
     ///
-    /// Each entry is written by [`Entry::to_bibtex_string`], with an empty line between two entries. The only error is out of
-    /// memory.
+    /// Each entry is written as by [`Entry::to_bibtex_string`], with an empty line between two entries. The only error is out
+    /// of memory.
     pub fn to_bibtex_string(&self, alloc: Global) -> Result<String, AllocError>
         ensures { IfOk result (λ text. string_bytes text ≡
             entries_text bibtex_entry self.now.entries) }
     {
-        text_of(alloc, self.as_slice(), Format::Bibtex)
+        text_of(alloc, self.as_slice(), Dialect::Bibtex)
     }
 
-    /// Writes the text of [`Self::to_biblatex_string`] to a sink, with its escapes: a command that the reader does not know is
-    /// written as plain text. The edits and `convert` of `bibkit` keep a file's own text.
+    /// Writes the text of [`Self::to_biblatex_string`] to a sink, with the same escapes: an unknown command is written as
+    /// plain text. The edits and `convert` of `bibkit` preserve the source of a file instead.
     ///
-    /// The sink is handed one text for each entry, whole and once. Memory is allocated for one entry's text at a time.
-    /// `Refused` means that the sink refused a text: it keeps the texts that it took before, and is handed no other.
+    /// The sink receives the text of each entry whole, in one call. Only the text of one entry is allocated at a time. The
+    /// error `Refused` means that the sink refused a text: it has taken the texts before that one, and receives no others.
     pub fn write_biblatex<K: Sink>(&self, alloc: Global, sink: &mut K) -> Result<(), WriteError>
         ensures written { OnOk result (Appends (K.taken sink.old) (K.taken sink.new)
             (entries_text biblatex_entry self.now.entries)) }
@@ -162,11 +162,11 @@ impl Bibliography {
         ensures handed { AreHandedOver K.hands_over sink.old
             (entry_texts biblatex_entry self.now.entries) sink.new result }
     {
-        hand(alloc, sink, self.as_slice(), Format::Biblatex)
+        hand(alloc, sink, self.as_slice(), Dialect::Biblatex)
     }
 
-    /// Writes the text of [`Self::to_bibtex_string`] to a sink, with its escapes: a command that the reader does not know is
-    /// written as plain text. The edits and `convert` of `bibkit` keep a file's own text.
+    /// Writes the text of [`Self::to_bibtex_string`] to a sink, with the same escapes: an unknown command is written as plain
+    /// text. The edits and `convert` of `bibkit` preserve the source of a file instead.
     ///
     /// The sink is used as by [`Self::write_biblatex`].
     pub fn write_bibtex<K: Sink>(&self, alloc: Global, sink: &mut K) -> Result<(), WriteError>
@@ -179,6 +179,6 @@ impl Bibliography {
         ensures handed { AreHandedOver K.hands_over sink.old
             (entry_texts bibtex_entry self.now.entries) sink.new result }
     {
-        hand(alloc, sink, self.as_slice(), Format::Bibtex)
+        hand(alloc, sink, self.as_slice(), Dialect::Bibtex)
     }
 }

@@ -1,5 +1,5 @@
-//! Three examples of docs/GUIDE.md as tests, proved as a user's code is: reading, changing, and code of the Rust crate. The
-//! others are tests in tests/src/guide.rs.
+//! Three examples of docs/LIBRARY.md as tests, proved like the code of a user: parsing, changing, and porting code that was
+//! written for the Rust crate. The other examples are tests in tests/src/guide.rs.
 #![tactic(auto)]
 
 #[cfg(test)]

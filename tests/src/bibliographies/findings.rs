@@ -3,7 +3,7 @@
 use bib_file_entries::keeping::{KeptEntries, keep};
 use bib_findings::finding::Finding;
 use bib_findings::findings::{between, findings_in};
-use bib_references::recovering::resolve_readable;
+use bib_inheritance::recovering::resolve_readable;
 use bib_syntax::raw::{RawBibliography, RawRecovery};
 use std::alloc::{AllocError, Global};
 

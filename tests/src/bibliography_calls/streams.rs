@@ -3,7 +3,7 @@
 use bib_commands::run::run;
 use bib_commands::start::start;
 use bib_commands::streams::Input;
-use biblatex::Output;
+use biblatex::{Output, Sink};
 use std::alloc::Global;
 use std::env::Args;
 use std::io::{ErrorKind, Read, Write};
@@ -76,16 +76,20 @@ impl Write for Interrupted {
     }
 }
 
-// A writer that has room for some bytes, and then takes none.
+// A writer that has room for some bytes, and then takes none. Counts the writes of which it took no byte.
 #[derive(Drop)]
 struct Full {
     written: Vec<u8>,
     room: usize,
+    refused: u8,
 }
 
 impl Write for Full {
     fn write(&mut self, buf: &[u8]) -> io::Result<usize> {
         let count = buf.len().min(self.room);
+        if count == 0 {
+            self.refused = self.refused.saturating_add(1);
+        }
         self.room -= count;
         self.written.write(&buf[..count])
     }
@@ -246,6 +250,23 @@ fn writes_each_byte_once_where_it_is_interrupted(rt: HostRuntime) -> Result<(), 
 }
 
 #[test]
+fn writes_as_often_as_the_writer_needs(rt: HostRuntime) -> Result<(), Fail> {
+    let alloc = rt.alloc();
+    let mut output = Output::new(Interrupted {
+        written: Vec::new(alloc),
+        is_interrupted: false,
+    });
+    let mut text = String::new(alloc);
+    for _ in 0..20_000u32 {
+        text.push_str("entry")?;
+    }
+    assert!(rt; output.write_str(text.as_str()));
+    let writer = output.into_writer();
+    assert!(rt; writer.written.as_slice() == text.as_bytes());
+    Ok(())
+}
+
+#[test]
 fn stops_where_no_byte_is_taken(rt: HostRuntime) -> Result<(), Fail> {
     let words = words(rt.alloc(), &["keys"])?;
     let text: &[u8] = b"@article{test, author={A}}";
@@ -253,9 +274,11 @@ fn stops_where_no_byte_is_taken(rt: HostRuntime) -> Result<(), Fail> {
     let mut output = Output::new(Full {
         written: Vec::new(rt.alloc()),
         room: 2,
+        refused: 0,
     });
     assert_eq!(rt; run(rt.alloc(), &words, &mut input, &mut output), 1);
     let writer = output.into_writer();
     assert_eq!(rt; str::from_utf8(&writer.written)?, "te");
+    assert_eq!(rt; writer.refused, 1);
     Ok(())
 }

@@ -1,19 +1,24 @@
 //! Calls over buffers, as C makes them.
 
 use crate::calls::checks::agrees;
-use bib_calls::editing::{add, fmt, remove, rename, set, unset};
-use bib_calls::exporting::{csl, json};
-use bib_calls::linting::lint;
-use bib_calls::reading::{biblatex, bibtex, keys};
-use bib_calls::recovering::recover;
-use bib_calls::status::{Status, message};
-use bib_calls::version::version;
+use biblatex_c::editing::{
+    biblatex_add as add, biblatex_fmt as fmt, biblatex_remove as remove, biblatex_rename as rename,
+    biblatex_set as set, biblatex_unset as unset,
+};
+use biblatex_c::exporting::{biblatex_csl as csl, biblatex_json as json};
+use biblatex_c::linting::biblatex_lint as lint;
+use biblatex_c::reading::{
+    biblatex_biblatex as biblatex, biblatex_bibtex as bibtex, biblatex_keys as keys,
+};
+use biblatex_c::recovering::biblatex_recover as recover;
+use biblatex_c::status::{Status, biblatex_message as message};
+use biblatex_c::version::biblatex_version as version;
 
 const FILE: &[u8] = b"@misc{a, title = {T}}\n@misc{b, crossref = {a}}\n";
 
-// What a call left in a buffer, if it is done.
-fn answer(status: Status, out: &[u8], size: usize) -> &str {
-    if status != Status::Done || size > out.len() {
+// What a call left in a buffer, if its status is 0, which is `Done`.
+fn answer(status: u32, out: &[u8], size: usize) -> &str {
+    if status != 0 || size > out.len() {
         return "not done";
     }
     str::from_utf8(&out[..size]).unwrap_or("not UTF-8")
@@ -32,7 +37,7 @@ fn reads_into_buffers(rt: HostRuntime) {
     let status = json(alloc, b"", &mut out, &mut size);
     agrees(&rt, answer(status, &out, size), "[]\n");
     let status = csl(alloc, b"@misc{a, title = {T}}", &mut out, &mut size);
-    assert!(rt; status == Status::Done && size > 20);
+    assert!(rt; status == Status::Done.number() && size > 20);
     let status = lint(alloc, b"", &mut out, &mut size);
     agrees(&rt, answer(status, &out, size), "[\n]\n");
     let status = message(2, &mut out, &mut size);
@@ -55,8 +60,8 @@ fn edits_into_buffers(rt: HostRuntime) {
     agrees(&rt, answer(status, &out, size), "@misc{b, crossref = {a}}\n");
     let status = add(alloc, b"@misc{a,}", b"@misc{b,}", &mut out, &mut size);
     agrees(&rt, answer(status, &out, size), "@misc{a,}\n@misc{b,}");
-    assert!(rt; add(alloc, FILE, b"@misc{b,}", &mut out, &mut size) == Status::KeyIsThere);
-    assert!(rt; add(alloc, FILE, b"@misc{c", &mut out, &mut size) == Status::Refused);
+    assert!(rt; add(alloc, FILE, b"@misc{b,}", &mut out, &mut size) == Status::KeyIsThere.number());
+    assert!(rt; add(alloc, FILE, b"@misc{c", &mut out, &mut size) == Status::Refused.number());
 }
 
 #[test]
@@ -64,15 +69,15 @@ fn says_why_edits_are_refused(rt: HostRuntime) {
     let (alloc, mut size) = (rt.alloc(), 0usize);
     let mut out = [0u8; 512];
     let unknown = remove(alloc, FILE, b"z", &mut out, &mut size);
-    assert!(rt; unknown == Status::UnknownKey);
+    assert!(rt; unknown == Status::UnknownKey.number());
     let taken = rename(alloc, FILE, b"a", b"b", &mut out, &mut size);
-    assert!(rt; taken == Status::KeyIsThere);
+    assert!(rt; taken == Status::KeyIsThere.number());
     let no_key = rename(alloc, FILE, b"a", b"b c", &mut out, &mut size);
-    assert!(rt; no_key == Status::NotAKey);
+    assert!(rt; no_key == Status::NotAKey.number());
     let no_name = set(alloc, FILE, b"a", b"b c", b"U", &mut out, &mut size);
-    assert!(rt; no_name == Status::NotAName);
+    assert!(rt; no_name == Status::NotAName.number());
     let no_value = set(alloc, FILE, b"a", b"note", b"U}", &mut out, &mut size);
-    assert!(rt; no_value == Status::NotInBraces);
+    assert!(rt; no_value == Status::NotInBraces.number());
     let status = message(9, &mut out, &mut size);
     agrees(&rt, answer(status, &out, size), "the value can't stand between braces");
 }
@@ -92,7 +97,7 @@ fn recovers_into_buffers(rt: HostRuntime) {
     agrees(&rt, answer(status, &out, size), "[]\n");
     let status = recover(alloc, b"@misc{b", 3, &mut out, &mut size);
     agrees(&rt, answer(status, &out, size), "[]\n");
-    assert!(rt; recover(alloc, file, 4, &mut out, &mut size) == Status::Refused);
+    assert!(rt; recover(alloc, file, 4, &mut out, &mut size) == Status::Refused.number());
     let status = recover(alloc, b"@misc{a, note = {\xe9}}", 0, &mut out, &mut size);
     agrees(&rt, answer(status, &out, size), "@misc{a,\nnote = {\u{e9}},\n}\n");
     let status = version(&mut out, &mut size);

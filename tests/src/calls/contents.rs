@@ -2,7 +2,7 @@
 
 use crate::calls::checks::agrees;
 use bib_chunks::chunk::{Chunk, Chunks};
-use bib_abbreviations::resolve::parse_field;
+use bib_abbreviations::parsing::parse_field;
 use bib_syntax::raw::{Field, ParseError, RawBibliography};
 use std::alloc::{AllocError, Global};
 use std::collections::HashMap;

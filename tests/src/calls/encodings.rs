@@ -1,6 +1,6 @@
 //! Bytes of files, read as UTF-8 or as Windows-1252.
 
-use bib_encoding::decoding::{Decoded, Encoding, decode};
+use bib_source::decoding::{Decoded, Encoding, decode};
 use std::alloc::{AllocError, Global};
 use std::process::Abort;
 use std::test::Fail;

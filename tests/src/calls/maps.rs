@@ -1,9 +1,9 @@
 //! Maps by text, and names that point to places.
 
 use crate::calls::checks::{Answer, are_right};
-use bib_maps::claims::Claims;
-use bib_maps::names::Names;
-use bib_maps::text_map::TextMap;
+use bib_collections::claims::Claims;
+use bib_collections::names::Names;
+use bib_collections::text_map::TextMap;
 use bib_text::text::Text;
 use std::alloc::{AllocError, Global};
 

@@ -1,7 +1,7 @@
 //! Copies of the raw reading of a file, of its parts and of errors.
 
 use crate::calls::checks::{Reading, are_read};
-use bib_enums::type_error::{TypeError, TypeErrorKind};
+use bib_tables::type_error::{TypeError, TypeErrorKind};
 use bib_syntax::raw::{
     Pair, ParseError, ParseErrorKind, RawBibliography, RawChunk, RawEntry, Token,
 };

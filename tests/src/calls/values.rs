@@ -1,9 +1,9 @@
 //! Copies of entry types, of what they ask for, and of the small enumerations.
 
 use crate::calls::checks::{Answer, are_right};
-use bib_entry_types::mechanics::{AuthorMode, EntryType, PagesChapterMode, Requirements};
-use bib_enums::types::lang::Language;
-use bib_enums::types::{EditorType, Gender, NameError, Pagination};
+use bib_tables::mechanics::{AuthorMode, EntryType, PagesChapterMode, Requirements};
+use bib_tables::types::lang::Language;
+use bib_tables::types::{EditorType, Gender, NameError, Pagination};
 use bib_text::text::Text;
 use std::alloc::{AllocError, Global};
 

@@ -1,7 +1,7 @@
 //! Chunks, cut at commas, at words `and` and at a separator.
 
 use bib_chunks::chunk::{Chunks, cuts, format_verbatim};
-use bib_styled::lists;
+use bib_chunks::lists;
 use bib_text::items::Items;
 use std::alloc::{AllocError, Global};
 use crate::support::chunks::{chunks_of, push_chunks};

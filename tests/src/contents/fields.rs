@@ -1,7 +1,7 @@
 //! The contents of the last field of a file's last entry as chunks, or the error.
 
 use bib_chunks::chunk::Chunks;
-use bib_abbreviations::resolve::parse_field;
+use bib_abbreviations::parsing::parse_field;
 use bib_syntax::raw::{Field, Pair, ParseError, RawBibliography};
 use std::alloc::{AllocError, Global};
 use std::collections::HashMap;

@@ -1,7 +1,7 @@
 //! Chunks, written and formatted.
 
 use bib_chunks::chunk::{format_sentence, format_styled, format_verbatim, value_text, whole_span};
-use bib_styled::settling::is_settled;
+use bib_chunks::settling::is_settled;
 use std::alloc::{AllocError, Global};
 use crate::support::chunks::chunks_of;
 

@@ -1,7 +1,7 @@
 //! The fields of an entry, read one after another by one reader.
 
 use bib_chunks::chunk::Chunks;
-use bib_abbreviations::resolve::FieldReader;
+use bib_abbreviations::reader::FieldReader;
 use bib_syntax::raw::{Field, Pair, ParseError, RawBibliography};
 use std::alloc::{AllocError, Global};
 use std::collections::BTreeMap;

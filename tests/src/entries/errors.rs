@@ -1,7 +1,7 @@
 //! Why a field was not read, as it is printed.
 
-use bib_fields::retrieval::RetrievalError;
-use bib_enums::type_error::{TypeError, TypeErrorKind};
+use bib_typed::retrieval::RetrievalError;
+use bib_tables::type_error::{TypeError, TypeErrorKind};
 use bib_text::text::Text;
 use std::alloc::{AllocError, Global};
 use crate::support::shown::agreed;

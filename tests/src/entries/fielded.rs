@@ -3,9 +3,9 @@
 use bib_chunks::chunk::Chunks;
 use bib_dates::date::Date;
 use bib_entry::entry::Entry;
-use bib_fields::retrieval::RetrievalError;
-use bib_enums::types::lang::Language;
-use bib_enums::types::{Gender, Pagination};
+use bib_typed::retrieval::RetrievalError;
+use bib_tables::types::lang::Language;
+use bib_tables::types::{Gender, Pagination};
 use bib_people::person::Person;
 use bib_typed::typed::{PermissiveType, Type};
 use std::alloc::{AllocError, Global};

@@ -1,7 +1,7 @@
 //! Entries of texts: `title=N<a>[0-1];year=2020` are two fields, each with its chunks.
 
 use bib_entry::entry::Entry;
-use bib_entry_types::mechanics::EntryType;
+use bib_tables::mechanics::EntryType;
 use bib_text::text::Text;
 use std::alloc::{AllocError, Global};
 use crate::support::chunks::{chunks_of, push_chunks};

@@ -2,8 +2,8 @@
 
 use bib_chunks::chunk::{Chunks, ChunksRef};
 use bib_entry::entry::Entry;
-use bib_fields::setting::SetError;
-use bib_fields::retrieval::RetrievalError;
+use bib_typed::setting::SetError;
+use bib_typed::retrieval::RetrievalError;
 use std::alloc::Global;
 
 // Calls the setter of this name, of the further fields from options on.

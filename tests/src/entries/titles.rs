@@ -3,8 +3,8 @@
 use crate::entries::bibtex;
 use bib_chunks::chunk::{Chunks, ChunksRef};
 use bib_entry::entry::Entry;
-use bib_fields::setting::SetError;
-use bib_fields::retrieval::RetrievalError;
+use bib_typed::setting::SetError;
+use bib_typed::retrieval::RetrievalError;
 use std::alloc::Global;
 
 // Calls the setter of this name, of a title from a main one on, or of another field.

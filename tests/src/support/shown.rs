@@ -3,8 +3,8 @@
 use crate::support::dates::date_text;
 use bib_chunks::chunk::Chunks;
 use bib_dates::date::Date;
-use bib_enums::types::lang::Language;
-use bib_enums::types::{EditorType, Gender, Pagination};
+use bib_tables::types::lang::Language;
+use bib_tables::types::{EditorType, Gender, Pagination};
 use bib_people::person::Person;
 use bib_text::text::Text;
 use bib_typed::typed::PermissiveType;

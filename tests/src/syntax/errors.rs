@@ -1,6 +1,6 @@
 //! Errors at the bytes 3 to 5, as texts.
 
-use bib_enums::type_error::TypeErrorKind;
+use bib_tables::type_error::TypeErrorKind;
 use bib_syntax::raw::{ParseError, ParseErrorKind};
 use bib_text::text::Text;
 use std::alloc::{AllocError, Global};

@@ -1,6 +1,6 @@
 //! Types of entries by their names.
 
-use bib_entry_types::mechanics::EntryType;
+use bib_tables::mechanics::EntryType;
 use std::alloc::{AllocError, Global};
 use std::str::FromStr;
 

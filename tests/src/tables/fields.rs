@@ -1,6 +1,6 @@
 //! Fields that are read in a way of their own.
 
-use bib_entry_types::fields::is_verbatim_field;
+use bib_tables::fields::is_verbatim_field;
 use std::alloc::{AllocError, Global};
 
 /// Whether the contents of a field with this name are verbatim.

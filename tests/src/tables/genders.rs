@@ -1,6 +1,6 @@
 //! Genders, of one and of many.
 
-use bib_enums::types::Gender;
+use bib_tables::types::Gender;
 use std::alloc::{AllocError, Global};
 
 // The gender whose variant has this name.

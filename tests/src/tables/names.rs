@@ -1,7 +1,7 @@
 //! Languages, and the small enumerations that are read from names: the variant, and what it is written as.
 
-use bib_enums::types::lang::Language;
-use bib_enums::types::{EditorType, NameError, Pagination};
+use bib_tables::types::lang::Language;
+use bib_tables::types::{EditorType, NameError, Pagination};
 use std::alloc::{AllocError, Global};
 use std::str::FromStr;
 

@@ -1,7 +1,7 @@
 //! The fields that a rule for authors or for pages lets an entry take over.
 
 use crate::tables::lists::joined;
-use bib_entry_types::mechanics::{AuthorMode, PagesChapterMode};
+use bib_tables::mechanics::{AuthorMode, PagesChapterMode};
 use std::alloc::{AllocError, Global};
 
 /// The names that a rule for authors lets an entry take over.

@@ -1,7 +1,7 @@
 //! What types of entries ask for.
 
 use crate::tables::lists::joined;
-use bib_entry_types::mechanics::{EntryType, Requirements};
+use bib_tables::mechanics::{EntryType, Requirements};
 use std::alloc::{AllocError, Global};
 
 // What the type of a name asks for.

@@ -1,6 +1,6 @@
 //! Errors as they are printed.
 
-use bib_enums::type_error::{TypeError, TypeErrorKind};
+use bib_tables::type_error::{TypeError, TypeErrorKind};
 use std::alloc::{AllocError, Global};
 use crate::support::shown::agreed;
 

@@ -3,7 +3,7 @@
 use crate::values::notation::date_of;
 use crate::values::typed::written;
 use bib_chunks::chunk::Chunks;
-use bib_enums::types::EditorType;
+use bib_tables::types::EditorType;
 use bib_text::text::Text;
 use std::alloc::{AllocError, Global};
 use std::ops::Range;

@@ -3,7 +3,7 @@
 use crate::values::notation::{clock_and_offset, clock_of, time_of};
 use bib_dates::date::{Time, TimeOffset};
 use bib_dates::separators::{parse_colon, parse_hyphen};
-use bib_enums::type_error::TypeError;
+use bib_tables::type_error::TypeError;
 use bib_text::scanner::Scanner;
 use std::alloc::{AllocError, Global};
 use crate::support::dates::{offset_text, time_text};

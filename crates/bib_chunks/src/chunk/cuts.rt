@@ -1,4 +1,4 @@
-//! Lists in the value of a field, and where they are cut.
+//! Splits lists in the value of a field, and cuts a value at a character.
 
 ghost use Rattle.std.specs.Prelude.{◌≡◌, ◌∷◌, [], ◌++◌, ◌≤◌, length, false, OnOk, IfOk, MatchOption};
 ghost use Rattle.std.specs.Str.{chars};
@@ -11,15 +11,15 @@ use bib_text::text::Text;
 use std::alloc::{AllocError, Global};
 use std::mem;
 
-// What parts a list.
+// The separator of a list.
 #[derive(Clone, Copy)]
 enum Separator {
     Comma,
-    // The word `and` between white space.
+    // The word `and` with white space before and after it.
     And,
 }
 
-// The parts of a list that are done, and the one that goes on.
+// The finished parts of a list, and the current one.
 #[derive(Drop)]
 struct Parts {
     done: Items<Chunks>,
@@ -27,7 +27,7 @@ struct Parts {
 }
 
 impl Parts {
-    // No part is done.
+    // Returns `Parts` with no finished part and an empty current one.
     fn new(alloc: Global) -> Self
         ensures { result ≡ record { done = []; last = [] } }
     {
@@ -37,7 +37,7 @@ impl Parts {
         }
     }
 
-    // Adds a chunk to the part that goes on.
+    // Appends a chunk to the current part.
     fn add(&mut self, chunk: Spanned<Chunk>) -> Result<(), AllocError>
         ensures { OnOk result (self.new ≡
             record { done = self.old.done; last = self.old.last ++ chunk ∷ [] }) }
@@ -46,7 +46,7 @@ impl Parts {
         Ok(())
     }
 
-    // Ends the part that goes on.
+    // Finishes the current part and begins an empty one.
     fn end(&mut self, alloc: Global) -> Result<(), AllocError>
         ensures { OnOk result (self.new ≡
             record { done = self.old.done ++ self.old.last ∷ []; last = [] }) }
@@ -57,7 +57,7 @@ impl Parts {
     }
 }
 
-// A copy of a chunk.
+// Returns a copy of a chunk with its span.
 fn copy(chunk: &Spanned<Chunk>) -> Result<Spanned<Chunk>, AllocError>
     ensures { IfOk result (λ c. c ≡ chunk.now) }
 {
@@ -68,7 +68,7 @@ fn copy(chunk: &Spanned<Chunk>) -> Result<Spanned<Chunk>, AllocError>
     })
 }
 
-// A normal chunk.
+// Returns a normal chunk with this text and span.
 fn normal(alloc: Global, text: &str, start: usize, end: usize) -> Result<Spanned<Chunk>, AllocError>
     ensures { IfOk result (λ c. c ≡ placed (Chunk.Normal text.now) start end) }
 {
@@ -79,7 +79,8 @@ fn normal(alloc: Global, text: &str, start: usize, end: usize) -> Result<Spanned
     })
 }
 
-// The text without the white space at its start, if something is cut off or begins there.
+// Returns the text without the white space at its start if `first`, which says that a separator or the start of the
+// list is there.
 fn trimmed_start(text: &str, first: bool) -> &str
     ensures value { result.now ≡ trimmed_start first text.now }
     ensures shorter { length result.now ≤ length text.now }
@@ -90,7 +91,8 @@ fn trimmed_start(text: &str, first: bool) -> &str
     text
 }
 
-// The text without the white space at its end, if something is cut off or ends there.
+// Returns the text without the white space at its end if `last`, which says that a separator or the end of the list is
+// there.
 fn trimmed_end(text: &str, last: bool) -> &str
     ensures { result.now ≡ trimmed_end last text.now }
 {
@@ -100,7 +102,8 @@ fn trimmed_end(text: &str, last: bool) -> &str
     text
 }
 
-// A part of the text of a normal chunk, before which so many bytes of that text stand, as a chunk.
+// Returns a part of a normal chunk as a chunk. `whole` and `span` are the text and the span of the normal chunk, `at`
+// is the number of bytes of `whole` before the part. A part that is the whole text keeps the span.
 fn chunk_part(
     alloc: Global,
     whole: &str,
@@ -117,7 +120,7 @@ fn chunk_part(
     normal(alloc, text, start, start.saturating_add(text.len()))
 }
 
-// The same, without the white space at the part's start, at its end, or at both.
+// The same as `chunk_part`, without the white space at the part's start if `first`, and at its end if `last`.
 fn piece(
     alloc: Global,
     whole: &str,
@@ -134,7 +137,7 @@ fn piece(
     chunk_part(alloc, whole, span, at, trimmed_end(begun, last))
 }
 
-// Whether the text begins with white space.
+// Returns whether the text begins with white space.
 fn begins_with_space(text: &str) -> bool
     ensures { result ≡ begins_with_space (chars text.now) }
 {
@@ -144,7 +147,7 @@ fn begins_with_space(text: &str) -> bool
     c.is_whitespace()
 }
 
-// What stands after the word `and` at the start of a text, if white space follows it.
+// Returns the text after the word `and` at the start of a text, if white space follows the word.
 fn after_and(text: &str) -> Option<&str>
     ensures { MatchOption result (NoAnd text.now) (λ following. IsAnd text.now following.now) }
 {
@@ -155,7 +158,7 @@ fn after_and(text: &str) -> Option<&str>
     Some(following)
 }
 
-// What stands before and after the first word `and` of a text that has white space just before it and just after it.
+// Returns the texts before and after the first word `and` that has white space right before and after it in the text.
 fn first_and(text: &str) -> Option<(&str, &str)>
     ensures { MatchOption result (between_ands false (chars text.now) ≡ chars text.now ∷ [])
         (λ both. IsFirstAnd text.now both.0.now both.1.now) }
@@ -178,7 +181,7 @@ fn first_and(text: &str) -> Option<(&str, &str)>
     None
 }
 
-// What stands before and after the first separator of a text.
+// Returns the texts before and after the first separator of a text.
 fn first_cut(text: &str, separator: Separator) -> Option<(&str, &str)>
     ensures { MatchOption result (between_cuts separator (chars text.now) ≡ chars text.now ∷ [])
         (λ both. IsFirstCut separator text.now both.0.now both.1.now) }
@@ -189,7 +192,7 @@ fn first_cut(text: &str, separator: Separator) -> Option<(&str, &str)>
     }
 }
 
-// Cuts a normal chunk at its separators.
+// Cuts a normal chunk at its separators and adds the pieces to `parts`.
 fn cut_text(
     alloc: Global,
     parts: &mut Parts,
@@ -214,7 +217,7 @@ fn cut_text(
     Ok(())
 }
 
-// Cuts a chunk of a list.
+// Adds the pieces of a chunk to `parts`. Only a normal chunk is cut.
 fn cut_chunk(
     alloc: Global,
     parts: &mut Parts,
@@ -230,7 +233,7 @@ fn cut_chunk(
     parts.add(copy(chunk)?)
 }
 
-// The parts of a list that is cut at such separators.
+// Splits a list at each such separator.
 fn list_parts(
     alloc: Global,
     chunks: ChunksRef<'_>,
@@ -247,15 +250,19 @@ fn list_parts(
     Ok(parts.done)
 }
 
-/// The parts of a comma list. It is cut at each comma of a normal chunk, and the white space next to such a comma in
-/// that chunk is left out; no chunks are one empty part. Each piece of a chunk stands where its text does.
+/// Splits a comma list into its parts, at each comma of a normal chunk. The white space next to such a comma in that
+/// chunk is removed. If `chunks` is empty, the result is one empty part.
+///
+/// A piece of a chunk has the span of its text, counted in bytes from the start of the chunk. A piece that is the whole
+/// chunk keeps the span of the chunk. The only error is out of memory.
 pub fn comma_list(alloc: Global, chunks: ChunksRef<'_>) -> Result<Items<Chunks>, AllocError>
     ensures { IfOk result (λ parts. parts ≡ comma_list chunks.now) }
 {
     list_parts(alloc, chunks, Separator::Comma)
 }
 
-// A copy of a chunk; of a normal one without the white space at its start, at its end, or at both.
+// Returns a copy of a chunk. If it is normal, the white space at its start is removed if `first`, and at its end if
+// `last`.
 fn trimmed(
     alloc: Global,
     chunk: &Spanned<Chunk>,
@@ -271,7 +278,8 @@ fn trimmed(
     copy(chunk)
 }
 
-// A copy of chunks without the white space at their start and end, where that is normal.
+// Returns a copy of the chunks. White space is removed at the start of the first one and at the end of the last one, if
+// they are normal.
 fn trimmed_ends(alloc: Global, chunks: ChunksRef<'_>) -> Result<Chunks, AllocError>
     ensures { IfOk result (λ all. all ≡ trimmed_ends chunks.now) }
 {
@@ -285,9 +293,12 @@ fn trimmed_ends(alloc: Global, chunks: ChunksRef<'_>) -> Result<Chunks, AllocErr
     Ok(all)
 }
 
-/// The parts of an `and` list. It is cut at each word `and` that has white space just before it and just after it inside
-/// one normal chunk. The white space at both ends of the list and of each part is left out, where it is normal; no
-/// chunks are one empty part. Each piece of a chunk stands where its text does.
+/// Splits an `and` list into its parts, at each word `and` that has white space right before and after it inside one
+/// normal chunk. The white space next to such a word in that chunk is removed. So is white space at the start of the
+/// first chunk and at the end of the last one, if they are normal. If `chunks` is empty, the result is one empty part.
+///
+/// A piece of a chunk has the span of its text, counted in bytes from the start of the chunk. A piece that is the whole
+/// chunk keeps the span of the chunk. The only error is out of memory.
 pub fn and_list(alloc: Global, chunks: ChunksRef<'_>) -> Result<Items<Chunks>, AllocError>
     ensures { IfOk result (λ parts. parts ≡ and_list chunks.now) }
 {
@@ -295,7 +306,8 @@ pub fn and_list(alloc: Global, chunks: ChunksRef<'_>) -> Result<Items<Chunks>, A
     list_parts(alloc, whole.as_slice(), Separator::And)
 }
 
-// A normal chunk in two, at the first such character.
+// Cuts a normal chunk at the first `separator`, and removes the white space next to it. Returns `None` if the chunk
+// isn't normal or doesn't contain the character.
 fn halves(
     alloc: Global,
     chunk: &Spanned<Chunk>,
@@ -316,7 +328,8 @@ fn halves(
     Ok(Some((first, second)))
 }
 
-/// Appends copies of chunks, each in its place.
+/// Appends copies of `chunks` with their spans. The only error is out of memory. Some of the first copies may then be
+/// appended.
 pub fn append(all: &mut Chunks, chunks: ChunksRef<'_>) -> Result<(), AllocError>
     ensures { OnOk result (all.new ≡ all.old ++ chunks.now) }
 {
@@ -326,7 +339,7 @@ pub fn append(all: &mut Chunks, chunks: ChunksRef<'_>) -> Result<(), AllocError>
     Ok(())
 }
 
-// What follows a cut: the second half of a chunk, and copies of the chunks after it.
+// Returns the chunks after a cut: the second half of the cut chunk, and copies of the chunks after it.
 fn after_cut(
     alloc: Global,
     second: Spanned<Chunk>,
@@ -340,8 +353,11 @@ fn after_cut(
     Ok(chunks)
 }
 
-/// What stands before and after the first such character of a normal chunk; the white space next to it in that chunk is
-/// left out, and both pieces of the chunk stand where their text does. `None` where no normal chunk holds it.
+/// Cuts the chunks at the first `separator` in a normal chunk, and returns the chunks before and after it. Returns
+/// `None` if no normal chunk contains the character.
+///
+/// The white space next to it in that chunk is removed. Both pieces of that chunk have the span of their text, counted
+/// in bytes from the start of the chunk. The only error is out of memory.
 pub fn cut_at(
     alloc: Global,
     chunks: ChunksRef<'_>,

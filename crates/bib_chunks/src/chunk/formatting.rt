@@ -1,4 +1,4 @@
-//! Chunks as plain text.
+//! Formats chunks as plain text.
 
 ghost use Rattle.std.specs.Prelude.{◌≡◌, false, ◌∷◌, [], ◌++◌, OnOk, IfOk, option_to_list, if◌then◌else◌, string_bytes, encode_utf8_all};
 ghost use Rattle.std.specs.Char.Iter.{case_mapping_chars};
@@ -12,14 +12,14 @@ use bib_text::scanner::Scanner;
 use std::alloc::{AllocError, Global};
 use std::char::ToLowercase;
 
-// Whether the character breaks the line.
+// Returns whether the character is a line feed or a carriage return.
 fn is_break(c: char) -> bool
     ensures { result ≡ is_break c }
 {
     c == '\n' || c == '\r'
 }
 
-// Whether the text ends in white space, with the answer for an empty one.
+// Returns whether the text ends in white space, or `empty` if the text is empty.
 fn ends_in_space(text: &str, empty: bool) -> bool
     ensures { result ≡ ends_in_space empty (chars text.now) }
 {
@@ -27,12 +27,13 @@ fn ends_in_space(text: &str, empty: bool) -> bool
     let Some(c) = chars.next_back() else {
         return empty;
     };
-    // That what stands before the last character is a text too says where that character begins.
+    // For the proof: the contract of `as_str` states that the rest is UTF-8, which determines where the last character
+    // begins.
     let _before = chars.as_str();
     c.is_whitespace()
 }
 
-// Writes what a line break becomes.
+// Writes a space for a line break, or nothing after white space.
 fn write_break(out: &mut String, space: bool) -> Result<(), AllocError>
     ensures { OnOk result (Writes out.old out.new (if space then [] else 32 ∷ [])) }
 {
@@ -42,7 +43,8 @@ fn write_break(out: &mut String, space: bool) -> Result<(), AllocError>
     Ok(())
 }
 
-// Writes a normal text on one line, after white space or not, and answers whether white space stands after it.
+// Writes a normal text on one line. `space` says whether the last character before it is white space. Returns the same
+// for the next text.
 fn write_flowing(out: &mut String, text: &str, space: bool) -> Result<bool, AllocError>
     ensures written { OnOk result (Writes out.old out.new (flowing space (chars text.now))) }
     ensures following { IfOk result (λ after. after ≡
@@ -62,7 +64,7 @@ fn write_flowing(out: &mut String, text: &str, space: bool) -> Result<bool, Allo
     }
 }
 
-// Writes a chunk after white space or not, and answers whether white space stands after it.
+// Writes a chunk. `space` says whether the last character before it is white space. Returns the same for the next text.
 fn write_chunk(out: &mut String, chunk: &Chunk, space: bool) -> Result<bool, AllocError>
     ensures written { OnOk result (Writes out.old out.new
         (formatted_chunk (λ cs. cs) space chunk.now)) }
@@ -91,8 +93,8 @@ fn write_math(out: &mut String, text: &str) -> Result<(), AllocError>
     Ok(())
 }
 
-/// The text of the chunks: math between dollar signs, and in normal text a line break as a space, or as nothing after
-/// white space.
+/// Returns the text of the chunks. Math is written between dollar signs. In normal text a line break becomes a space,
+/// or nothing after white space. The only error is out of memory.
 pub fn format_verbatim(alloc: Global, chunks: ChunksRef<'_>) -> Result<String, AllocError>
     ensures { IfOk result (λ text. string_bytes text ≡ encode_utf8_all (formatted chunks.now)) }
 {
@@ -104,7 +106,7 @@ pub fn format_verbatim(alloc: Global, chunks: ChunksRef<'_>) -> Result<String, A
     Ok(out)
 }
 
-/// Whether a chunk shows in the styled text: it isn't normal or verbatim and empty.
+/// Returns whether a chunk adds something to the styled text: all do, except empty normal and verbatim chunks.
 pub fn is_shown(chunk: &Chunk) -> bool
     ensures value { result ≡ is_shown chunk.now }
     ensures text { IsUtf8 (text_of chunk.now) }
@@ -116,8 +118,8 @@ pub fn is_shown(chunk: &Chunk) -> bool
     }
 }
 
-/// The text of what chunks say, as `format_verbatim` gives it with empty chunks passed over: it depends on their styled
-/// text alone.
+/// Returns the text of the chunks as `format_verbatim` does, with empty normal and verbatim chunks skipped. The result
+/// depends only on the styled text. The only error is out of memory.
 pub fn format_styled(alloc: Global, chunks: ChunksRef<'_>) -> Result<String, AllocError>
     ensures { IfOk result (λ text. string_bytes text ≡
         encode_utf8_all (formatted_atoms false (styled chunks.now))) }
@@ -132,7 +134,7 @@ pub fn format_styled(alloc: Global, chunks: ChunksRef<'_>) -> Result<String, All
     Ok(out)
 }
 
-// What a character of a normal text becomes on one line.
+// Returns the character that replaces `c` on one line, if any. `space` says whether white space comes before it.
 fn unbroken(c: char, space: bool) -> Option<char>
     ensures { option_to_list result ≡ unbroken space c }
 {
@@ -145,7 +147,7 @@ fn unbroken(c: char, space: bool) -> Option<char>
     Some(' ')
 }
 
-// Writes a character if there is one.
+// Writes a character, if there is one.
 fn write_some(out: &mut String, c: Option<char>) -> Result<(), AllocError>
     ensures { OnOk result (Writes out.old out.new (option_to_list c)) }
 {
@@ -155,7 +157,7 @@ fn write_some(out: &mut String, c: Option<char>) -> Result<(), AllocError>
     Ok(())
 }
 
-// Writes what a character becomes in another case, which is up to three characters; std has one type for both cases.
+// Writes a character's mapping to another case, which is up to three characters. Both cases have the same type in std.
 fn write_changed(out: &mut String, changed: ToLowercase) -> Result<(), AllocError>
     ensures { OnOk result (Writes out.old out.new (case_mapping_chars changed)) }
 {
@@ -166,7 +168,7 @@ fn write_changed(out: &mut String, changed: ToLowercase) -> Result<(), AllocErro
     Ok(())
 }
 
-// Writes a character in lower case, or in upper case where it begins a sentence.
+// Writes a character in upper case if it begins a sentence, otherwise in lower case.
 fn write_cased(out: &mut String, c: char, begins: bool) -> Result<(), AllocError>
     ensures { OnOk result (Writes out.old out.new (cased begins c)) }
 {
@@ -176,7 +178,8 @@ fn write_cased(out: &mut String, c: char, begins: bool) -> Result<(), AllocError
     write_changed(out, c.to_lowercase())
 }
 
-// Writes a normal text on one line and in the case of a sentence, and answers whether white space stands after it.
+// Writes a normal text on one line in sentence case. `begins` says whether the text begins the sentence, `space`
+// whether the last character before it is white space. Returns the same as `space` for the next text.
 fn write_sentence_text(
     out: &mut String,
     text: &str,
@@ -202,7 +205,7 @@ fn write_sentence_text(
     Ok(after)
 }
 
-// Writes a chunk of a sentence, and answers whether white space stands after it.
+// Writes a chunk in sentence case. The arguments and the result are as in `write_sentence_text`.
 fn write_sentence_chunk(
     out: &mut String,
     chunk: &Chunk,
@@ -220,8 +223,10 @@ fn write_sentence_chunk(
     }
 }
 
-/// The text of the chunks as a sentence has it: as `format_verbatim`, with the characters of normal chunks in lower case,
-/// and in upper case where the character is the first of the first chunk.
+/// Returns the text of the chunks in sentence case. It is formatted as by `format_verbatim`, with the text of normal
+/// chunks in lower case. If the first chunk is normal, its first character is in upper case.
+///
+/// The only error is out of memory.
 pub fn format_sentence(alloc: Global, chunks: ChunksRef<'_>) -> Result<String, AllocError>
     ensures { IfOk result (λ text. string_bytes text ≡ encode_utf8_all (sentence chunks.now)) }
 {

@@ -1,4 +1,4 @@
-//! Values of one chunk, copies, and chunks that are added.
+//! Makes values of one chunk, appends chunks and copies values.
 
 ghost use Rattle.std.specs.Prelude.{◌≡◌, ◌∷◌, [], ◌++◌, IfOk, OnOk};
 ghost use Rattle.bib_chunks.specs.declared.chunk.Chunk.TheVariants.{Normal as ANormal, Verbatim as AVerbatim};
@@ -10,7 +10,7 @@ use bib_text::items::Items;
 use bib_text::text::Text;
 use std::alloc::{AllocError, Global};
 
-// One chunk that stands nowhere.
+// Returns one chunk with a detached span: both its ends are `usize::MAX`.
 fn alone(alloc: Global, chunk: Chunk) -> Result<Chunks, AllocError>
     ensures { IfOk result (λ chunks. chunks ≡ alone chunk) }
 {
@@ -19,21 +19,24 @@ fn alone(alloc: Global, chunk: Chunk) -> Result<Chunks, AllocError>
     Ok(chunks)
 }
 
-/// A text as one normal chunk, which stands nowhere.
+/// Returns `text` as one normal chunk with a detached span: both its ends are `usize::MAX`. The only error is out of
+/// memory.
 pub fn normal(alloc: Global, text: &str) -> Result<Chunks, AllocError>
     ensures { IfOk result (λ chunks. chunks ≡ alone (ANormal text.now)) }
 {
     alone(alloc, Chunk::Normal(Text::from_str(alloc, text)?))
 }
 
-/// A text as one verbatim chunk, which stands nowhere.
+/// Returns `text` as one verbatim chunk with a detached span: both its ends are `usize::MAX`. The only error is out of
+/// memory.
 pub fn verbatim(alloc: Global, text: &str) -> Result<Chunks, AllocError>
     ensures { IfOk result (λ chunks. chunks ≡ alone (AVerbatim text.now)) }
 {
     alone(alloc, Chunk::Verbatim(Text::from_str(alloc, text)?))
 }
 
-/// Appends a normal chunk, which stands nowhere.
+/// Appends `text` as a normal chunk with a detached span: both its ends are `usize::MAX`. The only error is out of
+/// memory.
 pub fn push_normal(chunks: &mut Chunks, text: Text) -> Result<(), AllocError>
     ensures { OnOk result (chunks.new ≡ chunks.old ++ nowhere (ANormal text) ∷ []) }
 {
@@ -41,7 +44,8 @@ pub fn push_normal(chunks: &mut Chunks, text: Text) -> Result<(), AllocError>
     Ok(())
 }
 
-/// Appends a verbatim chunk, which stands nowhere.
+/// Appends `text` as a verbatim chunk with a detached span: both its ends are `usize::MAX`. The only error is out of
+/// memory.
 pub fn push_verbatim(chunks: &mut Chunks, text: Text) -> Result<(), AllocError>
     ensures { OnOk result (chunks.new ≡ chunks.old ++ nowhere (AVerbatim text) ∷ []) }
 {
@@ -49,7 +53,7 @@ pub fn push_verbatim(chunks: &mut Chunks, text: Text) -> Result<(), AllocError>
     Ok(())
 }
 
-/// A copy of chunks, each in its place.
+/// Returns a copy of `chunks` with their spans. The only error is out of memory.
 pub fn copy_of(alloc: Global, chunks: ChunksRef<'_>) -> Result<Chunks, AllocError>
     ensures { IfOk result (λ copy. copy ≡ chunks.now) }
 {

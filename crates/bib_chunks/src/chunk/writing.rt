@@ -1,4 +1,4 @@
-//! Values as they are written in a file.
+//! Writes values as a file has them.
 
 ghost use Rattle.std.specs.Prelude.{◌≡◌, ◌∷◌, [], ◌++◌, false, OnOk, IfOk, string_bytes, encode_utf8_all};
 ghost use Rattle.std.specs.Str.{chars};
@@ -9,7 +9,7 @@ use super::{Chunk, ChunksRef};
 use bib_text::scanner::Scanner;
 use std::alloc::{AllocError, Global};
 
-// Whether a backslash takes its meaning from the character in every field.
+// Returns whether the character is escaped by a backslash in every field.
 #[tactic(auto, unfolding(crate::specs::Written::is_grouping))]
 fn is_grouping(c: char) -> bool
     ensures { result ≡ is_grouping c }
@@ -17,7 +17,7 @@ fn is_grouping(c: char) -> bool
     matches!(c, '{' | '}' | '\\')
 }
 
-// Whether a backslash takes its meaning from the character outside verbatim fields.
+// Returns whether the character is escaped by a backslash outside verbatim fields.
 #[tactic(auto, unfolding(crate::specs::Written::is_reserved))]
 fn is_reserved(c: char) -> bool
     ensures { result ≡ is_reserved c }
@@ -25,7 +25,7 @@ fn is_reserved(c: char) -> bool
     matches!(c, '#' | '&' | '%' | '$' | '_')
 }
 
-// Whether the character stands for itself.
+// Returns whether the character is written without an escape.
 #[tactic(auto, unfolding(crate::specs::Writing::is_bare, crate::specs::Written::is_grouping, crate::specs::Written::is_reserved))]
 fn is_bare(is_verbatim: bool, c: char) -> bool
     ensures { result ≡ is_bare is_verbatim c }
@@ -42,7 +42,7 @@ fn is_bare(is_verbatim: bool, c: char) -> bool
     !is_reserved(c) && c != '~' && c != '^'
 }
 
-// Writes a character after a backslash.
+// Writes a backslash and a character.
 fn write_hidden(out: &mut String, c: char) -> Result<(), AllocError>
     ensures { OnOk result (Writes out.old out.new (92 ∷ c ∷ [])) }
 {
@@ -51,7 +51,7 @@ fn write_hidden(out: &mut String, c: char) -> Result<(), AllocError>
     Ok(())
 }
 
-// Writes one character.
+// Writes one character, escaped if needed.
 fn write_char(out: &mut String, is_verbatim: bool, c: char) -> Result<(), AllocError>
     ensures { OnOk result (Writes out.old out.new (spelled is_verbatim c)) }
 {
@@ -77,7 +77,7 @@ fn write_char(out: &mut String, is_verbatim: bool, c: char) -> Result<(), AllocE
     Ok(())
 }
 
-// Writes a text, each character as it is spelled.
+// Writes a text, escaped character by character.
 fn write_text(out: &mut String, is_verbatim: bool, text: &str) -> Result<(), AllocError>
     ensures { OnOk result (Writes out.old out.new (spelling is_verbatim (chars text.now))) }
 {
@@ -91,7 +91,7 @@ fn write_text(out: &mut String, is_verbatim: bool, text: &str) -> Result<(), All
     }
 }
 
-// What stands before a chunk, where the pair of braces round verbatim chunks is or isn't open.
+// Returns the text before a chunk. `is_open` says whether the braces around verbatim chunks are open.
 fn lead(chunk: &Chunk, is_open: bool) -> &'static str
     ensures { result.now ≡ lead is_open chunk.now }
 {
@@ -112,7 +112,7 @@ fn lead(chunk: &Chunk, is_open: bool) -> &'static str
     }
 }
 
-// What stands after a chunk.
+// Returns the text after a chunk.
 fn trail(chunk: &Chunk) -> &'static str
     ensures { result.now ≡ trail chunk.now }
 {
@@ -122,7 +122,7 @@ fn trail(chunk: &Chunk) -> &'static str
     }
 }
 
-// Whether the pair of braces round verbatim chunks is open after a chunk.
+// Returns whether the braces around verbatim chunks are open after a chunk.
 fn is_open_after(chunk: &Chunk, is_open: bool) -> bool
     ensures { result ≡ is_open_after is_open chunk.now }
 {
@@ -133,7 +133,7 @@ fn is_open_after(chunk: &Chunk, is_open: bool) -> bool
     }
 }
 
-// Writes a chunk by itself.
+// Writes a chunk without braces and dollar signs around it.
 fn write_chunk(out: &mut String, chunk: &Chunk, is_verbatim: bool) -> Result<(), AllocError>
     ensures { OnOk result (Writes out.old out.new (written_chunk chunk.now is_verbatim)) }
 {
@@ -150,7 +150,7 @@ fn write_chunk(out: &mut String, chunk: &Chunk, is_verbatim: bool) -> Result<(),
     }
 }
 
-// Writes a chunk of a value.
+// Writes a chunk of a value, with the brace or the dollar signs around it.
 fn write_part(
     out: &mut String,
     chunk: &Chunk,
@@ -166,7 +166,7 @@ fn write_part(
     Ok(())
 }
 
-// Writes the chunks of a value.
+// Writes the chunks of a value, without the braces around the value.
 fn write_parts(out: &mut String, chunks: ChunksRef<'_>, is_verbatim: bool) -> Result<(), AllocError>
     ensures { OnOk result (Writes out.old out.new (written_chunks is_verbatim false chunks.now)) }
 {
@@ -181,7 +181,7 @@ fn write_parts(out: &mut String, chunks: ChunksRef<'_>, is_verbatim: bool) -> Re
     Ok(())
 }
 
-// The text of a chunk by itself.
+// Returns the written text of a chunk, without braces and dollar signs around it.
 pub(super) fn chunk_text(
     alloc: Global,
     chunk: &Chunk,
@@ -195,7 +195,9 @@ pub(super) fn chunk_text(
     Ok(out)
 }
 
-/// Writes a value at the end of a text as it is written in a file, in its braces, for a verbatim field or another.
+/// Appends a value to `out` as a file has it, in braces. `is_verbatim` says whether the field is a verbatim one.
+///
+/// The only error is out of memory. `out` may then end with a part of the value.
 pub fn write_value(
     out: &mut String,
     chunks: ChunksRef<'_>,
@@ -210,7 +212,9 @@ pub fn write_value(
     Ok(())
 }
 
-/// A value as it is written in a file, in its braces, for a verbatim field or another.
+/// Returns a value as a file has it, in braces. `is_verbatim` says whether the field is a verbatim one.
+///
+/// The only error is out of memory.
 pub fn value_text(
     alloc: Global,
     chunks: ChunksRef<'_>,

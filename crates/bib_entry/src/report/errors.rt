@@ -1,4 +1,4 @@
-// The fields of an entry that are not read.
+// The fields of an entry that can't be parsed.
 
 ghost use Rattle.std.specs.Prelude.{◌≡◌, [], ◌∷◌, IfOk, OnOk};
 ghost use Rattle.std.specs.FinMap as by_name;
@@ -7,14 +7,14 @@ ghost use Rattle.bib_entry.specs.Verdicts.{AppendsErrors, AppendsError, AppendsF
 
 use crate::entry::Entry;
 use bib_dates::date::Date;
-use bib_enums::type_error::TypeError;
-use bib_enums::types::{Gender, Pagination};
+use bib_tables::type_error::TypeError;
+use bib_tables::types::{Gender, Pagination};
 use bib_text::text::Text;
 use bib_typed::typed::Type;
 use std::alloc::{AllocError, Global};
 use std::ops::Range;
 
-// Appends a refusal, under the name of the field.
+// Appends the error of `read`, if there is one, with the name of the field.
 fn push_error<T: Drop>(
     alloc: Global,
     name: &str,
@@ -33,7 +33,7 @@ fn push_error<T: Drop>(
 }
 
 impl Entry {
-    // Appends the refusal of a field, if there is one, as a value of a type.
+    // Appends an error if the entry has the field `name` and it can't be parsed as a `T`.
     fn check_as<T: Type + Drop>(
         &self,
         alloc: Global,
@@ -49,7 +49,7 @@ impl Entry {
         push_error(alloc, name, T::from_chunks(alloc, chunks), reported)
     }
 
-    // Appends the refusals of the fields that have to be of a type.
+    // Appends the errors of the fields that must have a certain type.
     fn check_fields(
         &self,
         alloc: Global,
@@ -66,7 +66,8 @@ impl Entry {
         Ok(())
     }
 
-    // Appends the refusal of a date, if there is one, that is in the fields of a year, a month and a day.
+    // Appends an error, with the name `name`, if the year, the month and the day in three fields can't be parsed as a date.
+    // Does nothing if the entry has the field `name`.
     fn check_date(
         &self,
         alloc: Global,
@@ -92,7 +93,7 @@ impl Entry {
         push_error(alloc, name, read, reported)
     }
 
-    // Appends the refusals of the dates that are in three fields.
+    // Appends the errors of the dates that are in three fields.
     fn check_dates(
         &self,
         alloc: Global,
@@ -118,7 +119,7 @@ impl Entry {
         Ok(())
     }
 
-    // The fields that are not read, each with its refusal.
+    // Returns the fields that can't be parsed, each with its error.
     pub(crate) fn malformed(&self, alloc: Global) -> Result<Vec<(Text, TypeError)>, AllocError>
         ensures { IfOk result (λ reported. AreMalformed self.now reported.items) }
     {

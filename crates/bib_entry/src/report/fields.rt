@@ -1,17 +1,17 @@
-// The fields that an entry lacks, and those that it must not have.
+// The required fields that an entry lacks, and the forbidden fields that it has.
 
 ghost use Rattle.std.specs.Prelude.{◌≡◌, ◌++◌, IfOk, OnOk, codes};
 ghost use Rattle.std.specs.List.{filter};
 ghost use Rattle.std.specs.Option.{option_copied};
-ghost use Rattle.bib_entry_types.specs.Requirements.{texts};
+ghost use Rattle.bib_tables.specs.Requirements.{texts};
 ghost use Rattle.bib_text.specs.Enums.{named};
 ghost use Rattle.bib_entry.specs.Reports.{lacks, has_chunks, has_field, has_editor, has_other, other_required_names, only_if, missing_people, missing_pages, missing_date, superfluous_people, superfluous_pages};
 
 use crate::entry::Entry;
-use bib_entry_types::mechanics::{AuthorMode, PagesChapterMode, Requirements};
+use bib_tables::mechanics::{AuthorMode, PagesChapterMode, Requirements};
 use std::alloc::{AllocError, Global};
 
-// Appends a name, where it is reported.
+// Appends `name` if `is_reported`.
 fn push_if(
     names: &mut Vec<&'static str>,
     is_reported: bool,
@@ -26,14 +26,14 @@ fn push_if(
 }
 
 impl Entry {
-    // Whether there is a field of this name.
+    // Returns whether the entry has the field `name`.
     fn has_field(&self, name: &str) -> bool
         ensures { result ≡ has_field self.now name.now }
     {
         self.get(name).is_some()
     }
 
-    // Whether there are chunks in the field of this name.
+    // Returns whether the entry has the field `name` with at least one chunk.
     fn has_chunks(&self, name: &str) -> bool
         ensures { result ≡ has_chunks self.now name.now }
     {
@@ -43,14 +43,14 @@ impl Entry {
         }
     }
 
-    // Whether there are no chunks in a required field, by none of its names.
+    // Returns whether a required field has no chunks under any of its names.
     fn lacks(&self, name: &str) -> bool
         ensures { result ≡ lacks self.now name.now }
     {
         !(self.has_chunks(name) || self.has_other(other_name(name)))
     }
 
-    // Whether there are chunks by this name, if there is one.
+    // Returns whether there is a name and its field has chunks.
     fn has_other(&self, name: Option<&str>) -> bool
         ensures { result ≡ has_other self.now (option_copied name.entry) }
     {
@@ -60,7 +60,7 @@ impl Entry {
         }
     }
 
-    // Whether there are editors.
+    // Returns whether the entry has editors in any role.
     fn has_editor(&self) -> bool
         ensures { result ≡ has_editor self.now }
     {
@@ -70,7 +70,7 @@ impl Entry {
             || self.has_field("editorc")
     }
 
-    // Those of the names that are lacking.
+    // Returns the names of required fields that the entry lacks.
     #[tactic(auto, using(crate::proofs::ReportFacts::only_if_first))]
     fn lacking(
         &self,
@@ -86,7 +86,7 @@ impl Entry {
         Ok(found)
     }
 
-    // Those of the names whose fields have chunks.
+    // Returns the names whose fields have chunks.
     #[tactic(auto, using(crate::proofs::ReportFacts::only_if_first))]
     fn filled(&self, alloc: Global, names: &[&'static str]) -> Result<Vec<&'static str>, AllocError>
         ensures { IfOk result (λ found. texts found.items ≡ filter (has_chunks self.now) (texts names.now)) }
@@ -98,7 +98,7 @@ impl Entry {
         Ok(found)
     }
 
-    // Appends the author and the editor, where a rule asks for them in vain.
+    // Appends the author and the editor if `rule` requires them and the entry lacks them.
     fn add_people(
         &self,
         rule: AuthorMode,
@@ -123,7 +123,7 @@ impl Entry {
         }
     }
 
-    // Appends the pages, where a rule asks for them in vain.
+    // Appends the pages if `rule` requires them and the entry lacks them.
     fn add_pages(
         &self,
         rule: PagesChapterMode,
@@ -145,7 +145,7 @@ impl Entry {
         }
     }
 
-    // The fields that are asked for in vain.
+    // Returns the fields that `asked` requires and the entry lacks.
     pub(crate) fn missing(
         &self,
         alloc: Global,
@@ -165,7 +165,7 @@ impl Entry {
         Ok(missing)
     }
 
-    // Appends an author that a rule forbids.
+    // Appends the author if `rule` forbids it and the entry has one.
     fn add_forbidden_people(
         &self,
         rule: AuthorMode,
@@ -182,7 +182,7 @@ impl Entry {
         }
     }
 
-    // Appends pages and a chapter that a rule forbids.
+    // Appends the pages and the chapter if `rule` forbids them and the entry has them.
     fn add_forbidden_pages(
         &self,
         rule: PagesChapterMode,
@@ -200,7 +200,7 @@ impl Entry {
         }
     }
 
-    // The fields that are forbidden in vain.
+    // Returns the fields that `asked` forbids and the entry has.
     pub(crate) fn superfluous(
         &self,
         alloc: Global,
@@ -218,7 +218,7 @@ impl Entry {
     }
 }
 
-// The other name of a required field, if it has one.
+// Returns the other name of a required field, if it has one.
 fn other_name(name: &str) -> Option<&'static str>
     ensures { option_copied result ≡ named other_required_names name.now }
 {

@@ -1,4 +1,4 @@
-//! Names that are cut at commas.
+//! Parses names that are cut at commas.
 
 ghost use Rattle.std.specs.Prelude.{false, MatchOption, ◌≡◌, ◌≤◌, ◌+◌, length, IfOk};
 ghost use Rattle.std.specs.List.{list_any};
@@ -13,7 +13,7 @@ use bib_chunks::chunk::{ChunksRef, format_verbatim};
 use bib_text::text::Text;
 use std::alloc::{AllocError, Global};
 
-// A person of these parts alone.
+// Returns a person of these parts, without the optional ones.
 fn person(name: Text, given_name: Text, prefix: Text, suffix: Text) -> Person
     ensures { result ≡ person name given_name prefix suffix }
 {
@@ -29,7 +29,7 @@ fn person(name: Text, given_name: Text, prefix: Text, suffix: Text) -> Person
     }
 }
 
-// The text of chunks, without the white space at its ends.
+// Returns the text of chunks, without the white space at its ends.
 pub(crate) fn shown(alloc: Global, chunks: ChunksRef<'_>) -> Result<Text, AllocError>
     ensures { IfOk result (λ text. text ≡ shown chunks.now) }
 {
@@ -37,7 +37,7 @@ pub(crate) fn shown(alloc: Global, chunks: ChunksRef<'_>) -> Result<Text, AllocE
     Text::from_str(alloc, text.as_str().trim())
 }
 
-// The person of a name without a comma that is cut so.
+// Returns the person of a name without a comma that has these cuts.
 fn whole_person(alloc: Global, words: &[Word<'_>], cuts: Cuts) -> Result<Person, AllocError>
     requires { cuts.given + cuts.prefix ≤ length words.now }
     ensures { IfOk result (λ person. person ≡ whole_person (cuts_of cuts) words.now) }
@@ -49,7 +49,7 @@ fn whole_person(alloc: Global, words: &[Word<'_>], cuts: Cuts) -> Result<Person,
     Ok(person(name, given, prefix, Text::new(alloc)))
 }
 
-// The person of a name without a comma.
+// Returns the person of a name without a comma.
 fn without_comma(alloc: Global, chunks: ChunksRef<'_>) -> Result<Person, AllocError>
     ensures { IfOk result (λ person. person ≡ without_comma chunks.now) }
 {
@@ -59,7 +59,7 @@ fn without_comma(alloc: Global, chunks: ChunksRef<'_>) -> Result<Person, AllocEr
     whole_person(alloc, words.as_slice(), cuts)
 }
 
-// Whether chunks are a single one that formats to nothing.
+// Returns whether there is a single chunk and it formats to the empty text.
 fn formats_to_nothing(alloc: Global, chunks: ChunksRef<'_>) -> Result<bool, AllocError>
     ensures { IfOk result (λ blank. blank ≡ formats_to_nothing chunks.now) }
 {
@@ -70,14 +70,14 @@ fn formats_to_nothing(alloc: Global, chunks: ChunksRef<'_>) -> Result<bool, Allo
     Ok(text.as_str().is_empty())
 }
 
-// Where the last space of a text stands.
+// Returns the position of the last space of a text.
 fn last_space(text: &str) -> Option<usize>
     ensures { MatchOption result (list_any is_space_byte text.now ≡ false) (IsLastSpace text.now) }
 {
     text.rfind(' ')
 }
 
-// The person of a name whose second part is blank.
+// Returns the person of a name whose given name is empty. The text before the comma is cut at its last space.
 fn at_last_space(alloc: Global, text: &str, suffix: Text) -> Result<Person, AllocError>
     ensures { IfOk result (λ person. person ≡ at_last_space text.now suffix) }
 {
@@ -91,7 +91,7 @@ fn at_last_space(alloc: Global, text: &str, suffix: Text) -> Result<Person, Allo
     Ok(person(name, empty, prefix, suffix))
 }
 
-// The person of a name that is cut so before its comma.
+// Returns the person of a name that has these cuts before its comma.
 fn cut_person(
     alloc: Global,
     words: &[Word<'_>],
@@ -108,7 +108,8 @@ fn cut_person(
     Ok(person(name, given, prefix, suffix))
 }
 
-// The person of a name with a comma.
+// Returns the person of a name with a comma, given the chunks before the comma, the chunks of the given name and the
+// suffix.
 fn with_comma(
     alloc: Global,
     first: ChunksRef<'_>,
@@ -128,7 +129,7 @@ fn with_comma(
     cut_person(alloc, words.as_slice(), cuts, given, suffix)
 }
 
-// The person of a name that isn't given in parts.
+// Returns the person of a name that isn't in the extended format.
 pub(crate) fn by_commas(alloc: Global, chunks: ChunksRef<'_>) -> Result<Person, AllocError>
     ensures { IfOk result (λ person. person ≡ by_commas chunks.now) }
 {

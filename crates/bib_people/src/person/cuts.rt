@@ -1,4 +1,4 @@
-//! Where a name is cut into given name, prefix and name.
+//! Finds where a name is cut into given name, prefix and family name.
 
 ghost use Rattle.std.specs.Prelude.{◌≡◌, ◌+◌, ◌≤◌, length};
 ghost use Rattle.bib_people.specs.Names.{leading, through_last, whole_name, before_comma};
@@ -7,7 +7,8 @@ ghost use Rattle.bib_people.specs.WordKinds.{is_of, cuts_of};
 use super::words::Word;
 use unicode::properties::{is_lowercase, is_uppercase};
 
-// A test of words: the first letter is a capital or verbatim, it is neither, or it is small or verbatim.
+// A test of words by their first letter. `Capital`: it is in upper case or verbatim. `Lower`: it is neither. `Low`: it
+// is in lower case or verbatim.
 #[derive(Clone, Copy, PartialEq, Eq, Drop)]
 pub(crate) enum Kind {
     Capital,
@@ -15,14 +16,14 @@ pub(crate) enum Kind {
     Low,
 }
 
-// Of how many words the given name is, and of how many after them the prefix; the rest are the name.
+// The number of words of the given name, and of the prefix after it; the other words are the family name.
 #[derive(Clone, Copy, Drop)]
 pub(crate) struct Cuts {
     pub(crate) given: usize,
     pub(crate) prefix: usize,
 }
 
-// Whether the word is of this kind.
+// Returns whether the word passes the test.
 fn is_of(word: &Word<'_>, kind: Kind) -> bool
     ensures { result ≡ is_of kind word.now }
 {
@@ -36,7 +37,7 @@ fn is_of(word: &Word<'_>, kind: Kind) -> bool
     }
 }
 
-// How many words of this kind stand at the start.
+// Returns the number of words before the first one that fails the test.
 fn leading(words: &[Word<'_>], kind: Kind) -> usize
     ensures value { result ≡ leading (is_of kind) words.now }
     ensures within { result ≤ length words.now }
@@ -49,7 +50,7 @@ fn leading(words: &[Word<'_>], kind: Kind) -> usize
     words.len()
 }
 
-// How many words stand at the start through the last one of this kind.
+// Returns the number of words up to the last one that passes the test, this one included.
 fn through_last(words: &[Word<'_>], kind: Kind) -> usize
     ensures value { result ≡ through_last (is_of kind) words.now }
     ensures within { result ≤ length words.now }
@@ -63,7 +64,7 @@ fn through_last(words: &[Word<'_>], kind: Kind) -> usize
     end
 }
 
-// Where a name without a comma is cut.
+// Returns where a name without a comma is cut.
 #[tactic(auto, unfolding(crate::specs::Names::whole_name))]
 pub(crate) fn whole_name(words: &[Word<'_>]) -> Cuts
     ensures value { cuts_of result ≡ whole_name words.now }
@@ -90,7 +91,7 @@ pub(crate) fn whole_name(words: &[Word<'_>]) -> Cuts
     }
 }
 
-// Where what stands before a comma is cut.
+// Returns where the words before a comma are cut.
 #[tactic(auto, unfolding(crate::specs::Names::before_comma))]
 pub(crate) fn before_comma(words: &[Word<'_>]) -> Cuts
     ensures value { cuts_of result ≡ before_comma words.now }

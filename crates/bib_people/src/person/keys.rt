@@ -1,4 +1,4 @@
-//! Names in parts, each after a key.
+//! Parses names in the extended format: parts, each after a key.
 
 ghost use Rattle.std.specs.Prelude.{codes, ◌≡◌, ◌==◌, [], map, IfOk, bytes_eq};
 ghost use Rattle.std.specs.List.{list_any};
@@ -17,7 +17,7 @@ use std::alloc::{AllocError, Global};
 // A key and its value.
 type Part = (Text, Text);
 
-// Whether an equals sign stands in a chunk of any kind.
+// Returns whether a chunk of any kind contains an equals sign.
 pub(crate) fn is_in_parts(chunks: ChunksRef<'_>) -> bool
     ensures { result ≡ is_in_parts chunks.now }
 {
@@ -29,7 +29,7 @@ pub(crate) fn is_in_parts(chunks: ChunksRef<'_>) -> bool
     false
 }
 
-// A key and its value.
+// Parses a key and its value.
 fn read_part(alloc: Global, chunks: ChunksRef<'_>) -> Result<Part, AllocError>
     ensures { IfOk result (λ part. part ≡ key_value_of chunks.now) }
 {
@@ -42,7 +42,7 @@ fn read_part(alloc: Global, chunks: ChunksRef<'_>) -> Result<Part, AllocError>
     Ok((key, value))
 }
 
-// The keys of a name and their values.
+// Returns the keys of a name with their values.
 fn parts(alloc: Global, chunks: ChunksRef<'_>) -> Result<Items<Part>, AllocError>
     ensures { IfOk result (λ parts. parts ≡ parts_of chunks.now) }
 {
@@ -54,7 +54,7 @@ fn parts(alloc: Global, chunks: ChunksRef<'_>) -> Result<Items<Part>, AllocError
     Ok(all)
 }
 
-// The value of a key; of two the last stands.
+// Returns the value of a key, the last one if the key occurs more than once.
 fn last_value(alloc: Global, parts: &[Part], key: &str) -> Result<Option<Text>, AllocError>
     ensures { IfOk result (λ value. value ≡ last_value key.now parts.now) }
 {
@@ -67,7 +67,7 @@ fn last_value(alloc: Global, parts: &[Part], key: &str) -> Result<Option<Text>, 
     Ok(found)
 }
 
-// The value of a key, or the empty text.
+// Returns the value of a key, or the empty text if the key doesn't occur.
 fn text_of(alloc: Global, parts: &[Part], key: &str) -> Result<Text, AllocError>
     ensures { IfOk result (λ text. text ≡ unwrap_or (last_value key.now parts.now) []) }
 {
@@ -77,7 +77,7 @@ fn text_of(alloc: Global, parts: &[Part], key: &str) -> Result<Text, AllocError>
     Ok(text)
 }
 
-// Whether the prefix counts as part of the name.
+// Returns whether the value of `useprefix` is `true`, if that key occurs.
 fn use_prefix(alloc: Global, parts: &[Part]) -> Result<Option<bool>, AllocError>
     ensures { IfOk result (λ used. used ≡ option_map (λ v. bytes_eq v (codes "true")) (last_value (codes "useprefix") parts.now)) }
 {
@@ -87,7 +87,7 @@ fn use_prefix(alloc: Global, parts: &[Part]) -> Result<Option<bool>, AllocError>
     Ok(Some(value.as_str() == "true"))
 }
 
-// The person of these parts.
+// Returns the person with these parts.
 #[tactic(auto, unfolding(crate::specs::Names::person_of_parts))]
 fn person_of(alloc: Global, parts: &[Part]) -> Result<Person, AllocError>
     ensures { IfOk result (λ person. person ≡ person_of_parts parts.now) }
@@ -104,7 +104,7 @@ fn person_of(alloc: Global, parts: &[Part]) -> Result<Person, AllocError>
     })
 }
 
-// The person of a name in parts.
+// Returns the person of a name in the extended format.
 pub(crate) fn in_parts(alloc: Global, chunks: ChunksRef<'_>) -> Result<Person, AllocError>
     ensures { IfOk result (λ person. person ≡ in_parts chunks.now) }
 {

@@ -1,4 +1,4 @@
-//! The words of a name.
+//! Splits a name into words.
 
 ghost use Rattle.std.specs.Prelude.{◌≡◌, ◌++◌, ◌≤◌, length, not, map, OnOk, IfOk};
 ghost use Rattle.std.specs.List.{prefix_len};
@@ -44,7 +44,7 @@ impl<'a> Model for Word<'a> {
 }
 
 impl<'a> Word<'a> {
-    // The letters of the word.
+    // Returns the letters of the word.
     pub(crate) fn letters(&self) -> &'a [Letter]
         ensures { result.now ≡ self.now.letters }
     {
@@ -52,7 +52,7 @@ impl<'a> Word<'a> {
     }
 }
 
-// Whether the chunk is verbatim.
+// Returns whether the chunk is verbatim.
 fn is_verbatim(chunk: &Chunk) -> bool
     ensures { result ≡ is_verbatim chunk.now }
 {
@@ -63,7 +63,7 @@ fn is_verbatim(chunk: &Chunk) -> bool
     }
 }
 
-// Appends the characters of a text.
+// Appends the characters of a text as letters.
 fn push_letters(all: &mut Items<Letter>, text: &str, is_verbatim: bool) -> Result<(), AllocError>
     ensures { OnOk result (all.new ≡ all.old ++ as_letters is_verbatim text.now) }
 {
@@ -73,7 +73,7 @@ fn push_letters(all: &mut Items<Letter>, text: &str, is_verbatim: bool) -> Resul
     Ok(())
 }
 
-// The characters of chunks.
+// Returns the letters of chunks.
 pub(crate) fn letters(alloc: Global, chunks: ChunksRef<'_>) -> Result<Items<Letter>, AllocError>
     ensures { IfOk result (λ all. all ≡ letters chunks.now) }
 {
@@ -84,14 +84,14 @@ pub(crate) fn letters(alloc: Global, chunks: ChunksRef<'_>) -> Result<Items<Lett
     Ok(all)
 }
 
-// Whether the character is white space that isn't verbatim.
+// Returns whether the letter is white space that isn't verbatim.
 fn is_gap(letter: &Letter) -> bool
     ensures { result ≡ is_gap letter.now }
 {
     letter.char.is_whitespace() && !letter.is_verbatim
 }
 
-// How many letters belong to the gap at the start.
+// Returns the length of the gap at the start, in letters.
 fn gap_len(letters: &[Letter]) -> usize
     ensures value { result ≡ gap_len letters.now }
     ensures within { result ≤ length letters.now }
@@ -104,7 +104,7 @@ fn gap_len(letters: &[Letter]) -> usize
     letters.len()
 }
 
-// How many letters belong to the word at the start.
+// Returns the length of the word at the start, in letters.
 fn word_len(letters: &[Letter]) -> usize
     ensures value { result ≡ word_len letters.now }
     ensures within { result ≤ length letters.now }
@@ -117,7 +117,7 @@ fn word_len(letters: &[Letter]) -> usize
     letters.len()
 }
 
-// The words of some letters.
+// Returns the words of letters.
 pub(crate) fn words<'a>(alloc: Global, letters: &'a [Letter]) -> Result<Items<Word<'a>>, AllocError>
     ensures { IfOk result (λ all. all ≡ words_of letters.now) }
 {
@@ -139,7 +139,7 @@ pub(crate) fn words<'a>(alloc: Global, letters: &'a [Letter]) -> Result<Items<Wo
     }
 }
 
-// Writes letters.
+// Writes the characters of letters.
 fn write_letters(out: &mut String, letters: &[Letter]) -> Result<(), AllocError>
     ensures { OnOk result (Writes out.old out.new (map (λ l. l.char) letters.now)) }
 {
@@ -149,7 +149,7 @@ fn write_letters(out: &mut String, letters: &[Letter]) -> Result<(), AllocError>
     Ok(())
 }
 
-// The text from the first of some neighbouring words to the last, without the white space at its ends.
+// Returns the text of neighbouring words with the gaps between them, without the white space at its ends.
 pub(crate) fn text_of_words(alloc: Global, words: &[Word<'_>]) -> Result<Text, AllocError>
     ensures { IfOk result (λ text. text ≡ text_of_words words.now) }
 {

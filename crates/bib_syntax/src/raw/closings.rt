@@ -1,4 +1,4 @@
-//! Where the braces of a text close, noted once for a text that is read more than once.
+//! Notes where the braces of a text close, for a text whose parts are parsed more than once.
 
 ghost use Rattle.std.specs.Prelude.{◌≡◌, ◌<◌, ◌-◌, ◌++◌, ◌∷◌, [], ℕ, List, length, MatchBool, IfOk, OnOk};
 ghost use Rattle.bib_text.specs.Places.{Place, AtEnd, CharAt};
@@ -8,14 +8,14 @@ ghost use Rattle.bib_syntax.specs.OpenBraces.{AreNoted, Closed};
 use bib_text::scanner::Scanner;
 use std::alloc::{AllocError, Global};
 
-// What is noted of an opening brace: the place after it, and that of the brace that closes it, if one does.
+// The offset after an opening brace, and the offset of the brace that closes it, if there is one.
 #[derive(Clone, Copy)]
 pub(crate) struct Closing {
     pub(crate) start: usize,
     pub(crate) close: Option<usize>,
 }
 
-// The braces of a text up to a place: the places after those that are open, and what is noted of the others.
+// The braces of a text up to a place: the offsets after those that are open, and notes about the closed ones.
 #[derive(Drop)]
 struct Braces {
     opened: Vec<usize>,
@@ -23,7 +23,7 @@ struct Braces {
 }
 
 impl Braces {
-    // Notes that a brace closes at this place.
+    // Notes that the last open brace, if there is one, is closed at the offset `at`.
     fn close(&mut self, at: usize) -> Result<(), AllocError>
         ensures { OnOk result (Closed self.old.opened.items self.old.found.items at
             self.new.opened.items self.new.found.items) }
@@ -35,8 +35,8 @@ impl Braces {
         Ok(())
     }
 
-    // Passes the run of plain characters at this place, and the brace, or the backslash and a character, after it; says
-    // whether the text went on.
+    // Moves past a run of plain characters, and past the brace, or the backslash and a character, after it. Returns false at
+    // the end of the text.
     fn pass(&mut self, s: &mut Scanner<'_>) -> Result<bool, AllocError>
         ensures noted { OnOk result ((text : List ℕ) →
             AreNoted text self.old.opened.items self.old.found.items s.old →
@@ -61,7 +61,7 @@ impl Braces {
         Ok(false)
     }
 
-    // Passes the whole text.
+    // Moves to the end of the text.
     fn pass_all(&mut self, s: &mut Scanner<'_>) -> Result<(), AllocError>
         ensures noted { OnOk result ((text : List ℕ) →
             AreNoted text self.old.opened.items self.old.found.items s.old →
@@ -72,7 +72,7 @@ impl Braces {
         Ok(())
     }
 
-    // Notes at the end of a text that what is open there never closes.
+    // Notes that the braces that are open at the end of the text never close.
     fn end(&mut self) -> Result<(), AllocError>
         ensures { OnOk result ((text : List ℕ) (here : Place) → AtEnd here →
             AreNoted text self.old.opened.items self.old.found.items here →
@@ -85,7 +85,7 @@ impl Braces {
     }
 }
 
-// Where the braces of a text close, by the places after them.
+// Returns where the braces of `text` close, sorted by the offsets after the opening braces.
 pub(crate) fn closings(alloc: Global, text: &str) -> Result<Vec<Closing>, AllocError>
     ensures { IfOk result (λ found. AreClosings text.now found.items) }
 {

@@ -1,4 +1,4 @@
-//! The places from which reading fields fails, noted once for a text that is read more than once.
+//! The offsets from which parsing fields fails, noted for a text whose parts are parsed more than once.
 
 ghost use Rattle.std.specs.Prelude.{◌≡◌, ℕ, List, OnOk};
 ghost use Rattle.std.specs.BTreeMap as tree;
@@ -10,14 +10,14 @@ use crate::raw::ParseError;
 use std::alloc::{AllocError, Global};
 use std::collections::BTreeMap;
 
-// Places of fields from which reading fails, each with its error.
+// Offsets from which parsing fields fails, each with its error.
 #[derive(Drop)]
 pub(crate) struct Failures {
     errors: BTreeMap<usize, ParseError>,
 }
 
 impl Failures {
-    // No place.
+    // Returns an empty set of failures.
     pub(crate) fn new(alloc: Global) -> Self
         ensures { (text : List ℕ) → AreFailures text result }
     {
@@ -26,14 +26,14 @@ impl Failures {
         }
     }
 
-    // The error that is noted at a place.
+    // Returns the error that is noted for the offset `at`, if there is one.
     pub(crate) fn get(&self, at: usize) -> Option<&ParseError>
         ensures { option_copied result ≡ tree.get nat_cmp self.now.errors at }
     {
         self.errors.get(&at)
     }
 
-    // Notes an error at each of these places.
+    // Notes `error` for each of the offsets `starts`.
     pub(crate) fn note(&mut self, starts: &[usize], error: &ParseError) -> Result<(), AllocError>
         ensures { OnOk result ((text : List ℕ) → AllFail text error.now starts.now →
             AreFailures text self.old → AreFailures text self.new) }

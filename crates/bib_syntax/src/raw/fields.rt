@@ -1,4 +1,4 @@
-//! Fields: names with values, separated by commas.
+//! Parses fields: names with values, separated by commas.
 
 ghost use Rattle.std.specs.Prelude.{◌≡◌, ◌≢◌, ℕ, true, List, map, IfOk, IfErr, OnOk, OnErr};
 ghost use Rattle.std.specs.Char.{is_whitespace};
@@ -17,7 +17,7 @@ use crate::raw::{Field, Pair, ParseError, ParseErrorKind, Token};
 use bib_text::spanned::Spanned;
 use std::alloc::Global;
 
-// A percent sign and the rest of its line.
+// Moves past a percent sign and the rest of its line, without the line feed.
 pub(crate) fn line_comment(s: &mut Reader<'_, '_>)
     requires { (v : Place) × CharAt s.old 37 v }
     ensures { LineComment s.old s.new }
@@ -26,7 +26,7 @@ pub(crate) fn line_comment(s: &mut Reader<'_, '_>)
     s.eat_line();
 }
 
-// White space, in which one line comment may occur.
+// Moves past white space, in which one line comment may occur.
 pub(crate) fn gap(s: &mut Reader<'_, '_>)
     ensures { Gap longest s.old s.new }
 {
@@ -37,7 +37,7 @@ pub(crate) fn gap(s: &mut Reader<'_, '_>)
     }
 }
 
-// The elements of a value, joined by `#`.
+// Parses the pieces of a value, joined by `#`, and the white space after them.
 fn elements<'s>(s: &mut Reader<'s, '_>, alloc: Global) -> Result<Field<'s>, ParseError>
     ensures found { IfOk result (λ pieces. Elements longest s.old
         (map piece_of pieces.items) s.new) }
@@ -55,7 +55,7 @@ fn elements<'s>(s: &mut Reader<'s, '_>, alloc: Global) -> Result<Field<'s>, Pars
     }
 }
 
-// A field: a name, an equals sign and a value.
+// Parses a field: a name, an equals sign and a value.
 fn field<'s>(s: &mut Reader<'s, '_>, alloc: Global) -> Result<Pair<'s>, ParseError>
     requires { (c : ℕ) × (v : Place) × CharAt s.old c v × (is_id_start c ≡ true) }
     ensures found { IfOk result (λ pair. Field longest s.old (field_of pair) s.new) }
@@ -70,7 +70,7 @@ fn field<'s>(s: &mut Reader<'s, '_>, alloc: Global) -> Result<Pair<'s>, ParseErr
     Ok(Pair::new(name, Spanned::new(pieces, start..s.cursor())))
 }
 
-// White space up to the brace that closes fields, where no name begins.
+// Moves past white space to the closing brace after fields. No name may begin here.
 fn closed(s: &mut Reader<'_, '_>) -> Result<(), ParseError>
     requires { Stops is_id_start s.old }
     ensures found { OnOk result (Longest is_whitespace s.old s.new ×
@@ -88,7 +88,8 @@ fn closed(s: &mut Reader<'_, '_>) -> Result<(), ParseError>
     Err(error(s, ParseErrorKind::Expected(Token::Identifier)))
 }
 
-// Fields up to the brace that closes their block. Keeps the place at which it begins to read each.
+// Parses fields up to the closing brace of their block, without moving past that brace. Appends the offset of each field to
+// `starts` before parsing it.
 pub(crate) fn fields<'s>(
     s: &mut Reader<'s, '_>,
     alloc: Global,

@@ -1,4 +1,4 @@
-//! Blocks, and the file that they make.
+//! Parses blocks, and files of blocks.
 
 ghost use Rattle.std.specs.Prelude.{◌≡◌, ◌≢◌, ℕ, List, [], ◌∷◌, ◌==◌, ◌&&◌, ◌||◌, not, true, IfOk, IfErr, OnOk, OnErr};
 ghost use Rattle.bib_text.specs.Places.{Place, CharAt, place};
@@ -19,7 +19,7 @@ use crate::raw::{Pair, ParseError, RawBibliography, RawEntry, Token};
 use bib_text::spanned::Spanned;
 use std::alloc::{AllocError, Global};
 
-// What a block of a file is, by its name.
+// What a block is, by its name.
 enum BlockKind {
     Comment,
     Preamble,
@@ -27,7 +27,7 @@ enum BlockKind {
     Entry,
 }
 
-/// Whether a name is this word in some ASCII case.
+/// Returns whether `name` is `word` in any ASCII case.
 pub fn is_word(name: &str, word: &str) -> bool
     ensures { result ≡ grammar.is_word name.now word.now }
 {
@@ -48,7 +48,7 @@ fn block_kind(name: &str) -> BlockKind
     }
 }
 
-// What a block says.
+// The content of a block.
 #[derive(Drop)]
 pub(crate) enum Item<'s> {
     Nothing,
@@ -57,7 +57,7 @@ pub(crate) enum Item<'s> {
     Entry(Spanned<RawEntry<'s>>),
 }
 
-// The head of a block: its at sign, its name, and a brace or a quote.
+// Parses the head of a block: its at sign, its name, a brace or a quote, and white space.
 fn head<'s>(s: &mut Reader<'s, '_>) -> Result<Spanned<&'s str>, ParseError>
     requires { (v : Place) × CharAt s.old 64 v }
     ensures found { IfOk result (λ kind. Head longest s.old (part_of kind) s.new) }
@@ -72,7 +72,7 @@ fn head<'s>(s: &mut Reader<'s, '_>) -> Result<Spanned<&'s str>, ParseError>
     Ok(kind)
 }
 
-// The rest of a comment block, with its first closing brace.
+// Parses the rest of a comment block, up to its first closing brace and including it.
 fn comment(s: &mut Reader<'_, '_>) -> Result<(), ParseError>
     ensures found { OnOk result ((u : Place) (p : Part) →
         Body longest u p ABlock.comment s.old empty_reading s.new) }
@@ -84,7 +84,7 @@ fn comment(s: &mut Reader<'_, '_>) -> Result<(), ParseError>
     Ok(())
 }
 
-// A preamble: one quoted text, of which the quotes are a part.
+// Parses the rest of a preamble: one quoted text, and a closing brace or a quote. Returns the text with its quotes.
 fn preamble<'s>(s: &mut Reader<'s, '_>) -> Result<&'s str, ParseError>
     ensures found { IfOk result (λ text. (u : Place) (p : Part) →
         Body longest u p ABlock.preamble s.old (item_of (Item.Preamble text)) s.new) }
@@ -99,7 +99,7 @@ fn preamble<'s>(s: &mut Reader<'s, '_>) -> Result<&'s str, ParseError>
     Ok(text)
 }
 
-// Definitions of abbreviations. Keeps where they begin.
+// Parses definitions of abbreviations, and the closing brace. Appends their offsets to `starts`.
 fn strings<'s>(
     s: &mut Reader<'s, '_>,
     alloc: Global,
@@ -117,7 +117,8 @@ fn strings<'s>(
     Ok(pairs)
 }
 
-// The key of an entry and the comma after it, and its fields. The entry began at `start`. Keeps where its fields begin.
+// Parses the key of an entry, the comma after it, its fields and the closing brace. `start` is the offset of the entry.
+// Appends the offsets of its fields to `starts`.
 fn entry<'s>(
     s: &mut Reader<'s, '_>,
     alloc: Global,
@@ -142,8 +143,8 @@ fn entry<'s>(
     Ok(Spanned::new(RawEntry { key, kind, fields }, span))
 }
 
-// A block: a comment, a preamble, a list of abbreviations or an entry. Keeps where its fields begin in place of those of the
-// block before.
+// Parses a block: a comment, a preamble, definitions of abbreviations or an entry. Replaces `starts` by the offsets at which
+// its fields begin.
 pub(crate) fn block<'s>(
     s: &mut Reader<'s, '_>,
     alloc: Global,
@@ -168,7 +169,7 @@ pub(crate) fn block<'s>(
     }
 }
 
-// Adds what a block says to what the blocks before it say.
+// Appends the content of a block to the content of the blocks before it.
 pub(crate) fn add<'s>(raw: &mut RawBibliography<'s>, item: Item<'s>) -> Result<(), AllocError>
     ensures { OnOk result (file_of raw.new ≡ then (file_of raw.old) (item_of item.entry)) }
 {
@@ -186,7 +187,7 @@ pub(crate) fn add<'s>(raw: &mut RawBibliography<'s>, item: Item<'s>) -> Result<(
     Ok(())
 }
 
-// The blocks of a file, up to its end.
+// Parses the blocks of a file, up to its end.
 pub(crate) fn blocks<'s>(
     s: &mut Reader<'s, '_>,
     alloc: Global,

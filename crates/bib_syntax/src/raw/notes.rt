@@ -1,4 +1,4 @@
-//! What is noted once of a text that is read more than once.
+//! Notes about a text whose parts are parsed more than once.
 
 ghost use Rattle.std.specs.Prelude.{IfOk};
 ghost use Rattle.bib_syntax.specs.Stretches.{AreNotes};
@@ -8,7 +8,7 @@ use crate::raw::failures::Failures;
 use crate::raw::stretches::{Stretch, lines, tail};
 use std::alloc::{AllocError, Global};
 
-// Where the braces of a text close, its lines, what stands after its last closing brace, and fields that can't be read.
+// Where the braces of a text close, its lines, the stretch after its last closing brace, and fields that can't be parsed.
 #[derive(Drop)]
 pub(crate) struct Notes {
     pub(crate) closings: Vec<Closing>,
@@ -18,7 +18,7 @@ pub(crate) struct Notes {
 }
 
 impl Notes {
-    // What is noted of a text before any field was read.
+    // Returns the notes about `text`, without failures of fields.
     pub(crate) fn new(alloc: Global, text: &str) -> Result<Self, AllocError>
         ensures { IfOk result (AreNotes text.now) }
     {

@@ -1,4 +1,4 @@
-//! A scanner that may know what is noted of its text.
+//! A scanner that may have notes about its text.
 
 ghost use Rattle.std.specs.Prelude.{◌≡◌, ◌==◌, ◌&&◌, ℕ, ◌≤◌, ◌<◌, ◌^◌, Bool, true, false, not, length, take, MatchOption, MatchBool, IsTrue, IfOk, IfSome, ◌↔◌};
 ghost use Rattle.std.specs.Char.{is_whitespace};
@@ -15,7 +15,7 @@ use bib_text::scanner::Scanner;
 use std::alloc::AllocError;
 use std::marker::Model;
 
-// A text and a place in it, and what is noted of the text.
+// A scanner, and the notes about its text if there are any.
 #[derive(Drop)]
 pub(crate) struct Reader<'s, 'n> {
     scanner: Scanner<'s>,
@@ -35,7 +35,7 @@ impl<'s, 'n> Model for Reader<'s, 'n> {
 }
 
 impl<'s, 'n> Reader<'s, 'n> {
-    // A reader at the place of a scanner, of whose text nothing is noted.
+    // Returns a reader at the place of `scanner`, without notes.
     pub(crate) fn new(scanner: Scanner<'s>) -> Self
         ensures { result ≡ scanner.entry }
     {
@@ -45,7 +45,7 @@ impl<'s, 'n> Reader<'s, 'n> {
         }
     }
 
-    // A reader at this place of a text of which this is noted, if anything is.
+    // Returns a reader at the same place, with `notes` about the text.
     pub(crate) fn with_notes<'m>(&self, notes: Option<&'m Notes>) -> Reader<'s, 'm>
         requires { IfSome notes (λ notes. AreNotes self.now.text notes.now) }
         ensures { result ≡ self.now }
@@ -112,7 +112,7 @@ impl<'s, 'n> Reader<'s, 'n> {
         self.scanner.eat_while(test)
     }
 
-    // Goes on to the first character that is `a` or `b`, which are ASCII.
+    // Moves to the next `a` or `b`, which are ASCII, or to the end of the text.
     pub(crate) fn eat_until_either(&mut self, a: u8, b: u8)
         requires ascii { (a < 128) × (b < 128) }
         ensures longest { Longest (λ x. not (x == a) && not (x == b)) self.old self.new }
@@ -121,7 +121,7 @@ impl<'s, 'n> Reader<'s, 'n> {
         self.scanner.eat_until_either(a, b);
     }
 
-    // Goes on to the first character that is `a`, `b` or `c`, which are ASCII.
+    // Moves to the next `a`, `b` or `c`, which are ASCII, or to the end of the text.
     pub(crate) fn eat_until_any(&mut self, a: u8, b: u8, c: u8)
         requires ascii { (a < 128) × (b < 128) × (c < 128) }
         ensures longest { Longest (λ x. not (x == a) && not (x == b) && not (x == c)) self.old self.new }
@@ -130,7 +130,7 @@ impl<'s, 'n> Reader<'s, 'n> {
         self.scanner.eat_until_any(a, b, c);
     }
 
-    // Goes on to the next closing brace, or to the end of the text.
+    // Moves to the next closing brace, or to the end of the text.
     pub(crate) fn eat_to_brace(&mut self)
         ensures longest { Longest (λ c. not (c == 125)) self.old self.new }
         ensures stopped { EndsOr (λ c. c == 125 ≡ true) self.new }
@@ -143,7 +143,7 @@ impl<'s, 'n> Reader<'s, 'n> {
         }
     }
 
-    // Goes on to the end of the line.
+    // Moves to the next line feed, or to the end of the text.
     pub(crate) fn eat_line(&mut self)
         ensures { Longest (λ c. not (c == 10)) self.old self.new }
     {
@@ -177,7 +177,7 @@ impl<'s, 'n> Reader<'s, 'n> {
         self.scanner.before()
     }
 
-    // Moves to another place of the text.
+    // Moves to the byte offset `target`, which must be a character boundary of the text.
     pub(crate) fn jump(&mut self, target: usize)
         requires { IsCharBoundary self.old.text target }
         ensures { self.new ≡ place self.old.text target }
@@ -197,7 +197,8 @@ impl<'s, 'n> Reader<'s, 'n> {
         }
     }
 
-    // Where a brace closes what stands here, if that is noted.
+    // Returns the offset of the brace that closes the text from here, if it is noted. Returns `Some(None)` if no brace closes
+    // the text, and `None` if nothing is noted. Only places after an opening brace have a note.
     pub(crate) fn noted_close(&self) -> Option<Option<usize>>
         ensures { IfSome result (IsNoted self.now) }
     {
@@ -214,7 +215,7 @@ impl<'s, 'n> Reader<'s, 'n> {
         Some(noted.close)
     }
 
-    // The error with which reading fields fails from here, if one is noted.
+    // Returns the error with which parsing fields from here fails, if one is noted. Fails only if out of memory.
     pub(crate) fn noted_error(&self) -> Result<Option<ParseError>, AllocError>
         ensures { IfOk result (λ found. IfSome found (λ e. FailsAt self.now.text e self.now.at)) }
     {
@@ -227,7 +228,7 @@ impl<'s, 'n> Reader<'s, 'n> {
         }
     }
 
-    // Where the text ends, if it is noted that no closing brace stands before.
+    // Returns the end of the text if it is noted that no closing brace occurs from here on.
     fn noted_tail(&self) -> Option<usize>
         ensures { IfSome result (IsStretchFrom 125 self.now) }
     {
@@ -238,7 +239,7 @@ impl<'s, 'n> Reader<'s, 'n> {
         Some(notes.tail.end)
     }
 
-    // Where the line ends, if that is noted.
+    // Returns the end of the line, before its line feed, if it is noted.
     fn noted_line(&self) -> Option<usize>
         ensures { IfSome result (IsStretchFrom 10 self.now) }
     {

@@ -1,4 +1,4 @@
-//! What is read of a file of which not each block can be read.
+//! Parses a file even if some of its blocks can't be parsed.
 
 ghost use Rattle.std.specs.Prelude.{◌≡◌, ◌≢◌, ◌⊎◌, ◌<◌, ◌-◌, ◌==◌, ◌++◌, [], ◌∷◌, ℕ, List, not, true, false, length, take, MatchBool, IfSome, IfOk, IfErr, OnOk, OnErr};
 ghost use Rattle.bib_text.specs.Places.{Place, CharAt, AtEnd, place};
@@ -22,26 +22,26 @@ use bib_text::scanner::Scanner;
 use bib_text::spanned::Span;
 use std::alloc::{AllocError, Global};
 
-/// A block of a file that can't be read, and what is passed over for it.
+/// A block of a file that can't be parsed, and the text that is skipped because of it.
 #[derive(Debug, Clone, PartialEq, Eq, Drop)]
 pub struct SkippedBlock {
-    /// Why it can't be read.
+    /// Why it can't be parsed.
     pub error: ParseError,
-    /// From its at sign to where reading goes on: to the next at sign that begins a line, or to the end of the file. In
-    /// bytes of the file.
+    /// The skipped text: from its at sign to before the next at sign that begins a line, or to the end of the file. In bytes
+    /// of the file.
     pub span: Span,
 }
 
-/// What is read of a file, and what is passed over.
+/// The parsed and the skipped blocks of a file.
 #[derive(Debug, Clone, Drop)]
 pub struct RawRecovery<'s> {
-    /// What all blocks say that can be read.
+    /// The content of the parsed blocks.
     pub raw: RawBibliography<'s>,
-    /// The blocks that can't be read, in the order of the file.
+    /// The skipped blocks, in the order of the file.
     pub skipped: Vec<SkippedBlock>,
 }
 
-// Whether a line begins after this text, white space aside.
+// Returns whether `before` is blank or a line ends in the white space at its end.
 fn ends_blank(before: &str) -> bool
     ensures { result ≡ Spec.ends_blank before.now }
 {
@@ -50,7 +50,7 @@ fn ends_blank(before: &str) -> bool
     filled == 0 || blank.contains(&b'\n') || blank.contains(&b'\r')
 }
 
-// Whether the text ends here, or a line begins, white space aside.
+// Returns whether the text ends here, or only white space precedes this place on its line.
 fn begins_line(s: &Reader<'_, '_>) -> bool
     ensures { MatchBool result
         (AtEnd s.now ⊎ (Spec.ends_blank (take s.now.at s.now.text) ≡ true))
@@ -62,14 +62,14 @@ fn begins_line(s: &Reader<'_, '_>) -> bool
     ends_blank(s.before())
 }
 
-// Whether a character isn't an at sign.
+// Returns whether `c` isn't an at sign.
 fn is_other(c: char) -> bool
     ensures { result ≡ not (c == 64) }
 {
     c != '@'
 }
 
-// Goes on to the next at sign that begins a line, or to the end of the text.
+// Moves to the next at sign that begins a line, or to the end of the text.
 fn go_on(s: &mut Reader<'_, '_>)
     ensures { GoesOnAt s.old s.new }
 {
@@ -82,7 +82,7 @@ fn go_on(s: &mut Reader<'_, '_>)
     }
 }
 
-// Reads the block at this at sign with what is noted of the text, if anything is. Stays here where there is none.
+// Parses the block at this at sign, with the notes about the text if there are any. Doesn't move if that fails.
 fn read_block<'s>(
     s: &mut Reader<'s, '_>,
     alloc: Global,
@@ -102,7 +102,7 @@ fn read_block<'s>(
     Ok(item)
 }
 
-// Notes, where a text is noted, from which places reading fields fails with this error.
+// If there are notes, notes that parsing fields from each of `starts` fails with `error`.
 fn note_failures(
     notes: &mut Option<Notes>,
     starts: &[usize],
@@ -118,7 +118,7 @@ fn note_failures(
 }
 
 impl<'s> RawRecovery<'s> {
-    // Passes over the block at this at sign, and keeps its error.
+    // Skips the block at this at sign, and keeps its error.
     fn skip(&mut self, s: &mut Reader<'s, '_>, error: ParseError) -> Result<(), AllocError>
         requires { (v : Place) × CharAt s.old 64 v }
         ensures passed { OnOk result ((v : Place) × CharAt s.old 64 v × GoesOnAt v s.new) }
@@ -134,7 +134,8 @@ impl<'s> RawRecovery<'s> {
         Ok(())
     }
 
-    // Reads the block at this at sign, or passes over it and notes, where the text is noted, from where its fields can't be read.
+    // Parses the block at this at sign. If that fails, skips the block, and adds its failed fields to the notes if there are
+    // any.
     fn add_block(
         &mut self,
         s: &mut Reader<'s, '_>,
@@ -163,8 +164,8 @@ impl<'s> RawRecovery<'s> {
 }
 
 impl<'s> RawRecovery<'s> {
-    // Reads the blocks of a file, up to its end. Once a block was passed over what stands in it is read again, so then the text is
-    // noted.
+    // Parses the blocks of a file, up to its end. The text of a skipped block may be parsed again, so the notes are made
+    // before the first block after a skipped one.
     fn add_blocks(
         &mut self,
         s: &mut Reader<'s, '_>,
@@ -195,7 +196,7 @@ impl<'s> RawRecovery<'s> {
     }
 }
 
-// The blocks of a file, up to its end, and what is passed over among them.
+// Parses the blocks of a file, and skips those that can't be parsed.
 pub(crate) fn recovered(alloc: Global, src: &str) -> Result<RawRecovery<'_>, AllocError>
     ensures { IfOk result (λ found. Recovered (place src.now 0) (file_of found.raw) found.skipped.items) }
 {

@@ -1,4 +1,4 @@
-//! Stretches of a text in which a sign doesn't stand, noted once for a text that is read more than once.
+//! Notes stretches of a text without some character, for a text whose parts are parsed more than once.
 
 ghost use Rattle.std.specs.Prelude.{◌≤◌, IfOk, IsTrue, ◌↔◌};
 ghost use Rattle.bib_syntax.specs.Stretches.{AreLines, IsTail};
@@ -6,7 +6,7 @@ ghost use Rattle.bib_syntax.specs.Stretches.{AreLines, IsTail};
 use bib_text::scanner::Scanner;
 use std::alloc::{AllocError, Global};
 
-// From a place to the next sign of some kind, or to the end of the text.
+// A stretch from an offset to the next occurrence of some character, or to the end of the text.
 #[derive(Clone, Copy)]
 pub(crate) struct Stretch {
     pub(crate) start: usize,
@@ -14,7 +14,7 @@ pub(crate) struct Stretch {
 }
 
 impl Stretch {
-    // Whether a place lies in the stretch, or at its end.
+    // Returns whether the offset `at` is in the stretch or at its end.
     pub(crate) fn holds(&self, at: usize) -> bool
         ensures { IsTrue result ↔ ((self.now.start ≤ at) × (at ≤ self.now.end)) }
     {
@@ -22,7 +22,7 @@ impl Stretch {
     }
 }
 
-// The lines of a text, without their line feeds.
+// Returns the lines of `text`, without their line feeds.
 pub(crate) fn lines(alloc: Global, text: &str) -> Result<Vec<Stretch>, AllocError>
     ensures { IfOk result (λ found. AreLines text.now found.items) }
 {
@@ -39,7 +39,7 @@ pub(crate) fn lines(alloc: Global, text: &str) -> Result<Vec<Stretch>, AllocErro
     }
 }
 
-// What stands after the last closing brace of a text.
+// Returns the stretch after the last closing brace of `text`; the whole text if it has none.
 pub(crate) fn tail(text: &str) -> Stretch
     ensures { IsTail text.now result }
 {

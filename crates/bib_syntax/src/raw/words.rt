@@ -1,4 +1,4 @@
-//! The words of a bibliography file: names, keys, numbers, braced and quoted texts.
+//! Parses the words of a bibliography file: names, keys, numbers, braced and quoted texts.
 
 ghost use Rattle.std.specs.Prelude.{◌≡◌, ℕ, ◌≤◌, ◌+◌, ◌||◌, ◌&&◌, ◌==◌, not, true, false, length, IfOk, IfErr, OnOk, OnErr, IsTrue, MatchBool};
 ghost use Rattle.std.specs.Char.{is_ascii_digit};
@@ -18,7 +18,7 @@ use crate::raw::{
 };
 use bib_text::spanned::Spanned;
 
-// An error of the grammar at this place.
+// Returns an error of the grammar here, with an empty span.
 pub(crate) fn error(s: &Reader<'_, '_>, kind: ParseErrorKind) -> ParseError
     requires { IsTrue (is_syntax kind) }
     ensures syntax { IsSyntaxError s.now.text result }
@@ -31,7 +31,7 @@ pub(crate) fn error(s: &Reader<'_, '_>, kind: ParseErrorKind) -> ParseError
     }
 }
 
-// A character that has to stand here.
+// Moves past the next character if it is `c`, and otherwise reports that `token` was expected.
 pub(crate) fn expect(s: &mut Reader<'_, '_>, c: char, token: Token) -> Result<(), ParseError>
     ensures found { OnOk result (CharAt s.old c s.new) }
     ensures none { OnErr result ((v : Place) → CharAt s.old c v → ⊥) }
@@ -44,7 +44,7 @@ pub(crate) fn expect(s: &mut Reader<'_, '_>, c: char, token: Token) -> Result<()
     Ok(())
 }
 
-// A brace, for which a quote may stand.
+// Moves past the next character if it is the brace `c` or a quote, and otherwise reports that `token` was expected.
 pub(crate) fn brace(s: &mut Reader<'_, '_>, c: char, token: Token) -> Result<(), ParseError>
     ensures found { OnOk result ((d : ℕ) × CharAt s.old d s.new × (d == c || d == 34 ≡ true)) }
     ensures none { OnErr result ((d : ℕ) (v : Place) → CharAt s.old d v →
@@ -58,7 +58,7 @@ pub(crate) fn brace(s: &mut Reader<'_, '_>, c: char, token: Token) -> Result<(),
     Err(error(s, ParseErrorKind::Expected(token)))
 }
 
-// Whether an identifier begins here.
+// Returns whether an identifier begins here.
 pub(crate) fn begins_identifier(s: &Reader<'_, '_>) -> bool
     ensures { MatchBool result
         ((c : ℕ) × (v : Place) × CharAt s.now c v × (characters.is_id_start c ≡ true))
@@ -70,7 +70,7 @@ pub(crate) fn begins_identifier(s: &Reader<'_, '_>) -> bool
     }
 }
 
-// An identifier: a field's name, an entry's kind or the name of an abbreviation.
+// Parses an identifier: an entry type, or the name of a field or an abbreviation.
 pub(crate) fn identifier<'s>(s: &mut Reader<'s, '_>) -> Result<Spanned<&'s str>, ParseError>
     ensures found { IfOk result (λ name. Identifier longest s.old (part_of name) s.new) }
     ensures fails { IfErr result (Reports (IdentifierFails s.old)) }
@@ -84,7 +84,7 @@ pub(crate) fn identifier<'s>(s: &mut Reader<'s, '_>) -> Result<Spanned<&'s str>,
     Ok(Spanned::new(text, start..s.cursor()))
 }
 
-// The key of an entry, possibly empty.
+// Parses the key of an entry, which may be empty.
 pub(crate) fn key<'s>(s: &mut Reader<'s, '_>) -> Spanned<&'s str>
     ensures longest { Longest characters.is_key s.old s.new }
     ensures reading { part_of result ≡ part s.old s.new }
@@ -100,7 +100,7 @@ fn is_digit(c: char) -> bool
     c.is_ascii_digit()
 }
 
-// The digits of a number, with at most one point among them.
+// Moves past the digits of a number, with at most one point after the first digit.
 fn digits(s: &mut Reader<'_, '_>) -> Result<(), ParseError>
     requires { (c : ℕ) × (v : Place) × CharAt s.old c v × (is_ascii_digit c ≡ true) }
     ensures found { OnOk result (Number longest s.old s.new) }
@@ -118,7 +118,7 @@ fn digits(s: &mut Reader<'_, '_>) -> Result<(), ParseError>
     Ok(())
 }
 
-// A number.
+// Parses a number: digits with at most one point after the first digit.
 fn number<'s>(s: &mut Reader<'s, '_>) -> Result<Spanned<&'s str>, ParseError>
     requires { (c : ℕ) × (v : Place) × CharAt s.old c v × (is_ascii_digit c ≡ true) }
     ensures found { OnOk result (Number longest s.old s.new) }
@@ -131,7 +131,7 @@ fn number<'s>(s: &mut Reader<'s, '_>) -> Result<Spanned<&'s str>, ParseError>
     Ok(Spanned::new(s.from(start), start..s.cursor()))
 }
 
-// The parts of a quoted text, up to the quote that closes it.
+// Parses a quoted text from after its first quote up to the quote that closes it, without moving past that quote.
 fn quoted_parts<'s>(s: &mut Reader<'s, '_>) -> Result<Spanned<&'s str>, ParseError>
     ensures found { OnOk result (QuotedParts s.old s.new × ((v : Place) × CharAt s.new 34 v)) }
     ensures reading { IfOk result (λ text. part_of text ≡ part s.old s.new) }
@@ -152,7 +152,7 @@ fn quoted_parts<'s>(s: &mut Reader<'s, '_>) -> Result<Spanned<&'s str>, ParseErr
     }
 }
 
-// A quoted text.
+// Parses a quoted text with its quotes, and returns the text between them.
 pub(crate) fn quoted<'s>(s: &mut Reader<'s, '_>) -> Result<Spanned<&'s str>, ParseError>
     ensures found { IfOk result (λ text. Quoted s.old (part_of text) s.new) }
     ensures fails { IfErr result (Reports (QuotedFails s.old)) }
@@ -164,7 +164,8 @@ pub(crate) fn quoted<'s>(s: &mut Reader<'s, '_>) -> Result<Spanned<&'s str>, Par
     Ok(text)
 }
 
-// The parts of a braced text, up to the brace that closes it, where nothing is noted of it.
+// Parses a braced text from after its opening brace up to the brace that closes it, without moving past that brace. Doesn't
+// use notes.
 fn scanned_parts<'s>(s: &mut Reader<'s, '_>) -> Result<Spanned<&'s str>, ParseError>
     ensures found { OnOk result (Parts s.old s.new × ((v : Place) × CharAt s.new 125 v)) }
     ensures reading { IfOk result (λ text. part_of text ≡ part s.old s.new) }
@@ -192,7 +193,8 @@ fn scanned_parts<'s>(s: &mut Reader<'s, '_>) -> Result<Spanned<&'s str>, ParseEr
     }
 }
 
-// The parts of a braced text, up to the brace that closes it.
+// Parses a braced text from after its opening brace up to the brace that closes it, without moving past that brace. Uses the
+// notes if there are any.
 fn braced_parts<'s>(s: &mut Reader<'s, '_>) -> Result<Spanned<&'s str>, ParseError>
     ensures found { OnOk result (Parts s.old s.new × ((v : Place) × CharAt s.new 125 v)) }
     ensures reading { IfOk result (λ text. part_of text ≡ part s.old s.new) }
@@ -212,7 +214,7 @@ fn braced_parts<'s>(s: &mut Reader<'s, '_>) -> Result<Spanned<&'s str>, ParseErr
     Ok(Spanned::new(s.from(start), start..s.cursor()))
 }
 
-// A braced text.
+// Parses a braced text with its braces, and returns the text between them.
 fn braced<'s>(s: &mut Reader<'s, '_>) -> Result<Spanned<&'s str>, ParseError>
     requires { (v : Place) × CharAt s.old 123 v }
     ensures found { IfOk result (λ text. Braced s.old (part_of text) s.new) }
@@ -225,7 +227,7 @@ fn braced<'s>(s: &mut Reader<'s, '_>) -> Result<Spanned<&'s str>, ParseError>
     Ok(text)
 }
 
-// Whether a number begins here.
+// Returns whether a number begins here.
 fn begins_number(s: &Reader<'_, '_>) -> bool
     ensures { MatchBool result
         ((c : ℕ) × (v : Place) × CharAt s.now c v × (is_ascii_digit c ≡ true))
@@ -237,7 +239,7 @@ fn begins_number(s: &Reader<'_, '_>) -> bool
     }
 }
 
-// An element of a value: a number, the name of an abbreviation, a braced or a quoted text.
+// Parses a piece of a value: a number, the name of an abbreviation, a braced or a quoted text.
 pub(crate) fn element<'s>(s: &mut Reader<'s, '_>) -> Result<Spanned<RawChunk<'s>>, ParseError>
     ensures found { IfOk result (λ chunk. Element longest s.old (piece_of chunk) s.new) }
     ensures fails { IfErr result (Reports (ElementFails s.old)) }

@@ -20,7 +20,7 @@ returns-clause-found c =
     let here : left c.args.s.now ≡ 36 ∷ left c.eat-2.new.self = passed.left ∙ ap (λ d. d ∷ left c.eat-2.new.self) dollar.1 in
     rw (dollar.0, here) c.formula.ensures.found
 
--- a text that fails fails where it has a character
+-- a failure without a condition is a failure for non-empty texts
 fails_given : {A : Type 0} (text : List ℕ) (found : Option A) → IfNone found (UnitFails false text)
     → IfNone found ((text ≡ [] → ⊥) → UnitFails false text)
 fails_given text None fails = λ _. fails

@@ -5,7 +5,7 @@ use Rattle.bib_text.specs.Places.{Place, place}
 use Rattle.bib_contents.proofs.CommandUnitFacts.{takes_one, takes_none, takes_nothing}
 use Rattle.bib_contents.proofs.units.takes_next.Goals as goal
 
--- the characters of a name, from its start
+-- the characters of a name are its first one and those left after it
 spelt : (name : List ℕ) (u v : Place) (c : ℕ) → u ≡ place name 0 → Passes u (c ∷ []) v → chars name ≡ c ∷ left v
 spelt name u v c start passed = ap left (sym start) ∙ passed.left
 

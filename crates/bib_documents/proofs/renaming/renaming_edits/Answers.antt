@@ -5,9 +5,10 @@ use Rattle.std.proofs.lemmas.Result.{err_from_is_err_and}
 use Rattle.bib_syntax.specs.Views.{entry_reading_of, field_of}
 use Rattle.bib_documents.specs.References.{CanBeMade, change_edit, key_change, reference_changes, renaming}
 use Rattle.bib_documents.specs.Stretches.{AreValuesPlaced, EndsInWhite, edit_of}
-use Rattle.bib_documents.proofs.ChangeListFacts.{all_append, key_all, pushed, refused_more, renaming_at, renaming_more}
+use Rattle.bib_documents.proofs.ChangeListFacts.{key_all, pushed, refused_more, renaming_at, renaming_more}
 use Rattle.bib_documents.proofs.PositionFacts.{slice_get-map}
 use Rattle.bib_documents.proofs.renaming.renaming_edits.Goals as goal
+use Rattle.bib_text.proofs.ListFacts.{all_append}
 
 pub push_reference_edits-requires : goal.push_reference_edits-requires
 push_reference_edits-requires c =

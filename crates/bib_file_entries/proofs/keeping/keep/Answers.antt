@@ -1,7 +1,8 @@
 use Rattle.std.proofs.Common.{ap, ◌∙◌}
 use Rattle.bib_file_entries.specs.Loading.{last_definition}
-use Rattle.bib_file_entries.proofs.RawFacts.{definition_same, definitions_same}
+use Rattle.bib_file_entries.proofs.RawFacts.{definition_same}
 use Rattle.bib_file_entries.proofs.keeping.keep.Goals as goal
+use Rattle.bib_abbreviations.proofs.AbbreviationFacts.{definitions_same}
 
 pub returns-clause-kept : goal.returns-clause-kept
 returns-clause-kept c =

@@ -4,7 +4,7 @@ use Rattle.std.proofs.lemmas.List.{drop_all}
 use Rattle.bib_abbreviations.specs.Abbreviations.{given_by, sorted_in}
 use Rattle.bib_abbreviations.proofs.AbbreviationFacts.{sorted_given}
 use Rattle.bib_file_entries.specs.Bibliography.{claims}
-use Rattle.bib_maps.specs.Names.{claimed, claims_for}
+use Rattle.bib_collections.specs.Names.{claimed, claims_for}
 use Rattle.bib_syntax.specs.Views.{entry_reading_of}
 use Rattle.bib_file_entries.proofs.KeepingFacts.{entries_none, entries_duplicate, entries_next, entries_all, rest_at}
 use Rattle.bib_file_entries.proofs.keeping.keep_entries.Goals as goal

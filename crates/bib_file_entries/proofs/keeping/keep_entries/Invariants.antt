@@ -4,7 +4,7 @@ use Rattle.bib_syntax.specs.Views.{entry_reading_of}
 use Rattle.bib_file_entries.proofs.KeepingFacts.{EntriesKeptSoFar}
 use Rattle.bib_file_entries.proofs.keeping.keep_entries.Given as goal
 
--- the entries so far are kept or left out, and the names of those that are kept are claimed
+-- the entries so far are kept or left out, and the kept ones have claimed their names
 abbrev pub invariant-entries : goal.invariant-entries
 invariant-entries l = record {
   reader : l.reader ≡ pairs_in l.fn.definitions;

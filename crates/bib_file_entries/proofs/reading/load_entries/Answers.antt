@@ -1,13 +1,12 @@
-use Rattle.std.proofs.Common.{◌≡◌, [], ◌∷◌, ◌++◌, map, ap, ap₂, sym, ◌∙◌, inl, inr, length, true, false, rules, is_some}
+use Rattle.std.proofs.Common.{◌≡◌, [], ◌∷◌, ◌++◌, map, ap, sym, ◌∙◌, inl, inr, length, true, false, rules, is_some}
 use Rattle.std.specs.FinMap.{get, insert}
 use Rattle.std.specs.Vec.Iter.{into_iter_items}
-use Rattle.std.proofs.lemmas.List.{map_push, nil_from_length}
+use Rattle.std.proofs.lemmas.List.{nil_from_length}
 use Rattle.std.proofs.lemmas.Result.{err_from_is_err_and}
 use Rattle.bib_abbreviations.specs.Abbreviations.{given_by, sorted_in}
 use Rattle.bib_abbreviations.proofs.AbbreviationFacts.{sorted_given}
-use Rattle.bib_entry.specs.Parents.{has_references}
 use Rattle.bib_file_entries.specs.Bibliography.{aliases, claims}
-use Rattle.bib_maps.specs.Names.{claimed, claims_for}
+use Rattle.bib_collections.specs.Names.{claimed, claims_for}
 use Rattle.bib_file_entries.proofs.LoadedFacts.{absent_by, had_by, loaded_none, loaded_next, loaded_all, error_duplicate, error_unreadable}
 use Rattle.bib_file_entries.proofs.RawFacts.{entry_same, error_same}
 use Rattle.bib_file_entries.proofs.reading.load_entries.Goals as goal
@@ -17,7 +16,6 @@ entries-init c = record {
   can_next = tt;
   is_finite = tt;
   reader = c.new-reader.ensures;
-  marks = c.in_ok-marks.ensures.items ∙ sym (ap (map has_references) c.in_ok-entries.ensures.items);
   loaded = rw (c.into_iter-said-iterator.ensures.into_iter_gives.0, c.in_ok-entries.ensures.items, c.new-names.ensures) (loaded_none _ _);
 }
 
@@ -56,8 +54,7 @@ entries-preserved c =
       can_next = tt;
       is_finite = tt;
       reader = c.in_ok-entry.ensures.same ∙ c.entries.invariant.reader;
-      marks = c.in_ok-push.ensures.items ∙ ap₂ (λ l b. l ++ b ∷ []) c.entries.invariant.marks c.has_references.ensures ∙ sym (map_push has_references c.entries.entries.items entry) ∙ sym (ap (map has_references) c.in_ok-push-2.ensures.items);
-      loaded = rw (c.in_ok-push-2.ensures.items, more) (loaded_next c.in_ok-entry.entry (rw c.in-Some.ensures.steps.0 at c.entries.invariant.loaded) absent (entry_same (rw same at c.in_ok-entry.ensures.read)));
+      loaded = rw (c.in_ok-push.ensures.items, more) (loaded_next c.in_ok-entry.entry (rw c.in-Some.ensures.steps.0 at c.entries.invariant.loaded) absent (entry_same (rw same at c.in_ok-entry.ensures.read)));
     }
 
 pub returns-clause-loaded : goal.returns-clause-loaded
@@ -65,6 +62,3 @@ returns-clause-loaded c =
     let none : into_iter_items c.entries.said-iterator ≡ [] = nil_from_length _ (sym c.entries.said-iterator.rest.ok.0 ∙ c.in-None.ensures.steps.0) in
     let all = rw (none, sym c.in_ok-into_names.ensures) at c.entries.invariant.loaded in
     record { read = loaded_all all; bibliography = all.bibliography }
-
-pub returns-clause-marked : goal.returns-clause-marked
-returns-clause-marked c = c.entries.invariant.marks

@@ -1,5 +1,5 @@
 use Rattle.std.proofs.Common.{◌≡◌, ◌++◌, map, take}
-use Rattle.bib_entry_types.specs.Requirements.{texts}
+use Rattle.bib_tables.specs.Requirements.{texts}
 use Rattle.bib_syntax.specs.Views.{entry_reading_of}
 use Rattle.bib_findings.specs.Entries.{field_finding}
 use Rattle.bib_findings.proofs.entries.add_names.Given as goal

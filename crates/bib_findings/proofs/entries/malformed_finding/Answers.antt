@@ -1,6 +1,6 @@
 use Rattle.std.proofs.Common.{◌≡◌, ◌++◌, ap, ◌∙◌}
 use Rattle.std.specs.Prelude.{codes}
-use Rattle.bib_enums.specs.TypeError.{type_kind_text}
+use Rattle.bib_tables.specs.TypeError.{type_kind_text}
 use Rattle.bib_syntax.specs.Views.{entry_reading_of}
 use Rattle.bib_findings.specs.Entries.{field_message, malformed_place}
 use Rattle.bib_findings.specs.Errors.{finding_at}

@@ -1,7 +1,7 @@
 use Rattle.std.proofs.Common.{◌≡◌, ◌∙◌, ◌++◌, map, length, ap, sym, subst}
 use Rattle.std.proofs.lemmas.List.{length-map}
-use Rattle.bib_references.specs.Recovered.{AreRecovered}
-use Rattle.bib_references.proofs.DatesRead.{all_taken}
+use Rattle.bib_inheritance.specs.Recovered.{AreRecovered}
+use Rattle.bib_inheritance.proofs.DatesRead.{all_taken}
 use Rattle.bib_syntax.specs.Views.{entry_reading_of, file_of}
 use Rattle.bib_findings.specs.Findings.{AreFindings, AreFindingsIn, entries_said}
 use Rattle.bib_findings.proofs.RecoveredFacts.{between_of, findings_of, if_ok_more, origins_count, origins_within, places_count, within_of}

@@ -1,7 +1,7 @@
 use Rattle.std.proofs.Common.{◌≡◌, ◌+◌, ◌<◌, ◌≤◌, [], ◌∷◌, ◌++◌, ap, sym, ◌∙◌, subst, take, get_or, List, ℕ, option_copied}
 use Rattle.std.proofs.lemmas.List.{map_more}
 use denote.Ref.{Bor}
-use Rattle.bib_entry_types.specs.Requirements.{texts}
+use Rattle.bib_tables.specs.Requirements.{texts}
 use Rattle.bib_findings.specs.Names.{IsNearest, distance}
 use Rattle.bib_findings.proofs.NameFacts.{nearer_next, nearest_stays, least_edits}
 use Rattle.bib_findings.proofs.names.nearest.Goals as goal

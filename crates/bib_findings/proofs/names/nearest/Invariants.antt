@@ -1,5 +1,5 @@
 use Rattle.std.proofs.Common.{◌≡◌, take, option_copied}
-use Rattle.bib_entry_types.specs.Requirements.{texts}
+use Rattle.bib_tables.specs.Requirements.{texts}
 use Rattle.bib_findings.specs.Names.{IsNearest}
 use Rattle.bib_findings.proofs.NameFacts.{least_edits}
 use Rattle.bib_findings.proofs.names.nearest.Given as goal

@@ -5,8 +5,8 @@ use Rattle.std.proofs.lemmas.Iterator.Search.{find_from_yields_List}
 use Rattle.bib_syntax.specs.Reading.{FieldReading}
 use Rattle.bib_syntax.specs.Views.{field_of}
 use Rattle.bib_syntax.specs.declared.raw.Pair.{Pair}
-use Rattle.bib_findings.proofs.IdentityFacts.{last_of_map}
 use Rattle.bib_findings.proofs.places.last_named.Goals as goal
+use Rattle.bib_text.proofs.ReverseFacts.{last_of_map}
 
 pub returns : goal.returns
 returns c =

@@ -1,6 +1,6 @@
 use Rattle.std.proofs.Common.{◌≡◌, ◌++◌, take}
 use Rattle.std.specs.List.{flat_map}
-use Rattle.bib_entry_types.specs.Requirements.{texts}
+use Rattle.bib_tables.specs.Requirements.{texts}
 use Rattle.bib_syntax.specs.Views.{entry_reading_of}
 use Rattle.bib_findings.specs.References.{field_references}
 use Rattle.bib_findings.proofs.references.add_entry_references.Given as goal

@@ -3,8 +3,8 @@ use Rattle.std.specs.Option.{option_copied}
 use Rattle.std.proofs.lemmas.List.{get_or-map, length-map}
 use denote.Ref.{Bor}
 use Rattle.bib_chunks.specs.Styled.{styled}
-use Rattle.bib_entry_types.specs.Requirements.{texts}
-use Rattle.bib_inheritance.specs.Sources.{source_at}
+use Rattle.bib_tables.specs.Requirements.{texts}
+use Rattle.bib_inheritance.specs.EntryTexts.{texts_of_reference}
 use Rattle.bib_inheritance.proofs.GatheredFacts.{IsGathered, gathered_none, gathered_skip, gathered_more}
 use Rattle.bib_inheritance.proofs.gathering.gather_offers.Goals as goal
 use Rattle.bib_inheritance.proofs.gathering.gather_offers.Goals.{in-Some+in_ok-insert, in_default}
@@ -19,20 +19,20 @@ inside : (names : List (Bor (List ℕ))) (i : ℕ) → i < length names → i < 
 inside names i within = subst (λ n. i < n) (sym (length-map names (λ (n : Bor (List ℕ)). n.now))) within
 
 pub names-init : goal.names-init
-names-init c = gathered_none (texts c.args.names.now) (source_at c.args.reference.now) c.args.gathered.now
+names-init c = gathered_none (texts c.args.names.now) (texts_of_reference c.args.reference.now) c.args.gathered.now
 
 pub names-preserved-then-is_kept_back : goal.names-preserved-then-is_kept_back
 names-preserved-then-is_kept_back c =
     let names = c.args.names.now in
     let i = c.names.name-index in
-    gathered_skip (texts names) i (source_at c.args.reference.now) (get_or names i no_name).now c.args.gathered.now c.names.gathered (inside names i c.names-test.true) (name_at names i c.names-test.true)
+    gathered_skip (texts names) i (texts_of_reference c.args.reference.now) (get_or names i no_name).now c.args.gathered.now c.names.gathered (inside names i c.names-test.true) (name_at names i c.names-test.true)
     (inl (sym c.is_kept_back.ensures ∙ c.if-is_kept_back.true)) c.names.invariant
 
 pub names-preserved : goal.names-preserved
 names-preserved c =
     let names = c.args.names.now in
     let i = c.names.name-index in
-    let s = source_at c.args.reference.now in
+    let s = texts_of_reference c.args.reference.now in
     let n = (get_or names i no_name).now in
     elim c.match-offer.branch [
       | in-Some+in_ok-insert w ↦

@@ -1,9 +1,9 @@
 use Rattle.std.proofs.Common.{◌≡◌, ◌-◌, ℕ, List, length, drop}
 use Rattle.bib_inheritance.specs.Inherited.{inherited_field}
 use Rattle.bib_inheritance.specs.Gathering.{gathered_text}
-use Rattle.bib_inheritance.specs.Sources.{sources}
+use Rattle.bib_inheritance.specs.EntryTexts.{texts_of_references}
 use Rattle.bib_inheritance.proofs.gathering.gathered.Given as goal
 
--- what the references from here on give
+-- the fields collected are those inherited from the references so far, from the end
 abbrev pub invariant-references : goal.invariant-references
-invariant-references l = (name : List ℕ) → gathered_text l.gathered name ≡ inherited_field l.kind name (sources (drop (length l.references - l.done) l.references))
+invariant-references l = (name : List ℕ) → gathered_text l.gathered name ≡ inherited_field l.entry_type name (texts_of_references (drop (length l.references - l.done) l.references))

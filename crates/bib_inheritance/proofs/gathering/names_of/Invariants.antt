@@ -1,5 +1,5 @@
 use Rattle.std.proofs.Common.{◌≡◌, map, take}
-use Rattle.bib_entry_types.specs.Requirements.{texts}
+use Rattle.bib_tables.specs.Requirements.{texts}
 use Rattle.bib_inheritance.proofs.gathering.names_of.Given as goal
 
 -- the names of the fields so far

@@ -1,7 +1,7 @@
 use Rattle.std.proofs.Common.{◌≡◌, drop}
-use Rattle.bib_entry_types.specs.Requirements.{texts}
+use Rattle.bib_tables.specs.Requirements.{texts}
 use Rattle.bib_inheritance.specs.Inherited.{first_offer}
-use Rattle.bib_inheritance.specs.Sources.{fields_of}
+use Rattle.bib_inheritance.specs.EntryTexts.{fields_of}
 use Rattle.bib_inheritance.proofs.offers.first_offer.Given as goal
 
 abbrev pub invariant-names : goal.invariant-names

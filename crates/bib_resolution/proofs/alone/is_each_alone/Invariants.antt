@@ -1,6 +1,6 @@
 use Rattle.std.proofs.Common.{◌≡◌, [], drop}
 use Rattle.std.specs.List.{AllByRecursion}
-use Rattle.bib_references.specs.Resolving.{graph_by}
+use Rattle.bib_inheritance.specs.Resolving.{graph_by}
 use Rattle.bib_resolution.proofs.alone.is_each_alone.Given as goal
 
 -- none refers to one if none of those that are left does

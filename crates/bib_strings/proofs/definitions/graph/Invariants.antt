@@ -1,5 +1,5 @@
 use Rattle.std.proofs.Common.{◌≡◌, map, take}
-use Rattle.bib_graph.specs.Rows.{rows}
+use Rattle.bib_collections.specs.Rows.{rows}
 use Rattle.bib_strings.specs.Expanded.{definition_references}
 use Rattle.bib_strings.specs.Tables.{index_in, values_of}
 use Rattle.bib_strings.proofs.definitions.graph.Given as goal

@@ -2,7 +2,7 @@ use Rattle.std.proofs.Common.{◌≡◌, map, sym, ap, ◌∙◌, subst}
 use Rattle.std.specs.List.{AllByRecursion}
 use Rattle.std.specs.Str.{IsUtf8}
 use Rattle.std.specs.String.{string_bytes}
-use Rattle.bib_graph.specs.Graph.{HasNoCycle}
+use Rattle.bib_collections.specs.Graph.{HasNoCycle}
 use Rattle.bib_syntax.specs.Views.{entry_reading_of, field_of}
 use Rattle.bib_documents.specs.Documents.{Document}
 use Rattle.bib_documents.specs.Edits.{edited_all}

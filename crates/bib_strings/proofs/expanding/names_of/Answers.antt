@@ -1,7 +1,7 @@
 use Rattle.std.proofs.Common.{◌≡◌, ◌<◌, List, length, map, sym, ap, ◌∙◌, subst}
 use Rattle.std.specs.List.{All}
-use Rattle.bib_graph.specs.Graph.{HasNoCycle, IsInRange, IsTopologicalOrder}
-use Rattle.bib_graph.specs.Rows.{rows}
+use Rattle.bib_collections.specs.Graph.{HasNoCycle, IsInRange, IsTopologicalOrder}
+use Rattle.bib_collections.specs.Rows.{rows}
 use Rattle.bib_syntax.specs.Reading.{FieldReading}
 use Rattle.bib_syntax.specs.Views.{entry_reading_of, field_of}
 use Rattle.bib_strings.specs.Expanded.{definition_graph, definition_index, elements}

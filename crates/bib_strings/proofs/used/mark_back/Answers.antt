@@ -1,6 +1,6 @@
 use Rattle.std.proofs.Common.{◌≡◌, ◌-◌, ◌<◌, ℕ, get_or, length, sym, ◌∙◌, subst, arith}
 use Rattle.std.specs.List.{All}
-use Rattle.bib_graph.proofs.Rows.{row_in}
+use Rattle.bib_collections.proofs.Rows.{row_in}
 use Rattle.bib_strings.proofs.used.mark_back.Goals as goal
 
 pub mark_all-requires : goal.mark_all-requires

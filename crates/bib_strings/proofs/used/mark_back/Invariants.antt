@@ -1,5 +1,5 @@
 use Rattle.std.proofs.Common.{◌≡◌, ◌-◌, drop, length}
-use Rattle.bib_graph.specs.Rows.{rows}
+use Rattle.bib_collections.specs.Rows.{rows}
 use Rattle.bib_strings.specs.Tables.{marked_back}
 use Rattle.bib_strings.proofs.used.mark_back.Given as goal
 

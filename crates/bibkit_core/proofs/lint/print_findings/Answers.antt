@@ -1,6 +1,6 @@
 use Rattle.std.proofs.Common.{◌≡◌, ◌+◌, ◌++◌, ◌∷◌, [], take, sym, ap, ◌∙◌}
 use Rattle.std.proofs.lemmas.List.{take_more}
-use Rattle.bib_lines.specs.Positions.{position_at}
+use Rattle.bib_source.specs.Positions.{position_at}
 use Rattle.bibkit_core.proofs.FindingFacts.{none_added, step_printed, step_passed}
 use Rattle.bibkit_core.proofs.lint.print_findings.Goals as goal
 use Rattle.bibkit_core.proofs.lint.print_findings.Goals.{then-asks_for+in_ok-print_finding, else-asks_for}

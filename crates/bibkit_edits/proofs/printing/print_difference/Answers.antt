@@ -3,9 +3,9 @@ use Rattle.std.specs.Prelude.{not, ◌==◌}
 use Rattle.std.specs.Io.KnownBytes.{Appends}
 use Rattle.std.specs.String.{string_bytes}
 use Rattle.std.proofs.lemmas.Result.{err_from_is_err_and}
-use Rattle.bibkit_diff.specs.Unified.{IsDiff}
+use Rattle.bib_source.specs.Unified.{IsDiff}
 use Rattle.bibkit_edits.specs.Edited.IsFileRefused.{no_memory}
-use Rattle.bibkit_edits.proofs.MarkFacts.{whole_utf8}
+use Rattle.bib_source.proofs.MarkFacts.{whole_utf8}
 use Rattle.bibkit_edits.proofs.printing.print_difference.Goals as goal
 
 pub difference-requires : goal.difference-requires

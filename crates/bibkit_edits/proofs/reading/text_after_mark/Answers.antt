@@ -1,4 +1,4 @@
-use Rattle.bib_encoding.proofs.InvalidFacts.{from_rest}
+use Rattle.bib_source.proofs.InvalidFacts.{from_rest}
 use Rattle.bibkit_edits.proofs.reading.text_after_mark.Goals as goal
 
 pub returns-in-Err-clause-invalid : goal.returns-in-Err-clause-invalid

@@ -1,7 +1,7 @@
-use Rattle.bib_graph.proofs.Walks as walks
-use Rattle.bib_inheritance.specs.Sources.{no_entry}
-use Rattle.bib_references.specs.Resolving.{rule_by}
-use Rattle.bib_references.proofs.RangeFacts.{graph_in_range}
+use Rattle.bib_collections.proofs.Walks as walks
+use Rattle.bib_inheritance.specs.EntryTexts.{no_entry}
+use Rattle.bib_inheritance.specs.Resolving.{rule_by}
+use Rattle.bib_inheritance.proofs.RangeFacts.{graph_in_range}
 use Rattle.biblatex.specs.Resolved.{names_of}
 use Rattle.biblatex.proofs.ResolvedFacts.{names_below}
 use Rattle.biblatex.proofs.laws.inherits_in_one_way.Goals as goal

@@ -1,6 +1,6 @@
 use Rattle.std.proofs.Common.{◌≡◌, length, arith, refl, sym, ◌∙◌}
 use Rattle.std.proofs.lemmas.List.{length-map}
-use Rattle.bib_roundtrip.proofs.SettledFacts.{never}
+use Rattle.biblatex.proofs.SettledFacts.{never}
 use Rattle.biblatex.proofs.DistinctFacts.{keys_of, not_distinct, alone_next, points, all_alone}
 use Rattle.biblatex.proofs.settled.has_distinct_keys.Goals as goal
 

@@ -1,6 +1,6 @@
 use Rattle.std.proofs.Common.{◌++◌, ap, ◌∙◌}
 use Rattle.std.proofs.lemmas.Result.{err_from_is_err_and}
-use Rattle.bib_entry.specs.Format.{entry_in}
+use Rattle.bib_entry.specs.Dialect.{entry_in}
 use Rattle.biblatex.proofs.HandingFacts.{none_taken, one_refused, text_of}
 use Rattle.biblatex.proofs.write.hand_next.Goals as goal
 
@@ -11,5 +11,5 @@ returns-in_err-write_next-clause-handed g c =
 
 pub returns-clause-handed : goal.returns-clause-handed
 returns-clause-handed g c =
-    let text = text_of (entry_in c.args.format) c.args.is_first c.args.entry.now in
+    let text = text_of (entry_in c.args.dialect) c.args.is_first c.args.entry.now in
     one_refused g.K.Sink.hands_over _ _ _ _ (c.deref.ensures ∙ c.in_ok-write_next.ensures ∙ ap (λ bs. bs ++ text) c.new-text.ensures.bytes) c.if-write_str.ensures.handed

@@ -5,7 +5,7 @@ use Rattle.bib_chunks.specs.Formatted.{ends_in_space, flowing, sentence_case}
 use Rattle.bib_text.proofs.TextFacts.{ahead}
 use Rattle.bib_chunks.proofs.chunk.formatting.write_sentence_text.Given as goal
 
--- what was written and what is still to come make up the whole text, and end as it does
+-- the output followed by the rest in sentence case is the whole text, and both end in white space or neither
 abbrev pub invariant-text : goal.invariant-text
 invariant-text l =
     (l.scanner.text ≡ l.text)

@@ -4,7 +4,7 @@ use Rattle.bib_text.specs.Places.{place}
 use Rattle.bib_contents.proofs.PlainFacts.{Itself}
 use Rattle.bib_contents.proofs.characters.Characters.eat_shown.Given as goal
 
--- each character that was passed is read as itself, and the text may be cut here
+-- each passed character is parsed as itself, and the cursor is at a character boundary
 abbrev pub invariant-run : goal.invariant-run
 invariant-run l = (l.start ≤ l.at) × IsCharBoundary l.text l.at × Itself l.is_verbatim (place l.text l.start) (place l.text l.at)
 

@@ -1,6 +1,6 @@
 use Rattle.std.proofs.Common.{◌≡◌, rules}
 use Rattle.std.proofs.lemmas.List.Elements.{same_from_all_zip}
-use Rattle.bib_maps.proofs.CopyFacts.{same_copy}
+use Rattle.bib_collections.proofs.CopyFacts.{same_copy}
 use Rattle.bib_entry.proofs.EntryFacts.{same_type}
 use Rattle.bib_entry.proofs.entry.EntryClone.clone.Goals as goal
 

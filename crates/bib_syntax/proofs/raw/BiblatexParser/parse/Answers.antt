@@ -10,7 +10,7 @@ use Rattle.bib_syntax.proofs.FieldFacts.{refuses_from}
 use Rattle.bib_syntax.proofs.ModeFacts.{file_any, file_longest}
 use Rattle.bib_syntax.proofs.raw.BiblatexParser.parse.Goals as goal
 
--- a place at the start of a text
+-- a place with the offset 0 is the start of its text
 start : (q p : Place) (text : List ℕ) → q ≡ p → p.text ≡ text → p.at ≡ 0 → q ≡ place text 0
 start q p text same texts at = same ∙ same_place {u = p} {v = place text 0} texts at
 

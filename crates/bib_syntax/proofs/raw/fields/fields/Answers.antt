@@ -13,7 +13,7 @@ use Rattle.bib_syntax.proofs.ReadingFacts.{error_back}
 use Rattle.bib_syntax.proofs.raw.fields.fields.Goals as goal
 use Rattle.bib_syntax.proofs.raw.fields.fields.Goals.{In_ok-push}
 
--- what fails from the field that begins here fails from each place that is kept
+-- each failure from the field that begins here is a failure from each of the kept offsets
 begun : (c : In_ok-push) → FailBefore c.args.s.now.text c.args.starts.now.items c.push.new.self.items c.fields.s
 begun c = rw c.in_ok-push.ensures.items (here_fails _ c.fields.invariant.2 c.fields.invariant.0.text c.cursor.ensures.place)
 

@@ -7,7 +7,7 @@ use Rattle.bib_syntax.proofs.StretchFacts.{stretch_made}
 use Rattle.bib_syntax.proofs.raw.stretches.lines.Goals as goal
 use Rattle.bib_syntax.proofs.raw.stretches.lines.Goals.{In_ok-push}
 
--- the lines so far, with the one that ends here
+-- the lines so far and the one that ends here are lines of the text
 more : (c : In_ok-push) → AreLines c.args.text.now c.push.new.self.items
 more c =
     let line : IsStretch 10 c.args.text.now (record { start = c.cursor-start.result; end = c.cursor-end.result }) = stretch_made 10 _ _ _ _ _ c.utf8.text c.lines.invariant.0 (c.eat_until.ensures.same ∙ c.lines.invariant.0) c.cursor-start.ensures.place c.cursor-end.ensures.place

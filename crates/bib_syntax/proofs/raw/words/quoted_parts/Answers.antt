@@ -7,7 +7,7 @@ use Rattle.bib_syntax.proofs.ReadingFacts.{error_back, part_from, not_after}
 use Rattle.bib_syntax.proofs.raw.words.quoted_parts.Goals as goal
 use Rattle.bib_syntax.proofs.raw.words.quoted_parts.Goals.{After-eat_until_either}
 
--- the run of plain characters at the start of a turn
+-- the run of plain characters at the start of a loop iteration
 run : (c : After-eat_until_either) → Longest is_quotable c.parts.s c.eat_until_either.new.self
 run c = c.eat_until_either.ensures.longest
 

@@ -12,7 +12,7 @@ use Rattle.bib_syntax.proofs.ReadingFacts.{error_back, taken_if, part_from, not_
 use Rattle.bib_syntax.proofs.raw.words.scanned_parts.Goals as goal
 use Rattle.bib_syntax.proofs.raw.words.scanned_parts.Goals.{After-eat_until_any}
 
--- the run of plain characters at the start of a turn
+-- the run of plain characters at the start of a loop iteration
 run : (c : After-eat_until_any) → Longest is_plain c.parts.s c.eat_until_any.new.self
 run c = c.eat_until_any.ensures.longest
 
@@ -22,7 +22,7 @@ passed c = ahead_then c.parts.invariant.0 (ahead_run (run c).run)
 all : (c : After-eat_until_any) → SameBraced zero c.args.s.now c.parts.depth c.eat_until_any.new.self
 all c = braced_then c.parts.invariant.1 (braced_run _ (run c).run)
 
--- a depth is at most the number of bytes passed
+-- after one more character, the depth is still at most the offset
 deeper : {u v w : Place} {n : ℕ} {k : ℕ} → n ≤ u.at → Ahead u v → CharAt v k w → n + 1 ≤ w.at
 deeper {u} {v} {w} {n} {k} depth run char =
     let width : 1 ≤ len_utf8 k = (len_utf8_bounds k).0 in

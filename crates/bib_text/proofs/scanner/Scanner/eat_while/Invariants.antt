@@ -3,7 +3,7 @@ use Rattle.std.specs.Str.{IsCharBoundary}
 use Rattle.bib_text.specs.Places.{place, AllBetween}
 use Rattle.bib_text.proofs.scanner.Scanner.eat_while.Given as goal
 
--- each character that was passed so far may have passed the test, and the place is one where the text may be cut
+-- the test may accept each character passed so far, and `at` is a character boundary
 abbrev pub invariant-run : goal.invariant-run
 invariant-run g l =
     (l.start ≤ l.at)

@@ -1,5 +1,5 @@
 use Rattle.std.proofs.Common.{◌++◌, ◌∷◌, [], ◌+◌, ap, arith, length, length-append, ◌∙◌}
-use Rattle.bib_maps.specs.Names.{AreIndicesBelow}
+use Rattle.bib_collections.specs.Names.{AreIndicesBelow}
 use Rattle.bib_file_entries.specs.Bibliography.{claims}
 use Rattle.bib_file_entries.proofs.BibliographyFacts.{below_claimed, below_more}
 use Rattle.biblatex.proofs.bibliography.Bibliography.insert.Goals as goal

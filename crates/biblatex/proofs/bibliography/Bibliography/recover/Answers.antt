@@ -1,9 +1,9 @@
 use Rattle.std.proofs.Common.{◌≡◌, ◌∙◌, ap, sym, subst, length}
 use Rattle.std.proofs.lemmas.List.{length-map}
 use Rattle.bib_file_entries.specs.Claiming.{place_of}
-use Rattle.bib_maps.specs.Names.{AreIndicesBelow}
-use Rattle.bib_references.specs.Recovered.{AreRecovered}
-use Rattle.bib_references.proofs.DatesRead.{all_taken}
+use Rattle.bib_collections.specs.Names.{AreIndicesBelow}
+use Rattle.bib_inheritance.specs.Recovered.{AreRecovered}
+use Rattle.bib_inheritance.proofs.DatesRead.{all_taken}
 use Rattle.bib_syntax.specs.Views.{file_of}
 use Rattle.biblatex.specs.BibliographyRecovery.{IsRecoveredBibliography}
 use Rattle.biblatex.proofs.KeptFacts.{kept_are_entries}

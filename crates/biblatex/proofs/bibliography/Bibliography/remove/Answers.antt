@@ -1,5 +1,5 @@
 use Rattle.std.proofs.Common.{◌≡◌, ◌<◌, ◌-◌, arith, Some, length, sym, subst}
-use Rattle.bib_maps.specs.Names.{AreIndicesBelow}
+use Rattle.bib_collections.specs.Names.{AreIndicesBelow}
 use Rattle.bib_file_entries.specs.Bibliography.{entry_of}
 use Rattle.bib_file_entries.proofs.BibliographyFacts.{below_more, below_without_index, found_at}
 use Rattle.biblatex.proofs.bibliography.Bibliography.remove.Goals as goal

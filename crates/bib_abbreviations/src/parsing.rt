@@ -1,0 +1,48 @@
+//! Parses the contents of fields and expands the abbreviations in them.
+
+ghost use Rattle.std.specs.Prelude.{◌≡◌, ◌+◌, ◌⊎◌, [], ◌∷◌, map, length, OnOk, IfOk, IfErr};
+ghost use Rattle.bib_chunks.specs.Styled.{styled};
+ghost use Rattle.bib_abbreviations.specs.Abbreviations.{Evaluates, IsFirstError, IsReadable, defined_in};
+ghost use Rattle.bib_syntax.specs.Errors.{out_of_memory};
+ghost use Rattle.bib_chunks.specs.Joined.{AreJoined, ArePlaced};
+ghost use Rattle.bib_syntax.specs.Reading.{Part};
+ghost use Rattle.bib_syntax.specs.Reading.Piece.{literal};
+ghost use Rattle.bib_syntax.specs.Views.{piece_of};
+ghost use Rattle.bib_tables.specs.VerbatimFields as names;
+
+use crate::abbreviations::field_contents;
+use bib_chunks::chunk::Chunks;
+use bib_syntax::raw::{Field, ParseError};
+use bib_tables::fields::is_verbatim_field;
+use std::alloc::Global;
+use std::collections::HashMap;
+
+/// Parses the contents of a field with the name `key`. Each literal is parsed by itself. An abbreviation is replaced by
+/// its definition. If it has none, it is replaced by the English name of the month whose first three letters it is, in
+/// any ASCII case. Two neighbouring chunks are merged if both are normal or both verbatim.
+///
+/// Returns the first error, from left to right and into each definition where its name occurs. A literal that can't be
+/// parsed has the error of `contents`: `Unexpected` or `UnexpectedEof`. A name that is neither defined nor such a month
+/// has `UnknownAbbreviation`. A name that occurs in its own expansion has `AbbreviationCycle`. The last two have the
+/// span of the name, in bytes of its file. The only other error is out of memory.
+pub fn parse_field(
+    alloc: Global,
+    key: &str,
+    field: &Field<'_>,
+    abbreviations: &HashMap<&str, &Field<'_>>,
+) -> Result<Chunks, ParseError>
+    ensures read { IfOk result (λ chunks. Evaluates (defined_in abbreviations.now)
+        (names.is_verbatim_field key.now) (map piece_of field.now.items) (styled chunks)) }
+    ensures readable { OnOk result (IsReadable (defined_in abbreviations.now)
+        (names.is_verbatim_field key.now) (map piece_of field.now.items)) }
+    ensures refused { IfErr result (λ e. (e ≡ out_of_memory) ⊎
+        (IsFirstError (defined_in abbreviations.now) (names.is_verbatim_field key.now) []
+        (map piece_of field.now.items) e ×
+        (IsReadable (defined_in abbreviations.now) (names.is_verbatim_field key.now)
+        (map piece_of field.now.items) → ⊥))) }
+    ensures joined { IfOk result AreJoined }
+    ensures placed { (p : Part) → map piece_of field.now.items ≡ literal p ∷ [] →
+        p.end ≡ p.start + length p.text → IfOk result (ArePlaced p.start p.end) }
+{
+    field_contents(alloc, is_verbatim_field(key), field, abbreviations)
+}

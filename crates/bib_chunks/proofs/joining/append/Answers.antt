@@ -1,0 +1,25 @@
+use Rattle.std.proofs.Common.{◌++◌, ◌∷◌, []}
+use Rattle.bib_chunks.proofs.JoinedFacts.{joined_whole, placed_whole, joined_push, placed_push}
+use Rattle.bib_chunks.proofs.joining.append.Goals as goal
+
+pub returns-in_default-second-clause-joined : goal.returns-in_default-second-clause-joined
+returns-in_default-second-clause-joined c = λ joined.
+    let whole = rw c.in_default-second.is at c.in_ok-first.ensures in
+    rw c.in_ok-push-2.ensures.items (joined_whole c.pop.new.self _ _ _ whole (rw c.in-Some.ensures.items at joined))
+
+pub returns-in_default-second-clause-placed : goal.returns-in_default-second-clause-placed
+returns-in_default-second-clause-placed c = λ low high placed before ordered.
+    let whole = rw c.in_default-second.is at c.in_ok-first.ensures in
+    rw c.in_ok-push-2.ensures.items (placed_whole c.pop.new.self _ _ _ low high whole (rw c.in-Some.ensures.items at placed) before ordered)
+
+pub returns-clause-joined : goal.returns-clause-joined
+returns-clause-joined c = λ joined.
+    let two = rw c.in-Some-second.is at c.in_ok-first.ensures in
+    rw (c.in_ok-push-3.ensures.items, c.in_ok-push-2.ensures.items, two.0, two.1)
+    (joined_push c.pop.new.self _ _ two.2 (rw c.in-Some.ensures.items at joined))
+
+pub returns-clause-placed : goal.returns-clause-placed
+returns-clause-placed c = λ low high placed before ordered.
+    let two = rw c.in-Some-second.is at c.in_ok-first.ensures in
+    rw (c.in_ok-push-3.ensures.items, c.in_ok-push-2.ensures.items, two.0, two.1)
+    (placed_push (c.pop.new.self ++ c.in-Some.last ∷ []) _ low high (rw c.in-Some.ensures.items at placed) before ordered)

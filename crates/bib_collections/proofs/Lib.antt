@@ -1,0 +1,16 @@
+pub mod ClaimsFacts
+pub mod CopyFacts
+pub mod LookingFacts
+pub mod NamesFacts
+pub mod RetainingFacts
+pub mod SortedFacts
+pub mod SortingFacts
+pub mod Fill
+pub mod Order
+pub mod Roots
+pub mod Rows
+pub mod Search
+pub mod Solving
+pub mod Start
+pub mod Walks
+pub mod Work

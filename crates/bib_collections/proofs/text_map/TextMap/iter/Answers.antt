@@ -1,0 +1,6 @@
+use Rattle.std.proofs.Common.{sym, ◌∙◌}
+use Rattle.bib_collections.proofs.SortedFacts.{entries_are}
+use Rattle.bib_collections.proofs.text_map.TextMap.iter.Goals as goal
+
+pub returns : goal.returns
+returns g c = c.iter.ensures.rest ∙ c.deref.ensures.value ∙ sym (entries_are _ _ c.self.view_is c.self.invariant)

@@ -1,0 +1,11 @@
+pub mod Claims
+pub mod Names
+pub mod Sorted
+pub mod TextMap
+pub mod TextMapIterators
+pub mod TextMapLending
+pub mod Graph
+pub mod Rows
+pub mod Search
+pub mod Solving
+pub mod Work

@@ -1,7 +1,0 @@
-use Rattle.std.proofs.Common.{◌≡◌, drop}
-use Rattle.serde_json.specs.View.{members_view}
-use Rattle.bib_csl.specs.Json.{with_variables, head_members}
-use Rattle.bib_csl.proofs.objects.item_json.Given as goal
-
-abbrev pub invariant-fields : goal.invariant-fields
-invariant-fields l = with_variables (drop l.field-index l.field-items) (members_view l.members.entries) ≡ with_variables l.field-items (head_members l.item)

@@ -1,3 +1,0 @@
-pub mod InvalidFacts
-pub mod Rows
-pub mod TableFacts

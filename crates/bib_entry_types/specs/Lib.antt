@@ -1,4 +1,0 @@
-pub mod EntryType
-pub mod Requirements
-pub mod Row
-pub mod VerbatimFields

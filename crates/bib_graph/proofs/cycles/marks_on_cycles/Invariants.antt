@@ -1,6 +1,0 @@
-use Rattle.bib_graph.specs.Rows.{rows}
-use Rattle.bib_graph.proofs.Roots.{AreMarkedTo}
-use Rattle.bib_graph.proofs.cycles.marks_on_cycles.Given as goal
-
-abbrev pub invariant-loop-index : goal.invariant-loop-index
-invariant-loop-index l = AreMarkedTo (rows l.refs) l.index l.marks.items

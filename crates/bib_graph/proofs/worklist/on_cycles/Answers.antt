@@ -1,7 +1,0 @@
-use Rattle.bib_graph.specs.Rows.{rows}
-use Rattle.bib_graph.proofs.Work.{waiting_in_range}
-use Rattle.bib_graph.proofs.worklist.on_cycles.Goals as goal
-
-pub marks_on_cycles-requires-clause-waiting : goal.marks_on_cycles-requires-clause-waiting
-marks_on_cycles-requires-clause-waiting c =
-    rw c.deref.ensures.value (waiting_in_range (rows c.args.refs.now) (rows c.in_ok-waiting.waiting.items) c.in_ok-waiting.ensures)

@@ -1,5 +1,0 @@
-use Rattle.bib_graph.proofs.Fill.{IsReadyTo}
-use Rattle.bib_graph.proofs.worklist.ready_indices.Given as goal
-
-abbrev pub invariant-loop-index : goal.invariant-loop-index
-invariant-loop-index l = IsReadyTo l.missing l.ready.items l.index

@@ -1,0 +1,102 @@
+//! The dates of entries that other entries may inherit. Each is computed once.
+
+ghost use Rattle.std.specs.Prelude.{◌≡◌, ◌<◌, ◌⊎◌, ℕ, IfOk, IsNone, IsSome, OnOk, length, map, option_map};
+ghost use Rattle.std.specs.List.{All, Contains};
+ghost use Rattle.std.specs.Option.{option_copied};
+ghost use Rattle.bib_chunks.specs.Styled.{styled};
+ghost use Rattle.bib_inheritance.specs.InheritableDate.{last_date};
+ghost use Rattle.bib_inheritance.specs.Resolving.{at_index, texts_of_entries};
+ghost use Rattle.bib_inheritance.specs.Turning.{AddsAmong, AreDates, date_at, dated_in, error_in};
+
+use crate::inheritable_date::InheritableDate;
+use bib_chunks::chunk::Chunks;
+use bib_entry::entry::Entry;
+use bib_tables::type_error::TypeError;
+use std::alloc::{AllocError, Global};
+
+// Returns a vector of `count` dates, none of them computed yet.
+pub(crate) fn unread_dates(
+    alloc: Global,
+    count: usize,
+) -> Result<Vec<Option<InheritableDate>>, AllocError>
+    ensures as_long { IfOk result (λ dates. length dates.items ≡ count) }
+    ensures unread { IfOk result (λ dates. (index : ℕ) → IsNone (date_at dates.items index)) }
+{
+    let mut dates = Vec::with_capacity(alloc, count)?;
+    'indices: for _index in 0..count {
+        dates.push(None)?;
+    }
+    Ok(dates)
+}
+
+// Returns the date if it was computed and the entry has one that can be inherited.
+fn dated(date: &Option<InheritableDate>) -> Option<&Chunks>
+    ensures { option_copied result ≡ dated_in date.now }
+{
+    match date {
+        Some(InheritableDate::Dated(chunks)) => Some(chunks),
+        Some(InheritableDate::Undated | InheritableDate::Unreadable(_)) | None => None,
+    }
+}
+
+// Returns the error if the date was computed and can't be parsed.
+pub(crate) fn error(date: &Option<InheritableDate>) -> Option<&TypeError>
+    ensures { option_copied result ≡ error_in date.now }
+{
+    match date {
+        Some(InheritableDate::Unreadable(error)) => Some(error),
+        Some(InheritableDate::Undated | InheritableDate::Dated(_)) | None => None,
+    }
+}
+
+// Computes the date of the entry at `index`, unless it was computed before.
+pub(crate) fn read_date(
+    alloc: Global,
+    entries: &[Entry],
+    dates: &mut [Option<InheritableDate>],
+    index: usize,
+) -> Result<(), AllocError>
+    requires index { index < length entries.now }
+    requires as_long { length dates.old ≡ length entries.now }
+    requires dates { AreDates entries.now dates.old }
+    ensures as_long { length dates.new ≡ length entries.now }
+    ensures dates { AreDates entries.now dates.new }
+    ensures read { OnOk result (IsSome (date_at dates.new index)) }
+    ensures added { (other : ℕ) → IsSome (date_at dates.new other) →
+        IsSome (date_at dates.old other) ⊎ (other ≡ index) }
+{
+    if dates[index].is_some() {
+        return Ok(());
+    }
+    let entry = &entries[index];
+    let date = InheritableDate::of(alloc, &entry.fields)?;
+    dates[index] = Some(date);
+    Ok(())
+}
+
+// Returns the date of the last of these entries that has one.
+pub(crate) fn last_date(
+    alloc: Global,
+    indices: &[usize],
+    entries: &[Entry],
+    dates: &mut [Option<InheritableDate>],
+) -> Result<Option<Chunks>, AllocError>
+    requires indices { All (λ r. r < length entries.now) indices.now }
+    requires as_long { length dates.old ≡ length entries.now }
+    requires dates { AreDates entries.now dates.old }
+    ensures last { IfOk result (λ date. option_map styled date ≡
+        last_date (map (at_index (texts_of_entries entries.now)) indices.now)) }
+    ensures as_long { length dates.new ≡ length entries.now }
+    ensures dates { AreDates entries.now dates.new }
+    ensures added { AddsAmong indices.now dates.old dates.new }
+{
+    let count = indices.len();
+    'indices: for done in 0..count {
+        let index = indices[count - 1 - done];
+        read_date(alloc, entries, dates, index)?;
+        if let Some(date) = dated(&dates[index]) {
+            return Ok(Some(date.clone()?));
+        }
+    }
+    Ok(None)
+}

@@ -1,0 +1,156 @@
+//! Inheritance between the entries of a file with errors.
+
+ghost use Rattle.std.specs.Prelude.{◌≡◌, ◌<◌, ℕ, true, IfOk, OnOk, length, map};
+ghost use Rattle.bib_collections.specs.Graph.{HasNoCycle, IsInRange, IsTopologicalOrder};
+ghost use Rattle.bib_collections.specs.Rows.{rows};
+ghost use Rattle.bib_collections.specs.Names.{AreIndicesBelow};
+ghost use Rattle.bib_inheritance.specs.Cutting.{IsCut, IsUnreadError};
+ghost use Rattle.bib_inheritance.specs.Recovered.{AreRecovered, EachReported, without_references};
+ghost use Rattle.bib_inheritance.specs.Resolving.{texts_of_entries};
+ghost use Rattle.bib_inheritance.specs.Turning.{AreDates, is_unread_at};
+
+use crate::dates::unread_dates;
+use crate::inheritable_date::InheritableDate;
+use crate::reference_indices::{graph, looks, reference_flags};
+use crate::resolving::{cycle, unread};
+use crate::turning::take_turns;
+use crate::unread::first_unread;
+use bib_chunks::chunk::Span;
+use bib_collections::names::Names;
+use bib_collections::worklist::{on_cycles, topological_order};
+use bib_entry::entry::Entry;
+use bib_syntax::raw::ParseError;
+use std::alloc::{AllocError, Global};
+
+// Removes the fields by which an entry refers to others.
+fn cut(entry: &mut Entry)
+    ensures { entry.new ≡ without_references entry.old }
+{
+    entry.fields.remove("crossref");
+    entry.fields.remove("xdata");
+}
+
+// Removes the references of each entry that refers to itself, directly or through others, and returns an error for each.
+fn cut_cycles(
+    alloc: Global,
+    spans: &[Span],
+    entries: &mut [Entry],
+    refs: &mut [Vec<usize>],
+) -> Result<Vec<ParseError>, AllocError>
+    requires in_range { IsInRange (rows refs.old) }
+    requires rows { length refs.old ≡ length entries.old }
+    requires as_long { length spans.now ≡ length entries.old }
+    ensures rows { length refs.new ≡ length refs.old }
+    ensures length { length entries.new ≡ length entries.old }
+    ensures cut { IfOk result (λ errors. IsCut spans.now entries.old (rows refs.old) entries.new (rows refs.new) errors.items) }
+{
+    let marks = on_cycles(alloc, refs)?;
+    let mut errors = Vec::new(alloc);
+    'entries: for index in 0..marks.len() {
+        if marks[index] {
+            let error = cycle(alloc, spans, entries, index)?;
+            errors.push(error)?;
+            cut(&mut entries[index]);
+            refs[index] = Vec::new(alloc);
+        }
+    }
+    Ok(errors)
+}
+
+// Returns a topological order of the entries, whose graph has no cycle.
+fn order(alloc: Global, refs: &[Vec<usize>]) -> Result<Vec<usize>, AllocError>
+    requires in_range { IsInRange (rows refs.now) }
+    requires no_cycle { HasNoCycle (rows refs.now) }
+    ensures { IfOk result (λ order. IsTopologicalOrder (rows refs.now) order.items) }
+{
+    match topological_order(alloc, refs) {
+        Ok(order) => Ok(order),
+        Err(e) => {
+            e.unless_out_of_memory()?;
+            unreachable!()
+        }
+    }
+}
+
+// Removes the references of each entry on a cycle. Returns a topological order of the entries, and an error for each entry on
+// a cycle.
+fn order_and_cycles(
+    alloc: Global,
+    spans: &[Span],
+    entries: &mut [Entry],
+    refs: &mut [Vec<usize>],
+) -> Result<(Vec<usize>, Vec<ParseError>), AllocError>
+    requires in_range { IsInRange (rows refs.old) }
+    requires rows { length refs.old ≡ length entries.old }
+    requires as_long { length spans.now ≡ length entries.old }
+    ensures rows { length refs.new ≡ length refs.old }
+    ensures length { length entries.new ≡ length entries.old }
+    ensures turns { IfOk result (λ found. IsTopologicalOrder (rows refs.new) found.0.items) }
+    ensures cut { IfOk result (λ found. IsCut spans.now entries.old (rows refs.old) entries.new (rows refs.new) found.1.items) }
+{
+    match topological_order(alloc, refs) {
+        Ok(order) => Ok((order, Vec::new(alloc))),
+        Err(e) => {
+            e.unless_out_of_memory()?;
+            let errors = cut_cycles(alloc, spans, entries, refs)?;
+            Ok((order(alloc, refs)?, errors))
+        }
+    }
+}
+
+// Returns an error for each entry that is flagged in `looks` and refers to an entry whose date can't be parsed.
+fn date_errors(
+    alloc: Global,
+    refs: &[Vec<usize>],
+    looks: &[bool],
+    entries: &[Entry],
+    dates: &mut [Option<InheritableDate>],
+) -> Result<Vec<ParseError>, AllocError>
+    requires in_range { IsInRange (rows refs.now) }
+    requires as_long { length entries.now ≡ length refs.now }
+    requires flags { length looks.now ≡ length refs.now }
+    requires as_many { length dates.old ≡ length entries.now }
+    requires dates { AreDates entries.now dates.old }
+    ensures { IfOk result (λ errors. EachReported
+        (λ index. is_unread_at looks.now (rows refs.now) (texts_of_entries entries.now) index ≡ true)
+        (IsUnreadError (rows refs.now) entries.now) (length refs.now) errors.items) }
+{
+    let mut errors = Vec::new(alloc);
+    'entries: for index in 0..refs.len() {
+        if !looks[index] {
+            continue 'entries;
+        }
+        if let Some(error) = first_unread(alloc, &refs[index], entries, dates)? {
+            errors.push(unread(error))?;
+        }
+    }
+    Ok(errors)
+}
+
+/// Adds to each entry the fields that it inherits, and returns all errors. `names` points to the entries, and `spans`
+/// contains the span of each entry in the file.
+///
+/// Each entry that refers to itself, directly or through others, is reported (`ReferenceCycle`, at the entry), and loses its
+/// `crossref` and `xdata`. Then each entry is reported that lacks a required date and refers to an entry whose date can't be
+/// parsed (`ResolutionError`). Such a date is not inherited. Both kinds of errors are in the order of the entries.
+pub fn resolve_readable(
+    alloc: Global,
+    spans: &[Span],
+    names: &Names,
+    entries: &mut [Entry],
+) -> Result<Vec<ParseError>, AllocError>
+    requires below { AreIndicesBelow (length entries.old) names.now }
+    requires as_long { length spans.now ≡ length entries.old }
+    ensures length { length entries.new ≡ length entries.old }
+    ensures recovered { IfOk result (λ errors. AreRecovered spans.now names.now entries.old entries.new errors.items) }
+{
+    let mut refs = graph(alloc, entries, names)?;
+    let (order, mut errors) = order_and_cycles(alloc, spans, entries, &mut refs)?;
+    let looks = looks(alloc, entries)?;
+    let flags = reference_flags(alloc, entries)?;
+    let mut dates = unread_dates(alloc, entries.len())?;
+    take_turns(alloc, &order, &refs, &flags, entries, &mut dates)?;
+    let mut unread = date_errors(alloc, &refs, &looks, entries, &mut dates)?;
+    errors.append(&mut unread)?;
+    Ok(errors)
+}

@@ -1,7 +1,0 @@
-use Rattle.std.proofs.Common.{◌≡◌, ◌++◌}
-use Rattle.bib_maps.specs.Claims.{text_pairs}
-use Rattle.bib_maps.proofs.claims.Claims.into_names.Given as goal
-
--- the pairs so far, with those that are left, are all
-abbrev pub invariant-indices : goal.invariant-indices
-invariant-indices l = l.pairs.items ++ text_pairs l.name-iterator ≡ text_pairs l.initial.name-iterator

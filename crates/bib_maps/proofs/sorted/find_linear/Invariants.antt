@@ -1,7 +1,0 @@
-use Rattle.std.proofs.Common.{◌≡◌, drop}
-use Rattle.std.specs.FinMap as map
-use Rattle.bib_maps.specs.Sorted.{by_bytes}
-use Rattle.bib_maps.proofs.sorted.find_linear.Given as goal
-
-abbrev pub invariant-pairs : goal.invariant-pairs
-invariant-pairs g l = map.find by_bytes l.name l.pairs ≡ map.find by_bytes l.name (drop l.pair-index l.pairs)

@@ -1,5 +1,0 @@
-use Rattle.bib_maps.proofs.SortedFacts.{no_pairs}
-use Rattle.bib_maps.proofs.text_map.TextMap.new.Goals as goal
-
-pub returns : goal.returns
-returns g c = no_pairs _ c.new.ensures.items

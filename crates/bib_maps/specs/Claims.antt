@@ -1,8 +1,0 @@
--- Machinery: words of private contracts.
--- The names of a bibliography while it is read.
-use Rattle.std.specs.Prelude.{ℕ, List, map, String, string_bytes}
-use Rattle.std.specs.Global.{Global}
-
--- pairs with the texts of their strings
-abbrev pub text_pairs : List (String Global × ℕ) → List (List ℕ × ℕ)
-text_pairs = map (λ e. (string_bytes e.0, e.1))

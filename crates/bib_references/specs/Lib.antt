@@ -1,4 +1,0 @@
-pub mod Cutting
-pub mod Recovered
-pub mod Resolving
-pub mod Turning

@@ -1,0 +1,9 @@
+use Rattle.std.proofs.Common.{◌≡◌, ◌≤◌, length, take}
+use Rattle.bib_source.specs.Comparison.{old_side}
+use Rattle.bib_source.proofs.hunks.old_count.Given as goal
+
+abbrev pub invariant-lines : goal.invariant-lines
+invariant-lines l = record {
+  is : l.count ≡ length (old_side (take l.line-index l.lines));
+  within : l.count ≤ l.line-index;
+}

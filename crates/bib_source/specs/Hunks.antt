@@ -1,0 +1,35 @@
+-- Meaning: words of public contracts.
+-- Hunks of a unified diff, and how they turn one text into another.
+use Rattle.std.specs.Prelude.{◌≡◌, ℕ, ◌+◌, ◌<◌, ◌≤◌, true, List, [], ◌∷◌, ◌++◌, length, Some}
+use Rattle.std.specs.List.{slice_get}
+use Rattle.bib_source.specs.Comparison.{is_changed, old_side, new_side}
+use Rattle.bib_source.specs.declared.comparison.Line.{Line}
+
+-- lines, and the line numbers of the first of them in the old and in the new text
+pub record Hunk : Type 0 where
+  pub old : ℕ
+  pub new : ℕ
+  pub lines : List Line
+
+-- `index` is at most three lines from the index of a changed line
+pub record IsNearChange (lines : List Line) (index : ℕ) : Type 0 where
+  pub at : ℕ
+  pub line : Line
+  pub stands : slice_get lines at ≡ Some line
+  pub changed : is_changed line ≡ true
+  pub before : at ≤ index + 3
+  pub after : index ≤ at + 3
+
+-- a hunk has a line, and each of its lines is at most three lines from a changed line of the hunk
+pub record IsNarrow (hunk : Hunk) : Type 0 where
+  pub some : 0 < length hunk.lines
+  pub near : (index : ℕ) → index < length hunk.lines → IsNearChange hunk.lines index
+
+-- Hunks turn a list of lines into another one. The two numbers are the line numbers of the first line of each list. Lines
+-- before a hunk are kept. The lines of its old side are replaced by those of its new side. Lines after the last hunk are kept.
+pub data Make : ℕ → ℕ → List Hunk → List (List ℕ) → List (List ℕ) → Type 0 where
+  none : {old new : ℕ} {rest : List (List ℕ)} → Make old new [] rest rest
+  next : {old new : ℕ} {hunk : Hunk} {hunks : List Hunk} {rest rest' : List (List ℕ)} (before : List (List ℕ))
+      → hunk.old ≡ old + length before → hunk.new ≡ new + length before
+      → Make (hunk.old + length (old_side hunk.lines)) (hunk.new + length (new_side hunk.lines)) hunks rest rest'
+      → Make old new (hunk ∷ hunks) (before ++ (old_side hunk.lines ++ rest)) (before ++ (new_side hunk.lines ++ rest'))

@@ -1,0 +1,23 @@
+//! Decodes the bytes of a file, finds lines and columns, and compares two texts.
+//!
+//! `decoding` decodes bytes as UTF-8 if they are valid UTF-8 after an optional byte order mark. Otherwise it decodes them as
+//! Windows-1252, in which every byte is a character. So one invalid byte makes the whole file Windows-1252. No file is
+//! rejected and no character is replaced.
+//!
+//! `positions` finds the line and the column of a byte.
+//!
+//! `unified` prints the differences of two texts in the unified format. `lines` cuts a text into lines, and `partners` pairs
+//! equal lines of both texts. `comparison` merges the lines of both into one list by these pairs. `hunks` cuts out the
+//! changed lines and their context. Which equal lines are paired is a choice. For each choice it is proved that the hunks
+//! turn the old text into the new one.
+#![tactic(auto)]
+
+pub mod comparison;
+pub mod decoding;
+mod hunks;
+pub mod laws;
+mod lines;
+mod partners;
+pub mod positions;
+pub mod unified;
+mod windows_1252;

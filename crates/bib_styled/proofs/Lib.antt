@@ -1,4 +1,0 @@
-mod BraceFacts
-pub mod JoinedFacts
-pub mod ListFacts
-mod SettledFacts

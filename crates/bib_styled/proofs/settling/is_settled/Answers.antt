@@ -1,6 +1,0 @@
-use Rattle.bib_chunks.specs.Styled.{styled}
-use Rattle.bib_styled.proofs.SettledFacts.{settled_whole}
-use Rattle.bib_styled.proofs.settling.is_settled.Goals as goal
-
-pub chunks-init : goal.chunks-init
-chunks-init c = settled_whole c.args.is_verbatim (styled c.args.chunks.now)

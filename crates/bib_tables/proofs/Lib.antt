@@ -1,0 +1,2 @@
+pub mod LanguageFacts
+pub mod EntryTypeFacts

@@ -1,0 +1,11 @@
+pub mod EditorType
+pub mod Gender
+pub mod Language
+pub mod LanguageRows
+pub mod Pagination
+pub mod ReadAs
+pub mod TypeError
+pub mod EntryType
+pub mod Requirements
+pub mod Row
+pub mod VerbatimFields

@@ -1,0 +1,244 @@
+-- Meaning: words of public contracts.
+-- The fields that each entry type requires, allows and forbids, from the BibLaTeX manual's tables of entry types. By these
+-- lists, entries are checked and inherit fields.
+use Rattle.std.specs.Prelude.{ℕ, Bool, true, false, not, ◌&&◌, ◌||◌, List, [], ◌∷◌, ◌++◌, bytes_eq, codes, map}
+use Rattle.std.specs.List.{list_any}
+use Prim.Native.String.{String}
+use denote.Ref.{Bor}
+use Rattle.bib_text.specs.Enums.{words}
+use Rattle.bib_tables.specs.declared.mechanics.EntryType.{EntryType}
+use Rattle.bib_tables.specs.declared.mechanics.EntryType.TheVariants.{Article, Book, Booklet, InBook, InCollection, InProceedings, Manual, MastersThesis, PhdThesis, Misc, Proceedings, TechReport, Unpublished, MvBook, BookInBook, SuppBook, Periodical, SuppPeriodical, Collection, MvCollection, SuppCollection, Reference, MvReference, InReference, MvProceedings, Report, Patent, Thesis, Online, Software, Dataset, Set, XData, Unknown}
+use Rattle.bib_tables.specs.declared.mechanics.requirements.AuthorMode.{AuthorMode}
+use Rattle.bib_tables.specs.declared.mechanics.requirements.AuthorMode.TheVariants as author
+use Rattle.bib_tables.specs.declared.mechanics.requirements.PagesChapterMode.{PagesChapterMode}
+use Rattle.bib_tables.specs.declared.mechanics.requirements.PagesChapterMode.TheVariants as pages
+
+abbrev pub Names : Type 0
+Names = List (List ℕ)
+
+-- the texts of a list of borrowed texts
+abbrev pub texts : List (Bor (List ℕ)) → Names
+texts = map (λ name. name.now)
+
+-- the field names in a text with single spaces between them
+abbrev pub fields : String → Names
+fields names = words (codes names)
+
+-- the optional fields of nearly every type
+abbrev pub core : Names
+core = fields "titleaddon subtitle url urldate doi eprint eprintclass eprinttype pubstate language addendum"
+
+abbrev pub base : Names
+base = codes "note" ∷ codes "location" ∷ core
+
+abbrev pub unplaced : Names
+unplaced = codes "note" ∷ core
+
+-- people who annotated or translated a work, and texts added to it
+abbrev pub annotators : Names
+annotators = fields "annotator commentator translator origlanguage afterword foreword introduction"
+
+-- the title of a work in several volumes
+abbrev pub main_title : Names
+main_title = fields "maintitle mainsubtitle maintitleaddon"
+
+-- the rest of the title of the book that contains a part
+abbrev pub book_title : Names
+book_title = fields "booksubtitle booktitleaddon"
+
+-- The required and the optional fields of a type, and whether it requires a date. Also its rules for `author` and `editor`,
+-- and for `pages` and `chapter`.
+pub record Rules : Type 0 where
+  pub required : Names
+  pub optional : Names
+  pub author : AuthorMode
+  pub pages : PagesChapterMode
+  pub needs_date : Bool
+
+abbrev pub rules : Names → Names → AuthorMode → PagesChapterMode → Bool → Rules
+rules required optional author pages needs_date =
+    record { required = required; optional = optional; author = author; pages = pages; needs_date = needs_date }
+
+abbrev pub article_rules : Rules
+article_rules =
+    rules (fields "title journaltitle")
+    (unplaced ++ fields "number series version volume annotator commentator translator origlanguage journalsubtitle issue issuetitle issuesubtitle eid issn")
+    author.AuthorRequiredEditorOptional pages.PagesOptional true
+
+abbrev pub in_book_rules : Rules
+in_book_rules =
+    rules (fields "title publisher booktitle")
+    (base ++ annotators ++ main_title ++ book_title ++ fields "bookauthor volume volumes part type series number edition isbn")
+    author.OneRequired pages.OneRequired true
+
+abbrev pub in_collection_rules : Rules
+in_collection_rules =
+    rules (fields "title publisher booktitle")
+    (base ++ annotators ++ main_title ++ book_title ++ fields "volume volumes part type series number edition isbn")
+    author.BothRequired pages.BothOptional true
+
+abbrev pub masters_thesis_rules : Rules
+masters_thesis_rules =
+    rules (fields "title school")
+    (base ++ fields "type")
+    author.AuthorRequired pages.None true
+
+abbrev pub misc_rules : Rules
+misc_rules =
+    rules (fields "title")
+    (unplaced ++ fields "howpublished organization type")
+    author.OneRequired pages.None false
+
+abbrev pub collection_rules : Rules
+collection_rules =
+    rules (fields "title")
+    (base ++ annotators ++ main_title ++ fields "edition number series part volume volumes isbn publisher pagetotal")
+    author.EditorRequiredAuthorForbidden pages.BothOptional true
+
+abbrev pub mv_collection_rules : Rules
+mv_collection_rules =
+    rules (fields "title")
+    (base ++ annotators ++ fields "edition number series volumes isbn publisher pagetotal")
+    author.EditorRequiredAuthorForbidden pages.BothForbidden true
+
+-- the rules of each type; an unknown type has those of a collection in several volumes
+abbrev pub rules_of : EntryType → Rules
+rules_of Article = article_rules
+rules_of Book =
+    rules (fields "title publisher")
+    (base ++ annotators ++ main_title ++ fields "edition number series part volume volumes isbn pagetotal")
+    author.OneRequired pages.BothOptional true
+rules_of Booklet =
+    rules (fields "title")
+    (base ++ fields "howpublished type pagetotal")
+    author.OneRequired pages.BothOptional false
+rules_of InBook = in_book_rules
+rules_of InCollection = in_collection_rules
+rules_of InProceedings =
+    rules (fields "title booktitle")
+    (base ++ main_title ++ book_title ++ fields "number organization series volume volumes part publisher eventtitle eventsubtitle eventtitleaddon venue isbn")
+    author.AuthorRequiredEditorOptional pages.BothOptional true
+rules_of Manual =
+    rules (fields "title")
+    (base ++ fields "edition organization series version isbn publisher type pagetotal")
+    author.OneRequired pages.BothOptional false
+rules_of MastersThesis = masters_thesis_rules
+rules_of PhdThesis = masters_thesis_rules
+rules_of Misc = misc_rules
+rules_of Proceedings =
+    rules (fields "title")
+    (base ++ main_title ++ fields "number organization series volume volumes part publisher isbn pagetotal")
+    author.EditorRequiredAuthorForbidden pages.BothOptional true
+rules_of TechReport =
+    rules (fields "title institution")
+    (base ++ fields "number type")
+    author.AuthorRequired pages.None true
+rules_of Unpublished =
+    rules (fields "title note")
+    (core ++ fields "isbn howpublished")
+    author.AuthorRequired pages.None false
+rules_of MvBook =
+    rules (fields "title")
+    (base ++ annotators ++ fields "edition number series volumes isbn publisher pagetotal")
+    author.AuthorRequiredEditorOptional pages.BothOptional true
+rules_of BookInBook = in_book_rules
+rules_of SuppBook = in_book_rules
+rules_of Periodical =
+    rules (fields "title")
+    (base ++ fields "issue issuetitle issuesubtitle number series volume issn")
+    author.EditorRequiredAuthorForbidden pages.None true
+rules_of SuppPeriodical = article_rules
+rules_of Collection = collection_rules
+rules_of MvCollection = mv_collection_rules
+rules_of SuppCollection = in_collection_rules
+rules_of Reference = collection_rules
+rules_of MvReference = mv_collection_rules
+rules_of InReference = in_collection_rules
+rules_of MvProceedings =
+    rules (fields "title")
+    (base ++ fields "number series volumes publisher organization pagetotal")
+    author.EditorRequiredAuthorForbidden pages.BothForbidden true
+rules_of Report =
+    rules (fields "title institution type")
+    (base ++ fields "number version isrn pagetotal")
+    author.AuthorRequired pages.BothOptional true
+rules_of Patent =
+    rules (fields "title number")
+    (base ++ fields "holder type")
+    author.AuthorRequired pages.None true
+rules_of Thesis =
+    rules (fields "title institution type")
+    (base ++ fields "isbn pagetotal")
+    author.AuthorRequired pages.BothOptional true
+rules_of Online =
+    rules (fields "title url")
+    (fields "note titleaddon subtitle urldate pubstate language addendum organization")
+    author.OneRequired pages.None true
+rules_of Software = misc_rules
+rules_of Dataset =
+    rules (fields "title")
+    (base ++ fields "edition type series number version organization publisher")
+    author.OneRequired pages.None true
+rules_of Set = rules (fields "entryset") [] author.NoneRequired pages.None false
+rules_of XData = rules [] [] author.NoneRequired pages.None false
+rules_of (Unknown name) = mv_collection_rules
+
+-- the forbidden fields of a type, except for those that its rules for authors and pages forbid
+abbrev pub forbidden_of : EntryType → Names
+forbidden_of InBook = fields "pagetotal"
+forbidden_of InCollection = fields "pagetotal"
+forbidden_of InProceedings = fields "pagetotal"
+forbidden_of BookInBook = fields "pagetotal"
+forbidden_of SuppBook = fields "pagetotal"
+forbidden_of SuppCollection = fields "pagetotal"
+forbidden_of InReference = fields "pagetotal"
+forbidden_of MvBook = fields "maintitle mainsubtitle maintitleaddon part volume"
+forbidden_of MvCollection = fields "maintitle mainsubtitle maintitleaddon part volume"
+forbidden_of MvReference = fields "maintitle mainsubtitle maintitleaddon part volume"
+forbidden_of MvProceedings = fields "maintitle mainsubtitle maintitleaddon part volume"
+forbidden_of (Unknown name) = fields "maintitle mainsubtitle maintitleaddon part volume"
+forbidden_of _ = []
+
+-- those of the fields `author` and `editor` that a rule requires or allows; none for `NoneRequired`
+abbrev pub author_names : AuthorMode → Names
+author_names author.NoneRequired = []
+author_names author.OneRequired = fields "author editor"
+author_names author.BothRequired = fields "author editor"
+author_names author.AuthorRequired = fields "author"
+author_names author.AuthorRequiredEditorOptional = fields "author editor"
+author_names author.EditorRequiredAuthorForbidden = fields "editor"
+
+-- those of the fields `pages` and `chapter` that a rule requires or allows; none for `None`
+abbrev pub page_names : PagesChapterMode → Names
+page_names pages.None = []
+page_names pages.OneRequired = fields "pages chapter"
+page_names pages.BothOptional = fields "pages chapter"
+page_names pages.BothForbidden = []
+page_names pages.PagesOptional = fields "pages"
+page_names pages.PagesRequired = fields "pages"
+
+-- all fields that the rules of a type require or allow, including those for pages and chapters and for authors and editors
+abbrev pub named_in : Rules → Names
+named_in asked = asked.required ++ asked.optional ++ page_names asked.pages ++ author_names asked.author
+
+-- the fields that an entry of a type can inherit from the entries that it refers to, except for those never inherited
+abbrev pub inheritable : EntryType → Names
+inheritable type = named_in (rules_of type)
+
+-- the fields that no entry inherits
+abbrev pub never_inherited : Names
+never_inherited = fields "title addendum note"
+
+-- whether entries of a type are only containers of fields
+abbrev pub is_container : EntryType → Bool
+is_container XData = true
+is_container _ = false
+
+-- whether `name` is one of `names`
+abbrev pub is_one_of : Names → List ℕ → Bool
+is_one_of names name = list_any (λ each. bytes_eq each name) names
+
+-- Whether an entry of a type that lacks the field `name` inherits it from an entry that it refers to. No entry inherits the
+-- fields of `never_inherited`. A container inherits all other fields, and any other entry those inheritable for its type.
+abbrev pub inherits : EntryType → List ℕ → Bool
+inherits type name = not (is_one_of never_inherited name) && (is_container type || is_one_of (inheritable type) name)

@@ -1,0 +1,13 @@
+//! The tables of BibTeX and BibLaTeX: entry types, required fields, verbatim fields, small enumerations and languages. Also
+//! the errors of typed values.
+//!
+//! `mechanics` has the entry types. An entry type may contain a text, so the table of their names can't be a constant. It is
+//! a macro that expands to one `match` for each direction. `EntryType::new` first looks a name up without changing its case,
+//! so it doesn't allocate for common files. `types` has the enumerations. Languages are rows of a constant table, in the
+//! order of the variants. `fields` has the verbatim fields. `type_error` has the reasons why chunks aren't a value of a type.
+#![tactic(auto)]
+
+pub mod fields;
+pub mod mechanics;
+pub mod type_error;
+pub mod types;

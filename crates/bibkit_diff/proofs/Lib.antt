@@ -1,4 +1,0 @@
-mod ComparisonFacts
-mod HunkFacts
-mod LineFacts
-mod NarrowFacts

@@ -1,9 +1,0 @@
-use Rattle.std.proofs.Common.{◌+◌, ap₂, sym, ◌∙◌, arith}
-use Rattle.bibkit_diff.proofs.ComparisonFacts.{old_more}
-use Rattle.bibkit_diff.proofs.hunks.old_count.Goals as goal
-
-pub lines-preserved : goal.lines-preserved
-lines-preserved c = record {
-  is = ap₂ (λ n m. n + m) c.lines.invariant.is c.in_old-count.ensures.is ∙ sym (old_more c.args.lines.now c.lines.line-index c.lines-test.true);
-  within = omega (arith, c.lines.invariant.within, c.in_old-count.ensures.within);
-}

@@ -1,6 +1,0 @@
-use Rattle.std.proofs.Common.{◌≡◌, ◌≤◌, ◌<◌, ℕ}
-use Rattle.bibkit_diff.specs.Visible.{is_visible}
-use Rattle.bibkit_diff.proofs.hunks.run_end.Given as goal
-
-abbrev pub invariant-lines : goal.invariant-lines
-invariant-lines l = (i : ℕ) → l.fn.start ≤ i → i < l.index → is_visible l.fn.lines i ≡ l.fn.are_visible

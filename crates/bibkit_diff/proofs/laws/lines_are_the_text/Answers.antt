@@ -1,5 +1,0 @@
-use Rattle.bibkit_diff.proofs.LineFacts.{lines_are_the_text}
-use Rattle.bibkit_diff.proofs.laws.lines_are_the_text.Goals as goal
-
-pub returns : goal.returns
-returns c = lines_are_the_text

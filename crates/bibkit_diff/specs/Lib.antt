@@ -1,5 +1,0 @@
-pub mod Comparison
-pub mod Hunks
-pub mod Lines
-pub mod Unified
-pub mod Visible

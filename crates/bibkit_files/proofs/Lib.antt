@@ -1,4 +1,0 @@
-mod Beside
-mod Outcomes
-mod Results
-mod Touching

@@ -1,4 +1,0 @@
-pub mod Folder
-pub mod Possible
-pub mod Replaced
-pub mod Steps

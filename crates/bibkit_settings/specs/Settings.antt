@@ -1,0 +1,75 @@
+-- Meaning: words of public contracts.
+-- Settings of `lint`, from the command line or from bibkit.toml, and the request that they make.
+use Rattle.std.specs.Prelude.{ℕ, Bool, true, false, List, [], ◌∷◌, Option, Some, None, bytes_eq, codes, find}
+use Rattle.std.specs.Global.{Vec}
+use Rattle.std.specs.Option.{option_map_or, option_or}
+use Rattle.bib_findings.specs.declared.codes.Code.{Code}
+use Rattle.bibkit_core.specs.declared.request.Style.{Style}
+use Rattle.bibkit_core.specs.declared.request.Style.TheVariants as style
+use Rattle.bibkit_settings.specs.declared.settings.Color.{Color}
+use Rattle.bibkit_settings.specs.declared.settings.Color.TheVariants.{Auto, Always, Never}
+use Rattle.bibkit_settings.specs.declared.settings.OutputFormat.{OutputFormat}
+use Rattle.bibkit_settings.specs.declared.settings.OutputFormat.TheVariants.{Text, Json}
+use Rattle.bibkit_settings.specs.declared.settings.Settings.{Settings}
+
+-- the name of a setting for colours
+abbrev pub color_name : Color → List ℕ
+color_name Auto = codes "auto"
+color_name Always = codes "always"
+color_name Never = codes "never"
+
+-- all settings for colours, in the order in which they are listed
+abbrev pub all_colors : List Color
+all_colors = Auto ∷ Always ∷ Never ∷ []
+
+-- the setting for colours with a name, or `None` if none has it
+abbrev pub color_named : List ℕ → Option Color
+color_named name = find (λ color. bytes_eq (color_name color) name) all_colors
+
+-- the name of a format of findings
+abbrev pub format_name : OutputFormat → List ℕ
+format_name Text = codes "text"
+format_name Json = codes "json"
+
+-- all formats of findings, in the order in which they are listed
+abbrev pub all_formats : List OutputFormat
+all_formats = Text ∷ Json ∷ []
+
+-- the format of findings with a name, or `None` if none has it
+abbrev pub format_named : List ℕ → Option OutputFormat
+format_named name = find (λ format. bytes_eq (format_name format) name) all_formats
+
+-- settings of which none is set
+abbrev pub no_settings : Settings
+no_settings = record { only = None; ignored = None; color = None; format = None }
+
+-- the settings `given` on the command line, with those of the project for each that isn't set; a list of the command line
+-- replaces the list of the project, and isn't joined with it
+abbrev pub over : Settings → Settings → Settings
+over given project =
+    record {
+      only = option_or given.only project.only;
+      ignored = option_or given.ignored project.ignored;
+      color = option_or given.color project.color;
+      format = option_or given.format project.format;
+    }
+
+-- the codes of a list, or no codes if the list isn't set
+abbrev pub listed_codes : Option (Vec Code) → List Code
+listed_codes set = option_map_or (λ codes. codes.items) set []
+
+-- whether colours are printed: always or never if that is set, otherwise if the second argument is true
+abbrev pub is_colored : Option Color → Bool → Bool
+is_colored (Some Always) are_shown = true
+is_colored (Some Never) are_shown = false
+is_colored _ are_shown = are_shown
+
+-- the style of findings as lines, by whether colours are printed
+abbrev pub line_style : Bool → Style
+line_style true = style.Colored
+line_style false = style.Plain
+
+-- the style of findings, by the format (lines if it isn't set) and whether colours are printed; JSON has no colours
+abbrev pub style_of : Option OutputFormat → Bool → Style
+style_of (Some Json) colored = style.Json
+style_of _ colored = line_style colored

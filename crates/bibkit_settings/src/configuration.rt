@@ -1,0 +1,352 @@
+//! Reads the settings of a project from bibkit.toml.
+
+use crate::settings::{Color, OutputFormat, Settings};
+use crate::style_settings::{StyleSettings, delimiters_named, width_of};
+use bib_findings::codes::Code;
+use bib_format::style::Delimiters;
+use bib_sorting::order::Order;
+use std::alloc::{AllocError, AllocFailed, Global};
+use std::fs;
+use std::io::ErrorKind;
+use std::path::Path;
+use std::rt::Files;
+use toml::{Table, Value};
+
+/// The command that reads the settings of a project. It checks and keeps only its own settings.
+#[derive(Clone, Copy, PartialEq, Eq)]
+pub enum Reader {
+    /// The command `lint`.
+    Lint,
+    /// The command `fmt`.
+    Fmt,
+}
+
+/// The settings of a project.
+#[derive(Drop)]
+pub struct Project {
+    /// The settings of `lint`.
+    pub lint: Settings,
+    /// The settings of `fmt`, except the order of fields.
+    pub style: StyleSettings<'static>,
+    /// The order of fields: the names of the fields that come first, if that is set.
+    pub order: Option<Vec<String>>,
+}
+
+impl Project {
+    // Returns settings of which none is set.
+    fn none() -> Self {
+        Project {
+            lint: Settings::none(),
+            style: StyleSettings::none(),
+            order: None,
+        }
+    }
+}
+
+/// The error of reading the settings of a project.
+#[derive(Debug, Drop)]
+pub enum ConfigurationError {
+    /// The file can't be read, or has an error, for the reason in this text.
+    Wrong(String),
+    /// Out of memory.
+    OutOfMemory,
+}
+
+impl From<AllocError> for ConfigurationError {
+    fn from(_error: AllocError) -> Self {
+        ConfigurationError::OutOfMemory
+    }
+}
+
+impl<T: Drop> From<AllocFailed<T>> for ConfigurationError {
+    fn from(_error: AllocFailed<T>) -> Self {
+        ConfigurationError::OutOfMemory
+    }
+}
+
+impl ConfigurationError {
+    // Returns this error with the file name before its text.
+    fn of_file(self, alloc: Global, name: &str) -> Result<Self, AllocError> {
+        match self {
+            Self::Wrong(reason) => Ok(Self::Wrong(format!(in alloc;
+                "{name}: {}",
+                reason.as_str()
+            )?)),
+            other => Ok(other),
+        }
+    }
+}
+
+// Returns the error of a setting whose value isn't `wanted`.
+fn wrong<T: Drop>(alloc: Global, key: &str, wanted: &str) -> Result<T, ConfigurationError> {
+    Err(ConfigurationError::Wrong(format!(in alloc; "{key} has to be {wanted}")?))
+}
+
+// Returns the code that a value names.
+fn code(alloc: Global, key: &str, value: &Value) -> Result<Code, ConfigurationError> {
+    match value.as_str().and_then(Code::named) {
+        Some(code) => Ok(code),
+        None => wrong(alloc, key, "a list of codes"),
+    }
+}
+
+// Returns the codes that a value lists.
+fn codes(alloc: Global, key: &str, value: &Value) -> Result<Option<Vec<Code>>, ConfigurationError> {
+    let Some(values) = value.as_array() else {
+        return wrong(alloc, key, "a list of codes");
+    };
+    let mut codes = Vec::new(alloc);
+    'values: for value in values {
+        codes.push(code(alloc, key, value)?)?;
+    }
+    Ok(Some(codes))
+}
+
+// Returns the error of an unknown setting.
+fn unknown<T: Drop>(alloc: Global, key: &str) -> Result<T, ConfigurationError> {
+    Err(ConfigurationError::Wrong(format!(in alloc; "there is no setting {key}")?))
+}
+
+// Sets the setting of `lint` with this key.
+fn set_lint(
+    alloc: Global,
+    settings: &mut Settings,
+    key: &str,
+    value: &Value,
+) -> Result<(), ConfigurationError> {
+    match key {
+        "only" => settings.only = codes(alloc, key, value)?,
+        "ignore" => settings.ignored = codes(alloc, key, value)?,
+        "color" => match value.as_str().and_then(Color::named) {
+            Some(color) => settings.color = Some(color),
+            None => return wrong(alloc, key, "\"auto\", \"always\" or \"never\""),
+        },
+        "format" => match value.as_str().and_then(OutputFormat::named) {
+            Some(format) => settings.format = Some(format),
+            None => return wrong(alloc, key, "\"text\" or \"json\""),
+        },
+        _ => return unknown(alloc, key),
+    }
+    Ok(())
+}
+
+// Returns the number of spaces of `fmt.indent`: an integer from 0 to 8.
+fn indent(alloc: Global, value: &Value) -> Result<Option<usize>, ConfigurationError> {
+    match value.as_integer().map(usize::try_from) {
+        Some(Ok(spaces)) if spaces <= 8 => Ok(Some(spaces)),
+        _ => wrong(alloc, "fmt.indent", "a number from 0 to 8"),
+    }
+}
+
+// Returns the number of blank lines of `fmt.blank-lines`: an integer from 0 to 3, or `Some(None)` for "keep".
+fn blank_lines(alloc: Global, value: &Value) -> Result<Option<Option<usize>>, ConfigurationError> {
+    if value.as_str() == Some("keep") {
+        return Ok(Some(None));
+    }
+    match value.as_integer().map(usize::try_from) {
+        Some(Ok(lines)) if lines <= 3 => Ok(Some(Some(lines))),
+        _ => wrong(alloc, "fmt.blank-lines", "\"keep\" or a number from 0 to 3"),
+    }
+}
+
+// Returns the boolean of a value.
+fn choice(alloc: Global, key: &str, value: &Value) -> Result<Option<bool>, ConfigurationError> {
+    match value.as_bool() {
+        Some(yes) => Ok(Some(yes)),
+        None => wrong(alloc, key, "true or false"),
+    }
+}
+
+// Returns the delimiters that a value names.
+fn delimiters(alloc: Global, value: &Value) -> Result<Option<Delimiters>, ConfigurationError> {
+    match value.as_str().and_then(delimiters_named) {
+        Some(delimiters) => Ok(Some(delimiters)),
+        None => wrong(
+            alloc,
+            "fmt.delimiters",
+            "\"keep\", \"braces\" or \"quotes\"",
+        ),
+    }
+}
+
+// Returns a field name from an element of `fmt.order`.
+fn field_name(alloc: Global, value: &Value) -> Result<String, ConfigurationError> {
+    match value.as_str() {
+        Some(name) => Ok(String::from_str(alloc, name)?),
+        None => wrong(alloc, "fmt.order", "a list of names of fields"),
+    }
+}
+
+// Returns the field names that `fmt.order` lists.
+fn field_names(alloc: Global, value: &Value) -> Result<Option<Vec<String>>, ConfigurationError> {
+    let Some(values) = value.as_array() else {
+        return wrong(alloc, "fmt.order", "a list of names of fields");
+    };
+    let mut names = Vec::new(alloc);
+    'values: for value in values {
+        names.push(field_name(alloc, value)?)?;
+    }
+    Ok(Some(names))
+}
+
+// Returns the width of `fmt.width`: an integer that isn't negative, where 0 is no limit (`Some(None)`).
+fn width(alloc: Global, value: &Value) -> Result<Option<Option<usize>>, ConfigurationError> {
+    match value.as_integer().map(usize::try_from) {
+        Some(Ok(characters)) => Ok(Some(width_of(characters))),
+        _ => wrong(alloc, "fmt.width", "a number, 0 for none"),
+    }
+}
+
+// Returns the order of entries that `fmt.sort` names, or `Some(None)` for "keep".
+fn sort(alloc: Global, value: &Value) -> Result<Option<Option<Order>>, ConfigurationError> {
+    if value.as_str() == Some("keep") {
+        return Ok(Some(None));
+    }
+    match value.as_str().and_then(Order::named) {
+        Some(order) => Ok(Some(Some(order))),
+        None => wrong(
+            alloc,
+            "fmt.sort",
+            "\"keep\", \"key\", \"year\", \"author\" or \"type\"",
+        ),
+    }
+}
+
+// Sets the setting with this key of the table `fmt`.
+fn set_style(
+    alloc: Global,
+    project: &mut Project,
+    key: &str,
+    value: &Value,
+) -> Result<(), ConfigurationError> {
+    let settings = &mut project.style;
+    match key {
+        "indent" => settings.indent = indent(alloc, value)?,
+        "align" => settings.aligned = choice(alloc, "fmt.align", value)?,
+        "trailing-comma" => settings.trailing_comma = choice(alloc, "fmt.trailing-comma", value)?,
+        "blank-lines" => settings.blank_lines = blank_lines(alloc, value)?,
+        "delimiters" => settings.delimiters = delimiters(alloc, value)?,
+        "width" => settings.width = width(alloc, value)?,
+        "sort" => settings.sort = sort(alloc, value)?,
+        "order" => project.order = field_names(alloc, value)?,
+        _ => {
+            let key = format!(in alloc; "fmt.{key}")?;
+            return unknown(alloc, &key);
+        }
+    }
+    Ok(())
+}
+
+// Sets all settings of the table `fmt`.
+fn set_styles(
+    alloc: Global,
+    project: &mut Project,
+    value: &Value,
+) -> Result<(), ConfigurationError> {
+    let Some(table) = value.as_table() else {
+        return wrong(alloc, "fmt", "a table");
+    };
+    'keys: for (key, value) in table {
+        set_style(alloc, project, key.as_str(), value)?;
+    }
+    Ok(())
+}
+
+// Sets the setting with this key of the file, if it is a setting of the command. Settings of the other command are skipped.
+fn set(
+    alloc: Global,
+    project: &mut Project,
+    reader: Reader,
+    key: &str,
+    value: &Value,
+) -> Result<(), ConfigurationError> {
+    match (reader, key) {
+        (Reader::Lint, "fmt") => Ok(()),
+        (Reader::Lint, _) => set_lint(alloc, &mut project.lint, key, value),
+        (Reader::Fmt, "only" | "ignore" | "color" | "format") => Ok(()),
+        (Reader::Fmt, "fmt") => set_styles(alloc, project, value),
+        (Reader::Fmt, _) => unknown(alloc, key),
+    }
+}
+
+// Returns the settings that the table of a file contains.
+fn settings_of(
+    alloc: Global,
+    reader: Reader,
+    table: &Table,
+) -> Result<Project, ConfigurationError> {
+    let mut project = Project::none();
+    'keys: for (key, value) in table {
+        set(alloc, &mut project, reader, key.as_str(), value)?;
+    }
+    Ok(project)
+}
+
+// Parses the settings in the bytes of a file.
+fn read(alloc: Global, reader: Reader, bytes: Vec<u8>) -> Result<Project, ConfigurationError> {
+    let Ok(text) = String::from_utf8(bytes) else {
+        return Err(ConfigurationError::Wrong(String::from_str(alloc, "it is not UTF-8")?));
+    };
+    match toml::table_from_str(alloc, text.as_str()) {
+        Ok(table) => settings_of(alloc, reader, &table),
+        Err(error) => Err(ConfigurationError::Wrong(format!(in alloc; "{error}")?)),
+    }
+}
+
+// Returns the folder of a file. It is the current folder for a name without a folder and for standard input (`-`).
+fn folder(name: &str) -> Path<'_> {
+    match Path::new(name).parent() {
+        Some(parent) if name != "-" && !parent.to_string_lossy().is_empty() => parent,
+        _ => Path::new("."),
+    }
+}
+
+// Returns the settings of the file with this name, or `None` if it doesn't exist.
+fn settings_at<R: Files + AllocGlobal>(
+    rt: &R,
+    reader: Reader,
+    name: &str,
+) -> Result<Option<Project>, ConfigurationError> {
+    let alloc = rt.alloc();
+    match fs::read(rt, name) {
+        Ok(bytes) => Ok(Some(read(alloc, reader, bytes)?)),
+        Err(error) => match error.kind() {
+            ErrorKind::NotFound => Ok(None),
+            ErrorKind::OutOfMemory => Err(ConfigurationError::OutOfMemory),
+            _ => Err(ConfigurationError::Wrong(String::from_str(alloc, "it can't be read")?)),
+        },
+    }
+}
+
+// Returns the settings of the file `bibkit.toml` of a folder, or `None` if the folder has no such file.
+fn settings_in<R: Files + AllocGlobal>(
+    rt: &R,
+    reader: Reader,
+    folder: Path<'_>,
+) -> Result<Option<Project>, ConfigurationError> {
+    let path = folder.join(rt.alloc(), "bibkit.toml")?;
+    let name = path.to_string_lossy();
+    match settings_at(rt, reader, name) {
+        Ok(settings) => Ok(settings),
+        Err(error) => Err(error.of_file(rt.alloc(), name)?),
+    }
+}
+
+/// Returns the settings for the command `reader` from the project of the file `name`. They are in `bibkit.toml` in the folder of
+/// the file, or in the nearest folder above that has such a file. Returns empty settings if there is none, or if the folder of
+/// `name` can't be resolved. For `-` the search starts at the current folder.
+pub fn project_settings<R: Files + AllocGlobal>(
+    rt: &R,
+    reader: Reader,
+    name: &str,
+) -> Result<Project, ConfigurationError> {
+    let Ok(start) = fs::canonicalize(rt, folder(name)) else {
+        return Ok(Project::none());
+    };
+    'folders: for folder in start.ancestors() {
+        if let Some(settings) = settings_in(rt, reader, folder)? {
+            return Ok(settings);
+        }
+    }
+    Ok(Project::none())
+}

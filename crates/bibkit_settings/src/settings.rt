@@ -1,0 +1,191 @@
+//! Settings of `lint`, from the command line or from bibkit.toml.
+
+ghost use Rattle.std.specs.Prelude.{◌≡◌, bytes_eq, find, map};
+ghost use Rattle.bib_findings.specs.Codes.{all_codes, code_name};
+ghost use Rattle.bibkit_settings.specs.Settings.{all_colors, all_formats, color_name, color_named, format_name, format_named};
+ghost use Rattle.bibkit_settings.specs.Settings.{is_colored, listed_codes, no_settings, over, style_of};
+
+use bib_findings::codes::Code;
+use bibkit_core::request::{Cited, Lint, Style};
+use bibkit_core::selection::Selection;
+use std::alloc::Global;
+
+/// When colours are printed.
+#[derive(Debug, Clone, Copy, PartialEq, Eq)]
+pub enum Color {
+    /// If standard output and standard error are terminals, and the variable `NO_COLOR` is unset or empty.
+    Auto,
+    /// Always.
+    Always,
+    /// Never.
+    Never,
+}
+
+/// How findings are printed.
+#[derive(Debug, Clone, Copy, PartialEq, Eq)]
+pub enum OutputFormat {
+    /// As lines.
+    Text,
+    /// As a JSON array.
+    Json,
+}
+
+// The names of the codes of findings, in the order in which they are listed.
+static CODES: [&str; 16] = [
+    "unread-bytes",
+    "syntax",
+    "unread-field",
+    "unknown-abbreviation",
+    "circular-abbreviation",
+    "duplicate-key",
+    "circular-reference",
+    "unread-date",
+    "missing-field",
+    "superfluous-field",
+    "malformed-field",
+    "unknown-field",
+    "unknown-reference",
+    "likely-duplicate",
+    "missing-entry",
+    "unused-entry",
+];
+
+/// Returns the names of all codes of findings, in the order in which they are listed.
+pub fn code_names() -> &'static [&'static str]
+    ensures { map (λ name. name.now) result.now ≡ map code_name all_codes }
+{
+    &CODES
+}
+
+impl Color {
+    /// Returns the names of all variants, in the order in which they are listed.
+    pub fn names() -> &'static [&'static str]
+        ensures { map (λ name. name.now) result.now ≡ map color_name all_colors }
+    {
+        &["auto", "always", "never"]
+    }
+
+    /// Returns the variant with this name, or `None` if no variant has it. Case matters.
+    pub fn named(name: &str) -> Option<Self>
+        ensures { result ≡ color_named name.now }
+    {
+        match name {
+            "auto" => Some(Self::Auto),
+            "always" => Some(Self::Always),
+            "never" => Some(Self::Never),
+            _ => None,
+        }
+    }
+}
+
+impl OutputFormat {
+    /// Returns the names of all variants, in the order in which they are listed.
+    pub fn names() -> &'static [&'static str]
+        ensures { map (λ name. name.now) result.now ≡ map format_name all_formats }
+    {
+        &["text", "json"]
+    }
+
+    /// Returns the variant with this name, or `None` if no variant has it. Case matters.
+    pub fn named(name: &str) -> Option<Self>
+        ensures { result ≡ format_named name.now }
+    {
+        match name {
+            "text" => Some(Self::Text),
+            "json" => Some(Self::Json),
+            _ => None,
+        }
+    }
+}
+
+/// The settings of `lint`. Each is `None` if it isn't set.
+#[derive(Drop)]
+pub struct Settings {
+    /// The codes to report.
+    pub only: Option<Vec<Code>>,
+    /// The codes not to report.
+    pub ignored: Option<Vec<Code>>,
+    /// When colours are printed.
+    pub color: Option<Color>,
+    /// How findings are printed.
+    pub format: Option<OutputFormat>,
+}
+
+impl Settings {
+    /// Returns settings of which none is set.
+    pub fn none() -> Self
+        ensures { result ≡ no_settings }
+    {
+        Settings {
+            only: None,
+            ignored: None,
+            color: None,
+            format: None,
+        }
+    }
+
+    /// Returns these settings (of the command line), with those of `project` for each that isn't set. A list replaces the list of
+    /// `project`.
+    pub fn over(self, project: Self) -> Self
+        ensures { result ≡ over self project }
+    {
+        let Settings {
+            only,
+            ignored,
+            color,
+            format,
+        } = self;
+        Settings {
+            only: only.or(project.only),
+            ignored: ignored.or(project.ignored),
+            color: color.or(project.color),
+            format: format.or(project.format),
+        }
+    }
+
+    /// Returns the request for `lint` with these settings. All codes are reported if `only` isn't set. `are_colors_shown` decides
+    /// about colours if `color` is `Auto` or isn't set; JSON has no colours.
+    pub fn lint<'a>(
+        self,
+        alloc: Global,
+        are_colors_shown: bool,
+        cited: Option<Cited<'a>>,
+    ) -> Lint<'a>
+        ensures only { result.selection.only.items ≡ listed_codes self.only }
+        ensures ignored { result.selection.ignored.items ≡ listed_codes self.ignored }
+        ensures style { result.style ≡ style_of self.format (is_colored self.color are_colors_shown) }
+        ensures cited { result.cited ≡ cited.entry }
+    {
+        let style = style(self.format, is_colored(self.color, are_colors_shown));
+        Lint {
+            selection: Selection {
+                only: self.only.unwrap_or(Vec::new(alloc)),
+                ignored: self.ignored.unwrap_or(Vec::new(alloc)),
+            },
+            style,
+            cited,
+        }
+    }
+}
+
+// Returns whether colours are printed: `are_shown` if the setting is `Auto` or missing.
+fn is_colored(color: Option<Color>, are_shown: bool) -> bool
+    ensures { result ≡ is_colored color are_shown }
+{
+    match color {
+        Some(Color::Always) => true,
+        Some(Color::Never) => false,
+        Some(Color::Auto) | None => are_shown,
+    }
+}
+
+// Returns the style of a format: lines if the setting is missing. JSON has no colours.
+fn style(format: Option<OutputFormat>, is_colored: bool) -> Style
+    ensures { result ≡ style_of format is_colored }
+{
+    match format {
+        Some(OutputFormat::Json) => Style::Json,
+        Some(OutputFormat::Text) | None if is_colored => Style::Colored,
+        Some(OutputFormat::Text) | None => Style::Plain,
+    }
+}

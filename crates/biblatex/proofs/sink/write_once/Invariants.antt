@@ -1,7 +1,0 @@
--- What is gone from `rest` was appended.
-use Rattle.std.proofs.Common.{◌≡◌, ℕ, List, ◌++◌}
-use Rattle.std.specs.Io.KnownBytes.{Appends}
-use Rattle.biblatex.proofs.sink.write_once.Given as goal
-
-abbrev pub invariant-writes : goal.invariant-writes
-invariant-writes g l = (done : List ℕ) × (l.bytes ≡ done ++ l.rest) × Appends (g.W.Write.contents l.initial.writer) (g.W.Write.contents l.writer) done

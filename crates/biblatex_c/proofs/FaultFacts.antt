@@ -1,0 +1,31 @@
+-- The findings of a text as a JSON array.
+use Rattle.std.proofs.Common.{◌≡◌, ◌∙◌, ℕ, List, [], ◌++◌, codes, None, ap, ap₂, append_assoc}
+use Rattle.bibkit_core.specs.Tasks.{BeginsLinting, closing, linting_begins, linting_ends, linting_prints, opening}
+use Rattle.bibkit_core.specs.declared.linting.Linting.{Linting}
+use Rattle.bibkit_core.specs.declared.request.Lint.{Lint}
+use Rattle.bibkit_core.specs.declared.request.Style.TheVariants as style
+use Rattle.biblatex_c.specs.Calls.{AreFaults}
+
+-- the beginning, the findings of one file with an empty name, and the end that the lint task prints are all findings of the file
+pub faults_found : {bytes begin found end : List ℕ} {status : ℕ} {lint : Lint} (begun ended : Linting) → BeginsLinting lint begun → lint.style ≡ style.Json
+    → lint.selection.only.items ≡ [] → lint.selection.ignored.items ≡ [] → lint.cited ≡ None → begin ≡ linting_begins begun
+    → linting_prints begun [] bytes found ended → linting_ends ended end status → AreFaults bytes ((begin ++ found) ++ end)
+faults_found {bytes} {begin} {found} {end} begun ended begins json only ignored cited opens prints ends =
+    let same = begins.lint_is in
+    let in_json : begun.lint.now.style ≡ style.Json = ap (λ l. l.style) same ∙ json in
+    let opened : begin ≡ codes "[" = opens ∙ ap opening in_json in
+    let closed : end ≡ codes "\n]\n" = ends.0 ∙ ap (λ l. closing l.style ended.tally) prints.0 ∙ ap (λ s. closing s ended.tally) in_json in
+    record {
+      lint = begun.lint.now;
+      in_json = in_json;
+      any = ap (λ l. l.selection.only.items) same ∙ only;
+      all = ap (λ l. l.selection.ignored.items) same ∙ ignored;
+      uncited = ap (λ l. l.cited) same ∙ cited;
+      none = begun.tally;
+      no_errors = begins.no_errors;
+      no_warnings = begins.no_warnings;
+      found = found;
+      after = ended.tally;
+      printed = prints.1;
+      is = append_assoc begin found end ∙ ap₂ (λ x y. x ++ (found ++ y)) opened closed;
+    }

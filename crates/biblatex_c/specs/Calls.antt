@@ -1,0 +1,153 @@
+-- Meaning: words of public contracts.
+-- The results of the calls for C, and the statuses with which they fail.
+use Rattle.std.specs.Prelude.{◌≡◌, ◌≤◌, ◌<◌, ◌⊎◌, ℕ, ⊤, true, List, [], ◌∷◌, ◌++◌, length, drop, codes, None}
+use Rattle.std.specs.List.{AllByRecursion}
+use Rattle.std.specs.Str.{IsUtf8}
+use Rattle.biblatex.specs.Headline.{IsAcceptedText, IsBibliographyOf}
+use Rattle.biblatex.specs.Syntax.{Bibliography, Entry, FileReading, IsFile, IsRawReading, entries_text}
+use Rattle.bib_excerpts.specs.Answers.{lines_of_keys}
+use Rattle.bibkit_convert.specs.Converted.{end, is_first_after, texts_after}
+use Rattle.bib_documents.specs.Documents.{Document, EntriesAdded, IsDocument, IsEdited, SharesNoKey}
+use Rattle.bib_documents.specs.declared.errors.EditError.{EditError}
+use Rattle.bib_documents.specs.declared.errors.EditError.TheVariants as edit_error
+use Rattle.bib_format.specs.Formatted.{text_in_style}
+use Rattle.bib_format.specs.Usual.{IsUsual}
+use Rattle.bib_format.specs.declared.style.Style.{Style}
+use Rattle.bibkit_convert.specs.declared.target.Target.{Target}
+use Rattle.bibkit_core.specs.Tasks.{PrintsFindings}
+use Rattle.bibkit_core.specs.declared.request.Lint.{Lint}
+use Rattle.bibkit_core.specs.declared.request.Style.TheVariants as style
+use Rattle.bibkit_core.specs.declared.tally.Tally.{Tally}
+use Rattle.biblatex_c.specs.Statuses.{status_number}
+use Rattle.biblatex_c.specs.declared.status.Status.{Status}
+use Rattle.biblatex_c.specs.declared.status.Status.TheVariants.{Done, TooShort, NotUtf8, Refused, OutOfMemory, UnknownKey, KeyIsThere, NotAKey, NotAName, NotInBraces}
+
+-- a call on the buffer `out` and the size `size` leaves this buffer and this size, and returns this status. `Answers` says which
+-- bytes may be its result, and `Fails` with which statuses it may fail. A result that fits is at the start of the buffer, and the
+-- rest of the buffer is unchanged. A longer result leaves the buffer unchanged. In both cases the new size is the length of the
+-- result. A failure leaves buffer and size unchanged.
+pub data IsEnd (Answers : List ℕ → Type 0) (Fails : Status → Type 0) (out : List ℕ) (size : ℕ) : List ℕ → ℕ → Status → Type 0 where
+  done : {answer : List ℕ} → Answers answer → length answer ≤ length out → IsEnd Answers Fails out size (answer ++ drop (length answer) out) (length answer) Done
+  too_short : {answer : List ℕ} → Answers answer → length out < length answer → IsEnd Answers Fails out size out (length answer) TooShort
+  failed : {why : Status} → Fails why → IsEnd Answers Fails out size out size why
+
+-- the same as `IsEnd` for a call that returns the number of its status
+pub record IsNumberedEnd (Answers : List ℕ → Type 0) (Fails : Status → Type 0) (out : List ℕ) (size : ℕ) (out' : List ℕ) (size' number : ℕ) : Type 0 where
+  pub status : Status
+  pub is : number ≡ status_number status
+  pub ends : IsEnd Answers Fails out size out' size' status
+
+-- a call with the text `bytes` may fail with this status: not UTF-8 only if the bytes aren't, refused only if `IsRefused` holds,
+-- out of memory always, and no other status
+abbrev pub TextFails : Type 0 → List ℕ → Status → Type 0
+TextFails IsRefused bytes NotUtf8 = IsUtf8 bytes → ⊥
+TextFails IsRefused bytes Refused = IsRefused
+TextFails IsRefused bytes OutOfMemory = ⊤
+TextFails IsRefused bytes _ = ⊥
+
+-- a text isn't a file of the grammar
+abbrev pub IsNoFile : List ℕ → Type 0
+IsNoFile text = IsFile text → ⊥
+
+-- a text isn't accepted as a bibliography
+abbrev pub IsNoBibliography : List ℕ → Type 0
+IsNoBibliography text = IsAcceptedText text → ⊥
+
+-- `answer` is the keys of the entries of the file `text`, in file order, each followed by a line feed
+pub record AreKeysInLines (text answer : List ℕ) : Type 0 where
+  pub says : FileReading
+  pub read : IsRawReading text says
+  pub is : answer ≡ lines_of_keys says.entries
+
+-- `answer` is the bibliography of `text`, with each entry written by `write`
+pub record IsWrittenAnew (write : Entry → List ℕ) (text answer : List ℕ) : Type 0 where
+  pub bibliography : Bibliography
+  pub of_text : IsBibliographyOf text bibliography
+  pub is : answer ≡ entries_text write bibliography.entries
+
+-- a bibliography in the format `target`: each entry that the format has, after its separator, and then the end of the format
+abbrev pub exported_text : Target → Bibliography → List ℕ
+exported_text target bibliography = texts_after target true bibliography.entries ++ end target (is_first_after target true bibliography.entries)
+
+-- `answer` is the bibliography of `text` in the format `target`
+pub record IsWrittenAs (target : Target) (text answer : List ℕ) : Type 0 where
+  pub bibliography : Bibliography
+  pub of_text : IsBibliographyOf text bibliography
+  pub is : answer ≡ exported_text target bibliography
+
+-- `answer` is a JSON array of all findings of `bytes`, each with an empty file name: no code is selected or ignored, and no
+-- document is compared
+pub record AreFaults (bytes answer : List ℕ) : Type 0 where
+  pub lint : Lint
+  pub in_json : lint.style ≡ style.Json
+  pub any : lint.selection.only.items ≡ []
+  pub all : lint.selection.ignored.items ≡ []
+  pub uncited : lint.cited ≡ None
+  pub none : Tally
+  pub no_errors : none.errors ≡ 0
+  pub no_warnings : none.warnings ≡ 0
+  pub found : List ℕ
+  pub after : Tally
+  pub printed : PrintsFindings lint [] bytes none found after
+  pub is : answer ≡ codes "[" ++ (found ++ codes "\n]\n")
+
+-- `answer` is the text after an edit of the document whose text is `text`; `Outcome` relates the documents before and after it
+pub record IsEditedText (Outcome : Document → Document → Type 0) (text answer : List ℕ) : Type 0 where
+  pub document : Document
+  pub same : document.text ≡ text
+  pub read : IsDocument document
+  pub edited : IsEdited (Outcome document) answer
+
+-- an edit of the document whose text is `text` may be refused with the error `why`, by `Refuses`
+pub record IsRefusedFor (Refuses : Document → EditError → Type 0) (text : List ℕ) (why : EditError) : Type 0 where
+  pub document : Document
+  pub same : document.text ≡ text
+  pub read : IsDocument document
+  pub refused : Refuses document why
+
+-- an edit of the first text, with the other texts as arguments, may fail with this status: not UTF-8 only if one of all these
+-- texts isn't, refused only if the first isn't a file of the grammar, out of memory always, and the status of an edit error only
+-- if `Refuses` allows it
+abbrev pub EditFails : (Document → EditError → Type 0) → List ℕ → List (List ℕ) → Status → Type 0
+EditFails Refuses text others Done = ⊥
+EditFails Refuses text others TooShort = ⊥
+EditFails Refuses text others NotUtf8 = AllByRecursion IsUtf8 (text ∷ others) → ⊥
+EditFails Refuses text others Refused = IsNoFile text
+EditFails Refuses text others OutOfMemory = ⊤
+EditFails Refuses text others UnknownKey = IsRefusedFor Refuses text edit_error.UnknownKey
+EditFails Refuses text others KeyIsThere = IsRefusedFor Refuses text edit_error.KeyIsThere
+EditFails Refuses text others NotAKey = IsRefusedFor Refuses text edit_error.NotAKey
+EditFails Refuses text others NotAName = IsRefusedFor Refuses text edit_error.NotAName
+EditFails Refuses text others NotInBraces = IsRefusedFor Refuses text edit_error.NotInBraces
+
+-- the second document is the first with the document of the text `added` after it
+abbrev pub WithEntriesOf : List ℕ → Document → Document → Type 0
+WithEntriesOf added document new = (more : Document) × (more.text ≡ added) × IsDocument more × EntriesAdded document more new
+
+-- an entry of the text `added` has the key of an entry of `text`
+pub record AreKeysShared (text added : List ℕ) : Type 0 where
+  pub document : Document
+  pub more : Document
+  pub same : document.text ≡ text
+  pub read : IsDocument document
+  pub same_added : more.text ≡ added
+  pub read_added : IsDocument more
+  pub shared : SharesNoKey document more → ⊥
+
+-- adding the second text to the first may fail with this status: not UTF-8 only if one of them isn't, refused only if one of them
+-- isn't a file of the grammar, out of memory always, key in use only if they share a key, and no other status
+abbrev pub AddFails : List ℕ → List ℕ → Status → Type 0
+AddFails text added NotUtf8 = AllByRecursion IsUtf8 (text ∷ added ∷ []) → ⊥
+AddFails text added Refused = IsNoFile text ⊎ IsNoFile added
+AddFails text added OutOfMemory = ⊤
+AddFails text added KeyIsThere = AreKeysShared text added
+AddFails text added _ = ⊥
+
+-- `answer` is the document of `text` laid out in the default style
+pub record IsLaidOut (text answer : List ℕ) : Type 0 where
+  pub document : Document
+  pub same : document.text ≡ text
+  pub read : IsDocument document
+  pub style : Style
+  pub usual : IsUsual style
+  pub is : answer ≡ text_in_style style document.text document.says

@@ -1,0 +1,181 @@
+//! Calls that edit the text of a file.
+
+ghost use Rattle.std.specs.Prelude.{◌≡◌, [], ◌∷◌, IfOk, IfErr};
+ghost use Rattle.std.specs.String.{string_bytes};
+ghost use Rattle.bib_documents.specs.Documents.{EntryIsRefused, EntryRemoved, FieldSet, FieldUnset, SetIsRefused};
+ghost use Rattle.bib_documents.specs.References.{KeyRenamed, RenameIsRefused};
+ghost use Rattle.biblatex_c.specs.Calls.{AddFails, EditFails, IsEditedText, IsLaidOut, IsNoFile, IsNumberedEnd, TextFails, WithEntriesOf};
+
+use crate::buffers::end;
+use crate::reading::text_of;
+use crate::status::Status;
+use bib_documents::document::RawDocument;
+use bib_format::formatting::format;
+use bib_format::style::Style;
+use std::alloc::Global;
+
+// Returns the text in the default style.
+fn laid_out(alloc: Global, text: &[u8]) -> Result<String, Status>
+    ensures text { IfOk result (λ edited. IsLaidOut text.now (string_bytes edited)) }
+    ensures fails { IfErr result (TextFails (IsNoFile text.now) text.now) }
+{
+    let document = RawDocument::parse(alloc, text_of(text)?)?;
+    Ok(format(alloc, &document, &Style::default())?)
+}
+
+/// Writes the text in the default style. Returns `Refused` if the text isn't a file of the grammar.
+#[unsafe(no_mangle)]
+pub extern "C" fn biblatex_fmt(alloc: Global, text: &[u8], out: &mut [u8], size: &mut usize) -> u32
+    ensures { IsNumberedEnd (IsLaidOut text.now) (TextFails (IsNoFile text.now) text.now)
+        out.old size.old out.new size.new result }
+{
+    end(laid_out(alloc, text), out, size).number()
+}
+
+// Returns the text with the field `name` of the entry `key` set to `value` in braces.
+fn set_in(
+    alloc: Global,
+    text: &[u8],
+    key: &[u8],
+    name: &[u8],
+    value: &[u8],
+) -> Result<String, Status>
+    ensures made { IfOk result (λ edited. IsEditedText (λ d. FieldSet d key.now name.now value.now) text.now (string_bytes edited)) }
+    ensures fails { IfErr result (EditFails (λ d why. SetIsRefused d key.now name.now value.now why) text.now (key.now ∷ name.now ∷ value.now ∷ [])) }
+{
+    let document = RawDocument::parse(alloc, text_of(text)?)?;
+    let key = text_of(key)?;
+    let name = text_of(name)?;
+    let value = text_of(value)?;
+    Ok(document.set_field(alloc, key, name, value)?)
+}
+
+/// Writes the text with the field `name` of the first entry `key` set to `value`, in braces. If the field occurs several times,
+/// its last occurrence is set. If the entry has no such field, the field is inserted before the others. If the field has this
+/// value already, the text is unchanged.
+#[unsafe(no_mangle)]
+pub extern "C" fn biblatex_set(
+    alloc: Global,
+    text: &[u8],
+    key: &[u8],
+    name: &[u8],
+    value: &[u8],
+    out: &mut [u8],
+    size: &mut usize,
+) -> u32
+    ensures { IsNumberedEnd (IsEditedText (λ d. FieldSet d key.now name.now value.now) text.now)
+        (EditFails (λ d why. SetIsRefused d key.now name.now value.now why) text.now (key.now ∷ name.now ∷ value.now ∷ []))
+        out.old size.old out.new size.new result }
+{
+    end(set_in(alloc, text, key, name, value), out, size).number()
+}
+
+// Returns the text without the field `name` of the entry `key`.
+fn unset_in(alloc: Global, text: &[u8], key: &[u8], name: &[u8]) -> Result<String, Status>
+    ensures made { IfOk result (λ edited. IsEditedText (λ d. FieldUnset d key.now name.now) text.now (string_bytes edited)) }
+    ensures fails { IfErr result (EditFails (λ d why. EntryIsRefused d key.now why) text.now (key.now ∷ name.now ∷ [])) }
+{
+    let document = RawDocument::parse(alloc, text_of(text)?)?;
+    let key = text_of(key)?;
+    let name = text_of(name)?;
+    Ok(document.unset_field(alloc, key, name)?)
+}
+
+/// Writes the text without the field `name` of the first entry `key`: each occurrence of the field is removed. If the entry has
+/// no such field, the text is unchanged.
+#[unsafe(no_mangle)]
+pub extern "C" fn biblatex_unset(
+    alloc: Global,
+    text: &[u8],
+    key: &[u8],
+    name: &[u8],
+    out: &mut [u8],
+    size: &mut usize,
+) -> u32
+    ensures { IsNumberedEnd (IsEditedText (λ d. FieldUnset d key.now name.now) text.now)
+        (EditFails (λ d why. EntryIsRefused d key.now why) text.now (key.now ∷ name.now ∷ []))
+        out.old size.old out.new size.new result }
+{
+    end(unset_in(alloc, text, key, name), out, size).number()
+}
+
+// Returns the text with `new` as the key of the entry `old`, also in the references to it.
+fn rename_in(alloc: Global, text: &[u8], old: &[u8], new: &[u8]) -> Result<String, Status>
+    ensures made { IfOk result (λ edited. IsEditedText (λ d. KeyRenamed d old.now new.now) text.now (string_bytes edited)) }
+    ensures fails { IfErr result (EditFails (λ d why. RenameIsRefused d old.now new.now why) text.now (old.now ∷ new.now ∷ [])) }
+{
+    let document = RawDocument::parse(alloc, text_of(text)?)?;
+    let old = text_of(old)?;
+    let new = text_of(new)?;
+    Ok(document.rename_key(alloc, old, new)?)
+}
+
+/// Writes the text with `new` as the key of the first entry `old`, also in the references to it. Returns `KeyIsThere` if
+/// another entry has the key `new`.
+#[unsafe(no_mangle)]
+pub extern "C" fn biblatex_rename(
+    alloc: Global,
+    text: &[u8],
+    old: &[u8],
+    new: &[u8],
+    out: &mut [u8],
+    size: &mut usize,
+) -> u32
+    ensures { IsNumberedEnd (IsEditedText (λ d. KeyRenamed d old.now new.now) text.now)
+        (EditFails (λ d why. RenameIsRefused d old.now new.now why) text.now (old.now ∷ new.now ∷ []))
+        out.old size.old out.new size.new result }
+{
+    end(rename_in(alloc, text, old, new), out, size).number()
+}
+
+// Returns the text without the entry `key`.
+fn remove_in(alloc: Global, text: &[u8], key: &[u8]) -> Result<String, Status>
+    ensures made { IfOk result (λ edited. IsEditedText (λ d. EntryRemoved d key.now) text.now (string_bytes edited)) }
+    ensures fails { IfErr result (EditFails (λ d why. EntryIsRefused d key.now why) text.now (key.now ∷ [])) }
+{
+    let document = RawDocument::parse(alloc, text_of(text)?)?;
+    let key = text_of(key)?;
+    Ok(document.remove_entry(alloc, key)?)
+}
+
+/// Writes the text without the first entry `key` and the white space after it.
+#[unsafe(no_mangle)]
+pub extern "C" fn biblatex_remove(
+    alloc: Global,
+    text: &[u8],
+    key: &[u8],
+    out: &mut [u8],
+    size: &mut usize,
+) -> u32
+    ensures { IsNumberedEnd (IsEditedText (λ d. EntryRemoved d key.now) text.now)
+        (EditFails (λ d why. EntryIsRefused d key.now why) text.now (key.now ∷ []))
+        out.old size.old out.new size.new result }
+{
+    end(remove_in(alloc, text, key), out, size).number()
+}
+
+// Returns the text, a line feed, and the text `added`.
+fn add_to(alloc: Global, text: &[u8], added: &[u8]) -> Result<String, Status>
+    ensures made { IfOk result (λ edited. IsEditedText (WithEntriesOf added.now) text.now (string_bytes edited)) }
+    ensures fails { IfErr result (AddFails text.now added.now) }
+{
+    let document = RawDocument::parse(alloc, text_of(text)?)?;
+    let more = RawDocument::parse(alloc, text_of(added)?)?;
+    Ok(document.add_entries(alloc, &more)?)
+}
+
+/// Writes the text, a line feed, and the text `added`. Returns `KeyIsThere` if an entry of `added` has the key of an entry of
+/// the text.
+#[unsafe(no_mangle)]
+pub extern "C" fn biblatex_add(
+    alloc: Global,
+    text: &[u8],
+    added: &[u8],
+    out: &mut [u8],
+    size: &mut usize,
+) -> u32
+    ensures { IsNumberedEnd (IsEditedText (WithEntriesOf added.now) text.now) (AddFails text.now added.now)
+        out.old size.old out.new size.new result }
+{
+    end(add_to(alloc, text, added), out, size).number()
+}

@@ -1,0 +1,15 @@
+//! The library for C, declared in c/biblatex.h. Its calls write into buffers of the caller.
+//!
+//! Each exported function returns the number of a `Status`. A call that succeeds writes its result to the start of the buffer,
+//! leaves the rest of the buffer unchanged, and sets the size to the length of the result in bytes. If the buffer is too short,
+//! it stays unchanged, and the size is set to the length of the result. A call that fails changes neither.
+#![tactic(auto)]
+
+mod buffers;
+pub mod editing;
+pub mod exporting;
+pub mod linting;
+pub mod reading;
+pub mod recovering;
+pub mod status;
+pub mod version;
