@@ -1,8 +1,8 @@
 #!/usr/bin/env python3
 """Builds the library for C, over libraries that `rt ci` has proved: c/build.py [FOLDER]
 
-FOLDER is a copy of this repository in which `rt ci` ran, or this one. `bib_c` itself is checked once more. Writes
-FOLDER/crates/bib_c/out/libbiblatex.a: the library with the part of the kit that it needs, so that it is linked alone.
+FOLDER is a copy of this repository in which `rt ci` ran, or this one. `biblatex_c` itself is checked once more. Writes
+FOLDER/crates/biblatex_c/out/libbiblatex.a: the library with the part of the kit that it needs, so that it is linked alone.
 `rt lib` builds the same over libraries that it proves anew.
 """
 import os
@@ -12,7 +12,7 @@ import subprocess
 import sys
 import tempfile
 
-NAME = "bib_c"
+NAME = "biblatex_c"
 
 
 def kit():
@@ -33,7 +33,7 @@ def compiled(top, rtlib):
     crate = next(it for it in rtlib.crates_below(str(top)) if it.name == NAME)
     missing = [it.name for it in crate.below() if not os.path.isdir(it.rlib)]
     if missing:
-        sys.exit(f"c/build.py: {missing[0]} isn't built: `rt ci`, or ./prove.py {NAME}, proves and builds it")
+        sys.exit(f"c/build.py: {missing[0]} is not built: `rt ci`, or scripts/prove.py {NAME}, proves and builds it")
     os.makedirs(f"{crate.folder}/out", exist_ok=True)
     with tempfile.TemporaryFile("w+") as said:
         crate.out = said

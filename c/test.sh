@@ -3,14 +3,14 @@
 # It fails if there is no C compiler, or if the library isn't built.
 set -eu
 cd "$(dirname "$0")"
-library=../crates/bib_c/out/libbiblatex.a
+library=../crates/biblatex_c/out/libbiblatex.a
 compiler=${CC:-gcc}
 if ! command -v "$compiler" >/dev/null; then
     echo "c/test.sh: there is no C compiler $compiler" >&2
     exit 1
 fi
 if [ ! -f "$library" ]; then
-    echo 'c/test.sh: the library for C is not built: ./prove.py bib_c builds it' >&2
+    echo 'c/test.sh: the library for C is not built: scripts/prove.py biblatex_c builds it' >&2
     exit 1
 fi
 room=$(mktemp -d)

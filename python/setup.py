@@ -1,11 +1,11 @@
-"""What pyproject.toml can't say: a wheel is for one system, since it has a shared object, and for each version of Python."""
+"""Sets the tag of the wheel, which pyproject.toml can't set: one system, because of the shared object, and any Python 3."""
 
 from setuptools import setup
 from wheel.bdist_wheel import bdist_wheel
 
 
 class BinaryWheel(bdist_wheel):
-    """A wheel whose name has the system, and no version of Python: the shared object is loaded by ctypes."""
+    """A wheel with the system in its name, but no Python version, because ctypes loads the shared object."""
 
     def finalize_options(self) -> None:
         super().finalize_options()

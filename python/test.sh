@@ -1,10 +1,10 @@
 #!/usr/bin/env bash
-# Runs the tests of the Python package, and mypy over it if that is installed. It fails if there is no Python 3.9 or later, or if the
-# shared object isn't built.
+# Runs the tests of the Python package, and mypy over it if mypy is installed. Fails if Python 3.9 or later is not installed, or if
+# the shared object is not built.
 set -eu
 cd "$(dirname "$0")"
 if ! python3 -c 'import sys; sys.exit(sys.version_info < (3, 9))' 2>/dev/null; then
-    echo 'python/test.sh: there is no Python 3.9 or later' >&2
+    echo 'python/test.sh: Python 3.9 or later is not installed' >&2
     exit 1
 fi
 if [ ! -f biblatex/libbiblatex.so ]; then

@@ -1,31 +1,31 @@
-"""A proved reader and writer of BibTeX and BibLaTeX files.
+"""Parses, checks, edits and writes BibTeX and BibLaTeX files.
 
     >>> import biblatex
-    >>> library = biblatex.parse("@book{tolkien1937, author = {J. R. R. Tolkien}, title = {The {Hobbit}}, date = {1937-09-21}}")
-    >>> book = library["tolkien1937"]
+    >>> bibliography = biblatex.parse("@book{tolkien1937, author = {J. R. R. Tolkien}, title = {The {Hobbit}}, date = {1937-09-21}}")
+    >>> book = bibliography["tolkien1937"]
     >>> book["title"], str(book.people("author")[0]), book.date().year
     ('The Hobbit', 'J. R. R. Tolkien', 1937)
 
-Texts are `str`, or `bytes` in UTF-8. A `str` with lone surrogates is no text, and raises a `UnicodeEncodeError`. Where there is
-no memory a call raises a `MemoryError`. Calls of several threads go side by side: the interpreter's lock is given up
-while the library works.
+A text is a `str`, or `bytes` in UTF-8. A `str` that contains a lone surrogate raises a `UnicodeEncodeError`. A call raises a
+`MemoryError` when out of memory. Several threads can call the library at the same time, because a call releases the
+interpreter's lock while the library works.
 """
 
+from ._bibliography import Bibliography, parse, recover
 from ._edits import EditError, add_entries, format, remove_entry, rename_key, set_field, unset_field
 from ._entry import Entry, Value
-from ._faults import Fault, ParseError, lint
-from ._library import Library, parse, recover
+from ._findings import Finding, ParseError, lint
 from ._native import call as _call
 from ._values import Chunk, Date, Datetime, PageRange, Person, Time
 
 __all__ = [
+    "Bibliography",
     "Chunk",
     "Date",
     "Datetime",
     "EditError",
     "Entry",
-    "Fault",
-    "Library",
+    "Finding",
     "PageRange",
     "ParseError",
     "Person",
@@ -45,5 +45,5 @@ __all__ = [
 
 
 def version() -> str:
-    """The version of the library, as `"0.1.0"`."""
+    """Returns the version of the library, for example `"0.1.0"`."""
     return _call("biblatex_version").decode()

@@ -1,16 +1,16 @@
-"""Edits of a text, and its layout."""
+"""Edits of a text, and its default style."""
 
 from __future__ import annotations
 
 from typing import Mapping
 
-from ._faults import SYNTAX_CODES, ParseError, faults_with
+from ._findings import SYNTAX_CODES, ParseError, findings_with
 from ._native import EditRefused, NotUtf8, Refused, Status, call
 from ._text import Text, as_bytes
 
 
 class EditError(ValueError):
-    """A text can't be edited so, and the error's text says why."""
+    """Raised when an edit is refused. The message says why."""
 
 
 def _like(text: Text, data: bytes) -> Text:
@@ -19,89 +19,104 @@ def _like(text: Text, data: bytes) -> Text:
     return data
 
 
-def _edited(text: Text, name: str, *words: str, why: Mapping[Status, str]) -> Text:
-    """What an edit makes of a text. `why` says of each reason for which it may be refused what the error's text is."""
-    data, given = as_bytes(text), [as_bytes(word) for word in words]
+def _edit(text: Text, name: str, *words: str, why: Mapping[Status, str]) -> Text:
+    """Returns the text that the call `name` writes for the arguments `words`.
+
+    `why` has the message of the `EditError` for each status that refuses the edit.
+    """
+    data, arguments = as_bytes(text), [as_bytes(word) for word in words]
     try:
-        return _like(text, call(name, data, *given, capacity=len(data) + sum(map(len, given)) + 64))
+        return _like(text, call(name, data, *arguments, capacity=len(data) + sum(map(len, arguments)) + 64))
     except EditRefused as refusal:
         raise EditError(why[refusal.status]) from None
     except (NotUtf8, Refused):
-        raise ParseError(faults_with(data, SYNTAX_CODES)) from None
+        raise ParseError(findings_with(data, SYNTAX_CODES)) from None
 
 
-def _unknown(key: str) -> Mapping[Status, str]:
+def _unknown_key(key: str) -> Mapping[Status, str]:
     return {Status.UNKNOWN_KEY: f"no entry has the key {key!r}"}
 
 
 def set_field(text: Text, key: str, name: str, value: str) -> Text:
-    """The text with a field of an entry set to a text in braces.
+    """Returns the text with the field `name` of the entry `key` set to `value`, in braces.
 
-    A field that isn't there is added in a line of its own, before the others. The value is TeX source, and its braces have
-    to match. All else stays byte for byte, as in the other edits. A text with a syntax error is refused by a `ParseError`,
-    and what can't be done by an `EditError`.
+    If the entry lacks the field, it is added on a line of its own, before the other fields. `value` is TeX source, and its
+    braces must match. This edit and the others change no other byte.
+
+    Raises an `EditError` if no entry has the key, if `name` isn't a field name, or if `value` can't be written in braces.
+    Each edit raises a `ParseError` if the text has a syntax error or isn't UTF-8.
     """
     why = {
-        **_unknown(key),
+        **_unknown_key(key),
         Status.NOT_A_NAME: f"{name!r} can't be the name of a field",
         Status.NOT_IN_BRACES: f"the value can't stand between braces: {value!r}",
     }
-    return _edited(text, "biblatex_set", key, name, value, why=why)
+    return _edit(text, "biblatex_set", key, name, value, why=why)
 
 
 def unset_field(text: Text, key: str, name: str) -> Text:
-    """The text without a field of an entry; the text as it is where the entry has no such field."""
-    return _edited(text, "biblatex_unset", key, name, why=_unknown(key))
+    """Returns the text with each field `name` of the entry `key` removed, or the same text if the entry has none.
+
+    Raises an `EditError` if no entry has the key.
+    """
+    return _edit(text, "biblatex_unset", key, name, why=_unknown_key(key))
 
 
 def rename_key(text: Text, old: str, new: str) -> Text:
-    """The text with another key of an entry, there and in each reference to it, as in `crossref` and `xdata`.
+    """Returns the text with the key `old` replaced by `new`, also in each reference to it, for example in `crossref`.
 
-    An entry whose key is empty can't be given another one so.
+    Raises an `EditError` if no entry has the key `old`, if another entry has the key `new`, or if `new` isn't a valid
+    key. An empty key can't be renamed.
     """
-    # of the keys that a file has only the empty one can't be given
+    # each key of a file is valid, except the empty one: if `old` isn't empty, the status is about `new`
     refused = new if old else old
     why = {
-        **_unknown(old),
+        **_unknown_key(old),
         Status.KEY_IS_THERE: f"an entry has the key {new!r} already",
         Status.NOT_A_KEY: f"{refused!r} can't be a key",
         Status.NOT_IN_BRACES: f"{new!r} can't stand in a reference",
     }
-    return _edited(text, "biblatex_rename", old, new, why=why)
+    return _edit(text, "biblatex_rename", old, new, why=why)
 
 
 def remove_entry(text: Text, key: str) -> Text:
-    """The text without an entry, and without the white space after it."""
-    return _edited(text, "biblatex_remove", key, why=_unknown(key))
+    """Returns the text without the entry `key` and the white space after that entry.
+
+    Raises an `EditError` if no entry has the key.
+    """
+    return _edit(text, "biblatex_remove", key, why=_unknown_key(key))
 
 
 def _keys(text: bytes) -> frozenset[str]:
-    # a line for each key, which has no white space, but may be empty
+    # the call writes one key per line; a key contains no white space, but may be empty
     return frozenset(call("biblatex_keys", text, capacity=len(text) + 1).decode().split("\n")[:-1])
 
 
 def add_entries(text: Text, added: Text) -> Text:
-    """The text with another text after it, which stands there as it is. No key of it may be one of the first text's."""
+    """Returns the text, and the text `added` after it on a new line.
+
+    Raises an `EditError` if both texts have an entry with the same key, or if `added` has a syntax error or isn't UTF-8.
+    """
     data, more = as_bytes(text), as_bytes(added)
     try:
         return _like(text, call("biblatex_add", data, more, capacity=len(data) + len(more) + 64))
     except EditRefused:
         raise EditError(f"an entry has the key {min(_keys(data) & _keys(more))!r} already") from None
     except (NotUtf8, Refused):
-        faults = faults_with(data, SYNTAX_CODES)
-    if faults:
-        raise ParseError(faults)
-    raise EditError(f"what is added can't be read: {faults_with(more, SYNTAX_CODES)[0]}")
+        findings = findings_with(data, SYNTAX_CODES)
+    if findings:
+        raise ParseError(findings)
+    raise EditError(f"what is added can't be read: {findings_with(more, SYNTAX_CODES)[0]}")
 
 
 def format(text: Text) -> Text:
-    """The text in the usual style: types and names in lowercase, a field a line, two spaces before it.
+    """Returns the text in the default style: types and names in lowercase, and one field per line, after two spaces.
 
-    What stands between entries, and an entry in which a comment stands, stays as it is. A text with a syntax error is
-    refused by a `ParseError`.
+    The text between entries is unchanged, and so is an entry that contains a comment. Raises a `ParseError` if the text has
+    a syntax error or isn't UTF-8.
     """
     data = as_bytes(text)
     try:
         return _like(text, call("biblatex_fmt", data, capacity=len(data) * 3 // 2 + 1024))
     except (NotUtf8, Refused):
-        raise ParseError(faults_with(data, SYNTAX_CODES)) from None
+        raise ParseError(findings_with(data, SYNTAX_CODES)) from None

@@ -12,13 +12,13 @@ from ._values import Chunk, Date, Json, PageRange, Person, chunk_of, date_of, pa
 
 Value = Union[int, str, list[str], list[Person], list[PageRange], Date]
 
-# the fields of people
+# the fields that contain people
 PEOPLE_FIELDS = frozenset(
     "author editor editora editorb editorc translator annotator commentator introduction foreword afterword"
     " bookauthor holder shortauthor shorteditor".split()
 )
 
-# the fields of dates, each with the field of its year
+# the fields that contain dates, each with the field of its year
 DATE_FIELDS = {"date": "year", "urldate": "urlyear", "eventdate": "eventyear", "origdate": "origyear"}
 
 
@@ -28,21 +28,21 @@ def _text_of(chunks: list[Json]) -> str:
 
 @dataclass(frozen=True, eq=False, repr=False)
 class Entry(Mapping[str, str]):
-    """An entry of a bibliography, with what it inherits by `crossref` and `xdata`. It can't be changed.
+    """An immutable entry of a bibliography, with the fields that it inherits by `crossref` and `xdata`.
 
-    As a mapping it has the text of each field by the field's name, in lowercase letters and as the file has it: `journal`
-    stays `journal`. The text of a field is that of its chunks, joined: without the braces of TeX, with the characters that
-    commands as `\\'e` stand for, and with math between dollar signs. A command that the library doesn't know stays as it is, and
-    so does a tilde. Names of fields are in the order of the alphabet.
+    An entry maps field names to texts, in alphabetical order of the names. A name is in lowercase, and is otherwise that of
+    the file: `journal` stays `journal`. The text of a field is that of its chunks, without TeX braces and with math between
+    dollar signs. A command like `\\'e` is replaced by its character. A command that the library doesn't know is kept, and so is a
+    tilde.
 
-    Two entries are equal that have the same type, key and fields, with chunks in the same places.
+    Two entries are equal if they have the same type, the same key and the same fields, with chunks of the same spans.
     """
 
     type: str
-    """The type, in lowercase letters, as `article`."""
+    """The entry type, in lowercase, for example `article`."""
 
     key: str
-    """The key by which it is cited."""
+    """The key that citations name."""
 
     _content: Mapping[str, Json]
     _source: Source
@@ -72,19 +72,21 @@ class Entry(Mapping[str, str]):
 
     @property
     def fields(self) -> dict[str, str]:
-        """The text of each field by its name, in a new dictionary."""
+        """Returns a new dictionary from field names to texts."""
         return {name: _text_of(field["chunks"]) for name, field in self._content.items()}
 
     def chunks(self, name: str) -> list[Chunk]:
-        """The chunks of a field. A field that isn't there raises a `KeyError`."""
+        """Returns the chunks of a field. Raises a `KeyError` if the entry lacks the field."""
         return [chunk_of(chunk) for chunk in self._content[name]["chunks"]]
 
     def value(self, name: str) -> Optional[Value]:
-        """What a field is read as; None where it isn't there, its name has no type, or it can't be read as one.
+        """Returns the typed value of a field.
 
-        Fields of people are read as a list of `Person`, those of dates as a `Date`, `pages` as a list of `PageRange`;
-        `volume`, `volumes` and `edition` as a number; `keywords`, `publisher` and other lists, and `language`, as a list of texts;
-        `langid`, `pagination`, `editortype`, `gender` and those like them as a word.
+        The value is a list of `Person` for fields of people, a `Date` for fields of dates, and a list of `PageRange` for
+        `pages`. It is a number for `volume`, `volumes` and `edition`, and a list of texts for `language`, `keywords`, `publisher`
+        and other lists. It is a word for `langid`, `pagination`, `editortype`, `gender` and similar fields.
+
+        Returns None if the entry lacks the field, if no field of this name has a type, or if the text isn't of that type.
         """
         content = self._content[name].get("value") if name in self._content else None
         if content is None:
@@ -99,25 +101,25 @@ class Entry(Mapping[str, str]):
         return found
 
     def people(self, name: str = "author") -> list[Person]:
-        """The people of a field, none where it isn't there; `and others` is a person with the name `others`.
+        """Returns the people of a field, or an empty list if the entry lacks it.
 
-        The name of a field that isn't one of people raises a `ValueError`.
+        `and others` becomes a person with the name `others`. Raises a `ValueError` if `name` isn't a field of people.
         """
         if name not in PEOPLE_FIELDS:
-            raise ValueError(f"{name} isn't a field of people")
+            raise ValueError(f"{name!r} isn't a field of people")
         if name not in self._content:
             return []
         return [person_of(person) for person in self._content[name]["value"]]
 
     def date(self, name: str = "date") -> Optional[Date]:
-        """The date of a field (`date`, `urldate`, `eventdate` or `origdate`); of another name a `ValueError` is raised.
+        """Returns the date of a field: `date`, `urldate`, `eventdate` or `origdate`.
 
-        Where the field isn't there, it is the date of the year, the month and the day, as `year`, `month` and `day`, or
-        `urlyear`, `urlmonth` and `urlday`; of these an entry of the type `xdata` has none. It is None where there is no date, or
-        none that can be read.
+        If the entry lacks the field, the date is that of `year`, `month` and `day`, or for example of `urlyear`, `urlmonth` and
+        `urlday`. An `xdata` entry has no such date. Returns None if there is no date, or if it can't be parsed. Raises a
+        `ValueError` if `name` isn't one of the four fields.
         """
         if name not in DATE_FIELDS:
-            raise ValueError(f"{name} isn't a field of a date")
+            raise ValueError(f"{name!r} isn't a field of a date")
         if name in self._content:
             content = self._content[name].get("value")
             return None if content is None else date_of(content)
@@ -127,9 +129,9 @@ class Entry(Mapping[str, str]):
 
     @property
     def parents(self) -> list[str]:
-        """The keys of the entries that this one belongs to: what `crossref` names, and then what `xref` lists.
+        """Returns the keys of the entries that this entry belongs to: the key in `crossref`, then the keys in `xref`.
 
-        Those of `xdata` aren't among them: the entry has their fields, and its own field `xdata` no more.
+        The keys in `xdata` aren't included: parsing replaces the field `xdata` by the fields of the entries that it names.
         """
         parents = [self["crossref"]] if "crossref" in self else []
         return parents + (comma_texts(self.chunks("xref")) if "xref" in self else [])

@@ -1,4 +1,4 @@
-"""JSON of the library's answers."""
+"""The JSON that the library writes."""
 
 from __future__ import annotations
 
@@ -9,10 +9,10 @@ from typing import Any, Iterator
 
 
 @contextmanager
-def collector_paused() -> Iterator[None]:
-    """Pauses the collector of cycles, of which none are made here.
+def pause_collector() -> Iterator[None]:
+    """Pauses the garbage collector of reference cycles. Parsing JSON creates no cycles.
 
-    It would look through all that was read again and again while more is read, which takes longer than the reading.
+    The collector would visit all parsed values again and again, which takes longer than parsing them.
     """
     was_enabled = gc.isenabled()
     gc.disable()
@@ -24,6 +24,6 @@ def collector_paused() -> Iterator[None]:
 
 
 def read(data: bytes) -> Any:
-    """What a text of JSON says."""
-    with collector_paused():
+    """Returns the value of a JSON text."""
+    with pause_collector():
         return json.loads(data)

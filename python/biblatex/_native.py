@@ -1,7 +1,7 @@
-"""Calls of the shared library: each reads texts and numbers, and answers a text in UTF-8.
+"""Calls of the shared library. Each call takes texts and numbers, and returns a text in UTF-8.
 
-ctypes gives the interpreter's lock up while a call runs, and the library keeps nothing between calls, so that calls of
-several threads go side by side.
+Several threads can make calls at the same time: ctypes releases the interpreter's lock during a call, and the library keeps
+nothing between calls.
 """
 
 from __future__ import annotations
@@ -14,7 +14,7 @@ from typing import Callable, Union, cast
 
 
 class Status(IntEnum):
-    """How a call ends, as c/biblatex.h has it."""
+    """The status that a call returns, from `enum biblatex_status` of c/biblatex.h."""
 
     DONE = 0
     TOO_SHORT = 1
@@ -29,15 +29,15 @@ class Status(IntEnum):
 
 
 class NotUtf8(Exception):
-    """A text isn't UTF-8."""
+    """Raised when a text isn't UTF-8."""
 
 
 class Refused(Exception):
-    """A text has an error."""
+    """Raised when a text has an error, or when no format has the number."""
 
 
 class EditRefused(Exception):
-    """A text can't be edited so, for the reason that the status says."""
+    """Raised when an edit is refused. `status` is the reason."""
 
     def __init__(self, status: Status) -> None:
         super().__init__(status)
@@ -49,7 +49,7 @@ def _load() -> ctypes.CDLL:
     try:
         return ctypes.CDLL(str(path))
     except OSError as error:
-        raise ImportError(f"biblatex: the shared library can't be loaded, which build.sh makes: {error}") from error
+        raise ImportError(f"biblatex: can't load the shared library, which build.sh builds: {error}") from error
 
 
 _LIBRARY = _load()
@@ -82,14 +82,14 @@ def _raise_unless_done(name: str, status: int) -> None:
     if Status.UNKNOWN_KEY <= status <= Status.NOT_IN_BRACES:
         raise EditRefused(Status(status))
     if status != Status.DONE:
-        raise RuntimeError(f"{name} ended with the status {status}")
+        raise RuntimeError(f"{name} returned the unknown status {status}")
 
 
 def call(name: str, *arguments: Union[bytes, int], capacity: int = 256) -> bytes:
-    """The answer of the call with this name.
+    """Returns the text that the call `name` writes.
 
-    The answer is read from a buffer of the given capacity. Where that is too short, the call is made again with the size
-    that it says, which costs its time once more.
+    `capacity` is the size of the first buffer, in bytes. If the buffer is too short, the call is repeated with a buffer of
+    the size that it returned, and takes twice the time.
     """
     function = _function(name)
     words = _words(arguments)

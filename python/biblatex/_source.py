@@ -1,4 +1,4 @@
-"""A text that was read, in the formats that the library writes."""
+"""A text, and its bibliography in the formats that the library writes."""
 
 from __future__ import annotations
 
@@ -11,7 +11,7 @@ from ._values import Date, date_of_parts
 
 
 class Format(IntEnum):
-    """The formats, by the numbers that the library has for them."""
+    """The formats, with the numbers of `enum biblatex_format` of c/biblatex.h."""
 
     BIBLATEX = 0
     BIBTEX = 1
@@ -26,36 +26,36 @@ _CALLS = {
     Format.CSL: "biblatex_csl",
 }
 
-# how many times as long as the text an answer mostly is at most
+# for most texts, the output is at most this many times as long as the text
 _GROWTH = {Format.BIBLATEX: 2, Format.BIBTEX: 2, Format.JSON: 6, Format.CSL: 2}
 
-# the variables of CSL-JSON that hold the dates of these fields
+# the CSL-JSON variables that contain the dates of these fields
 _VARIABLES = {"date": "issued", "urldate": "accessed", "eventdate": "event-date", "origdate": "original-date"}
 
 
 class Source:
-    """The bytes of a text, and whether it is read as far as it can be or has to be read whole."""
+    """The bytes of a text, and whether parsing recovers from errors."""
 
     def __init__(self, text: bytes, recovers: bool) -> None:
         self._text = text
         self._recovers = recovers
         self._dates: Optional[Mapping[str, Mapping[str, Date]]] = None
 
-    def written(self, form: Format) -> bytes:
-        """What is read of the text, in a format."""
+    def write(self, form: Format) -> bytes:
+        """Returns the bibliography of the text in a format."""
         capacity = _GROWTH[form] * len(self._text) + 1024
         if self._recovers:
             return call("biblatex_recover", self._text, int(form), capacity=capacity)
         return call(_CALLS[form], self._text, capacity=capacity)
 
     def date_of_parts(self, key: str, name: str) -> Optional[Date]:
-        """The date of an entry that has a year, month and day in the place of the field of this name.
+        """Returns the date of the entry `key` from the three fields that replace `name`, for example `year`, `month` and `day`.
 
-        The library reads it where it writes CSL-JSON, so the dates of all entries are read at once, where one is asked for.
-        Two threads that ask at the same time both read them, and keep the same.
+        The library writes such a date only in CSL-JSON, so the first call parses the dates of all entries. If two threads make
+        the first call at the same time, both parse the dates, and get the same ones.
         """
         if self._dates is None:
-            items: list[dict[str, Any]] = read(self.written(Format.CSL))
+            items: list[dict[str, Any]] = read(self.write(Format.CSL))
             self._dates = {field: _dates_in(items, variable) for field, variable in _VARIABLES.items()}
         return self._dates[name].get(key)
 

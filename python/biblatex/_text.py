@@ -1,4 +1,4 @@
-"""Texts, as callers give them and as the library has them."""
+"""Texts of callers, and their bytes."""
 
 from __future__ import annotations
 
@@ -9,9 +9,9 @@ Text = TypeVar("Text", str, bytes)
 
 
 def as_bytes(text: AnyText) -> bytes:
-    """The bytes of a text: those of a `str` in UTF-8."""
+    """Returns the bytes of a text. A `str` is encoded in UTF-8."""
     if isinstance(text, str):
         return text.encode("utf-8")
     if isinstance(text, bytes):
         return text
-    raise TypeError(f"a text is a str or bytes, and not {type(text).__name__}")
+    raise TypeError(f"expected a str or bytes, not {type(text).__name__}")

@@ -1,4 +1,4 @@
-"""What fields are read as."""
+"""Typed values of fields, and their conversion from JSON."""
 
 from __future__ import annotations
 
@@ -12,9 +12,9 @@ Json = Mapping[str, Any]
 class Chunk:
     """A part of a field's text.
 
-    `kind` is `"normal"`, `"verbatim"` for what stands in braces, or `"math"` for what stands between dollar signs.
-    `start` and `end` are its bytes in the text as UTF-8, from 0; they are None for a chunk that stands nowhere in it, and one
-    that was made of several may begin after its end.
+    `kind` is `"normal"`, `"verbatim"` for text in braces, or `"math"` for text between dollar signs. `start` and `end` are the
+    span of the chunk: a range of bytes of the text in UTF-8, counted from 0. They are None for a chunk that doesn't occur in
+    the text. The start of a chunk that was joined from several chunks may be after its end.
     """
 
     kind: Literal["normal", "verbatim", "math"]
@@ -25,9 +25,9 @@ class Chunk:
 
 @dataclass(frozen=True)
 class Person:
-    """A person, by the parts of the name: `name` is the family name. A part that isn't there is empty.
+    """A person. `name` is the family name, and a missing part of the name is empty.
 
-    The last four are what BibLaTeX's extended name format adds (`family=.., given-i=..`), and None where it says nothing.
+    Only BibLaTeX's extended name format (`family=.., given-i=..`) sets the last four parts. They are None otherwise.
     """
 
     name: str
@@ -40,14 +40,14 @@ class Person:
     use_prefix: Optional[bool] = None
 
     def __str__(self) -> str:
-        """The name in reading order, as `Jean de La Fontaine` and `J. Doe, Jr.`"""
+        """Returns the name in reading order, for example `Jean de La Fontaine` or `J. Doe, Jr.`"""
         name = " ".join(part for part in (self.given, self.prefix, self.name) if part)
         return f"{name}, {self.suffix}" if self.suffix else name
 
 
 @dataclass(frozen=True)
 class Time:
-    """A time of day. `offset` is how many minutes it is ahead of UTC, and None where it says nothing of that."""
+    """A time of day. `offset` is in minutes ahead of UTC, and None if the time has no offset."""
 
     hour: int
     minute: int
@@ -55,7 +55,7 @@ class Time:
     offset: Optional[int] = None
 
     def __str__(self) -> str:
-        """As `10:20:30`, `10:20:30Z` and `10:20:30+01:00`."""
+        """Returns for example `10:20:30`, `10:20:30Z` or `10:20:30+01:00`."""
         text = f"{self.hour:02}:{self.minute:02}:{self.second:02}"
         if self.offset is None:
             return text
@@ -67,7 +67,7 @@ class Time:
 
 @dataclass(frozen=True)
 class Datetime:
-    """A year, and perhaps a month, a day and a time. Months and days count from 1; the year before 1 is 0."""
+    """A year, with an optional month, day and time. Months and days are counted from 1. The year before year 1 is year 0."""
 
     year: int
     month: Optional[int] = None
@@ -75,7 +75,7 @@ class Datetime:
     time: Optional[Time] = None
 
     def __str__(self) -> str:
-        """As BibLaTeX writes it: `1984`, `1984-05`, `1984-05-01`, `1984-05-01T10:20:30`."""
+        """Returns the BibLaTeX notation: `1984`, `1984-05`, `1984-05-01` or `1984-05-01T10:20:30`."""
         text = f"{'-' if self.year < 0 else ''}{abs(self.year):04}"
         if self.month is not None:
             text += f"-{self.month:02}"
@@ -88,8 +88,8 @@ class Datetime:
 class Date:
     """A date or a range of dates.
 
-    `kind` is `"at"` for one date, which is `start`; `"after"` for a range that has a `start` alone, `"before"` for one that
-    has an `end` alone, and `"between"` for one that has both. Digits that aren't known (`198X`) are a range.
+    `kind` is `"at"` for one date, which is `start`. It is `"after"` for a range with only a `start`, `"before"` for a range
+    with only an `end`, and `"between"` for a range with both. A date with unknown digits (`198X`) is a range.
     """
 
     kind: Literal["at", "after", "before", "between"]
@@ -100,13 +100,13 @@ class Date:
 
     @property
     def year(self) -> int:
-        """The year of the start, or of the end where there is no start."""
+        """Returns the year of the start, or of the end if there is no start."""
         side = self.start or self.end
         assert side is not None, "a date has a start or an end"
         return side.year
 
     def __str__(self) -> str:
-        """As BibLaTeX writes it: `1984-05`, `1984/1990`, `1984/..`, `../1990`, with `?`, `~` or `%` after it."""
+        """Returns the BibLaTeX notation: `1984-05`, `1984/1990`, `1984/..` or `../1990`, and `?`, `~` or `%` after it."""
         sides = {
             "at": f"{self.start}",
             "after": f"{self.start}/..",
@@ -119,23 +119,23 @@ class Date:
 
 @dataclass(frozen=True)
 class PageRange:
-    """A range of pages, from `start` to `end`, both of them included. One page is a range too."""
+    """A range of pages from `start` to `end`, both included. In a range of one page they are equal."""
 
     start: int
     end: int
 
     def __str__(self) -> str:
-        """As `31--43`, and `52` for one page."""
+        """Returns for example `31--43`, or `52` for one page."""
         return str(self.start) if self.start == self.end else f"{self.start}--{self.end}"
 
 
 def chunk_of(content: Json) -> Chunk:
-    """The chunk that an object of JSON describes."""
+    """Returns the chunk that a JSON object describes."""
     return Chunk(content["kind"], content["text"], content.get("start"), content.get("end"))
 
 
 def person_of(content: Json) -> Person:
-    """The person that an object of JSON describes."""
+    """Returns the person that a JSON object describes."""
     return Person(
         content["name"],
         content["given"],
@@ -149,21 +149,21 @@ def person_of(content: Json) -> Person:
 
 
 def time_of(content: Optional[Json]) -> Optional[Time]:
-    """The time of day that an object of JSON describes, if there is one."""
+    """Returns the time of day that a JSON object describes, or None if there is no object."""
     if content is None:
         return None
     return Time(content["hour"], content["minute"], content["second"], content.get("offset"))
 
 
 def datetime_of(content: Optional[Json]) -> Optional[Datetime]:
-    """The side of a date that an object of JSON describes, if there is one."""
+    """Returns the start or end of a date that a JSON object describes, or None if there is no object."""
     if content is None:
         return None
     return Datetime(content["year"], content.get("month"), content.get("day"), time_of(content.get("time")))
 
 
 def date_of(content: Json) -> Date:
-    """The date that an object of JSON describes."""
+    """Returns the date that a JSON object describes."""
     return Date(
         content["kind"],
         datetime_of(content.get("start")),
@@ -174,7 +174,7 @@ def date_of(content: Json) -> Date:
 
 
 def date_of_parts(content: Json) -> Optional[Date]:
-    """The date of year, month and day that is given as CSL-JSON, which has no year 0; None where it isn't read."""
+    """Converts a CSL-JSON date, where the year before year 1 is -1. Returns None for a season or a literal text."""
     if "literal" in content or "season" in content:
         return None
     year, month, day = (content["date-parts"][0] + [None, None])[:3]
@@ -182,5 +182,5 @@ def date_of_parts(content: Json) -> Optional[Date]:
 
 
 def page_range_of(content: Json) -> PageRange:
-    """The range of pages that an object of JSON describes."""
+    """Returns the range of pages that a JSON object describes."""
     return PageRange(content["start"], content["end"])

@@ -1,4 +1,4 @@
-"""Prints each author's works, with their years: authors.py FILE."""
+"""Prints the works of each author, with their years. Usage: authors.py FILE"""
 
 import sys
 from collections import defaultdict
@@ -8,7 +8,7 @@ import biblatex
 
 
 def works(text: str) -> dict[str, list[tuple[str, str]]]:
-    """The works of each author, as year and title."""
+    """Returns the works of each author, as pairs of a year and a title."""
     found = defaultdict(list)
     for entry in biblatex.parse(text).entries:
         date = entry.date()

@@ -1,7 +1,7 @@
-"""Times the three programs beside this one on a file that it makes up, and prints a table: compare.py [ENTRIES [ROUNDS]].
+"""Measures the time of the other three programs on a generated file, and prints a table. Usage: compare.py [ENTRIES [ROUNDS]]
 
-In each round each program runs once, in a process of its own, and its least time of all rounds counts, without that of imports; the
-memory is the most that its process had. A library that isn't installed is left out. The answers are compared too.
+Each round runs each program once, in its own process. The table has the minimum time of all rounds, without imports, and the peak
+memory of that process. It also says whether the results are the same. A library that isn't installed is skipped.
 """
 
 import hashlib
@@ -25,26 +25,26 @@ JOURNALS = ["Journal of Symbolic Logic", "Annals of Mathematics", "Communication
 PUBLISHERS = ["Addison-Wesley", "Springer", "Cambridge University Press"]
 
 
-def made_entry(index: int, chance: random.Random) -> str:
-    """An entry as reference managers write them."""
+def random_entry(index: int, chance: random.Random) -> str:
+    """Returns a random entry in the layout of reference managers."""
     people = " and ".join(f"{chance.choice(FAMILIES)}, {chance.choice(GIVEN)}" for _ in range(chance.randint(1, 4)))
     title = " ".join(chance.choice(WORDS) for _ in range(chance.randint(4, 10))).capitalize() + " {LaTeX}"
-    kind = chance.choice(["article", "book", "inproceedings"])
+    entry_type = chance.choice(["article", "book", "inproceedings"])
     place = {
         "article": f"  journal = {{{chance.choice(JOURNALS)}}},\n  volume = {{{index % 90}}},\n  number = {{{index % 12}}},\n",
         "book": f"  publisher = {{{chance.choice(PUBLISHERS)}}},\n  address = {{London}},\n  isbn = {{978-0-{index:06}-1}},\n",
         "inproceedings": f"  booktitle = {{Proceedings of the Symposium {index % 60}}},\n  editor = {{Bell, Ann}},\n",
-    }[kind]
+    }[entry_type]
     first = chance.randint(1, 500)
     return (
-        f"@{kind}{{key{index},\n  author = {{{people}}},\n  title = {{{title}}},\n{place}"
+        f"@{entry_type}{{key{index},\n  author = {{{people}}},\n  title = {{{title}}},\n{place}"
         f"  year = {{{chance.randint(1930, 2020)}}},\n  month = {chance.choice(['jan', 'may', 'dec'])},\n"
         f"  pages = {{{first}--{first + 12}}},\n  doi = {{10.1000/{index}}},\n}}\n\n"
     )
 
 
 def peak_memory() -> float:
-    """The most memory that this process had, in MB, or 0 where the system doesn't say it."""
+    """Returns the peak memory of this process in MB, or 0 if the system doesn't report it."""
     try:
         lines = Path("/proc/self/status").read_text().splitlines()
     except OSError:
@@ -53,7 +53,10 @@ def peak_memory() -> float:
 
 
 def measure(library: str, path: str) -> None:
-    """Prints what the program with a library takes, and what it answers, in JSON."""
+    """Runs the program of a library, and prints its time, its memory and the hash of its result, as a JSON object.
+
+    Prints null if the library isn't installed.
+    """
     try:
         module = importlib.import_module(library)
         program = importlib.import_module(PROGRAMS[library])
@@ -64,18 +67,18 @@ def measure(library: str, path: str) -> None:
     start = time.perf_counter()
     found = program.works(text)
     seconds, memory = time.perf_counter() - start, peak_memory()
-    answer = repr(sorted((author, sorted(listed)) for author, listed in found.items()))
+    result = repr(sorted((author, sorted(listed)) for author, listed in found.items()))
     version = module.version() if library == "biblatex" else module.__version__
-    digest = hashlib.sha256(answer.encode()).hexdigest()
-    print(json.dumps({"version": version, "seconds": seconds, "memory": memory, "answer": digest}))
+    digest = hashlib.sha256(result.encode()).hexdigest()
+    print(json.dumps({"version": version, "seconds": seconds, "memory": memory, "result": digest}))
 
 
 def print_table(rows: dict) -> None:
-    """Prints what was measured, beside what the first row takes."""
+    """Prints the measured values, and the ratio of each time to that of the first row."""
     first = next(iter(rows.values()))
-    print(f"{'library':14} {'version':9} {'seconds':>8} {'times':>7} {'memory':>8}  answer")
+    print(f"{'library':14} {'version':9} {'seconds':>8} {'times':>7} {'memory':>8}  result")
     for library, row in rows.items():
-        same = "the same" if row["answer"] == first["answer"] else "another"
+        same = "the same" if row["result"] == first["result"] else "different"
         ratio = row["seconds"] / first["seconds"]
         print(f"{library:14} {row['version']:9} {row['seconds']:8.3f} {ratio:7.1f} {row['memory']:5.0f} MB  {same}")
 
@@ -86,9 +89,9 @@ def main() -> None:
     environment = {**os.environ, "PYTHONPATH": os.pathsep.join([str(HERE.parent), os.environ.get("PYTHONPATH", "")])}
     rows = {}
     with tempfile.NamedTemporaryFile("w", suffix=".bib", encoding="utf-8") as file:
-        file.writelines(made_entry(index, chance) for index in range(count))
+        file.writelines(random_entry(index, chance) for index in range(count))
         file.flush()
-        print(f"{count} entries, {os.path.getsize(file.name) / 1e6:.1f} MB, least of {rounds} rounds, Python {sys.version.split()[0]}")
+        print(f"{count} entries, {os.path.getsize(file.name) / 1e6:.1f} MB, minimum of {rounds} rounds, Python {sys.version.split()[0]}")
         for library in list(PROGRAMS) * rounds:
             words = [sys.executable, __file__, "--measure", library, file.name]
             row = json.loads(subprocess.run(words, env=environment, stdout=subprocess.PIPE, check=True).stdout)

@@ -1,4 +1,4 @@
-"""The work of authors.py, with bibtexparser 1: with_bibtexparser.py FILE."""
+"""Prints the works of each author like authors.py, with bibtexparser 1. Usage: with_bibtexparser.py FILE"""
 
 import sys
 from collections import defaultdict
@@ -11,7 +11,7 @@ from bibtexparser.latexenc import latex_to_unicode
 
 
 def works(text: str) -> dict[str, list[tuple[str, str]]]:
-    """The works of each author, as year and title."""
+    """Returns the works of each author, as pairs of a year and a title."""
     found = defaultdict(list)
     parser = BibTexParser(common_strings=True, ignore_nonstandard_types=False)
     for entry in bibtexparser.loads(text, parser).entries:

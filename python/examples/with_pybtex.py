@@ -1,4 +1,4 @@
-"""The work of authors.py, with pybtex: with_pybtex.py FILE."""
+"""Prints the works of each author like authors.py, with pybtex. Usage: with_pybtex.py FILE"""
 
 import sys
 from collections import defaultdict
@@ -9,7 +9,7 @@ from pybtex.richtext import Text
 
 
 def works(text: str) -> dict[str, list[tuple[str, str]]]:
-    """The works of each author, as year and title."""
+    """Returns the works of each author, as pairs of a year and a title."""
     found = defaultdict(list)
     for entry in parse_string(text, "bibtex").entries.values():
         work = (entry.fields.get("year", ""), str(Text.from_latex(entry.fields.get("title", ""))))

@@ -1,4 +1,4 @@
-"""What the tests share: the package of this tree, without which they are skipped."""
+"""The package of this repository, and functions for the tests. The tests are skipped without the shared library."""
 
 import sys
 import unittest
@@ -7,7 +7,7 @@ from pathlib import Path
 TOP = Path(__file__).resolve().parent.parent
 
 if not (TOP / "biblatex" / "libbiblatex.so").exists():
-    raise unittest.SkipTest("the shared library isn't there, which python/build.sh makes")
+    raise unittest.SkipTest("the shared library is missing: python/build.sh builds it")
 
 sys.path.insert(0, str(TOP))
 
@@ -18,12 +18,12 @@ __all__ = ["TOP", "biblatex", "byte_of", "native", "only"]
 
 
 def only(text: str) -> biblatex.Entry:
-    """The only entry of a text."""
+    """Returns the only entry of a text."""
     (entry,) = biblatex.parse(text).entries
     return entry
 
 
 def byte_of(text: str, part: str) -> int:
-    """The byte at which a part of a text begins that stands in it once."""
+    """Returns the index of the first byte of `part`, which occurs once in `text`."""
     assert text.count(part) == 1
     return len(text[: text.index(part)].encode())

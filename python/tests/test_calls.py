@@ -17,7 +17,7 @@ LARGE = "".join(f"@misc{{k{index}, title={{T{index}}}, author={{A and B}}, year=
 
 
 def resident() -> int:
-    """How many bytes of memory the process has."""
+    """Returns the resident memory of the process, in bytes."""
     return int(Path("/proc/self/statm").read_text().split()[1]) * 4096
 
 
@@ -67,22 +67,22 @@ class Version(unittest.TestCase):
 class ManyCalls(unittest.TestCase):
     def work(self, rounds: int) -> None:
         for _ in range(rounds):
-            library = biblatex.parse(TEXT)
-            library.to_bibtex()
-            library["b"].date()
+            bibliography = biblatex.parse(TEXT)
+            bibliography.to_bibtex()
+            bibliography["b"].date()
             biblatex.set_field(TEXT, "a", "title", "U")
             biblatex.lint(TEXT)
             with self.assertRaises(biblatex.ParseError):
                 biblatex.parse("@a{b")
 
-    @unittest.skipUnless(Path("/proc/self/statm").exists(), "the system doesn't say how much memory there is")
+    @unittest.skipUnless(Path("/proc/self/statm").exists(), "the system doesn't report the memory of a process")
     def test_memory_stays_the_same(self) -> None:
         self.work(300)
         before = resident()
         self.work(3000)
         self.assertLess(resident(), before + 2_000_000)
 
-    @unittest.skipUnless(Path("/proc/self/statm").exists(), "the system doesn't say how much memory there is")
+    @unittest.skipUnless(Path("/proc/self/statm").exists(), "the system doesn't report the memory of a process")
     def test_memory_of_large_texts_is_given_back(self) -> None:
         biblatex.parse(LARGE)
         before = resident()
@@ -106,25 +106,25 @@ class Collector(unittest.TestCase):
 class Threads(unittest.TestCase):
     def answers(self, number: int) -> bool:
         text = f"@misc{{k{number}, title={{T{number}}}, year={{{1000 + number}}}}}"
-        library = biblatex.parse(text)
-        date = library[f"k{number}"].date()
+        bibliography = biblatex.parse(text)
+        date = bibliography[f"k{number}"].date()
         edited = biblatex.set_field(text, f"k{number}", "title", "U")
-        key = str(json.loads(library.to_json())[0]["key"])
+        key = str(json.loads(bibliography.to_json())[0]["key"])
         wanted = (f"k{number}", f"T{number}", str(1000 + number), text.replace(f"{{T{number}}}", "{U}"))
-        return (key, library[f"k{number}"]["title"], str(date), edited) == wanted
+        return (key, bibliography[f"k{number}"]["title"], str(date), edited) == wanted
 
     def test_calls_of_several_threads(self) -> None:
         with ThreadPoolExecutor(8) as pool:
             self.assertTrue(all(pool.map(self.answers, range(2000))))
 
-    def test_threads_share_a_library(self) -> None:
-        library = biblatex.parse(LARGE)
+    def test_threads_share_a_bibliography(self) -> None:
+        bibliography = biblatex.parse(LARGE)
         with ThreadPoolExecutor(8) as pool:
-            dates = list(pool.map(biblatex.Entry.date, library.entries[:1000]))
+            dates = list(pool.map(biblatex.Entry.date, bibliography.entries[:1000]))
         self.assertEqual(set(map(str, dates)), {"1999"})
 
     def longest_pause_over_call(self) -> float:
-        """The longest pause of this thread while another one calls the library, over how long that call takes."""
+        """Returns the longest pause of this thread during a call of another thread, divided by the time of that call."""
         text = LARGE.encode()
         took = []
 

@@ -1,4 +1,4 @@
-"""The examples of the documents and of examples/ print what they say."""
+"""The output of the examples in the documents and in examples/."""
 
 import contextlib
 import doctest
@@ -13,7 +13,7 @@ from pathlib import Path
 
 from support import TOP, biblatex
 
-GUIDE = TOP.parent / "docs" / "GUIDE.md"
+LIBRARY = TOP.parent / "docs" / "LIBRARY.md"
 
 AUTHORS = """\
 Doe, Jr., J.
@@ -34,12 +34,12 @@ WORKS = """\
 
 
 def examples_in(text: str) -> list[tuple[str, str]]:
-    """The code of Python in a text, each with the output that stands after it."""
+    """Returns each Python example of a text, with the output that follows it."""
     return re.findall(r"^```python\n(.*?)^```\n\s*^```text\n(.*?)^```$", text, re.MULTILINE | re.DOTALL)
 
 
 def section(text: str, title: str) -> str:
-    """The section of a document with this title; nothing where there is none."""
+    """Returns the section of a document with this title, or an empty text if there is none."""
     found = re.search(rf"^## {title}\n(.*?)(?=^## |\Z)", text, re.MULTILINE | re.DOTALL)
     return found[1] if found else ""
 
@@ -60,9 +60,9 @@ class Documents(unittest.TestCase):
     def test_docstrings(self) -> None:
         self.assertEqual(doctest.testmod(biblatex), doctest.TestResults(0, 4))
 
-    @unittest.skipUnless(GUIDE.exists(), "the guide isn't there")
-    def test_guide(self) -> None:
-        text = section(GUIDE.read_text("utf-8"), "From Python")
+    @unittest.skipUnless(LIBRARY.exists(), "docs/LIBRARY.md is missing")
+    def test_library_document(self) -> None:
+        text = section(LIBRARY.read_text("utf-8"), "From Python")
         self.assertEqual(len(examples_in(text)), text.count("```python"))
         self.check(examples_in(text))
 

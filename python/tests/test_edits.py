@@ -1,4 +1,4 @@
-"""Edits of texts, and the usual style."""
+"""Edits of texts, and the default style."""
 
 import unittest
 from typing import Callable

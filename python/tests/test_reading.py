@@ -1,4 +1,4 @@
-"""Reading texts: entries, fields and chunks, and texts of every kind."""
+"""Parsing: entries, fields and chunks, and texts with unusual characters or sizes."""
 
 import copy
 import dataclasses
@@ -41,8 +41,8 @@ class Fields(unittest.TestCase):
         self.assertEqual(only("@misc{k, title = {A\n    B\t C}}")["title"], "A B C")
 
     def test_abbreviations_and_months(self) -> None:
-        library = biblatex.parse('@string{jsl = "Journal"}\n@article{k, journal = jsl # " B", month = mar}')
-        self.assertEqual(library["k"].fields, {"journal": "Journal B", "month": "March"})
+        bibliography = biblatex.parse('@string{jsl = "Journal"}\n@article{k, journal = jsl # " B", month = mar}')
+        self.assertEqual(bibliography["k"].fields, {"journal": "Journal B", "month": "March"})
 
     def test_the_last_of_two_fields_with_one_name_counts(self) -> None:
         self.assertEqual(only("@misc{k, title = {A}, TITLE = {B}}").fields, {"title": "B"})
@@ -98,9 +98,9 @@ class Texts(unittest.TestCase):
     def test_the_empty_text(self) -> None:
         texts: list[Union[str, bytes]] = ["", b""]
         for text in texts:
-            library = biblatex.parse(text)
-            self.assertEqual((len(library), list(library), library.entries), (0, [], ()))
-            self.assertEqual((library.to_biblatex(), library.to_bibtex(), library.to_csl()), ("", "", []))
+            bibliography = biblatex.parse(text)
+            self.assertEqual((len(bibliography), list(bibliography), bibliography.entries), (0, [], ()))
+            self.assertEqual((bibliography.to_biblatex(), bibliography.to_bibtex(), bibliography.to_csl()), ("", "", []))
             self.assertEqual(biblatex.recover(text)[1], [])
             self.assertEqual(biblatex.lint(text), [])
 
@@ -113,9 +113,9 @@ class Texts(unittest.TestCase):
 
     def test_a_byte_of_zero(self) -> None:
         text = "@misc{k, title={a\0b}}\n@misc{l, title={c}}"
-        library = biblatex.parse(text)
-        self.assertEqual([entry["title"] for entry in library.entries], ["a\0b", "c"])
-        self.assertEqual(library.to_biblatex(), "@misc{k,\ntitle = {a\0b},\n}\n\n@misc{l,\ntitle = {c},\n}\n")
+        bibliography = biblatex.parse(text)
+        self.assertEqual([entry["title"] for entry in bibliography.entries], ["a\0b", "c"])
+        self.assertEqual(bibliography.to_biblatex(), "@misc{k,\ntitle = {a\0b},\n}\n\n@misc{l,\ntitle = {c},\n}\n")
 
     def test_characters_beyond_the_first_plane(self) -> None:
         text = "@misc{k, title={\U0001d538 \U0001f4d6}}"
@@ -145,10 +145,10 @@ class LargeTexts(unittest.TestCase):
         note = "word " * 200
         text = "".join(f"@misc{{k{index}, title={{T{index}}}, note={{{note}}}}}\n" for index in range(count))
         self.assertGreater(len(text), 10_000_000)
-        library = biblatex.parse(text)
-        self.assertEqual(list(library), [f"k{index}" for index in range(count)])
-        self.assertEqual(library["k9999"]["title"], "T9999")
-        self.assertEqual(library["k9999"]["note"], note)
+        bibliography = biblatex.parse(text)
+        self.assertEqual(list(bibliography), [f"k{index}" for index in range(count)])
+        self.assertEqual(bibliography["k9999"]["title"], "T9999")
+        self.assertEqual(bibliography["k9999"]["note"], note)
 
 
 if __name__ == "__main__":

@@ -1,4 +1,4 @@
-"""What fields are read as: people, dates, pages, numbers, lists and words."""
+"""Typed values of fields: people, dates, pages, numbers, lists and words."""
 
 import unittest
 from typing import Optional
@@ -87,9 +87,9 @@ class Dates(unittest.TestCase):
             date_of("title={T}", "title")
 
     def test_seasons_are_dates_of_csl_alone(self) -> None:
-        library = biblatex.parse("@misc{k, date={2001-21}}")
-        self.assertIsNone(library["k"].date())
-        self.assertEqual(library.to_csl()[0]["issued"], {"date-parts": [[2001]], "season": 1})
+        bibliography = biblatex.parse("@misc{k, date={2001-21}}")
+        self.assertIsNone(bibliography["k"].date())
+        self.assertEqual(bibliography.to_csl()[0]["issued"], {"date-parts": [[2001]], "season": 1})
 
     def test_year_month_and_day(self) -> None:
         self.assertEqual(date_of("year={1937}, month=sep, day={21}"), Date("at", Datetime(1937, 9, 21)))
