@@ -40,7 +40,7 @@ error_reported utf8 (inl memory) reported other listed = absurd (other (ap (λ x
 error_reported utf8 (inr error_answer) (inl memory) other listed = absurd (other (ap (λ x. x.kind) memory))
 error_reported utf8 (inr error_answer) (inr reported) other listed = no_file utf8 reported error_answer.1 listed
 
--- the output for an error, except for out of memory
+-- the line printed for an error is an answer of `keys`, unless the error is out of memory
 pub error_answered : {E : Type 0} {bytes : List ℕ} (e : ParseError) (r : Result Answer E)
     → IfOk r (λ answer. (e.kind ≢ OutOfMemory) × ShowsError e (string_bytes answer.text) × (answer.status ≡ 1))
     → IsUtf8 bytes → Refuses bytes e (IsFile bytes → ⊥) → (e ≡ out_of_memory) ⊎ IsReported bytes e → IfOk r (λ answer. IsKeysAnswer bytes (string_bytes answer.text) answer.status)
@@ -53,7 +53,7 @@ pub no_bibliography : {bytes text : List ℕ} {e : ParseError} → (e ≡ out_of
 no_bibliography (inl memory) other listed = absurd (other (ap (λ x. x.kind) memory))
 no_bibliography {e = e} (inr error_answer) other listed = record { error = e; of_text = error_answer.0; refused = error_answer.1; listed = listed }
 
--- the output for a text without a bibliography
+-- the line printed for a text without a bibliography is an answer of a command that needs one
 pub no_bibliography_shown : {shows : Bibliography → List ℕ → ℕ → Type 0} {bytes : List ℕ} (found : Result Bibliography Answer) (answer : Answer) → IsUtf8 bytes → IsParseAnswer bytes found → found ≡ Err answer → IsBibliographyAnswer shows bytes (string_bytes answer.text) answer.status
 no_bibliography_shown {shows} {bytes} found answer utf8 is same =
     let listed : IsParseAnswer bytes (Err answer) = subst (IsParseAnswer bytes) same is in

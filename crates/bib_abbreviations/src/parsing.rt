@@ -21,8 +21,8 @@ use std::collections::HashMap;
 /// its definition. If it has none, it is replaced by the English name of the month whose first three letters it is, in
 /// any ASCII case. Two neighbouring chunks are merged if both are normal or both verbatim.
 ///
-/// Returns the first error, from left to right and into each definition where its name occurs. A literal that can't be
-/// parsed has the error of `contents`: `Unexpected` or `UnexpectedEof`. A name that is neither defined nor such a month
+/// The error is the first one from left to right; those of a definition come where its name occurs. A literal that can't
+/// be parsed has the error of `contents`: `Unexpected` or `UnexpectedEof`. A name that is neither defined nor such a month
 /// has `UnknownAbbreviation`. A name that occurs in its own expansion has `AbbreviationCycle`. The last two have the
 /// span of the name, in bytes of its file. The only other error is out of memory.
 pub fn parse_field(

@@ -185,7 +185,7 @@ chunk_spaced first last (Normal text) span utf8 =
 chunk_spaced first last (Verbatim text) span utf8 = same_spaced first last (Verbatim text) _ refl
 chunk_spaced first last (Math text) span utf8 = same_spaced first last (Math text) _ refl
 
--- the same for chunks
+-- the atoms of chunks are those of the trimmed chunks between white space
 record AreSpaced (first : Bool) (chunks : List (Spanned Chunk)) : Type 0 where
   lead : List ℕ
   trail : List ℕ

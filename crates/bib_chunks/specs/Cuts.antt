@@ -18,12 +18,12 @@ further at n = min (at + n) (2 ^ 64 - 1)
 abbrev pub placed : Chunk → ℕ → ℕ → Spanned Chunk
 placed chunk start end = record { v = chunk; span = record { start = start; end = end } }
 
--- a text without the white space at its start if the flag says so: then a separator or the start of the list is there
+-- a text, without the white space at its start if the flag is true: the text follows a separator or begins the list
 abbrev pub trimmed_start : Bool → List ℕ → List ℕ
 trimmed_start true text = trim_start text
 trimmed_start false text = text
 
--- a text without the white space at its end if the flag says so: then a separator or the end of the list is there
+-- a text, without the white space at its end if the flag is true: a separator follows the text, or it ends the list
 abbrev pub trimmed_end : Bool → List ℕ → List ℕ
 trimmed_end true text = trim_end text
 trimmed_end false text = text

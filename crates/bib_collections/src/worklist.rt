@@ -125,7 +125,8 @@ fn ready_indices(alloc: Global, missing: &[usize]) -> Result<Vec<usize>, AllocEr
     Ok(ready)
 }
 
-// Subtracts 1 from the count of missing references for each index in `waiting`. An index whose count is then 0 is ready.
+// Subtracts 1 from the count of missing references for each index in `waiting`. Appends an index to `ready` when
+// its count becomes 0.
 fn release(
     missing: &mut [usize],
     ready: &mut Vec<usize>,

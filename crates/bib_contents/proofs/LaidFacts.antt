@@ -213,7 +213,7 @@ pub laid_given : (is_flat : Bool) (name cs : List ℕ) → list_all is_unbroken 
 laid_given true name cs named capped = flowing_kind (kind_of name) cs named capped
 laid_given false name cs named capped = refl
 
--- the text of a command without an argument has no line break
+-- the text of a command that is no accent or symbol, without an argument, has no line break if its name has none
 alone_other : (name : List ℕ) → list_all is_unbroken name ≡ true → list_all is_unbroken (other name None) ≡ true
 alone_other name all = elim (cases_Bool (bytes_eq name (codes "o"))) [
   | inl is_o ↦ rw is_o refl

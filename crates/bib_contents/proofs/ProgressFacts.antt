@@ -54,7 +54,7 @@ pub taken_utf8 : (u v : Place) (found : Option ℕ) → IsUtf8 (ahead u) → Mat
 taken_utf8 u v None utf8 end = rw end.1 utf8
 taken_utf8 u v (Some c) utf8 char = (passed_char char utf8).utf8
 
--- if the cursor stops at a test, the first of the characters left doesn't pass it
+-- if the character at a place fails a test, the first of the characters left fails it
 pub begins_not : (test : ℕ → Bool) (u : Place) (cs : List ℕ) → IsUtf8 (ahead u) → left u ≡ cs → Stops test u → begins test cs ≡ false
 begins_not test u [] utf8 is stops = refl
 begins_not test u (c ∷ cs) utf8 is stops = let here = stands u c cs utf8 is in stops c here.0 here.1

@@ -104,7 +104,7 @@ pub placed_wider : (low high higher : ℕ) (cs : List (Spanned Chunk)) → ArePl
 placed_wider low high higher [] placed wider = omega (arith, placed, wider)
 placed_wider low high higher (c ∷ rest) placed wider = (placed.0, placed.1, placed_wider _ high higher rest placed.2 wider)
 
--- the length of a unit's argument in braces, in characters
+-- the length of a unit's argument in braces, in characters; 0 if it has none
 abbrev pub held_length : ContentUnit → ℕ
 held_length (ContentUnit.command name space (Argument.braced text)) = length text
 held_length u = 0

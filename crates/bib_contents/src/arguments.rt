@@ -25,8 +25,8 @@ use bib_syntax::raw::ParseError;
 use std::alloc::{AllocError, Global};
 
 // An argument that is being parsed. `s` is at the text that is left, and `effect` is that of its command. Its own text
-// begins at byte `start` of the output, and `depth` braces are open in it. `is_flat` says whether an argument around it
-// is put on one line.
+// begins at byte `start` of the output, and `depth` braces are open in it. If `is_flat`, it is outside braces in an
+// argument around it, so all of its text is put on one line.
 #[derive(Drop)]
 struct Frame<'s> {
     s: Characters<'s>,

@@ -41,7 +41,7 @@ utc_seconds t = pos (3600 * t.hour + 60 * t.minute + t.second) -ℤ shift t.offs
 abbrev pub hours_ahead : ℤ → TimeOffset
 hours_ahead hours = Offset (not (is_negative hours)) (unsigned_abs hours) 0
 
--- equal, or not comparable
+-- equal if the flag is true, and otherwise not comparable
 abbrev pub if_equal : Bool → Option Ordering
 if_equal same = if same then Some Equal else None
 

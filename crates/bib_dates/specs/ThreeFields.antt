@@ -94,7 +94,7 @@ month_named word =
     else if names word (codes "december") (codes "dec") then Some 11
     else None
 
--- a month by its name, after any digits, and the text after it; another word names no month
+-- the month that the letters at the start of a text name, or `None`, and the text after these letters
 abbrev pub named_month : List ℕ → Parsed (Option ℕ)
 named_month text = says (month_named (run is_ascii_alphabetic text), after_run is_ascii_alphabetic text)
 

@@ -98,7 +98,7 @@ kept_all {definitions} {said} {old} {errors} {pairs} so_far = record {
   errors = so_far.noted;
 }
 
--- an entry with the kept fields is the kept part of its raw entry
+-- an entry with the key and the type of a raw entry, and the fields kept of it, is its kept entry
 pub kept_entry : {definitions : Definitions} (raw : Spanned RawEntry) {old errors : List ParseError} {pairs : List (List ℕ × List (Spanned Chunk))} (entry : Entry)
     → AreKeptFields definitions raw.v.fields.items old errors pairs → entry.key ≡ raw.v.key.v.now → entry.entry_type ≡ entry_type_of raw.v.kind.v.now
     → entry.fields ≡ by_name.from_entries {R = by_bytes} (reverse pairs) → IsKeptEntry definitions (entry_reading_of raw) old errors entry

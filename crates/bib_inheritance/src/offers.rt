@@ -59,7 +59,7 @@ fn main_title(name: &str) -> Option<&'static [&'static str]>
     }
 }
 
-// Returns the field that an entry offers for `name`, if that is one of its own titles.
+// Returns the names of the fields that an entry of this type offers for `name`, if it offers one of its own titles.
 fn title_for(entry_type: &EntryType, name: &str) -> Option<&'static [&'static str]>
     ensures { option_map (λ names. texts names.now) result ≡ title_for entry_type.now name.now }
 {

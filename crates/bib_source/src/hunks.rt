@@ -84,7 +84,7 @@ fn in_new(line: &Line<'_>) -> usize
     }
 }
 
-// Returns the number of lines that the old text has.
+// Returns how many of `lines` are in the old text.
 #[tactic(auto, using(crate::proofs::ComparisonFacts::old_append))]
 pub(crate) fn old_count(lines: &[Line<'_>]) -> usize
     ensures is { result ≡ length (old_side lines.now) }
@@ -97,7 +97,7 @@ pub(crate) fn old_count(lines: &[Line<'_>]) -> usize
     count
 }
 
-// Returns the number of lines that the new text has.
+// Returns how many of `lines` are in the new text.
 #[tactic(auto, using(crate::proofs::ComparisonFacts::new_append))]
 pub(crate) fn new_count(lines: &[Line<'_>]) -> usize
     ensures is { result ≡ length (new_side lines.now) }

@@ -168,7 +168,7 @@ fn longest_chain(alloc: Global, pairs: &[Pair]) -> Result<Vec<Pair>, AllocError>
     Ok(chain)
 }
 
-// Returns the first index of an equal line of the new text among at most `NEAR` lines from `start`, before `limit`.
+// Returns the first index of `line` in `new`, among at most `NEAR` lines from `start` that are before `limit`.
 fn near(new: &[&str], line: &str, start: usize, limit: usize) -> Option<usize> {
     let end = start.saturating_add(NEAR).min(limit);
     'lines: for index in start..end {

@@ -93,7 +93,7 @@ block_error first second =
     let same = block_once first.fails second.fails in
     first.is ∙ ap (λ k. error_at_place k first.place) same.0 ∙ ap (error_at_place second.kind) same.1 ∙ sym second.is
 
--- a block that fails has an at sign
+-- a block that fails begins with an at sign
 fail_sign : {u v : Place} {k : ParseErrorKind} → BlockFails u k v → (x : Place) × CharAt u 64 x
 fail_sign (block_fail.head (head_fail.name sign f)) = (_, sign)
 fail_sign (block_fail.head (head_fail.brace sign name white stops)) = (_, sign)

@@ -299,12 +299,12 @@ field_longest {f = f} a g char close =
       rest = more.rest;
     }
 
--- a gap before a character that is neither white space nor a percent sign
+-- a gap is as long as possible before a character that is neither white space nor a percent sign
 gap_longest : {u v : Place} → Gap any u v → Visible v → Gap longest u v
 gap_longest (gap.white r e) first = gap.white (longest_to is_whitespace r first.here first.visible) (stops_at (λ c. c == 37) first.here first.no_line_comment)
 gap_longest (gap.line_comment r m r') first = gap.line_comment (longest_to is_whitespace r m.sign refl) m (longest_to is_whitespace r' first.here first.visible)
 
--- a gap and white space before such a character
+-- a gap and the white space after it are one gap, as long as possible, before such a character
 gap_white : {u v w : Place} → Gap any u v → Run is_whitespace v w → Visible w → Gap longest u w
 gap_white (gap.white r e) white first = gap_longest (gap.white (run_append r white) e) first
 gap_white (gap.line_comment r m r') white first = gap_longest (gap.line_comment r m (run_append r' white)) first

@@ -221,23 +221,23 @@ ElementAt u v = (e : Piece) × Element longest u e v
 no_element : (a b c d : Bool) → a ≡ false → b ≡ false → c ≡ false → d ≡ false → a || b || c || d ≡ false
 no_element a b c d first second third fourth = rw (first, second, third, fourth)
 
--- a piece that begins with a digit
+-- a piece that begins with a digit matches or fails as its number does
 element_number : {n : ℕ} {u v : Place} {c : ℕ} → CharAt u c v → is_ascii_digit c ≡ true → Outcome n (Number longest u) (NumberFails u)
     → Outcome n (ElementAt u) (ElementFails u)
 element_number char digit (Outcome.read f) = Outcome.read (found_as (omega arith) f (_, element.number f.rule))
 element_number char digit (Outcome.fails f) = Outcome.fails (element_fail.number char digit f)
 
--- a piece that begins with a brace
+-- a piece that begins with a brace matches or fails as its braced text does
 element_braced : {n : ℕ} {u : Place} → Outcome n (BracedAt u) (BracedFails u) → Outcome n (ElementAt u) (ElementFails u)
 element_braced (Outcome.read f) = Outcome.read (found_as (omega arith) f (_, element.braced f.rule.1))
 element_braced (Outcome.fails f) = Outcome.fails (element_fail.braced f)
 
--- a piece that begins with a quote
+-- a piece that begins with a quote matches or fails as its quoted text does
 element_quoted : {n : ℕ} {u v : Place} → CharAt u 34 v → Outcome n (QuotedAt u) (QuotedFails u) → Outcome n (ElementAt u) (ElementFails u)
 element_quoted opens (Outcome.read f) = Outcome.read (found_as (omega arith) f (_, element.quoted f.rule.1))
 element_quoted opens (Outcome.fails f) = Outcome.fails (element_fail.quoted opens f)
 
--- a piece that begins with a name
+-- a piece that begins with a name matches
 element_named : {n : ℕ} {u v : Place} {c : ℕ} → CharAt u c v → is_ascii_digit c ≡ false → Found n (NameAt u)
     → Outcome n (ElementAt u) (ElementFails u)
 element_named {u = u} char no_digit f =

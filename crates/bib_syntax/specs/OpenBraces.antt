@@ -17,8 +17,8 @@ pub record SameBraced (n : ℕ) (u : Place) (m : ℕ) (v : Place) : Type 0 where
   pub there : (x y : Place) → ClosesOpen m v x → CharAt x char.close_brace y → ClosesOpen n u x
   pub back : (x y : Place) → ClosesOpen n u x → CharAt x char.close_brace y → ClosesOpen m v x
 
--- The offsets after open braces, the last brace first. From each offset to `here`, as many braces are opened and stay open
--- as there are offsets before it in the list, and `n` more.
+-- The list has the offsets after the open braces, the innermost first. From its first offset to `here`, `n` braces are
+-- opened and stay open. From each further offset it is one brace more.
 abbrev pub AreOpen : List ℕ → ℕ → List ℕ → Place → Type 0
 AreOpen text n [] here = ⊤
 AreOpen text n (start ∷ more) here = SameBraced zero (place text start) n here × AreOpen text (suc n) more here

@@ -1,5 +1,6 @@
 -- Meaning: words of public contracts.
--- The content of a bibliography file: its entries, abbreviations and preamble, with the span of each part in bytes.
+-- The content of a bibliography file: its entries and abbreviations, with the span of each part in bytes, and the text of
+-- its preambles.
 use Rattle.std.specs.Prelude.{ℕ, List, [], ◌∷◌, ◌++◌, codes}
 use Rattle.bib_text.specs.Places.{Place, between}
 

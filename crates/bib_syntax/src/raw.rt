@@ -62,8 +62,8 @@ impl<'s> RawBibliography<'s> {
         BiblatexParser::new(src).parse(alloc)
     }
 
-    /// Parses the blocks of a bibliography file that can be parsed, and reports the skipped ones. If no block can be parsed
-    /// at an at sign, keeps its error and continues at the next at sign that begins a line. Skips no block if and only if
+    /// Parses the blocks of a bibliography file that can be parsed, and reports the skipped ones. If the block at an at sign
+    /// can't be parsed, keeps its error and continues at the next at sign that begins a line. Skips no block if and only if
     /// the file grammar accepts `src`. Returns an error only if out of memory.
     pub fn recover(alloc: Global, src: &'s str) -> Result<RawRecovery<'s>, AllocError>
         ensures { IfOk result (λ found. IsRecovery src.now (file_of found.raw) found.skipped.items) }
@@ -170,7 +170,8 @@ pub enum ParseErrorKind {
     UnknownAbbreviation(Text),
     /// A command is malformed. Never returned; kept so that all names of the Rust crate `biblatex` exist.
     MalformedCommand,
-    /// The key of an entry is the key of an earlier entry or one of the names in its field `ids`. The text is the key.
+    /// The key of an entry is the key of an earlier entry, or one of the names in the field `ids` of one. The text is the
+    /// key.
     DuplicateKey(Text),
     /// A date that an entry would inherit can't be parsed, for this reason.
     ResolutionError(TypeErrorKind),

@@ -12,7 +12,8 @@ use bib_dates::date::Date;
 use bib_tables::type_error::TypeError;
 use std::alloc::{AllocError, Global};
 
-/// Parses the plain text of the chunks as a date or a range, by `Date::parse`. Written as one normal chunk, without times.
+/// Parses the plain text of the chunks as a date or a range, by `Date::parse`. A date is written as one normal chunk,
+/// without times.
 impl Type for Date {
     ghost Meaning = { ADate };
 

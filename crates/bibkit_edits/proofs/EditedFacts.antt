@@ -153,7 +153,7 @@ why_refused : (edit : Edit) (d : Document) {why : EditError} → (why ≡ error.
 why_refused edit d other (inl refused) = refused
 why_refused edit d other (inr out) = absurd (other out)
 
--- an edit of a text is refused with the error of the edit of its document
+-- if an edit of a document is refused, the edit of its text is refused with the same error
 edit_refused : (edit : Edit) (text : List ℕ) (index : ℕ) (d : Document) (why : EditError) → IsDocumentOf text d → IsEditRefused edit d why ⊎ (why ≡ error.OutOfMemory)
     → IsTextRefused edit text index (edit_refusal why index)
 edit_refused edit text index d error.OutOfMemory read refused = tt
@@ -170,7 +170,7 @@ unresolved_at edit text index d (resolve_error.Differs entry name) read refused 
 unresolved_at edit text index d resolve_error.Unlike read refused = (refl, record { document = d; read = read; refused = refused })
 unresolved_at edit text index d resolve_error.OutOfMemory read refused = tt
 
--- an edit of a text is refused with the step of the edit of its document
+-- if an edit of a document fails with a step, the edit of its text is refused with the refusal of that step
 pub step_refused : (edit : Edit) (text : List ℕ) (index : ℕ) (d : Document) (s : Step) → IsDocumentOf text d → StepIsRefused edit d s → IsTextRefused edit text index (refusal_at s index)
 step_refused edit text index d (step.Added e) read refused = added_refused edit text index e e.kind refl refused
 step_refused edit text index d (step.Refused why) read refused = edit_refused edit text index d why read refused

@@ -139,7 +139,7 @@ solutions_by names own a b below none first second =
     let one = walks.one_solution (graph_by names own) (graph_in_range names own below) none no_entry (rule_by (texts_of_entries own)) in
     one.2 a first ∙ sym (one.2 b second)
 
--- two solutions of the graph of own entries are equal, if it has no cycle
+-- two solutions of the inheritance equation of own entries are equal if no entry leads to itself
 pub solutions_same : (own : List Entry) (a b : List EntryTexts) → HasNoCycle (graph_of own) → Inherits (texts_of_entries own) (graph_of own) a → Inherits (texts_of_entries own) (graph_of own) b → a ≡ b
 solutions_same own a b none first second = solutions_by (names_of own) own a b (names_below own) none first second
 

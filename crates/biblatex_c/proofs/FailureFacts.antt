@@ -27,7 +27,7 @@ kind_fails F (kind.AbbreviationCycle n) memory text = text
 kind_fails F (kind.ReferenceCycle k) memory text = text
 kind_fails F kind.OutOfMemory memory text = memory
 
--- `F` holds of the status of an error that is out of memory or makes the text refused
+-- `F` holds of the status of an error if the error is out of memory or one of the text, and `F` holds in both cases
 error_fails : {Q R : Type 0} (F : Status → Type 0) (e : ParseError) → (e ≡ out_of_memory) ⊎ (Q × R) → F OutOfMemory → (R → F Refused) → F (status_of_error e)
 error_fails F e (inl is) memory text = subst (λ e. F (status_of_error e)) (sym is) memory
 error_fails F e (inr found) memory text = kind_fails F e.kind memory (text found.1)
@@ -56,11 +56,11 @@ edit_fails Refuses' bytes others d edit_error.NotAName same read because = recor
 edit_fails Refuses' bytes others d edit_error.NotInBraces same read because = record { document = d; same = same; read = read; refused = because }
 edit_fails Refuses' bytes others d edit_error.OutOfMemory same read because = tt
 
--- adding may fail with the status of the error of the first text, if it isn't a file of the grammar
+-- if the grammar rejects the first text, adding may fail with the status of its error
 pub text_fails : (bytes added text : List ℕ) (e : ParseError) → text ≡ bytes → Refuses text e (IsFile text → ⊥) → AddFails bytes added (status_of_error e)
 text_fails bytes added text e same refuses = error_fails (AddFails bytes added) e refuses tt (λ unread. inl (subst IsNoFile same unread))
 
--- adding may fail with the status of the error of the added text, if it isn't a file of the grammar
+-- if the grammar rejects the added text, adding may fail with the status of its error
 pub added_fails : (bytes added text : List ℕ) (e : ParseError) → text ≡ added → Refuses text e (IsFile text → ⊥) → AddFails bytes added (status_of_error e)
 added_fails bytes added text e same refuses = error_fails (AddFails bytes added) e refuses tt (λ unread. inr (subst IsNoFile same unread))
 

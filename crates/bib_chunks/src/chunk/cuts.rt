@@ -79,8 +79,7 @@ fn normal(alloc: Global, text: &str, start: usize, end: usize) -> Result<Spanned
     })
 }
 
-// Returns the text without the white space at its start if `first`, which says that a separator or the start of the
-// list is there.
+// Returns the text, without the white space at its start if `first`: the text follows a separator or begins the list.
 fn trimmed_start(text: &str, first: bool) -> &str
     ensures value { result.now ≡ trimmed_start first text.now }
     ensures shorter { length result.now ≤ length text.now }
@@ -91,8 +90,7 @@ fn trimmed_start(text: &str, first: bool) -> &str
     text
 }
 
-// Returns the text without the white space at its end if `last`, which says that a separator or the end of the list is
-// there.
+// Returns the text, without the white space at its end if `last`: a separator follows the text, or it ends the list.
 fn trimmed_end(text: &str, last: bool) -> &str
     ensures { result.now ≡ trimmed_end last text.now }
 {
